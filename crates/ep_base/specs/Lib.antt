@@ -1,0 +1,4 @@
+pub mod Bounded
+pub mod IpEcn
+pub mod IpNumber
+pub mod Bytes
