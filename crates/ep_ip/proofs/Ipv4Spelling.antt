@@ -1,0 +1,165 @@
+-- The bytes of a header against its fields.
+use Rattle.std.proofs.Common.{◌≡◌, ℕ, zero, suc, ◌+◌, ◌*◌, ◌/◌, ◌%◌, ◌^◌, ◌<◌, ◌≤◌, Bool, true, false, cond, eqb, List, ◌++◌, length, take, drop, get_or, set, arith, sym, refl, ap, ◌∙◌, ◌↔◌}
+use Rattle.std.proofs.lemmas.Bool.{eq-eqb, ne_eqb}
+use Rattle.std.proofs.lemmas.List.{length-append, length-take, length-drop, append_assoc, take_at, drop_at}
+use Rattle.ep_base.specs.Bytes.{IsBytes}
+use Rattle.ep_base.specs.IpEcn.{ecn_of, ecn_number}
+use Rattle.ep_base.specs.declared.net.ip_ecn.IpEcn.{IpEcn}
+use Rattle.ep_base.specs.declared.net.ip_ecn.IpEcn.TheVariants.{NotEct, Ect1, Ect0, CongestionExperienced}
+use Rattle.ep_base.proofs.Cells.{drop-cells, take-drop-cells}
+use Rattle.ep_ip.specs.Ipv4.{IsIpv4Header}
+use Rattle.ep_ip.specs.Ipv4.{header_of, spelling, cleared, Fits}
+use Rattle.ep_ip.specs.declared.net.ipv4_header.Ipv4Header.{Ipv4Header}
+
+ecn_of-number : (e : IpEcn) → ecn_of (ecn_number e) ≡ e
+ecn_of-number NotEct = refl
+ecn_of-number Ect1 = refl
+ecn_of-number Ect0 = refl
+ecn_of-number CongestionExperienced = refl
+
+ecn_number_below : (e : IpEcn) → ecn_number e < 4
+ecn_number_below NotEct = omega arith
+ecn_number_below Ect1 = omega arith
+ecn_number_below Ect0 = omega arith
+ecn_number_below CongestionExperienced = omega arith
+
+number-ecn_of : (n : ℕ) → n < 4 → ecn_number (ecn_of n) ≡ n
+number-ecn_of zero h = refl
+number-ecn_of (suc zero) h = refl
+number-ecn_of (suc (suc zero)) h = refl
+number-ecn_of (suc (suc (suc zero))) h = refl
+number-ecn_of (suc (suc (suc (suc n)))) h = absurd (omega arith)
+
+-- a bit at its worth
+bit_worth : (bit w : ℕ) → bit < 2 → cond (eqb bit 1) w 0 ≡ bit * w
+bit_worth zero w h = omega arith
+bit_worth (suc zero) w h = omega arith
+bit_worth (suc (suc n)) w h = absurd (omega arith)
+
+-- the flags and the offset without the reserved bit
+flags_are : (high low : ℕ) → high < 256 → low < 256 →
+    cond (eqb (high / 2 ^ 6 % 2) 1) (2 ^ 14) 0 + cond (eqb (high / 2 ^ 5 % 2) 1) (2 ^ 13) 0 + (256 * high + low) % 2 ^ 13 ≡ 256 * (high % 2 ^ 7) + low
+flags_are high low h l =
+    rw (bit_worth (high / 2 ^ 6 % 2) (2 ^ 14) (omega arith), bit_worth (high / 2 ^ 5 % 2) (2 ^ 13) (omega arith)) (omega arith)
+
+high_of : (a b : ℕ) → a < 256 → b < 256 → (256 * a + b) / 256 % 256 ≡ a
+high_of a b h k = omega arith
+
+low_of : (a b : ℕ) → b < 256 → (256 * a + b) % 256 ≡ b
+low_of a b h = omega arith
+
+-- what is read from the bytes of a header is spelled so, with the reserved bit as 0
+pub spelling-header_of : (bytes : List ℕ) → IsIpv4Header bytes → IsBytes bytes → spelling (header_of bytes) ≡ cleared bytes
+spelling-header_of bytes header fits =
+    let least : 20 ≤ length bytes = omega (arith, header.minimum, header.whole) in
+    let first : 64 + (5 + length (drop 20 bytes) / 4) ≡ get_or bytes 0 0 = omega (arith, length-drop 20 bytes, header.version, header.minimum, header.whole) in
+    let ecn : ecn_number (ecn_of (get_or bytes 1 0 % 4)) ≡ get_or bytes 1 0 % 4 = number-ecn_of (get_or bytes 1 0 % 4) (omega arith) in
+    let second : 4 * (get_or bytes 1 0 / 4) + get_or bytes 1 0 % 4 ≡ get_or bytes 1 0 = omega arith in
+    rw (
+      first,
+      ecn,
+      second,
+      high_of (get_or bytes 2 0) (get_or bytes 3 0) (fits 2) (fits 3),
+      low_of (get_or bytes 2 0) (get_or bytes 3 0) (fits 3),
+      high_of (get_or bytes 4 0) (get_or bytes 5 0) (fits 4) (fits 5),
+      low_of (get_or bytes 4 0) (get_or bytes 5 0) (fits 5),
+      flags_are (get_or bytes 6 0) (get_or bytes 7 0) (fits 6) (fits 7),
+      high_of (get_or bytes 6 0 % 2 ^ 7) (get_or bytes 7 0) (omega arith) (fits 7),
+      low_of (get_or bytes 6 0 % 2 ^ 7) (get_or bytes 7 0) (fits 7),
+      high_of (get_or bytes 10 0) (get_or bytes 11 0) (fits 10) (fits 11),
+      low_of (get_or bytes 10 0) (get_or bytes 11 0) (fits 11),
+      take-drop-cells 4 12 bytes (omega arith),
+      take-drop-cells 4 16 bytes (omega arith),
+    )
+    (sym (ap (λ (xs : List ℕ). set xs 6 (get_or bytes 6 0 % 2 ^ 7)) (drop-cells 20 0 bytes (omega arith))))
+
+-- the bytes of a header are one
+pub IsIpv4Header-spelling : (h : Ipv4Header) → Fits h → IsIpv4Header (spelling h)
+IsIpv4Header-spelling h fits = record {
+  version = omega (arith, fits.options.fits);
+  minimum = omega (arith, fits.options.fits);
+  whole = omega (arith, fits.options.fits, fits.options.words, fits.source, fits.destination, length-append (h.source ++ h.destination) h.options, length-append h.source h.destination);
+}
+
+dont_fragment_of : (d m : Bool) (offset : ℕ) → offset < 2 ^ 13 → eqb ((cond d (2 ^ 14) 0 + cond m (2 ^ 13) 0 + offset) / 256 % 256 / 2 ^ 6 % 2) 1 ≡ d
+dont_fragment_of true true n h = eq-eqb ((2 ^ 14 + 2 ^ 13 + n) / 256 % 256 / 2 ^ 6 % 2) 1 (omega arith)
+dont_fragment_of true false n h = eq-eqb ((2 ^ 14 + 0 + n) / 256 % 256 / 2 ^ 6 % 2) 1 (omega arith)
+dont_fragment_of false true n h = ne_eqb ((0 + 2 ^ 13 + n) / 256 % 256 / 2 ^ 6 % 2) 1 (omega arith)
+dont_fragment_of false false n h = ne_eqb ((0 + 0 + n) / 256 % 256 / 2 ^ 6 % 2) 1 (omega arith)
+
+more_fragments_of : (d m : Bool) (offset : ℕ) → offset < 2 ^ 13 → eqb ((cond d (2 ^ 14) 0 + cond m (2 ^ 13) 0 + offset) / 256 % 256 / 2 ^ 5 % 2) 1 ≡ m
+more_fragments_of true true n h = eq-eqb ((2 ^ 14 + 2 ^ 13 + n) / 256 % 256 / 2 ^ 5 % 2) 1 (omega arith)
+more_fragments_of true false n h = ne_eqb ((2 ^ 14 + 0 + n) / 256 % 256 / 2 ^ 5 % 2) 1 (omega arith)
+more_fragments_of false true n h = eq-eqb ((0 + 2 ^ 13 + n) / 256 % 256 / 2 ^ 5 % 2) 1 (omega arith)
+more_fragments_of false false n h = ne_eqb ((0 + 0 + n) / 256 % 256 / 2 ^ 5 % 2) 1 (omega arith)
+
+offset_of : (d m : Bool) (offset : ℕ) → offset < 2 ^ 13 →
+    (256 * ((cond d (2 ^ 14) 0 + cond m (2 ^ 13) 0 + offset) / 256 % 256) + (cond d (2 ^ 14) 0 + cond m (2 ^ 13) 0 + offset) % 256) % 2 ^ 13 ≡ offset
+offset_of true true n h = omega arith
+offset_of true false n h = omega arith
+offset_of false true n h = omega arith
+offset_of false false n h = omega arith
+
+joined : (n : ℕ) → n < 2 ^ 16 → 256 * (n / 256 % 256) + n % 256 ≡ n
+joined n h = omega arith
+
+-- the fields are read again
+pub header_of-spelling : (h : Ipv4Header) → Fits h → header_of (spelling h) ≡ h
+header_of-spelling h fits =
+    let ecn_below = ecn_number_below h.ecn in
+    let ecn_bits : (4 * h.dscp + ecn_number h.ecn) % 4 ≡ ecn_number h.ecn = omega arith in
+    let dscp : (4 * h.dscp + ecn_number h.ecn) / 4 ≡ h.dscp = omega arith in
+    let ecn : ecn_of ((4 * h.dscp + ecn_number h.ecn) % 4) ≡ h.ecn = rw ecn_bits (ecn_of-number h.ecn) in
+    let total_len = joined h.total_len fits.total_len in
+    let identification = joined h.identification fits.identification in
+    let dont_fragment = dont_fragment_of h.dont_fragment h.more_fragments h.fragment_offset fits.fragment_offset in
+    let more_fragments = more_fragments_of h.dont_fragment h.more_fragments h.fragment_offset fits.fragment_offset in
+    let fragment_offset = offset_of h.dont_fragment h.more_fragments h.fragment_offset fits.fragment_offset in
+    let header_checksum = joined h.header_checksum fits.header_checksum in
+    let source : take 4 ((h.source ++ h.destination) ++ h.options) ≡ h.source = rw append_assoc (take_at h.source (h.destination ++ h.options) 4 fits.source) in
+    let destination : take 4 (drop 4 ((h.source ++ h.destination) ++ h.options)) ≡ h.destination =
+    rw (append_assoc, drop_at h.source (h.destination ++ h.options) 4 fits.source) (take_at h.destination h.options 4 fits.destination) in
+    let both : length (h.source ++ h.destination) ≡ 8 = omega (arith, length-append h.source h.destination, fits.source, fits.destination) in
+    let options = drop_at (h.source ++ h.destination) h.options 8 both in
+    λ i. record {
+      dscp = dscp i;
+      ecn = ecn i;
+      total_len = total_len i;
+      identification = identification i;
+      dont_fragment = dont_fragment i;
+      more_fragments = more_fragments i;
+      fragment_offset = fragment_offset i;
+      time_to_live = h.time_to_live;
+      protocol = h.protocol;
+      header_checksum = header_checksum i;
+      source = source i;
+      destination = destination i;
+      options = options i;
+    }
+
+fits-header_of : (bytes : List ℕ) → IsIpv4Header bytes → IsBytes bytes → Fits (header_of bytes)
+fits-header_of bytes header fits =
+    let least : 20 ≤ length bytes = omega (arith, header.minimum, header.whole) in
+    record {
+      dscp = omega (arith, fits 1);
+      total_len = omega (arith, fits 2, fits 3);
+      identification = omega (arith, fits 4, fits 5);
+      fragment_offset = omega arith;
+      header_checksum = omega (arith, fits 10, fits 11);
+      source = omega (arith, length-take 4 (drop 12 bytes), length-drop 12 bytes);
+      destination = omega (arith, length-take 4 (drop 16 bytes), length-drop 16 bytes);
+      options = record { fits = omega (arith, length-drop 20 bytes, header.whole); words = omega (arith, length-drop 20 bytes, header.whole) };
+    }
+
+-- the reserved bit is not read
+pub header_of-cleared : (bytes : List ℕ) → IsIpv4Header bytes → IsBytes bytes → header_of (cleared bytes) ≡ header_of bytes
+header_of-cleared bytes header fits =
+    ap header_of (sym (spelling-header_of bytes header fits)) ∙ header_of-spelling (header_of bytes) (fits-header_of bytes header fits)
+
+-- equal fields are equal bytes but for the reserved bit, and the other way round
+pub same_fields : (a b : List ℕ) → IsIpv4Header a → IsBytes a → IsIpv4Header b → IsBytes b →
+    (header_of a ≡ header_of b) ↔ (cleared a ≡ cleared b)
+same_fields a b ha fa hb fb = (
+  (λ e. sym (spelling-header_of a ha fa) ∙ ap spelling e ∙ spelling-header_of b hb fb),
+  (λ e. sym (header_of-cleared a ha fa) ∙ ap header_of e ∙ header_of-cleared b hb fb),
+)

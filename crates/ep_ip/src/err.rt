@@ -1,0 +1,3 @@
+//! Why bytes are no base header.
+
+pub mod ipv4;

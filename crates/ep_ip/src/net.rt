@@ -1,0 +1,10 @@
+//! The base headers and what they are made of.
+
+mod ipv4_header;
+mod ipv4_header_slice;
+mod ipv4_options;
+mod payload_len;
+
+pub use ipv4_header::Ipv4Header;
+pub use ipv4_header_slice::Ipv4HeaderSlice;
+pub use ipv4_options::Ipv4Options;

@@ -1,0 +1,20 @@
+ghost use Rattle.ep_ip.specs.Ipv4Fault.{IsPayloadLen};
+
+use ep_base::LenSource;
+use ep_base::err::{Layer, LenError};
+
+// What a total length leaves behind a header of this length, all in bytes.
+pub fn payload_len_of(header_len: u16, total_len: u16) -> Result<u16, LenError>
+    ensures { IsPayloadLen header_len total_len result }
+{
+    if total_len < header_len {
+        return Err(LenError {
+            required_len: header_len.into(),
+            len: total_len.into(),
+            len_source: LenSource::Ipv4HeaderTotalLen,
+            layer: Layer::Ipv4Packet,
+            layer_start_offset: 0,
+        });
+    }
+    Ok(total_len - header_len)
+}

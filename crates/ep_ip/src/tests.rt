@@ -1,0 +1,186 @@
+use super::*;
+use crate::err::ipv4::{BadOptionsLen, HeaderError, HeaderSliceError};
+use ep_base::err::{Layer, LenError};
+use ep_base::{IpDscp, IpEcn, IpFragOffset, IpNumber, LenSource};
+use std::test::*;
+
+// A header with four bytes of options, made by hand after RFC 791, and two bytes behind it.
+const BYTES: [u8; 26] = [
+    0x46, 0x21, 0, 30, 0, 7, 0x20, 5, 64, 17, 0x43, 0x9f, 10, 0, 0, 1, 10, 0, 0, 2, 1, 1, 1, 0,
+    0xaa, 0xbb,
+];
+
+fn too_short(required_len: usize, len: usize) -> HeaderSliceError {
+    HeaderSliceError::Len(LenError {
+        required_len,
+        len,
+        len_source: LenSource::Slice,
+        layer: Layer::Ipv4Header,
+        layer_start_offset: 0,
+    })
+}
+
+#[test]
+fn fields_by_position(rt: HostRuntime) -> Result<(), Fail> {
+    let (header, rest) = Ipv4Header::from_slice(&BYTES)?;
+    assert_eq!(rt; rest, [0xaa, 0xbb].as_slice());
+    assert_eq!(rt; header.dscp.value(), 8);
+    assert_eq!(rt; header.ecn, IpEcn::Ect1);
+    assert_eq!(rt; header.total_len, 30);
+    assert_eq!(rt; header.identification, 7);
+    assert_eq!(rt; header.dont_fragment, false);
+    assert_eq!(rt; header.more_fragments, true);
+    assert_eq!(rt; header.fragment_offset.value(), 5);
+    assert_eq!(rt; header.time_to_live, 64);
+    assert_eq!(rt; header.protocol, IpNumber::UDP);
+    assert_eq!(rt; header.header_checksum, 0x439f);
+    assert_eq!(rt; header.source, [10, 0, 0, 1]);
+    assert_eq!(rt; header.destination, [10, 0, 0, 2]);
+    assert_eq!(rt; header.options.as_slice(), [1, 1, 1, 0].as_slice());
+    assert_eq!(rt; header.ihl(), 6);
+    assert_eq!(rt; header.header_len(), 24);
+    assert_eq!(rt; header.payload_len(), Ok(6));
+    assert_eq!(rt; header.is_fragmenting_payload(), true);
+    Ok(())
+}
+
+#[test]
+fn getters_of_the_slice(rt: HostRuntime) -> Result<(), Fail> {
+    let header = Ipv4HeaderSlice::from_slice(&BYTES)?;
+    assert_eq!(rt; header.slice(), &BYTES[..24]);
+    assert_eq!(rt; header.version(), 4);
+    assert_eq!(rt; header.ihl(), 6);
+    assert_eq!(rt; header.dcp().value(), 8);
+    assert_eq!(rt; header.ecn(), IpEcn::Ect1);
+    assert_eq!(rt; header.total_len(), 30);
+    assert_eq!(rt; header.payload_len(), Ok(6));
+    assert_eq!(rt; header.identification(), 7);
+    assert_eq!(rt; header.dont_fragment(), false);
+    assert_eq!(rt; header.more_fragments(), true);
+    assert_eq!(rt; header.fragments_offset().value(), 5);
+    assert_eq!(rt; header.is_fragmenting_payload(), true);
+    assert_eq!(rt; header.ttl(), 64);
+    assert_eq!(rt; header.protocol(), IpNumber::UDP);
+    assert_eq!(rt; header.header_checksum(), 0x439f);
+    assert_eq!(rt; header.source(), [10, 0, 0, 1]);
+    assert_eq!(rt; header.destination(), [10, 0, 0, 2]);
+    assert_eq!(rt; header.options(), [1, 1, 1, 0].as_slice());
+    assert_eq!(rt; header.to_header(), Ipv4Header::from_slice(&BYTES)?.0);
+    Ok(())
+}
+
+#[test]
+fn every_front_of_a_header(rt: HostRuntime) {
+    for len in 0..24 {
+        let required_len = if len < 20 { 20 } else { 24 };
+        let refused = too_short(required_len, len);
+        let front = &BYTES[..len];
+        assert_eq!(rt;
+            Ipv4HeaderSlice::from_slice(front),
+            Err(refused),
+            "at {len}"
+        );
+        assert_eq!(rt; Ipv4Header::from_slice(front), Err(refused), "at {len}");
+    }
+}
+
+#[test]
+fn faults_in_order(rt: HostRuntime) {
+    let version_6 = HeaderError::UnexpectedVersion { version_number: 6 };
+    let words_3 = HeaderError::HeaderLengthSmallerThanHeader { ihl: 3 };
+    for (bytes, refused) in [
+        ([0x63; 20], HeaderSliceError::Content(version_6)),
+        ([0x43; 20], HeaderSliceError::Content(words_3)),
+        ([0x4f; 20], too_short(60, 20)),
+    ] {
+        assert_eq!(rt; Ipv4HeaderSlice::from_slice(&bytes), Err(refused));
+    }
+    assert_eq!(rt;
+        Ipv4HeaderSlice::from_slice(&[0x63; 19]),
+        Err(too_short(20, 19))
+    );
+}
+
+#[test]
+fn error_in_a_later_place(rt: HostRuntime) {
+    let error = LenError {
+        required_len: 20,
+        len: 19,
+        len_source: LenSource::Slice,
+        layer: Layer::Ipv4Header,
+        layer_start_offset: 14,
+    };
+    let moved = LenError {
+        layer_start_offset: 18,
+        ..error
+    };
+    assert_eq!(rt;
+        HeaderSliceError::Len(error).add_slice_offset(4),
+        HeaderSliceError::Len(moved)
+    );
+    let content = HeaderSliceError::Content(HeaderError::UnexpectedVersion { version_number: 6 });
+    assert_eq!(rt; content.add_slice_offset(4), content);
+}
+
+#[test]
+fn total_length_below_the_header(rt: HostRuntime) {
+    let header = Ipv4Header {
+        total_len: 19,
+        ..Ipv4Header::default()
+    };
+    assert_eq!(rt;
+        header.payload_len(),
+        Err(LenError {
+            required_len: 20,
+            len: 19,
+            len_source: LenSource::Ipv4HeaderTotalLen,
+            layer: Layer::Ipv4Packet,
+            layer_start_offset: 0,
+        })
+    );
+}
+
+#[test]
+fn default_header(rt: HostRuntime) {
+    let header = Ipv4Header::default();
+    assert_eq!(rt;
+        header,
+        Ipv4Header {
+            dscp: IpDscp::ZERO,
+            ecn: IpEcn::NotEct,
+            total_len: 0,
+            identification: 0,
+            dont_fragment: true,
+            more_fragments: false,
+            fragment_offset: IpFragOffset::ZERO,
+            time_to_live: 0,
+            protocol: IpNumber(255),
+            header_checksum: 0,
+            source: [0; 4],
+            destination: [0; 4],
+            options: Ipv4Options::default(),
+        }
+    );
+    assert_eq!(rt; header.is_fragmenting_payload(), false);
+}
+
+#[test]
+fn option_lengths(rt: HostRuntime) -> Result<(), Fail> {
+    assert_eq!(rt;
+        Ipv4Options::try_from([1, 2, 3].as_slice()),
+        Err(BadOptionsLen { bad_len: 3 })
+    );
+    assert_eq!(rt;
+        Ipv4Options::try_from([0; 44].as_slice()),
+        Err(BadOptionsLen { bad_len: 44 })
+    );
+    let mut options = Ipv4Options::try_from([1, 2, 3, 4].as_slice())?;
+    assert_eq!(rt; options.len(), 4);
+    assert_eq!(rt; options.is_empty(), false);
+    for byte in options.as_mut_slice() {
+        *byte = 9;
+    }
+    assert_eq!(rt; options.as_slice(), [9; 4].as_slice());
+    assert_eq!(rt; Ipv4Options::new().is_empty(), true);
+    Ok(())
+}
