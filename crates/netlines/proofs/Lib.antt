@@ -1,0 +1,4 @@
+pub mod CommandLemmas
+pub mod PacketLemmas
+pub mod JudgeLemmas
+pub mod AnswerLemmas

@@ -1,0 +1,44 @@
+-- What is answered to a line.
+use Rattle.std.specs.Prelude.{ℕ, List, [], ◌∷◌, ◌++◌, codes, decimal}
+use Rattle.hex.specs.Hex.{encode_lower}
+use Rattle.netlines.specs.Class.{Class, class_of}
+use Rattle.netlines.specs.Class.Class.{Whole, Other, Refused}
+use Rattle.netlines.specs.Lines.{Command, command_of}
+use Rattle.netlines.specs.Lines.Command.{Frame, Bad}
+use Rattle.netlines.specs.Verdict.{verdict_of}
+use Rattle.netlines.specs.declared.judge.Verdict.{Verdict}
+use Rattle.netlines.specs.declared.judge.Verdict.TheVariants as verdict
+
+abbrev pub verdict_word : Verdict → List ℕ
+verdict_word verdict.Good = codes "good"
+verdict_word verdict.Bad = codes "bad"
+verdict_word verdict.None = codes "none"
+
+-- bytes in lower case hex, and a dash for none
+abbrev pub hex_word : List ℕ → List ℕ
+hex_word [] = codes "-"
+hex_word (byte ∷ bytes) = encode_lower (byte ∷ bytes)
+
+abbrev pub message_answer : ℕ → Verdict → List ℕ → List ℕ
+message_answer number verdict message =
+    codes "message " ++ decimal number ++ codes " " ++ verdict_word verdict ++ codes " " ++ hex_word message
+
+abbrev pub class_answer : Class → List ℕ
+class_answer (Whole source destination number message) = message_answer number (verdict_of source destination message) message
+class_answer Other = codes "other"
+class_answer Refused = codes "refused frame"
+
+abbrev pub bad_line : List ℕ
+bad_line = codes "bad line"
+
+abbrev pub command_answer : Command → List ℕ
+command_answer (Frame channel bytes) = class_answer (class_of bytes)
+command_answer Bad = bad_line
+
+-- what is answered to a line
+unfoldable pub answer_of : List ℕ → List ℕ
+answer_of line = command_answer (command_of line)
+
+-- the answer as a line of its own
+unfoldable pub reply_of : List ℕ → List ℕ
+reply_of line = answer_of line ++ 10 ∷ []

@@ -1,0 +1,6 @@
+pub mod Answers
+pub mod Class
+pub mod Lines
+pub mod Packet
+pub mod Udp
+pub mod Verdict

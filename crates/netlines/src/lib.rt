@@ -1,0 +1,11 @@
+//! Answers lines of hex frames, one line each.
+#![tactic(auto)]
+
+mod answer;
+mod command;
+mod ethernet;
+mod frame;
+mod ipv4_packet;
+mod judge;
+mod output;
+mod udp_message;
