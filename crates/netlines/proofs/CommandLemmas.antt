@@ -47,7 +47,7 @@ pub decode_of-nil : decode_of [] ≡ Ok []
 unfolding decode_pairs
 decode_of-nil = refl
 
-none_on : (b : Bool) (channel : ℕ) → (if b then frame_on channel (Ok []) else Bad) ≡ Bad
+pub none_on : (b : Bool) (channel : ℕ) → (if b then frame_on channel (Ok []) else Bad) ≡ Bad
 none_on true channel = refl
 none_on false channel = refl
 

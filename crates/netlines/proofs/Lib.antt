@@ -2,3 +2,5 @@ pub mod CommandLemmas
 pub mod PacketLemmas
 pub mod JudgeLemmas
 pub mod AnswerLemmas
+pub mod PacketLaws
+pub mod CommandLaws

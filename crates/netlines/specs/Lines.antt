@@ -1,5 +1,5 @@
 -- What a line asks for.
-use Rattle.std.specs.Prelude.{ℕ, ◌&&◌, ◌==◌, nat_le, nat_eq, Bool, if◌then◌else◌, List, [], ◌∷◌, length, drop, codes, Result, Ok, Err}
+use Rattle.std.specs.Prelude.{◌≡◌, ◌↔◌, ℕ, ◌≤◌, ◌&&◌, ◌==◌, nat_le, nat_eq, Bool, IsTrue, if◌then◌else◌, List, [], ◌∷◌, ◌++◌, length, drop, codes, Result, Ok, Err}
 use Rattle.std.specs.List.{starts_with, list_all, before_first, after_first}
 use Rattle.std.specs.Char.{is_ascii_digit}
 use Rattle.std.specs.Str.Parse.{digits_value}
@@ -36,3 +36,19 @@ frame_command_of text =
 unfoldable pub command_of : List ℕ → Command
 command_of line =
     if nat_le (length line) LINE_LIMIT && starts_with nat_eq line (codes "frame ") then frame_command_of (drop 6 line) else Bad
+
+-- the same by the grammar: a whole line that hands in these bytes on this channel
+pub record IsFrameLine (line : List ℕ) (channel : ℕ) (bytes : List ℕ) : Type 0 where
+  pub number : List ℕ
+  pub digits : List ℕ
+  pub parts : line ≡ codes "frame " ++ (number ++ 32 ∷ digits)
+  pub size : length line ≤ LINE_LIMIT
+  pub count : (1 ≤ length number) × (length number ≤ 10)
+  pub decimal : IsTrue (list_all is_ascii_digit number)
+  pub value : channel ≡ digits_value 10 number
+  pub fits : channel ≤ 4294967295
+  pub hex : decode_of digits ≡ Ok bytes
+  pub some : 1 ≤ length bytes
+
+abbrev pub FrameLinesAreTheGrammar : Type 0
+FrameLinesAreTheGrammar = (line : List ℕ) (channel : ℕ) (bytes : List ℕ) → (command_of line ≡ Frame channel bytes) ↔ IsFrameLine line channel bytes

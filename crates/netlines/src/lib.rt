@@ -7,5 +7,6 @@ mod ethernet;
 mod frame;
 mod ipv4_packet;
 mod judge;
+pub mod laws;
 mod output;
 mod udp_message;
