@@ -1,9 +1,10 @@
--- What is answered to a line.
+-- What is answered to a line, and to a list of bytes line by line.
 use Rattle.std.specs.Prelude.{ℕ, List, [], ◌∷◌, ◌++◌, codes, decimal}
+use Rattle.std.specs.List.{flat_map}
 use Rattle.hex.specs.Hex.{encode_lower}
 use Rattle.netlines.specs.Class.{Class, class_of}
 use Rattle.netlines.specs.Class.Class.{Whole, Other, Refused}
-use Rattle.netlines.specs.Lines.{Command, command_of}
+use Rattle.netlines.specs.Lines.{Command, command_of, lines_of, ended_lines_of}
 use Rattle.netlines.specs.Lines.Command.{Frame, Bad}
 use Rattle.netlines.specs.Verdict.{verdict_of}
 use Rattle.netlines.specs.declared.judge.Verdict.{Verdict}
@@ -42,3 +43,11 @@ answer_of line = command_answer (command_of line)
 -- the answer as a line of its own
 unfoldable pub reply_of : List ℕ → List ℕ
 reply_of line = answer_of line ++ 10 ∷ []
+
+-- the answers to all lines, each ended by 0a
+abbrev pub answers_of : List ℕ → List ℕ
+answers_of bytes = flat_map reply_of (lines_of bytes)
+
+-- the answers to the lines that 0a ends
+abbrev pub ended_answers_of : List ℕ → List ℕ
+ended_answers_of bytes = flat_map reply_of (ended_lines_of bytes)

@@ -1,6 +1,10 @@
 pub mod Answers
+pub mod Calls
 pub mod Class
+pub mod Known
 pub mod Lines
 pub mod Packet
+pub mod Runs
 pub mod Udp
 pub mod Verdict
+pub mod Writes

@@ -3,7 +3,8 @@ ghost use Rattle.std.specs.Prelude.{◌≡◌, ◌+◌, ◌*◌, ◌≤◌, ◌<
 ghost use Rattle.netlines.specs.Answers.{answer_of, class_answer, message_answer, reply_of, verdict_word};
 ghost use Rattle.netlines.specs.Class.{class_of};
 
-use crate::command::{LINE_LIMIT, frame_line};
+use crate::LINE_LIMIT;
+use crate::command::frame_line;
 use crate::frame::{FrameClass, classify};
 use crate::judge::{Verdict, judge};
 use crate::output::{append, append_decimal, append_hex};

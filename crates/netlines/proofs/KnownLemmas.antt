@@ -1,0 +1,105 @@
+-- What the calls of a run do to known bytes.
+use Rattle.std.proofs.Common.{◌≡◌, ◌∙◌, sym, ap, refl, subst, ℕ, Bool, true, false, List, [], ◌∷◌, ◌++◌, Some, None, Result, Ok, Err, IfSome}
+use Rattle.std.specs.Prelude.{OnOk, ◌||◌}
+use Rattle.std.specs.Io.KnownBytes.{Appends, Consumes, IsAtEnd}
+use Rattle.std.proofs.KnownBytes.{Consumes-nil, Consumes-trans, Consumes-kept, Consumes-whole, Appends-nil, Appends-trans, Appends-kept}
+use Rattle.std.proofs.lemmas.List.Folds.{list_any-append}
+use Rattle.netlines.specs.declared.run_error.RunError.{RunError}
+use Rattle.netlines.specs.declared.run_error.RunError.TheVariants.{Memory}
+use Rattle.netlines.specs.Answers.{answers_of}
+use Rattle.netlines.specs.Calls.{Call, Reads, Writes, Makes, bytes_given, bytes_taken, bytes_read, bytes_written, tells_end, is_end_told}
+use Rattle.netlines.specs.Known.{Known, KnownCall}
+use Rattle.netlines.specs.Runs.{EachFollows, Runs}
+
+-- what each call keeps, calls keep
+Makes-keep : {D N : Type 0} (answers : D → Call → D → Type 0) (name : D → N) → ((s t : D) (call : Call) → answers s call t → name t ≡ name s)
+    → (old new : D) (calls : List Call) → Makes answers old calls new → name new ≡ name old
+Makes-keep answers name keep old new [] made = ap name made
+Makes-keep answers name keep old new (call ∷ calls) made = Makes-keep answers name keep made.0 new calls made.2 ∙ keep old made.0 call made.1
+
+pub Runs-keep : {D N : Type 0} (answers : D → Call → D → Type 0) (name : D → N) → ((s t : D) (call : Call) → answers s call t → name t ≡ name s)
+    → (limit : ℕ) (old new : D) (result : Result Unit RunError) → Runs answers limit old new result → name new ≡ name old
+Runs-keep answers name keep limit old new result runs = Makes-keep answers name keep old new runs.calls runs.made
+
+-- calls on what is seen of a device
+Makes-map : {D E : Type 0} (answers : D → Call → D → Type 0) (answers' : E → Call → E → Type 0) (seen : D → E) → ((s t : D) (call : Call) → answers s call t → answers' (seen s) call (seen t))
+    → (old new : D) (calls : List Call) → Makes answers old calls new → Makes answers' (seen old) calls (seen new)
+Makes-map answers answers' seen see old new [] made = ap seen made
+Makes-map answers answers' seen see old new (call ∷ calls) made =
+    (seen made.0, see old made.0 call made.1, Makes-map answers answers' seen see made.0 new calls made.2)
+
+pub Runs-map : {D E : Type 0} (answers : D → Call → D → Type 0) (answers' : E → Call → E → Type 0) (seen : D → E) → ((s t : D) (call : Call) → answers s call t → answers' (seen s) call (seen t))
+    → (limit : ℕ) (old new : D) (result : Result Unit RunError) → Runs answers limit old new result → Runs answers' limit (seen old) (seen new) result
+Runs-map answers answers' seen see limit old new result runs = record {
+  calls = runs.calls;
+  made = Makes-map answers answers' seen see old new runs.calls runs.made;
+  each = runs.each;
+  reads = runs.reads;
+  ends = runs.ends;
+  answered = runs.answered;
+}
+
+memory_keeps : {D : Type 0} (answers : D → Call → D → Type 0) (limit : ℕ) (old new : D) → Runs answers limit old new (Err Memory) → new ≡ old
+memory_keeps answers limit old new runs = subst (λ calls. Makes answers old calls new) runs.ends runs.made
+
+pub runs_memory : {D : Type 0} (answers : D → Call → D → Type 0) (limit : ℕ) (old new : D) (result : Result Unit RunError) → result ≡ Err Memory → Runs answers limit old new result → new ≡ old
+runs_memory answers limit old new result is runs = memory_keeps answers limit old new (subst (Runs answers limit old new) is runs)
+
+-- one call,
+input_moves : (a b : Known) (call : Call) → KnownCall a call b → Consumes a.input b.input (bytes_given call)
+input_moves a b (Reads (Some bytes)) known = known.0
+input_moves a b (Reads None) known = Consumes-kept a.input a.input b.input [] (Consumes-nil a.input) known.0
+input_moves a b (Writes bytes (Some n)) known = subst (λ i. Consumes a.input i []) (sym known.1) (Consumes-nil a.input)
+input_moves a b (Writes bytes None) known = subst (λ i. Consumes a.input i []) (sym known.1) (Consumes-nil a.input)
+
+output_moves : (a b : Known) (call : Call) → KnownCall a call b → Appends a.output b.output (bytes_taken call)
+output_moves a b (Reads (Some bytes)) known = subst (λ o. Appends a.output o []) (sym known.2) (Appends-nil a.output)
+output_moves a b (Reads None) known = subst (λ o. Appends a.output o []) (sym known.1) (Appends-nil a.output)
+output_moves a b (Writes bytes (Some n)) known = known.0
+output_moves a b (Writes bytes None) known = Appends-kept a.output a.output b.output [] (Appends-nil a.output) known.0
+
+-- and many
+known_read : (a b : Known) (calls : List Call) → Makes KnownCall a calls b → Consumes a.input b.input (bytes_read calls)
+known_read a b [] made = subst (λ k. Consumes a.input k.input []) (sym made) (Consumes-nil a.input)
+known_read a b (call ∷ calls) made =
+    Consumes-trans a.input made.0.input b.input (bytes_given call) (bytes_read calls) (input_moves a made.0 call made.1) (known_read made.0 b calls made.2)
+
+known_written : (a b : Known) (calls : List Call) → Makes KnownCall a calls b → Appends a.output b.output (bytes_written calls)
+known_written a b [] made = subst (λ k. Appends a.output k.output []) (sym made) (Appends-nil a.output)
+known_written a b (call ∷ calls) made =
+    Appends-trans a.output made.0.output b.output (bytes_taken call) (bytes_written calls) (output_moves a made.0 call made.1) (known_written made.0 b calls made.2)
+
+or_true : (b : Bool) → (b || true) ≡ true
+or_true true = refl
+or_true false = refl
+
+told_more : (before : List Call) (call : Call) → is_end_told before ≡ true → is_end_told (before ++ call ∷ []) ≡ true
+told_more before call told = list_any-append tells_end before (call ∷ []) ∙ ap (λ b. b || (tells_end call || false)) told
+
+-- after the end is told nothing is read
+input_kept : (before : List Call) → is_end_told before ≡ true → (a b : Known) (calls : List Call) → EachFollows before calls → Makes KnownCall a calls b → b.input ≡ a.input
+input_kept before told a b [] each made = ap (λ (k : Known). k.input) made
+input_kept before told a b (Reads given ∷ calls) each made = let untold = each.0.1 in absurd (cc)
+input_kept before told a b (Writes bytes (Some n) ∷ calls) each made =
+    input_kept (before ++ Writes bytes (Some n) ∷ []) (told_more before (Writes bytes (Some n)) told) made.0 b calls each.1 made.2 ∙ made.1.1
+input_kept before told a b (Writes bytes None ∷ calls) each made =
+    input_kept (before ++ Writes bytes None ∷ []) (told_more before (Writes bytes None) told) made.0 b calls each.1 made.2 ∙ made.1.1
+
+-- where the end is told no known byte is left
+known_end : (before : List Call) (a b : Known) (calls : List Call) → EachFollows before calls → Makes KnownCall a calls b → is_end_told calls ≡ true → IsAtEnd b.input
+known_end before a b [] each made told = absurd (cc)
+known_end before a b (Reads None ∷ calls) each made told = known_end (before ++ Reads None ∷ []) made.0 b calls each.1 made.2 told
+known_end before a b (Reads (Some []) ∷ calls) each made told =
+    subst IsAtEnd (sym (input_kept (before ++ Reads (Some []) ∷ []) (list_any-append tells_end before (Reads (Some []) ∷ []) ∙ or_true (is_end_told before)) made.0 b calls each.1 made.2)) (made.1.1 refl)
+known_end before a b (Reads (Some (x ∷ bytes)) ∷ calls) each made told = known_end (before ++ Reads (Some (x ∷ bytes)) ∷ []) made.0 b calls each.1 made.2 told
+known_end before a b (Writes bytes taken ∷ calls) each made told = known_end (before ++ Writes bytes taken ∷ []) made.0 b calls each.1 made.2 told
+
+pub runs_end : (limit : ℕ) (a b : Known) (result : Result Unit RunError) → Runs KnownCall limit a b result → OnOk result (IsAtEnd b.input)
+runs_end limit a b (Ok tt) runs = known_end [] a b runs.calls runs.each runs.made runs.ends.1
+runs_end limit a b (Err e) runs = tt
+
+pub runs_ok : (limit : ℕ) (a b : Known) (result : Result Unit RunError) → Runs KnownCall limit a b result → OnOk result (IfSome a.input (λ bytes. Appends a.output b.output (answers_of bytes)))
+runs_ok limit a b (Ok tt) runs =
+    Consumes-whole a.input b.input (bytes_read runs.calls) (λ bytes. Appends a.output b.output (answers_of bytes)) (known_read a b runs.calls runs.made)
+    (runs_end limit a b (Ok tt) runs) (subst (Appends a.output b.output) runs.answered (known_written a b runs.calls runs.made))
+runs_ok limit a b (Err e) runs = tt

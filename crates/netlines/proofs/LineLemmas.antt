@@ -1,0 +1,60 @@
+-- The first bytes of a line, as far as they are kept.
+use Rattle.std.proofs.Common.{◌≡◌, ◌∙◌, sym, ap, refl, ℕ, zero, suc, ◌+◌, ◌-◌, ◌≤◌, ◌<◌, ◌==◌, false, cond, List, [], ◌∷◌, ◌++◌, length, take, arith, Result, Ok, Err, length-take, append-nil, inl, inr}
+use Rattle.std.specs.Prelude.{IsOk, is_ok, OnOk}
+use Rattle.std.specs.List.{flat_map}
+use Rattle.std.proofs.lemmas.Bool.{cases_lt}
+use Rattle.std.proofs.lemmas.List.{take_all}
+use Rattle.std.proofs.Math.Seq.{take-append-add}
+use Rattle.netlines.specs.Answers.{reply_of}
+use Rattle.netlines.specs.Lines.{last_line}
+use Rattle.netlines.specs.declared.limits.TheConstants.{LINE_LIMIT}
+use Rattle.netlines.proofs.ReplyLemmas.{reply_long}
+
+-- what is past the room for a line does not change the reply
+pub reply_of-take : (line : List ℕ) → reply_of (take (LINE_LIMIT + 1) line) ≡ reply_of line
+reply_of-take line =
+    elim (cases_lt LINE_LIMIT (length line)) [
+      | inl long ↦ reply_long (take (LINE_LIMIT + 1) line) (omega (arith, length-take (LINE_LIMIT + 1) line)) ∙ sym (reply_long line long)
+      | inr short ↦ ap reply_of (take_all (LINE_LIMIT + 1) line (omega arith))
+    ]
+
+-- the first bytes of what follows the first bytes
+pub take-kept : (n : ℕ) (a b : List ℕ) → take n (take n a ++ b) ≡ take n (a ++ b)
+take-kept zero a b = refl
+take-kept (suc n) [] b = refl
+take-kept (suc n) (x ∷ a) b = ap (λ l. x ∷ l) (take-kept n a b)
+
+-- as much as there is room for after what is kept
+pub take-room : (n : ℕ) (a b : List ℕ) → length a ≤ n → take n (a ++ b) ≡ a ++ take (n - length a) b
+take-room n a b h = let e : n ≡ length a + (n - length a) = omega arith in ap (λ k. take k (a ++ b)) e ∙ take-append-add a b (n - length a)
+
+-- the reply to a line of which the first bytes are kept
+pub reply_kept : (kept start tail : List ℕ) → kept ≡ take (LINE_LIMIT + 1) start → reply_of (take (LINE_LIMIT + 1) (kept ++ tail)) ≡ reply_of (start ++ tail)
+reply_kept kept start tail h =
+    ap (λ l. reply_of (take (LINE_LIMIT + 1) (l ++ tail))) h ∙ ap reply_of (take-kept (LINE_LIMIT + 1) start tail) ∙ reply_of-take (start ++ tail)
+
+-- nothing is kept of nothing alone
+pub nothing_kept : (n : ℕ) (kept start : List ℕ) → 0 < n → kept ≡ take n start → length kept ≡ 0 → start ≡ []
+nothing_kept zero kept start some h e = absurd (omega arith)
+nothing_kept (suc n) kept [] some h e = refl
+nothing_kept (suc n) kept (x ∷ start) some h e = let long = ap length h in absurd (omega arith)
+
+-- where something is kept there is a last line
+pub some_kept : (n : ℕ) (kept start : List ℕ) → kept ≡ take n start → 0 < length kept → reply_of (start ++ []) ≡ flat_map reply_of (last_line start)
+some_kept zero kept [] h some = let none = ap length h in absurd (omega arith)
+some_kept (suc n) kept [] h some = let none = ap length h in absurd (omega arith)
+some_kept n kept (x ∷ start) h some = ap reply_of (append-nil (x ∷ start)) ∙ sym (append-nil (reply_of (x ∷ start)))
+
+-- what a call gives where it succeeds
+pub if_ok : {E X : Type 0} (r : Result Unit E) (new grown same : X) → IsOk r → new ≡ cond (is_ok r) grown same → new ≡ grown
+if_ok (Ok t) new grown same h e = e
+if_ok (Err x) new grown same h e = cc
+
+-- what holds in any case
+pub on_ok : {T E P : Type 0} (r : Result T E) → P → OnOk r P
+on_ok (Ok t) p = p
+on_ok (Err x) p = tt
+
+pub not_empty : (xs : List ℕ) → (length xs == 0) ≡ false → 0 < length xs
+not_empty [] h = cc
+not_empty (x ∷ xs) h = omega arith

@@ -1,0 +1,101 @@
+-- Writes one after another.
+use Rattle.std.proofs.Common.{◌≡◌, ◌∙◌, sym, ap, refl, subst, ℕ, ◌-◌, ◌<◌, ◌≤◌, List, [], ◌∷◌, ◌++◌, length, take, drop, Option, Some, Result, Ok, Err, append_assoc, append-nil, take-append-drop}
+use Rattle.std.specs.List.{flat_map}
+use Rattle.std.proofs.lemmas.List.{take_rest}
+use Rattle.std.proofs.lemmas.List.Concat.{flat_map-append}
+use Rattle.netlines.specs.declared.run_error.RunError.{RunError}
+use Rattle.netlines.specs.Calls.{Call, Writes, bytes_taken, fault_of}
+use Rattle.netlines.specs.Writes.{TakesBytes, Written, Stops, Delivers, Gathers}
+use Rattle.netlines.proofs.CallLemmas.{AllByRecursion-append, Makes-append}
+
+module _ {D : Type 0} (answers : D → Call → D → Type 0) where
+  pub Written-nil : (a : D) → Written answers a [] a
+  Written-nil a = record { calls = []; each = tt; made = refl; whole = refl }
+
+  pub Written-append : (a b c : D) (xs ys : List ℕ) → Written answers a xs b → Written answers b ys c → Written answers a (xs ++ ys) c
+  Written-append a b c xs ys p q = record {
+    calls = p.calls ++ q.calls;
+    each = AllByRecursion-append TakesBytes p.calls q.calls p.each q.each;
+    made = Makes-append answers a b c p.calls q.calls p.made q.made;
+    whole = flat_map-append bytes_taken p.calls q.calls ∙ ap (λ l. l ++ flat_map bytes_taken q.calls) p.whole ∙ ap (λ l. xs ++ l) q.whole;
+  }
+
+  -- one more write
+  pub Written-more : (a b c : D) (xs bytes : List ℕ) (n : ℕ) → Written answers a xs b → answers b (Writes bytes (Some n)) c → 0 < n → n ≤ length bytes
+      → Written answers a (xs ++ take n bytes) c
+  Written-more a b c xs bytes n p call some fits =
+      Written-append a b c xs (take n bytes) p (record {
+        calls = Writes bytes (Some n) ∷ [];
+        each = ((some, fits), tt);
+        made = (c, call, refl);
+        whole = append-nil (take n bytes);
+      })
+
+  -- a write of what is left ended a run
+  pub Stops-now : (e : RunError) (a b c : D) (bytes front rest : List ℕ) (taken : Option ℕ) → bytes ≡ front ++ rest → 0 < length rest → Written answers a front b
+      → answers b (Writes rest taken) c → fault_of (Writes rest taken) ≡ Some e → Stops answers e a bytes c
+  Stops-now e a b c bytes front rest taken whole some before stop fault = record {
+    front = front;
+    missing = rest;
+    whole = whole;
+    mid = b;
+    before = before;
+    handed = rest;
+    taken = taken;
+    some = some;
+    stop = stop;
+    fault = fault;
+  }
+
+  pub Stops-after : (e : RunError) (a b c : D) (xs ys : List ℕ) → Written answers a xs b → Stops answers e b ys c → Stops answers e a (xs ++ ys) c
+  Stops-after e a b c xs ys p s = record {
+    front = xs ++ s.front;
+    missing = s.missing;
+    whole = ap (λ l. xs ++ l) s.whole ∙ sym (append_assoc xs s.front s.missing);
+    mid = s.mid;
+    before = Written-append a b s.mid xs s.front p s.before;
+    handed = s.handed;
+    taken = s.taken;
+    some = s.some;
+    stop = s.stop;
+    fault = s.fault;
+  }
+
+  -- what stops before the end of some bytes stops before the end of more
+  pub Stops-more : (e : RunError) (a b : D) (xs ys : List ℕ) → Stops answers e a xs b → Stops answers e a (xs ++ ys) b
+  Stops-more e a b xs ys s = record {
+    front = s.front;
+    missing = s.missing ++ ys;
+    whole = ap (λ l. l ++ ys) s.whole ∙ append_assoc s.front s.missing ys;
+    mid = s.mid;
+    before = s.before;
+    handed = s.handed;
+    taken = s.taken;
+    some = s.some;
+    stop = s.stop;
+    fault = s.fault;
+  }
+
+  pub Delivers-after : (a b c : D) (xs ys : List ℕ) (r : Result Unit RunError) → Written answers a xs b → Delivers answers b ys r c → Delivers answers a (xs ++ ys) r c
+  Delivers-after a b c xs ys (Ok done) p d = Written-append a b c xs ys p d
+  Delivers-after a b c xs ys (Err e) p d = Stops-after e a b c xs ys p d
+
+  -- bytes are gathered where what waits is not written,
+  pub Gathers-waits : (a : D) (waiting bytes waiting' : List ℕ) → waiting' ≡ waiting ++ bytes → Gathers answers a waiting bytes (Ok tt) waiting' a
+  Gathers-waits a waiting bytes waiting' is = ([], Written-nil a, sym is)
+
+  -- and where it is written first
+  pub Gathers-after : (a b : D) (waiting bytes waiting' : List ℕ) → Written answers a waiting b → waiting' ≡ bytes → Gathers answers a waiting bytes (Ok tt) waiting' b
+  Gathers-after a b waiting bytes waiting' written is = (waiting, written, ap (λ l. waiting ++ l) (sym is))
+
+  -- all that was gathered is written
+  pub Delivers-gathered : (a b c : D) (waiting bytes waiting' : List ℕ) (r : Result Unit RunError) → Gathers answers a waiting bytes (Ok tt) waiting' b
+      → Delivers answers b waiting' r c → Delivers answers a (waiting ++ bytes) r c
+  Delivers-gathered a b c waiting bytes waiting' r g d =
+      subst (λ l. Delivers answers a l r c) (sym g.2) (Delivers-after a b c g.0 waiting' r g.1 d)
+
+-- n more bytes of what is left
+pub split_more : (bytes front rest : List ℕ) (n : ℕ) → bytes ≡ front ++ rest → bytes ≡ (front ++ take n rest) ++ take (length rest - n) (drop n rest)
+split_more bytes front rest n whole =
+    whole ∙ ap (λ l. front ++ l) (sym (take-append-drop n rest)) ∙ sym (append_assoc front (take n rest) (drop n rest))
+    ∙ ap (λ l. (front ++ take n rest) ++ l) (sym (take_rest rest n))

@@ -1,0 +1,78 @@
+//! A run: reads, and the answers to the lines that they give.
+ghost use Rattle.std.specs.Prelude.{◌≡◌, ◌<◌, ℕ, List, [], length, OnOk, IfOk, IfSome, IsErrOf, vec_len};
+ghost use Rattle.std.specs.Io.KnownBytes.{Appends, IsAtEnd};
+ghost use Rattle.netlines.specs.Answers.{answers_of};
+ghost use Rattle.netlines.specs.Known.{KnownCall, known_of};
+ghost use Rattle.netlines.specs.Runs.{Runs};
+
+use crate::device::{Device, ReaderWriter};
+use crate::line_answerer::LineAnswerer;
+use crate::{READ_COUNT_LIMIT, READ_SIZE_LIMIT, RunError};
+use std::alloc::{AllocError, Global};
+use std::io::{Read, Write};
+
+/// Answers each line of the reader on the writer. The answers to the lines that a read gives are
+/// written before the next read.
+pub fn run<R: Read, W: Write>(alloc: Global, reader: &mut R, writer: &mut W) -> Result<(), RunError>
+    // All lines are answered, and no byte is left to read.
+    ensures ok { OnOk result (IfSome (R.remaining reader.old) (λ bytes.
+        Appends (W.contents writer.old) (W.contents writer.new) (answers_of bytes))) }
+    ensures end { OnOk result (IsAtEnd (R.remaining reader.new)) }
+
+    // Each outcome: which calls were made, what they read, and what was written by then.
+    ensures runs { Runs KnownCall READ_COUNT_LIMIT (known_of (R.remaining reader.old) (W.contents writer.old))
+        (known_of (R.remaining reader.new) (W.contents writer.new)) result }
+
+    // Memory is taken before the first call.
+    ensures memory { IsErrOf result RunError.Memory
+        → (reader.new ≡ reader.old) × (writer.new ≡ writer.old) }
+{
+    let mut device = ReaderWriter { reader, writer };
+    let result = run_over(alloc, &mut device, READ_COUNT_LIMIT);
+    // No effect at run time. The proof reads here what both hold at the end.
+    let _ = &*device.reader;
+    let _ = &*device.writer;
+    result
+}
+
+/// A run of at most so many reads over any device.
+pub fn run_over<D: Device>(alloc: Global, device: &mut D, reads: u64) -> Result<(), RunError>
+    ensures { Runs D.answers reads device.old device.new result }
+{
+    let Ok((mut piece, mut answerer)) = buffers(alloc) else {
+        return Err(RunError::Memory);
+    };
+    answer_reads(piece.as_mut_slice(), &mut answerer, device, reads)
+}
+
+// All the memory of a run.
+fn buffers(alloc: Global) -> Result<(Vec<u8>, LineAnswerer), AllocError>
+    ensures piece { IfOk result (λ made. vec_len made.0 ≡ READ_SIZE_LIMIT) }
+    ensures line { IfOk result (λ made. made.1.line.items ≡ []) }
+    ensures replies { IfOk result (λ made. made.1.replies ≡ []) }
+{
+    let piece = vec![in alloc; 0; READ_SIZE_LIMIT]?;
+    Ok((piece, LineAnswerer::new(alloc)?))
+}
+
+// Answers at most so many reads.
+fn answer_reads<D: Device>(
+    piece: &mut [u8],
+    answerer: &mut LineAnswerer,
+    device: &mut D,
+    reads: u64,
+) -> Result<(), RunError>
+    requires room { 0 < length piece.old }
+    requires line { answerer.old.line.items ≡ [] }
+    requires replies { answerer.old.replies ≡ [] }
+    ensures { Runs D.answers reads device.old device.new result }
+{
+    'reads: for _ in 0..reads {
+        match device.read_some(piece) {
+            Ok(0) => return answerer.finish(device),
+            Ok(n) => answerer.feed(&piece[..n], device)?,
+            Err(_) => return Err(RunError::Read),
+        }
+    }
+    Err(RunError::TooManyReads)
+}
