@@ -29,6 +29,14 @@ build_proved() {
     cp "crates/$1/out/$1" "$work/$1"
 }
 
+# keep_best PROGRAM MICROSECONDS: the least of each program stands in `best`.
+declare -A best
+keep_best() {
+    if [[ -z ${best[$1]:-} ]] || (($2 < best[$1])); then
+        best[$1]=$2
+    fi
+}
+
 # per_second AMOUNT MICROSECONDS
 per_second() {
     echo $(($1 * 1000000 / $2))

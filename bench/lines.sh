@@ -29,16 +29,13 @@ compare() {
 
 # measure INPUT SINK LABEL: both in turns, the best of all rounds of each.
 measure() {
-    local -A best=()
-    local round program began took size
+    local round program began size
+    best=()
     for ((round = 0; round < rounds; round++)); do
         for program in "$ours" "$plain"; do
             began=${EPOCHREALTIME//./}
             "to_$2" "$work/$program" "$1"
-            took=$((${EPOCHREALTIME//./} - began))
-            if [[ -z ${best[$program]:-} ]] || ((took < best[$program])); then
-                best[$program]=$took
-            fi
+            keep_best "$program" $((${EPOCHREALTIME//./} - began))
         done
     done
     size=$(stat -c %s "$1")
