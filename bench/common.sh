@@ -1,0 +1,48 @@
+# What the benchmarks share. The one that sources it stands at the repository's top and has set
+# `cpu`, empty or a processor such as x86-64-v3.
+export LC_ALL=C
+rounds=5
+work=$(mktemp -d)
+trap 'rm -rf "$work"' EXIT
+
+fail() {
+    echo "${0##*/}: $*" >&2
+    exit 1
+}
+
+# build_plain NAME: the Rust program bench/NAME.rs, as $work/NAME.
+build_plain() {
+    command -v rustc >/dev/null || fail "rustc is not on the path"
+    rustc --edition 2024 -O ${cpu:+-C target-cpu="$cpu"} -o "$work/$1" "bench/$1.rs" ||
+        fail "bench/$1.rs was not built"
+}
+
+# build_proved NAME: the program of crates/NAME, proved, as $work/NAME.
+build_proved() {
+    command -v rt >/dev/null || fail "rt is not on the path"
+    [[ -f crates/$1/src/main.rt ]] || fail "there is no program crates/$1"
+    echo "proving and building $1" >&2
+    (cd "crates/$1" && rt run ${cpu:+--cpu "$cpu"} </dev/null) >"$work/$1.log" 2>&1 || {
+        tail -n 20 "$work/$1.log" >&2
+        fail "crates/$1 was not proved and built"
+    }
+    cp "crates/$1/out/$1" "$work/$1"
+}
+
+# keep_best PROGRAM MICROSECONDS: the least of each program stands in `best`.
+declare -A best
+keep_best() {
+    if [[ -z ${best[$1]:-} ]] || (($2 < best[$1])); then
+        best[$1]=$2
+    fi
+}
+
+# per_second AMOUNT MICROSECONDS
+per_second() {
+    echo $(($1 * 1000000 / $2))
+}
+
+# quotient A B: with three digits behind the point.
+quotient() {
+    printf '%d.%03d' $(($1 / $2)) $(($1 * 1000 / $2 % 1000))
+}
