@@ -1,4 +1,5 @@
 pub mod Bounded
+pub mod Bytes
 pub mod IpEcn
 pub mod IpNumber
-pub mod Bytes
+pub mod Sum

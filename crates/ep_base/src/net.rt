@@ -4,6 +4,7 @@ mod ip_dscp;
 mod ip_ecn;
 mod ip_frag_offset;
 mod ip_number;
+pub mod ip_numbers;
 
 pub use ip_dscp::IpDscp;
 pub use ip_ecn::IpEcn;
