@@ -1,5 +1,8 @@
-ghost use Rattle.std.specs.Prelude.{◌≡◌, ℕ, ◌+◌, ◌^◌, ◌<◌, ◌≤◌, ◌↔◌, List, ◌++◌, length, IfOk, IfErr, IsOkAnd, OnOk, OnErr, IsOk, Ok, Err, vec_len, vec_capacity};
+ghost use Rattle.std.specs.Prelude.{◌≡◌, ℕ, ◌+◌, ◌-◌, ◌^◌, ◌<◌, ◌≤◌, ◌↔◌, List, ◌++◌, length, IfOk, IfErr, IsOkAnd, OnOk, OnErr, IsOk, IsTrue, Ok, Err, vec_len, vec_capacity};
 ghost use Rattle.ep_ip.specs.Ipv4.{IsIpv4Header, IsRead, default_header, header_of, header_len, ihl, flags_and_offset, spelling, Fits, is_fragmenting};
+ghost use Rattle.ep_base.specs.Bounded.{too_big};
+ghost use Rattle.ep_base.specs.Sum.{all_ones};
+ghost use Rattle.ep_ip.specs.Ipv4Checksum.{right_checksum, HasRightChecksum};
 ghost use Rattle.ep_ip.specs.Ipv4Fault.{header_at, IsPayloadLen};
 ghost use Rattle.ep_ip.specs.Ipv4Options.{IsIpv4Options};
 
@@ -7,7 +10,8 @@ use super::payload_len::payload_len_of;
 use crate::err::ipv4::{BadOptionsLen, HeaderSliceError};
 use crate::{Ipv4HeaderSlice, Ipv4Options};
 use arrayvec::ArrayVec;
-use ep_base::err::LenError;
+use ep_base::checksum::Sum16BitWords;
+use ep_base::err::{LenError, ValueTooBigError, ValueType};
 use ep_base::{IpDscp, IpEcn, IpFragOffset, IpNumber};
 use std::alloc::AllocError;
 
@@ -59,6 +63,44 @@ impl Ipv4Header {
     /// The older name of [`Ipv4Header::MIN_LEN`].
     pub const SERIALIZED_SIZE: usize = Ipv4Header::MIN_LEN;
 
+    /// A header with no options for a payload of this length, with don't-fragment set, and 0 in
+    /// every field that is not given, the checksum among them.
+    ///
+    /// A payload above 65515 bytes, which no total length leaves room for, is refused.
+    pub fn new(
+        payload_len: u16,
+        time_to_live: u8,
+        protocol: IpNumber,
+        source: [u8; 4],
+        destination: [u8; 4],
+    ) -> Result<Ipv4Header, ValueTooBigError<u16>>
+        ensures ok { payload_len ≤ 65515 → result ≡ Ok (record default_header {
+          total_len = 20 + payload_len;
+          time_to_live = time_to_live;
+          protocol = protocol;
+          source = source;
+          destination = destination;
+        }) }
+        ensures refused { 65515 < payload_len → result ≡ Err (too_big ValueType.Ipv4PayloadLength 65515 payload_len) }
+    {
+        let max_allowed = u16::MAX - Ipv4Header::MIN_LEN_U16;
+        if payload_len > max_allowed {
+            return Err(ValueTooBigError {
+                actual: payload_len,
+                max_allowed,
+                value_type: ValueType::Ipv4PayloadLength,
+            });
+        }
+        Ok(Ipv4Header {
+            total_len: Ipv4Header::MIN_LEN_U16 + payload_len,
+            time_to_live,
+            protocol,
+            source,
+            destination,
+            ..Ipv4Header::default()
+        })
+    }
+
     /// The header at the front of the slice, and what follows it.
     ///
     /// Refused as `Ipv4HeaderSlice::from_slice` refuses. The checksum and the total length are
@@ -97,6 +139,8 @@ impl Ipv4Header {
         // They are a header, with these fields.
         ensures header { IsIpv4Header result.items }
         ensures fields { header_of result.items ≡ self.now }
+        // They sum to all ones exactly where the checksum is the right one.
+        ensures checked { IsTrue (all_ones result.items) ↔ HasRightChecksum self.now }
     {
         self.spelled_with(self.header_checksum)
     }
@@ -144,6 +188,37 @@ impl Ipv4Header {
         dont_fragment | more_fragments | self.fragment_offset.value()
     }
 
+    /// The checksum that belongs to the other fields: the complement of the ones-complement sum of
+    /// the header's 16-bit words, with its own field as 0 (RFC 791, section 3.1; RFC 1071).
+    ///
+    /// It is never ffff, since the first byte is never 0, and the field's value has no part in it.
+    pub fn calc_header_checksum(&self) -> u16
+        ensures value { result ≡ right_checksum self.now }
+        ensures below { result < 65535 }
+    {
+        Sum16BitWords::new()
+            .add_slice(self.spelled_with(0).as_slice())
+            .ones_complement()
+            .swap_bytes()
+    }
+
+    /// Appends the bytes of the header with the checksum that belongs to them, whatever the field
+    /// holds. Of the total length nothing is tested.
+    ///
+    /// Where no memory is left for them, the buffer keeps its bytes.
+    pub fn write(&self, buffer: &mut Vec<u8>) -> Result<(), AllocError>
+        ensures ok { OnOk result (buffer.new.items ≡ buffer.old.items
+            ++ spelling (record self.now { header_checksum = right_checksum self.now })) }
+        ensures len { OnOk result (vec_len buffer.new ≡ vec_len buffer.old + header_len self.now) }
+        ensures err { OnErr result (buffer.new.items ≡ buffer.old.items) }
+        // It fails only where room was missing, and room never shrinks.
+        ensures succeeds { vec_len buffer.old + header_len self.now ≤ vec_capacity buffer.old → IsOk result }
+        ensures capacity { vec_capacity buffer.old ≤ vec_capacity buffer.new }
+    {
+        let bytes = self.spelled_with(self.calc_header_checksum());
+        buffer.extend_from_slice(bytes.as_slice())
+    }
+
     /// Appends the bytes of the header, with the checksum as it stands.
     ///
     /// Where no memory is left for them, the buffer keeps its bytes.
@@ -183,6 +258,34 @@ impl Ipv4Header {
         ensures only { (n : ℕ) → header_len self.now + n ≡ self.now.total_len → result ≡ Ok n }
     {
         payload_len_of(self.header_len() as u16, self.total_len)
+    }
+
+    /// Sets the total length to that of a header and payload of this many bytes.
+    ///
+    /// A length above [`Ipv4Header::max_payload_len`] is refused, and the header is unchanged.
+    pub fn set_payload_len(&mut self, value: usize) -> Result<(), ValueTooBigError<usize>>
+        ensures fits { IsOk result ↔ (header_len self.old + value ≤ 65535) }
+        ensures ok { OnOk result (self.new ≡ record self.old { total_len = header_len self.old + value }) }
+        ensures err { OnErr result (self.new ≡ self.old) }
+        ensures refused { IfErr result (λ e. e ≡ too_big ValueType.Ipv4PayloadLength (65535 - header_len self.old) value) }
+    {
+        let max_allowed = usize::from(self.max_payload_len());
+        if value > max_allowed {
+            return Err(ValueTooBigError {
+                actual: value,
+                max_allowed,
+                value_type: ValueType::Ipv4PayloadLength,
+            });
+        }
+        self.total_len = (self.header_len() + value) as u16;
+        Ok(())
+    }
+
+    /// The length in bytes of the longest payload that a total length can name behind this header.
+    pub fn max_payload_len(&self) -> u16
+        ensures { header_len self.now + result ≡ 65535 }
+    {
+        u16::MAX - self.header_len() as u16
     }
 
     /// The bytes of the options.
