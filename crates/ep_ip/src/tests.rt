@@ -20,23 +20,30 @@ fn too_short(required_len: usize, len: usize) -> HeaderSliceError {
     })
 }
 
+// The fields of `BYTES`, read by hand.
+fn fields() -> Result<Ipv4Header, Fail> {
+    Ok(Ipv4Header {
+        dscp: IpDscp::CS1,
+        ecn: IpEcn::Ect1,
+        total_len: 30,
+        identification: 7,
+        dont_fragment: false,
+        more_fragments: true,
+        fragment_offset: IpFragOffset::try_new(5)?,
+        time_to_live: 64,
+        protocol: IpNumber::UDP,
+        header_checksum: 0x439f,
+        source: [10, 0, 0, 1],
+        destination: [10, 0, 0, 2],
+        options: Ipv4Options::from([1, 1, 1, 0]),
+    })
+}
+
 #[test]
 fn fields_by_position(rt: HostRuntime) -> Result<(), Fail> {
     let (header, rest) = Ipv4Header::from_slice(&BYTES)?;
+    assert_eq!(rt; header, fields()?);
     assert_eq!(rt; rest, [0xaa, 0xbb].as_slice());
-    assert_eq!(rt; header.dscp.value(), 8);
-    assert_eq!(rt; header.ecn, IpEcn::Ect1);
-    assert_eq!(rt; header.total_len, 30);
-    assert_eq!(rt; header.identification, 7);
-    assert_eq!(rt; header.dont_fragment, false);
-    assert_eq!(rt; header.more_fragments, true);
-    assert_eq!(rt; header.fragment_offset.value(), 5);
-    assert_eq!(rt; header.time_to_live, 64);
-    assert_eq!(rt; header.protocol, IpNumber::UDP);
-    assert_eq!(rt; header.header_checksum, 0x439f);
-    assert_eq!(rt; header.source, [10, 0, 0, 1]);
-    assert_eq!(rt; header.destination, [10, 0, 0, 2]);
-    assert_eq!(rt; header.options.as_slice(), [1, 1, 1, 0].as_slice());
     assert_eq!(rt; header.ihl(), 6);
     assert_eq!(rt; header.header_len(), 24);
     assert_eq!(rt; header.payload_len(), Ok(6));
@@ -48,24 +55,35 @@ fn fields_by_position(rt: HostRuntime) -> Result<(), Fail> {
 fn getters_of_the_slice(rt: HostRuntime) -> Result<(), Fail> {
     let header = Ipv4HeaderSlice::from_slice(&BYTES)?;
     assert_eq!(rt; header.slice(), &BYTES[..24]);
-    assert_eq!(rt; header.version(), 4);
-    assert_eq!(rt; header.ihl(), 6);
-    assert_eq!(rt; header.dcp().value(), 8);
-    assert_eq!(rt; header.ecn(), IpEcn::Ect1);
-    assert_eq!(rt; header.total_len(), 30);
+    let bytes = [
+        header.version(),
+        header.ihl(),
+        header.dcp().value(),
+        header.ecn().value(),
+        header.ttl(),
+        header.protocol().0,
+    ];
+    assert_eq!(rt; bytes, [4, 6, 8, 1, 64, 17]);
+    let words = [
+        header.total_len(),
+        header.identification(),
+        header.fragments_offset().value(),
+        header.header_checksum(),
+    ];
+    assert_eq!(rt; words, [30, 7, 5, 0x439f]);
+    let flags = [
+        header.dont_fragment(),
+        header.more_fragments(),
+        header.is_fragmenting_payload(),
+    ];
+    assert_eq!(rt; flags, [false, true, true]);
     assert_eq!(rt; header.payload_len(), Ok(6));
-    assert_eq!(rt; header.identification(), 7);
-    assert_eq!(rt; header.dont_fragment(), false);
-    assert_eq!(rt; header.more_fragments(), true);
-    assert_eq!(rt; header.fragments_offset().value(), 5);
-    assert_eq!(rt; header.is_fragmenting_payload(), true);
-    assert_eq!(rt; header.ttl(), 64);
-    assert_eq!(rt; header.protocol(), IpNumber::UDP);
-    assert_eq!(rt; header.header_checksum(), 0x439f);
-    assert_eq!(rt; header.source(), [10, 0, 0, 1]);
-    assert_eq!(rt; header.destination(), [10, 0, 0, 2]);
+    assert_eq!(rt;
+        [header.source(), header.destination()],
+        [[10, 0, 0, 1], [10, 0, 0, 2]]
+    );
     assert_eq!(rt; header.options(), [1, 1, 1, 0].as_slice());
-    assert_eq!(rt; header.to_header(), Ipv4Header::from_slice(&BYTES)?.0);
+    assert_eq!(rt; header.to_header(), fields()?);
     Ok(())
 }
 
