@@ -5,10 +5,15 @@ pub mod checksum;
 pub mod err;
 pub mod laws;
 mod len_source;
+mod link;
 mod net;
 
 pub use len_source::LenSource;
-pub use net::{IpDscp, IpEcn, IpFragOffset, IpNumber, ip_numbers as ip_number};
+pub use link::ether_types as ether_type;
+pub use link::EtherType;
+pub use net::ip_numbers as ip_number;
+pub use net::{IpDscp, IpDscpKnown, IpDscpUnknownValueError, IpEcn, IpFragOffset, IpNumber};
+pub use net::{IpTrafficClass, Ipv4Dscp, Ipv4Ecn, Ipv6FlowLabel};
 
 #[cfg(test)]
 mod tests;
