@@ -171,6 +171,13 @@ pub accumulated_carry_32 : (a b s : ℕ) (carry : Bool) → a < 2 ^ 32 → b < 2
 accumulated_carry_32 a b s carry p q e wraps =
     accumulated_cong (s + bool_byte carry) (a + b) (fold_carry_32 a b s carry p q e wraps) ∙ accumulated-add a b
 
+-- a wide number as its two halves
+pub accumulated_halves : (n : ℕ) → fold (accumulated (n % 4294967296) + accumulated (n / 4294967296)) ≡ accumulated n
+accumulated_halves n =
+    let whole : n ≡ n % 4294967296 + 4294967296 * (n / 4294967296) = omega arith in
+    sym (accumulated-add (n % 4294967296) (n / 4294967296))
+    ∙ accumulated_cong _ n (sym (ap fold whole ∙ fold_around_32 (n % 4294967296) (n / 4294967296)))
+
 -- the complement of a number's fold is that of its sum with the bytes turned
 pub complement_of_accumulated : (n : ℕ) → 65535 - fold n ≡ turned (65535 - accumulated n)
 complement_of_accumulated n =

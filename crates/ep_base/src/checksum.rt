@@ -3,8 +3,10 @@
 ghost use Rattle.std.specs.Prelude.{◌≡◌, ◌+◌, ◌-◌, ◌%◌, ◌++◌, ◌==◌, ℕ, List, [], length};
 ghost use Rattle.std.proofs.Common.{rules};
 ghost use Rattle.std.specs.Cmp.Rules.{comparing};
+ghost use Rattle.std.specs.List.{flat_map};
 ghost use Rattle.ep_base.specs.Sum.{accumulated, all_ones, checksum, fold, no_zero, padded, total, turned};
 
+pub mod u32_16bit_word;
 pub mod u64_16bit_word;
 
 use std::marker::Model;
@@ -149,4 +151,16 @@ impl Default for Sum16BitWords {
     fn default() -> Self {
         Self::new()
     }
+}
+
+/// The complement of the sum of all pieces, each with a zero byte after it where its length is odd:
+/// what [`Sum16BitWords::ones_complement`] answers where they are added one by one.
+pub fn sum_pieces(pieces: &[&[u8]]) -> u16
+    ensures { result ≡ turned (checksum (flat_map (λ piece. padded piece.now) pieces.now)) }
+{
+    let mut sum = Sum16BitWords::new();
+    for piece in pieces {
+        sum = sum.add_slice(piece);
+    }
+    sum.ones_complement()
 }

@@ -5,10 +5,15 @@ pub mod checksum;
 pub mod err;
 pub mod laws;
 mod len_source;
+mod link;
 mod net;
 
 pub use len_source::LenSource;
-pub use net::{IpDscp, IpEcn, IpFragOffset, IpNumber, ip_numbers as ip_number};
+pub use link::{EtherType, ether_types as ether_type};
+pub use net::{
+    IpDscp, IpDscpKnown, IpDscpUnknownValueError, IpEcn, IpFragOffset, IpNumber, IpTrafficClass,
+    Ipv4Dscp, Ipv4Ecn, Ipv6FlowLabel, ip_numbers as ip_number,
+};
 
 #[cfg(test)]
 mod tests;
