@@ -8,6 +8,8 @@ mod line_answerer;
 mod reply_buffer;
 mod run_error;
 mod run_lines;
+#[cfg(test)]
+mod tests;
 
 pub use limits::{LINE_LIMIT, READ_COUNT_LIMIT, READ_SIZE_LIMIT};
 pub use run_error::RunError;
