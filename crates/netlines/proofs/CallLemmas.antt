@@ -12,9 +12,9 @@ pub AllByRecursion-append : {X : Type 0} (P : X → Type 0) (xs ys : List X) →
 AllByRecursion-append P [] ys p q = q
 AllByRecursion-append P (x ∷ xs) ys p q = (p.0, AllByRecursion-append P xs ys p.1 q)
 
-pub Makes-append : {D : Type 0} (answers : D → Call → D → Type 0) (a b c : D) (xs ys : List Call) → Makes answers a xs b → Makes answers b ys c → Makes answers a (xs ++ ys) c
-Makes-append answers a b c [] ys p q = subst (λ s. Makes answers s ys c) p q
-Makes-append answers a b c (x ∷ xs) ys p q = (p.0, p.1, Makes-append answers p.0 b c xs ys p.2 q)
+pub Makes-append : {D : Type 0} (transition : D → Call → D → Type 0) (a b c : D) (xs ys : List Call) → Makes transition a xs b → Makes transition b ys c → Makes transition a (xs ++ ys) c
+Makes-append transition a b c [] ys p q = subst (λ s. Makes transition s ys c) p q
+Makes-append transition a b c (x ∷ xs) ys p q = (p.0, p.1, Makes-append transition p.0 b c xs ys p.2 q)
 
 pub read_count-append : (xs ys : List Call) → read_count (xs ++ ys) ≡ read_count xs + read_count ys
 read_count-append xs ys = sum_by-append (λ call. cond (is_read call) 1 0) xs ys

@@ -15,14 +15,14 @@ use Rattle.netlines.proofs.SplitLemmas.{HasNoNewline-append, split-HasNoNewline,
 use Rattle.netlines.proofs.WriteLemmas.{Written-append, Written-nil, Stops-after, Stops-more, Delivers-after}
 
 -- the replies to these lines are gathered, and what follows goes on from begun, of which line is kept
-pub record Fed {D : Type 0} (answers : D → Call → D → Type 0) (old : D) (text line rest waiting : List ℕ) (new : D) : Type 0 where
+pub record Fed {D : Type 0} (transition : D → Call → D → Type 0) (old : D) (text line rest waiting : List ℕ) (new : D) : Type 0 where
   pub lines : List (List ℕ)
   pub begun : List ℕ
   pub whole : HasNoNewline begun
   pub kept : line ≡ take LINE_ROOM begun
   pub same : split text ≡ split_on lines begun rest
   pub front : List ℕ
-  pub written : Written answers old front new
+  pub written : Written transition old front new
   pub gathered : flat_map reply_of lines ≡ front ++ waiting
 
 not_true : (b : Bool) → (b ≡ true → ⊥) → b ≡ false
@@ -56,8 +56,8 @@ replies-more lines line front waiting front' waiting' before here =
     flat_map-append reply_of lines (line ∷ []) ∙ ap (λ l. flat_map reply_of lines ++ l) (append-nil (reply_of line)) ∙ ap (λ l. l ++ reply_of line) before
     ∙ append_assoc front waiting (reply_of line) ∙ ap (λ l. front ++ l) here ∙ sym (append_assoc front front' waiting')
 
-module _ {D : Type 0} (answers : D → Call → D → Type 0) where
-  pub fed_start : (old : D) (start piece line waiting : List ℕ) → HasNoNewline start → line ≡ take LINE_ROOM start → waiting ≡ [] → Fed answers old (start ++ piece) line piece waiting old
+module _ {D : Type 0} (transition : D → Call → D → Type 0) where
+  pub fed_start : (old : D) (start piece line waiting : List ℕ) → HasNoNewline start → line ≡ take LINE_ROOM start → waiting ≡ [] → Fed transition old (start ++ piece) line piece waiting old
   fed_start old start piece line waiting whole kept none = record {
     lines = [];
     begun = start;
@@ -65,14 +65,14 @@ module _ {D : Type 0} (answers : D → Call → D → Type 0) where
     kept = kept;
     same = refl;
     front = [];
-    written = Written-nil answers old;
+    written = Written-nil transition old;
     gathered = sym none;
   }
 
   -- one more line
-  pub fed_line : (old mid new : D) (text line rest waiting : List ℕ) (n : ℕ) (f : Fed answers old text line rest waiting mid) → n < length rest → get_or rest n 0 ≡ 10
-      → HasNoNewline (take n rest) → (waiting' : List ℕ) → Gathers answers mid waiting (reply_of (f.begun ++ take n rest)) (Ok tt) waiting' new
-      → (empty : List ℕ) → empty ≡ [] → Fed answers old text empty (drop (n + 1) rest) waiting' new
+  pub fed_line : (old mid new : D) (text line rest waiting : List ℕ) (n : ℕ) (f : Fed transition old text line rest waiting mid) → n < length rest → get_or rest n 0 ≡ 10
+      → HasNoNewline (take n rest) → (waiting' : List ℕ) → Gathers transition mid waiting (reply_of (f.begun ++ take n rest)) (Ok tt) waiting' new
+      → (empty : List ℕ) → empty ≡ [] → Fed transition old text empty (drop (n + 1) rest) waiting' new
   fed_line old mid new text line rest waiting n f lt is none waiting' more empty nothing = record {
     lines = f.lines ++ (f.begun ++ take n rest) ∷ [];
     begun = [];
@@ -80,14 +80,14 @@ module _ {D : Type 0} (answers : D → Call → D → Type 0) where
     kept = nothing;
     same = f.same ∙ split_on-line f.lines f.begun rest n f.whole lt is none;
     front = f.front ++ more.0;
-    written = Written-append answers old mid new f.front more.0 f.written more.1;
+    written = Written-append transition old mid new f.front more.0 f.written more.1;
     gathered = replies-more f.lines (f.begun ++ take n rest) f.front waiting more.0 waiting' f.gathered more.2;
   }
 
   -- a write stops at a line
-  pub fed_stops : (old mid new : D) (text line rest waiting : List ℕ) (n : ℕ) (f : Fed answers old text line rest waiting mid) → n < length rest → get_or rest n 0 ≡ 10
-      → HasNoNewline (take n rest) → (e : RunError) → Stops answers e mid (waiting ++ reply_of (f.begun ++ take n rest)) new
-      → Stops answers e old (ended_answers_of text) new
+  pub fed_stops : (old mid new : D) (text line rest waiting : List ℕ) (n : ℕ) (f : Fed transition old text line rest waiting mid) → n < length rest → get_or rest n 0 ≡ 10
+      → HasNoNewline (take n rest) → (e : RunError) → Stops transition e mid (waiting ++ reply_of (f.begun ++ take n rest)) new
+      → Stops transition e old (ended_answers_of text) new
   fed_stops old mid new text line rest waiting n f lt is none e stops =
       let here = f.begun ++ take n rest in
       let later = (split (drop (n + 1) rest)).ended in
@@ -97,25 +97,25 @@ module _ {D : Type 0} (answers : D → Call → D → Type 0) where
       ∙ ap replies (append_assoc f.lines (here ∷ []) later) ∙ flat_map-append reply_of f.lines (here ∷ later)
       ∙ ap (λ l. l ++ (reply_of here ++ replies later)) f.gathered ∙ append_assoc f.front waiting (reply_of here ++ replies later)
       ∙ ap (λ l. f.front ++ l) (sym (append_assoc waiting (reply_of here) (replies later))) in
-      subst (λ bytes. Stops answers e old bytes new) (sym all)
-      (Stops-after answers e old mid new f.front ((waiting ++ reply_of here) ++ replies later) f.written
-      (Stops-more answers e mid new (waiting ++ reply_of here) (replies later) stops))
+      subst (λ bytes. Stops transition e old bytes new) (sym all)
+      (Stops-after transition e old mid new f.front ((waiting ++ reply_of here) ++ replies later) f.written
+      (Stops-more transition e mid new (waiting ++ reply_of here) (replies later) stops))
 
   -- no line ends any more
-  fed_split : (old new : D) (text line rest waiting : List ℕ) (f : Fed answers old text line rest waiting new) → HasNoNewline rest
+  fed_split : (old new : D) (text line rest waiting : List ℕ) (f : Fed transition old text line rest waiting new) → HasNoNewline rest
       → split text ≡ (let d : Split = record { ended = f.lines; rest = f.begun ++ rest } in d)
   fed_split old new text line rest waiting f none =
       f.same ∙ ap (λ (c : Split). let d : Split = record { ended = f.lines ++ c.ended; rest = c.rest } in d) (split-HasNoNewline (f.begun ++ rest) (HasNoNewline-append f.begun rest f.whole none))
       ∙ ap (λ ls. let d : Split = record { ended = ls; rest = f.begun ++ rest } in d) (append-nil f.lines)
 
   -- what waits is written
-  pub fed_written : (old mid new : D) (text line rest waiting : List ℕ) (f : Fed answers old text line rest waiting mid) → HasNoNewline rest → (r : Result Unit RunError)
-      → Delivers answers mid waiting r new → Delivers answers old (ended_answers_of text) r new
+  pub fed_written : (old mid new : D) (text line rest waiting : List ℕ) (f : Fed transition old text line rest waiting mid) → HasNoNewline rest → (r : Result Unit RunError)
+      → Delivers transition mid waiting r new → Delivers transition old (ended_answers_of text) r new
   fed_written old mid new text line rest waiting f none r d =
       let all : ended_answers_of text ≡ f.front ++ waiting = ap (λ (c : Split). flat_map reply_of c.ended) (fed_split old mid text line rest waiting f none) ∙ f.gathered in
-      subst (λ bytes. Delivers answers old bytes r new) (sym all) (Delivers-after answers old mid new f.front waiting r f.written d)
+      subst (λ bytes. Delivers transition old bytes r new) (sym all) (Delivers-after transition old mid new f.front waiting r f.written d)
 
-  pub fed_kept : (old new : D) (text line rest waiting : List ℕ) (f : Fed answers old text line rest waiting new) → HasNoNewline rest
+  pub fed_kept : (old new : D) (text line rest waiting : List ℕ) (f : Fed transition old text line rest waiting new) → HasNoNewline rest
       → (kept : List ℕ) → kept ≡ take LINE_ROOM (line ++ rest) → kept ≡ take LINE_ROOM (split text).rest
   fed_kept old new text line rest waiting f none kept is =
       is ∙ ap (λ l. take LINE_ROOM (l ++ rest)) f.kept ∙ take-kept LINE_ROOM f.begun rest ∙ ap (λ (c : Split). take LINE_ROOM c.rest) (sym (fed_split old new text line rest waiting f none))

@@ -7,11 +7,12 @@ use Rattle.std.proofs.lemmas.List.Elements.{filter_map-append}
 use Rattle.std.proofs.lemmas.List.Folds.{list_any-append}
 use Rattle.netlines.specs.declared.run_error.RunError.{RunError}
 use Rattle.netlines.specs.declared.run_error.RunError.TheVariants.{Read, Write, WriteZero, Memory, TooManyReads}
+use Rattle.netlines.specs.declared.limits.TheConstants.{READ_SIZE_LIMIT}
 use Rattle.netlines.specs.declared.line_answerer.TheConstants.{LINE_ROOM}
 use Rattle.netlines.specs.Answers.{reply_of, answers_of, ended_answers_of}
 use Rattle.netlines.specs.Calls.{Call, Reads, Writes, Makes, bytes_given, bytes_taken, bytes_read, bytes_written, read_count, tells_end, is_end_told, fault_of, faults_of}
 use Rattle.netlines.specs.Lines.{Split, split, last_line}
-use Rattle.netlines.specs.Runs.{Follows, EachFollows, Ends, Answers, Runs}
+use Rattle.netlines.specs.Runs.{Follows, EachFollows, Ends, IsOutput, Runs}
 use Rattle.netlines.specs.Writes.{Written, Stops, Delivers}
 use Rattle.netlines.proofs.CallLemmas.{Makes-append, read_count-append, EachFollows-append, writes_faults, writes_tell, writes_count, writes_read, writes_follow}
 use Rattle.netlines.proofs.SplitLemmas.{split-append, split-nil}
@@ -76,18 +77,18 @@ fault_ends limit calls call Memory fault faults = absurd (no_memory call fault)
 fault_ends limit calls call TooManyReads fault faults = absurd (no_too_many call fault)
 
 -- what is written before a write that is a fault
-stop_answers : (e : RunError) (bytes : List ℕ) (taken : Option ℕ) → fault_of (Writes bytes taken) ≡ Some e → (read written missing : List ℕ) → answers_of read ≡ written ++ missing → Answers (Err e) read written
-stop_answers Read bytes taken fault read written missing is = absurd (no_read bytes taken fault)
-stop_answers Write bytes taken fault read written missing is = (missing, is)
-stop_answers WriteZero bytes taken fault read written missing is = (missing, is)
-stop_answers Memory bytes taken fault read written missing is = absurd (no_memory (Writes bytes taken) fault)
-stop_answers TooManyReads bytes taken fault read written missing is = absurd (no_too_many (Writes bytes taken) fault)
+stop_output : (e : RunError) (bytes : List ℕ) (taken : Option ℕ) → fault_of (Writes bytes taken) ≡ Some e → (read written missing : List ℕ) → answers_of read ≡ written ++ missing → IsOutput (Err e) read written
+stop_output Read bytes taken fault read written missing is = absurd (no_read bytes taken fault)
+stop_output Write bytes taken fault read written missing is = (missing, is)
+stop_output WriteZero bytes taken fault read written missing is = (missing, is)
+stop_output Memory bytes taken fault read written missing is = absurd (no_memory (Writes bytes taken) fault)
+stop_output TooManyReads bytes taken fault read written missing is = absurd (no_too_many (Writes bytes taken) fault)
 
-module _ {D : Type 0} (answers : D → Call → D → Type 0) where
+module _ {D : Type 0} (transition : D → Call → D → Type 0) where
   -- calls without a fault, so many of them reads, that read and wrote these bytes, and whether a read told the end
   pub record Going (read written : List ℕ) (told : Bool) (count : ℕ) (old new : D) : Type 0 where
     pub calls : List Call
-    pub made : Makes answers old calls new
+    pub made : Makes transition old calls new
     pub each : EachFollows [] calls
     pub faults : faults_of calls ≡ []
     pub tells : is_end_told calls ≡ told
@@ -106,14 +107,14 @@ module _ {D : Type 0} (answers : D → Call → D → Type 0) where
   going_start old = record { calls = []; made = refl; each = tt; faults = refl; tells = refl; reads = refl; gave = refl; took = refl }
 
   -- a call after those of a run that goes on
-  going_read : (read : List ℕ) (count : ℕ) (old mid new : D) (g : Going read (ended_answers_of read) false count old mid) (piece : List ℕ) → answers mid (Reads (Some piece)) new
-      → Going (read ++ piece) (ended_answers_of read) (tells_end (Reads (Some piece))) (count + 1) old new
-  going_read read count old mid new g piece call =
+  going_read : (read : List ℕ) (count : ℕ) (old mid new : D) (g : Going read (ended_answers_of read) false count old mid) (piece : List ℕ) → transition mid (Reads (Some piece)) new
+      → length piece ≤ READ_SIZE_LIMIT → Going (read ++ piece) (ended_answers_of read) (tells_end (Reads (Some piece))) (count + 1) old new
+  going_read read count old mid new g piece call size =
       let last = Reads (Some piece) ∷ [] in
       record {
         calls = g.calls ++ last;
-        made = Makes-append answers old mid new g.calls last g.made (new, call, refl);
-        each = EachFollows-append [] g.calls last g.each ((g.faults, g.tells, g.took ∙ ap ended_answers_of (sym g.gave)), tt);
+        made = Makes-append transition old mid new g.calls last g.made (new, call, refl);
+        each = EachFollows-append [] g.calls last g.each ((g.faults, g.tells, g.took ∙ ap ended_answers_of (sym g.gave), size), tt);
         faults = filter_map-append fault_of g.calls last ∙ ap (λ l. l ++ []) g.faults;
         tells = list_any-append tells_end g.calls last ∙ ap (λ b. b || (tells_end (Reads (Some piece)) || false)) g.tells ∙ or_false (tells_end (Reads (Some piece)));
         reads = read_count-append g.calls last ∙ ap (λ n. n + 1) g.reads;
@@ -121,11 +122,11 @@ module _ {D : Type 0} (answers : D → Call → D → Type 0) where
         took = flat_map-append bytes_taken g.calls last ∙ append-nil (bytes_written g.calls) ∙ g.took;
       }
 
-  going_write : (read written : List ℕ) (told : Bool) (count : ℕ) (old mid new : D) (g : Going read written told count old mid) (text : List ℕ) → Written answers mid text new
+  going_write : (read written : List ℕ) (told : Bool) (count : ℕ) (old mid new : D) (g : Going read written told count old mid) (text : List ℕ) → Written transition mid text new
       → Going read (written ++ text) told count old new
   going_write read written told count old mid new g text w = record {
     calls = g.calls ++ w.calls;
-    made = Makes-append answers old mid new g.calls w.calls g.made w.made;
+    made = Makes-append transition old mid new g.calls w.calls g.made w.made;
     each = EachFollows-append [] g.calls w.calls g.each (writes_follow g.calls w.calls g.faults w.each);
     faults = filter_map-append fault_of g.calls w.calls ∙ ap (λ l. l ++ faults_of w.calls) g.faults ∙ writes_faults w.calls w.each;
     tells = list_any-append tells_end g.calls w.calls ∙ ap (λ b. is_end_told g.calls || b) (writes_tell w.calls w.each) ∙ or_false (is_end_told g.calls) ∙ g.tells;
@@ -136,20 +137,20 @@ module _ {D : Type 0} (answers : D → Call → D → Type 0) where
 
   -- a run that ends after these calls, with no fault
   going_ends : (limit : ℕ) (read written : List ℕ) (told : Bool) (count : ℕ) (old new : D) (g : Going read written told count old new) (result : Result Unit RunError) → count ≤ limit
-      → Ends limit g.calls result → Answers result read written → Runs answers limit old new result
+      → Ends limit g.calls result → IsOutput result read written → Runs transition limit old new result
   going_ends limit read written told count old new g result fits ends said = record {
     calls = g.calls;
     made = g.made;
     each = g.each;
     reads = let n = g.reads in omega arith;
     ends = ends;
-    answered = rw (g.gave, g.took) said;
+    output = rw (g.gave, g.took) said;
   }
 
   -- a run that ends by one more call, a fault
-  going_fails : (limit : ℕ) (read written : List ℕ) (told : Bool) (count : ℕ) (old mid new : D) (g : Going read written told count old mid) (call : Call) → answers mid call new
-      → Follows g.calls call → (e : RunError) → fault_of call ≡ Some e → read_count g.calls + read_count (call ∷ []) ≤ limit → Answers (Err e) read written
-      → Runs answers limit old new (Err e)
+  going_fails : (limit : ℕ) (read written : List ℕ) (told : Bool) (count : ℕ) (old mid new : D) (g : Going read written told count old mid) (call : Call) → transition mid call new
+      → Follows g.calls call → (e : RunError) → fault_of call ≡ Some e → read_count g.calls + read_count (call ∷ []) ≤ limit → IsOutput (Err e) read written
+      → Runs transition limit old new (Err e)
   going_fails limit read written told count old mid new g call made follows e fault fits said =
       let last = call ∷ [] in
       let calls = g.calls ++ last in
@@ -161,20 +162,20 @@ module _ {D : Type 0} (answers : D → Call → D → Type 0) where
       filter_map-append fault_of g.calls last ∙ ap (λ l. l ++ faults_of last) g.faults ∙ ap (λ o. cons_option o []) fault in
       record {
         calls = calls;
-        made = Makes-append answers old mid new g.calls last g.made (new, made, refl);
+        made = Makes-append transition old mid new g.calls last g.made (new, made, refl);
         each = EachFollows-append [] g.calls last g.each (follows, tt);
         reads = rw (read_count-append g.calls last) fits;
         ends = fault_ends limit calls call e fault faults;
-        answered = rw (gave, took) said;
+        output = rw (gave, took) said;
       }
 
   going_stops : (limit : ℕ) (read written : List ℕ) (told : Bool) (count : ℕ) (old mid new : D) (g : Going read written told count old mid) → count ≤ limit → (text more : List ℕ)
-      → answers_of read ≡ (written ++ text) ++ more → (e : RunError) → Stops answers e mid text new → Runs answers limit old new (Err e)
+      → answers_of read ≡ (written ++ text) ++ more → (e : RunError) → Stops transition e mid text new → Runs transition limit old new (Err e)
   going_stops limit read written told count old mid new g fits text more is e s =
       let before = going_write read written told count old mid s.mid g s.front s.before in
       let n = before.reads in
       going_fails limit read (written ++ s.front) told count old s.mid new before (Writes s.handed s.taken) s.stop (before.faults, s.some) e s.fault (omega arith)
-      (stop_answers e s.handed s.taken s.fault read (written ++ s.front) (s.missing ++ more) (missing_more (answers_of read) s.front s.missing text s.whole written more is))
+      (stop_output e s.handed s.taken s.fault read (written ++ s.front) (s.missing ++ more) (missing_more (answers_of read) s.front s.missing text s.whole written more is))
 
   pub answered_start : (old : D) (line waiting : List ℕ) → line ≡ [] → waiting ≡ [] → Answered 0 old old line waiting
   answered_start old line waiting empty none = record {
@@ -185,13 +186,13 @@ module _ {D : Type 0} (answers : D → Call → D → Type 0) where
   }
 
   -- a piece is read, and the lines that end in it are answered
-  pub answered_more : (n : ℕ) (old mid later new : D) (line waiting line' waiting' : List ℕ) (a : Answered n old mid line waiting) (piece : List ℕ) → answers mid (Reads (Some piece)) later
-      → 0 < length piece → Written answers later (ended_answers_of ((split a.came).rest ++ piece)) new → line' ≡ take LINE_ROOM (split ((split a.came).rest ++ piece)).rest → waiting' ≡ []
+  pub answered_more : (n : ℕ) (old mid later new : D) (line waiting line' waiting' : List ℕ) (a : Answered n old mid line waiting) (piece : List ℕ) → transition mid (Reads (Some piece)) later
+      → length piece ≤ READ_SIZE_LIMIT → 0 < length piece → Written transition later (ended_answers_of ((split a.came).rest ++ piece)) new → line' ≡ take LINE_ROOM (split ((split a.came).rest ++ piece)).rest → waiting' ≡ []
       → Answered (n + 1) old new line' waiting'
-  answered_more n old mid later new line waiting line' waiting' a [] call some more kept none = absurd (omega arith)
-  answered_more n old mid later new line waiting line' waiting' a (b ∷ bytes) call some more kept none =
+  answered_more n old mid later new line waiting line' waiting' a [] call size some more kept none = absurd (omega arith)
+  answered_more n old mid later new line waiting line' waiting' a (b ∷ bytes) call size some more kept none =
       let piece = b ∷ bytes in
-      let asked = going_read a.came n old mid later a.going piece call in
+      let asked = going_read a.came n old mid later a.going piece call size in
       record {
         came = a.came ++ piece;
         going =
@@ -202,46 +203,46 @@ module _ {D : Type 0} (answers : D → Call → D → Type 0) where
       }
 
   -- a piece is read, and a write stops before the lines that end in it are answered
-  pub answered_stops : (limit n : ℕ) (old mid later new : D) (line waiting : List ℕ) (a : Answered n old mid line waiting) (piece : List ℕ) → answers mid (Reads (Some piece)) later
-      → n < limit → (e : RunError) → Stops answers e later (ended_answers_of ((split a.came).rest ++ piece)) new → Runs answers limit old new (Err e)
-  answered_stops limit n old mid later new line waiting a piece call fits e stops =
+  pub answered_stops : (limit n : ℕ) (old mid later new : D) (line waiting : List ℕ) (a : Answered n old mid line waiting) (piece : List ℕ) → transition mid (Reads (Some piece)) later
+      → length piece ≤ READ_SIZE_LIMIT → n < limit → (e : RunError) → Stops transition e later (ended_answers_of ((split a.came).rest ++ piece)) new → Runs transition limit old new (Err e)
+  answered_stops limit n old mid later new line waiting a piece call size fits e stops =
       let read = a.came ++ piece in
-      going_stops limit read (ended_answers_of a.came) (tells_end (Reads (Some piece))) (n + 1) old later new (going_read a.came n old mid later a.going piece call) (omega arith)
+      going_stops limit read (ended_answers_of a.came) (tells_end (Reads (Some piece))) (n + 1) old later new (going_read a.came n old mid later a.going piece call size) (omega arith)
       (ended_answers_of ((split a.came).rest ++ piece)) (flat_map reply_of (last_line (split read).rest))
       (answers_of-parts read ∙ ap (λ l. l ++ flat_map reply_of (last_line (split read).rest)) (ended_answers_of-append a.came piece)) e stops
 
   -- the end is told, and a last line is answered
-  at_end : (limit n : ℕ) (old mid later new : D) (line waiting : List ℕ) (a : Answered n old mid line waiting) → answers mid (Reads (Some [])) later → n < limit → (r : Result Unit RunError)
-      → Delivers answers later (flat_map reply_of (last_line (split a.came).rest)) r new → Runs answers limit old new r
+  at_end : (limit n : ℕ) (old mid later new : D) (line waiting : List ℕ) (a : Answered n old mid line waiting) → transition mid (Reads (Some [])) later → n < limit → (r : Result Unit RunError)
+      → Delivers transition later (flat_map reply_of (last_line (split a.came).rest)) r new → Runs transition limit old new r
   at_end limit n old mid later new line waiting a call fits (Ok tt) written =
       let last = flat_map reply_of (last_line (split a.came).rest) in
-      let asked = going_read a.came n old mid later a.going [] call in
+      let asked = going_read a.came n old mid later a.going [] call (omega arith) in
       let done = going_write (a.came ++ []) (ended_answers_of a.came) true (n + 1) old later new asked last written in
       going_ends limit (a.came ++ []) (ended_answers_of a.came ++ last) true (n + 1) old new done (Ok tt) (omega arith) (done.faults, done.tells)
       (sym (ap answers_of (append-nil a.came) ∙ answers_of-parts a.came))
   at_end limit n old mid later new line waiting a call fits (Err e) stops =
       let last = flat_map reply_of (last_line (split a.came).rest) in
-      going_stops limit (a.came ++ []) (ended_answers_of a.came) true (n + 1) old later new (going_read a.came n old mid later a.going [] call) (omega arith) last []
+      going_stops limit (a.came ++ []) (ended_answers_of a.came) true (n + 1) old later new (going_read a.came n old mid later a.going [] call (omega arith)) (omega arith) last []
       (ap answers_of (append-nil a.came) ∙ answers_of-parts a.came ∙ sym (append-nil (ended_answers_of a.came ++ last))) e stops
 
-  pub answered_end : (limit n : ℕ) (old mid later new : D) (line waiting : List ℕ) (a : Answered n old mid line waiting) (piece : List ℕ) → piece ≡ [] → answers mid (Reads (Some piece)) later
-      → n < limit → (r : Result Unit RunError) → Delivers answers later (flat_map reply_of (last_line (split a.came).rest)) r new → Runs answers limit old new r
+  pub answered_end : (limit n : ℕ) (old mid later new : D) (line waiting : List ℕ) (a : Answered n old mid line waiting) (piece : List ℕ) → piece ≡ [] → transition mid (Reads (Some piece)) later
+      → n < limit → (r : Result Unit RunError) → Delivers transition later (flat_map reply_of (last_line (split a.came).rest)) r new → Runs transition limit old new r
   answered_end limit n old mid later new line waiting a piece none call fits r delivered =
-      at_end limit n old mid later new line waiting a (subst (λ p. answers mid (Reads (Some p)) later) none call) fits r delivered
+      at_end limit n old mid later new line waiting a (subst (λ p. transition mid (Reads (Some p)) later) none call) fits r delivered
 
   -- a read fails
-  pub answered_fails : (limit n : ℕ) (old mid new : D) (line waiting : List ℕ) → Answered n old mid line waiting → answers mid (Reads None) new → n < limit → Runs answers limit old new (Err Read)
+  pub answered_fails : (limit n : ℕ) (old mid new : D) (line waiting : List ℕ) → Answered n old mid line waiting → transition mid (Reads None) new → n < limit → Runs transition limit old new (Err Read)
   answered_fails limit n old mid new line waiting a call fits =
       let g = a.going in
       let count = g.reads in
-      going_fails limit a.came (ended_answers_of a.came) false n old mid new g (Reads None) call (g.faults, g.tells, g.took ∙ ap ended_answers_of (sym g.gave)) Read refl (omega arith) refl
+      going_fails limit a.came (ended_answers_of a.came) false n old mid new g (Reads None) call (g.faults, g.tells, g.took ∙ ap ended_answers_of (sym g.gave), omega arith) Read refl (omega arith) refl
 
   -- as many reads as may be are made
-  pub answered_all : (limit : ℕ) (old new : D) (line waiting : List ℕ) → Answered limit old new line waiting → Runs answers limit old new (Err TooManyReads)
+  pub answered_all : (limit : ℕ) (old new : D) (line waiting : List ℕ) → Answered limit old new line waiting → Runs transition limit old new (Err TooManyReads)
   answered_all limit old new line waiting a =
       let g = a.going in
       going_ends limit a.came (ended_answers_of a.came) false limit old new g (Err TooManyReads) (omega arith) (g.faults, g.tells, g.reads) refl
 
 -- nothing is called
-pub runs_nothing : {D : Type 0} (answers : D → Call → D → Type 0) (limit : ℕ) (old : D) → Runs answers limit old old (Err Memory)
-runs_nothing answers limit old = record { calls = []; made = refl; each = tt; reads = omega arith; ends = refl; answered = (refl, refl) }
+pub runs_nothing : {D : Type 0} (transition : D → Call → D → Type 0) (limit : ℕ) (old : D) → Runs transition limit old old (Err Memory)
+runs_nothing transition limit old = record { calls = []; made = refl; each = tt; reads = omega arith; ends = refl; output = (refl, refl) }

@@ -8,42 +8,42 @@ use Rattle.netlines.specs.declared.run_error.RunError.{RunError}
 use Rattle.netlines.specs.declared.run_error.RunError.TheVariants.{Memory}
 use Rattle.netlines.specs.Answers.{answers_of}
 use Rattle.netlines.specs.Calls.{Call, Reads, Writes, Makes, bytes_given, bytes_taken, bytes_read, bytes_written, tells_end, is_end_told}
-use Rattle.netlines.specs.Known.{Known, KnownCall}
+use Rattle.netlines.specs.Known.{Known, KnownCall, Transfers}
 use Rattle.netlines.specs.Runs.{EachFollows, Runs}
 
 -- what each call keeps, calls keep
-Makes-keep : {D N : Type 0} (answers : D → Call → D → Type 0) (name : D → N) → ((s t : D) (call : Call) → answers s call t → name t ≡ name s)
-    → (old new : D) (calls : List Call) → Makes answers old calls new → name new ≡ name old
-Makes-keep answers name keep old new [] made = ap name made
-Makes-keep answers name keep old new (call ∷ calls) made = Makes-keep answers name keep made.0 new calls made.2 ∙ keep old made.0 call made.1
+Makes-keep : {D N : Type 0} (transition : D → Call → D → Type 0) (name : D → N) → ((s t : D) (call : Call) → transition s call t → name t ≡ name s)
+    → (old new : D) (calls : List Call) → Makes transition old calls new → name new ≡ name old
+Makes-keep transition name keep old new [] made = ap name made
+Makes-keep transition name keep old new (call ∷ calls) made = Makes-keep transition name keep made.0 new calls made.2 ∙ keep old made.0 call made.1
 
-pub Runs-keep : {D N : Type 0} (answers : D → Call → D → Type 0) (name : D → N) → ((s t : D) (call : Call) → answers s call t → name t ≡ name s)
-    → (limit : ℕ) (old new : D) (result : Result Unit RunError) → Runs answers limit old new result → name new ≡ name old
-Runs-keep answers name keep limit old new result runs = Makes-keep answers name keep old new runs.calls runs.made
+pub Runs-keep : {D N : Type 0} (transition : D → Call → D → Type 0) (name : D → N) → ((s t : D) (call : Call) → transition s call t → name t ≡ name s)
+    → (limit : ℕ) (old new : D) (result : Result Unit RunError) → Runs transition limit old new result → name new ≡ name old
+Runs-keep transition name keep limit old new result runs = Makes-keep transition name keep old new runs.calls runs.made
 
 -- calls on what is seen of a device
-Makes-map : {D E : Type 0} (answers : D → Call → D → Type 0) (answers' : E → Call → E → Type 0) (seen : D → E) → ((s t : D) (call : Call) → answers s call t → answers' (seen s) call (seen t))
-    → (old new : D) (calls : List Call) → Makes answers old calls new → Makes answers' (seen old) calls (seen new)
-Makes-map answers answers' seen see old new [] made = ap seen made
-Makes-map answers answers' seen see old new (call ∷ calls) made =
-    (seen made.0, see old made.0 call made.1, Makes-map answers answers' seen see made.0 new calls made.2)
+Makes-map : {D E : Type 0} (transition : D → Call → D → Type 0) (transition' : E → Call → E → Type 0) (seen : D → E) → ((s t : D) (call : Call) → transition s call t → transition' (seen s) call (seen t))
+    → (old new : D) (calls : List Call) → Makes transition old calls new → Makes transition' (seen old) calls (seen new)
+Makes-map transition transition' seen see old new [] made = ap seen made
+Makes-map transition transition' seen see old new (call ∷ calls) made =
+    (seen made.0, see old made.0 call made.1, Makes-map transition transition' seen see made.0 new calls made.2)
 
-pub Runs-map : {D E : Type 0} (answers : D → Call → D → Type 0) (answers' : E → Call → E → Type 0) (seen : D → E) → ((s t : D) (call : Call) → answers s call t → answers' (seen s) call (seen t))
-    → (limit : ℕ) (old new : D) (result : Result Unit RunError) → Runs answers limit old new result → Runs answers' limit (seen old) (seen new) result
-Runs-map answers answers' seen see limit old new result runs = record {
+pub Runs-map : {D E : Type 0} (transition : D → Call → D → Type 0) (transition' : E → Call → E → Type 0) (seen : D → E) → ((s t : D) (call : Call) → transition s call t → transition' (seen s) call (seen t))
+    → (limit : ℕ) (old new : D) (result : Result Unit RunError) → Runs transition limit old new result → Runs transition' limit (seen old) (seen new) result
+Runs-map transition transition' seen see limit old new result runs = record {
   calls = runs.calls;
-  made = Makes-map answers answers' seen see old new runs.calls runs.made;
+  made = Makes-map transition transition' seen see old new runs.calls runs.made;
   each = runs.each;
   reads = runs.reads;
   ends = runs.ends;
-  answered = runs.answered;
+  output = runs.output;
 }
 
-memory_keeps : {D : Type 0} (answers : D → Call → D → Type 0) (limit : ℕ) (old new : D) → Runs answers limit old new (Err Memory) → new ≡ old
-memory_keeps answers limit old new runs = subst (λ calls. Makes answers old calls new) runs.ends runs.made
+memory_keeps : {D : Type 0} (transition : D → Call → D → Type 0) (limit : ℕ) (old new : D) → Runs transition limit old new (Err Memory) → new ≡ old
+memory_keeps transition limit old new runs = subst (λ calls. Makes transition old calls new) runs.ends runs.made
 
-pub runs_memory : {D : Type 0} (answers : D → Call → D → Type 0) (limit : ℕ) (old new : D) (result : Result Unit RunError) → result ≡ Err Memory → Runs answers limit old new result → new ≡ old
-runs_memory answers limit old new result is runs = memory_keeps answers limit old new (subst (Runs answers limit old new) is runs)
+pub runs_memory : {D : Type 0} (transition : D → Call → D → Type 0) (limit : ℕ) (old new : D) (result : Result Unit RunError) → result ≡ Err Memory → Runs transition limit old new result → new ≡ old
+runs_memory transition limit old new result is runs = memory_keeps transition limit old new (subst (Runs transition limit old new) is runs)
 
 -- one call,
 input_moves : (a b : Known) (call : Call) → KnownCall a call b → Consumes a.input b.input (bytes_given call)
@@ -101,5 +101,14 @@ runs_end limit a b (Err e) runs = tt
 pub runs_ok : (limit : ℕ) (a b : Known) (result : Result Unit RunError) → Runs KnownCall limit a b result → OnOk result (IfSome a.input (λ bytes. Appends a.output b.output (answers_of bytes)))
 runs_ok limit a b (Ok tt) runs =
     Consumes-whole a.input b.input (bytes_read runs.calls) (λ bytes. Appends a.output b.output (answers_of bytes)) (known_read a b runs.calls runs.made)
-    (runs_end limit a b (Ok tt) runs) (subst (Appends a.output b.output) runs.answered (known_written a b runs.calls runs.made))
+    (runs_end limit a b (Ok tt) runs) (subst (Appends a.output b.output) runs.output (known_written a b runs.calls runs.made))
 runs_ok limit a b (Err e) runs = tt
+
+pub runs_transfer : (limit : ℕ) (a b : Known) (result : Result Unit RunError) → Runs KnownCall limit a b result → Transfers a.input b.input a.output b.output result
+runs_transfer limit a b result runs = record {
+  read = bytes_read runs.calls;
+  written = bytes_written runs.calls;
+  consumed = known_read a b runs.calls runs.made;
+  appended = known_written a b runs.calls runs.made;
+  due = runs.output;
+}

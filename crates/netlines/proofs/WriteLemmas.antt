@@ -8,21 +8,21 @@ use Rattle.netlines.specs.Calls.{Call, Writes, bytes_taken, fault_of}
 use Rattle.netlines.specs.Writes.{TakesBytes, Written, Stops, Delivers, Gathers}
 use Rattle.netlines.proofs.CallLemmas.{AllByRecursion-append, Makes-append}
 
-module _ {D : Type 0} (answers : D → Call → D → Type 0) where
-  pub Written-nil : (a : D) → Written answers a [] a
+module _ {D : Type 0} (transition : D → Call → D → Type 0) where
+  pub Written-nil : (a : D) → Written transition a [] a
   Written-nil a = record { calls = []; each = tt; made = refl; whole = refl }
 
-  pub Written-append : (a b c : D) (xs ys : List ℕ) → Written answers a xs b → Written answers b ys c → Written answers a (xs ++ ys) c
+  pub Written-append : (a b c : D) (xs ys : List ℕ) → Written transition a xs b → Written transition b ys c → Written transition a (xs ++ ys) c
   Written-append a b c xs ys p q = record {
     calls = p.calls ++ q.calls;
     each = AllByRecursion-append TakesBytes p.calls q.calls p.each q.each;
-    made = Makes-append answers a b c p.calls q.calls p.made q.made;
+    made = Makes-append transition a b c p.calls q.calls p.made q.made;
     whole = flat_map-append bytes_taken p.calls q.calls ∙ ap (λ l. l ++ flat_map bytes_taken q.calls) p.whole ∙ ap (λ l. xs ++ l) q.whole;
   }
 
   -- one more write
-  pub Written-more : (a b c : D) (xs bytes : List ℕ) (n : ℕ) → Written answers a xs b → answers b (Writes bytes (Some n)) c → 0 < n → n ≤ length bytes
-      → Written answers a (xs ++ take n bytes) c
+  pub Written-more : (a b c : D) (xs bytes : List ℕ) (n : ℕ) → Written transition a xs b → transition b (Writes bytes (Some n)) c → 0 < n → n ≤ length bytes
+      → Written transition a (xs ++ take n bytes) c
   Written-more a b c xs bytes n p call some fits =
       Written-append a b c xs (take n bytes) p (record {
         calls = Writes bytes (Some n) ∷ [];
@@ -32,8 +32,8 @@ module _ {D : Type 0} (answers : D → Call → D → Type 0) where
       })
 
   -- a write of what is left ended a run
-  pub Stops-now : (e : RunError) (a b c : D) (bytes front rest : List ℕ) (taken : Option ℕ) → bytes ≡ front ++ rest → 0 < length rest → Written answers a front b
-      → answers b (Writes rest taken) c → fault_of (Writes rest taken) ≡ Some e → Stops answers e a bytes c
+  pub Stops-now : (e : RunError) (a b c : D) (bytes front rest : List ℕ) (taken : Option ℕ) → bytes ≡ front ++ rest → 0 < length rest → Written transition a front b
+      → transition b (Writes rest taken) c → fault_of (Writes rest taken) ≡ Some e → Stops transition e a bytes c
   Stops-now e a b c bytes front rest taken whole some before stop fault = record {
     front = front;
     missing = rest;
@@ -47,7 +47,7 @@ module _ {D : Type 0} (answers : D → Call → D → Type 0) where
     fault = fault;
   }
 
-  pub Stops-after : (e : RunError) (a b c : D) (xs ys : List ℕ) → Written answers a xs b → Stops answers e b ys c → Stops answers e a (xs ++ ys) c
+  pub Stops-after : (e : RunError) (a b c : D) (xs ys : List ℕ) → Written transition a xs b → Stops transition e b ys c → Stops transition e a (xs ++ ys) c
   Stops-after e a b c xs ys p s = record {
     front = xs ++ s.front;
     missing = s.missing;
@@ -62,7 +62,7 @@ module _ {D : Type 0} (answers : D → Call → D → Type 0) where
   }
 
   -- what stops before the end of some bytes stops before the end of more
-  pub Stops-more : (e : RunError) (a b : D) (xs ys : List ℕ) → Stops answers e a xs b → Stops answers e a (xs ++ ys) b
+  pub Stops-more : (e : RunError) (a b : D) (xs ys : List ℕ) → Stops transition e a xs b → Stops transition e a (xs ++ ys) b
   Stops-more e a b xs ys s = record {
     front = s.front;
     missing = s.missing ++ ys;
@@ -76,23 +76,23 @@ module _ {D : Type 0} (answers : D → Call → D → Type 0) where
     fault = s.fault;
   }
 
-  pub Delivers-after : (a b c : D) (xs ys : List ℕ) (r : Result Unit RunError) → Written answers a xs b → Delivers answers b ys r c → Delivers answers a (xs ++ ys) r c
+  pub Delivers-after : (a b c : D) (xs ys : List ℕ) (r : Result Unit RunError) → Written transition a xs b → Delivers transition b ys r c → Delivers transition a (xs ++ ys) r c
   Delivers-after a b c xs ys (Ok done) p d = Written-append a b c xs ys p d
   Delivers-after a b c xs ys (Err e) p d = Stops-after e a b c xs ys p d
 
   -- bytes are gathered where what waits is not written,
-  pub Gathers-waits : (a : D) (waiting bytes waiting' : List ℕ) → waiting' ≡ waiting ++ bytes → Gathers answers a waiting bytes (Ok tt) waiting' a
+  pub Gathers-waits : (a : D) (waiting bytes waiting' : List ℕ) → waiting' ≡ waiting ++ bytes → Gathers transition a waiting bytes (Ok tt) waiting' a
   Gathers-waits a waiting bytes waiting' is = ([], Written-nil a, sym is)
 
   -- and where it is written first
-  pub Gathers-after : (a b : D) (waiting bytes waiting' : List ℕ) → Written answers a waiting b → waiting' ≡ bytes → Gathers answers a waiting bytes (Ok tt) waiting' b
+  pub Gathers-after : (a b : D) (waiting bytes waiting' : List ℕ) → Written transition a waiting b → waiting' ≡ bytes → Gathers transition a waiting bytes (Ok tt) waiting' b
   Gathers-after a b waiting bytes waiting' written is = (waiting, written, ap (λ l. waiting ++ l) (sym is))
 
   -- all that was gathered is written
-  pub Delivers-gathered : (a b c : D) (waiting bytes waiting' : List ℕ) (r : Result Unit RunError) → Gathers answers a waiting bytes (Ok tt) waiting' b
-      → Delivers answers b waiting' r c → Delivers answers a (waiting ++ bytes) r c
+  pub Delivers-gathered : (a b c : D) (waiting bytes waiting' : List ℕ) (r : Result Unit RunError) → Gathers transition a waiting bytes (Ok tt) waiting' b
+      → Delivers transition b waiting' r c → Delivers transition a (waiting ++ bytes) r c
   Delivers-gathered a b c waiting bytes waiting' r g d =
-      subst (λ l. Delivers answers a l r c) (sym g.2) (Delivers-after a b c g.0 waiting' r g.1 d)
+      subst (λ l. Delivers transition a l r c) (sym g.2) (Delivers-after a b c g.0 waiting' r g.1 d)
 
 -- n more bytes of what is left
 pub split_more : (bytes front rest : List ℕ) (n : ℕ) → bytes ≡ front ++ rest → bytes ≡ (front ++ take n rest) ++ take (length rest - n) (drop n rest)

@@ -16,8 +16,8 @@ bytes_of_read (Err e) buf = None
 
 -- from one state of a device to another by these calls
 abbrev pub Makes : {D : Type 0} → (D → Call → D → Type 0) → D → List Call → D → Type 0
-Makes answers old [] new = new ≡ old
-Makes {D} answers old (call ∷ calls) new = (mid : D) × answers old call mid × Makes answers mid calls new
+Makes transition old [] new = new ≡ old
+Makes {D} transition old (call ∷ calls) new = (mid : D) × transition old call mid × Makes transition mid calls new
 
 abbrev pub bytes_given : Call → List ℕ
 bytes_given (Reads None) = []

@@ -1,9 +1,11 @@
--- A reader with the bytes that it has left and a writer with those that it holds, where these are known, as one device.
-use Rattle.std.specs.Prelude.{◌≡◌, ℕ, List, [], take, Option, Some, None}
+-- What is known of a reader and a writer: the bytes that the one has left and those that the other holds.
+use Rattle.std.specs.Prelude.{◌≡◌, ℕ, List, [], take, Option, Some, None, Result}
 use Rattle.std.specs.Io.KnownBytes.{Appends, Consumes, Keeps, IsAtEnd}
+use Rattle.netlines.specs.declared.run_error.RunError.{RunError}
 use Rattle.netlines.specs.Calls.{Call, Reads, Writes}
+use Rattle.netlines.specs.Runs.{IsOutput}
 
--- what is known of a reader and of a writer
+-- the known bytes of both, as one device
 pub record Known : Type 0 where
   pub input : Option (List ℕ)
   pub output : Option (List ℕ)
@@ -17,3 +19,11 @@ KnownCall old (Reads (Some bytes)) new = Consumes old.input new.input bytes × (
 KnownCall old (Reads None) new = Keeps old.input new.input × (new.output ≡ old.output)
 KnownCall old (Writes bytes (Some n)) new = Appends old.output new.output (take n bytes) × (new.input ≡ old.input)
 KnownCall old (Writes bytes None) new = Keeps old.output new.output × (new.input ≡ old.input)
+
+-- the bytes that a run with this result read, and those that it wrote, which are the output for what it read
+pub record Transfers (input input' output output' : Option (List ℕ)) (result : Result Unit RunError) : Type 0 where
+  pub read : List ℕ
+  pub written : List ℕ
+  pub consumed : Consumes input input' read
+  pub appended : Appends output output' written
+  pub due : IsOutput result read written

@@ -11,31 +11,31 @@ TakesBytes (Writes bytes None) = ⊥
 TakesBytes (Writes bytes (Some n)) = (0 < n) × (n ≤ length bytes)
 
 -- from old to new, writes that took these bytes
-pub record Written {D : Type 0} (answers : D → Call → D → Type 0) (old : D) (bytes : List ℕ) (new : D) : Type 0 where
+pub record Written {D : Type 0} (transition : D → Call → D → Type 0) (old : D) (bytes : List ℕ) (new : D) : Type 0 where
   pub calls : List Call
   pub each : AllByRecursion TakesBytes calls
-  pub made : Makes answers old calls new
+  pub made : Makes transition old calls new
   pub whole : bytes_written calls ≡ bytes
 
 -- from old to new, writes that took a front of these bytes, and then one that ends a run by this error
-pub record Stops {D : Type 0} (answers : D → Call → D → Type 0) (error : RunError) (old : D) (bytes : List ℕ) (new : D) : Type 0 where
+pub record Stops {D : Type 0} (transition : D → Call → D → Type 0) (error : RunError) (old : D) (bytes : List ℕ) (new : D) : Type 0 where
   pub front : List ℕ
   pub missing : List ℕ
   pub whole : bytes ≡ front ++ missing
   pub mid : D
-  pub before : Written answers old front mid
+  pub before : Written transition old front mid
   pub handed : List ℕ
   pub taken : Option ℕ
   pub some : 0 < length handed
-  pub stop : answers mid (Writes handed taken) new
+  pub stop : transition mid (Writes handed taken) new
   pub fault : fault_of (Writes handed taken) ≡ Some error
 
 -- the bytes are written, or a write before the last of them ends the run
 abbrev pub Delivers : {D : Type 0} → (D → Call → D → Type 0) → D → List ℕ → Result Unit RunError → D → Type 0
-Delivers answers old bytes (Ok done) new = Written answers old bytes new
-Delivers answers old bytes (Err e) new = Stops answers e old bytes new
+Delivers transition old bytes (Ok done) new = Written transition old bytes new
+Delivers transition old bytes (Err e) new = Stops transition e old bytes new
 
 -- bytes are added to those that wait, and of all these a front is written and the rest waits
 abbrev pub Gathers : {D : Type 0} → (D → Call → D → Type 0) → D → List ℕ → List ℕ → Result Unit RunError → List ℕ → D → Type 0
-Gathers answers old waiting bytes (Ok done) waiting' new = (front : List ℕ) × Written answers old front new × (waiting ++ bytes ≡ front ++ waiting')
-Gathers answers old waiting bytes (Err e) waiting' new = Stops answers e old (waiting ++ bytes) new
+Gathers transition old waiting bytes (Ok done) waiting' new = (front : List ℕ) × Written transition old front new × (waiting ++ bytes ≡ front ++ waiting')
+Gathers transition old waiting bytes (Err e) waiting' new = Stops transition e old (waiting ++ bytes) new

@@ -12,16 +12,16 @@ use std::io::{Read, Write};
 
 /// Gives bytes and takes bytes, one call at a time.
 pub trait Device {
-    // From one state this call, with what it answers, may lead to another.
-    ghost answers: { Self → Call → Self → Type 0 };
+    // From one state this call, with what it gives or takes, may lead to another.
+    ghost transition: { Self → Call → Self → Type 0 };
 
     fn read_some(&mut self, buf: &mut [u8]) -> io::Result<usize>
         ensures bound { ReadsAtMost result buf.new }
-        ensures call { 0 < length buf.old → answers self.old (Reads (bytes_of_read result buf.new)) self.new };
+        ensures call { 0 < length buf.old → transition self.old (Reads (bytes_of_read result buf.new)) self.new };
 
     fn write_some(&mut self, buf: &[u8]) -> io::Result<usize>
         ensures bound { WritesAtMost result buf.now }
-        ensures call { answers self.old (Writes buf.now (result_ok result)) self.new };
+        ensures call { transition self.old (Writes buf.now (result_ok result)) self.new };
 }
 
 /// A reader and a writer as one device.
@@ -32,7 +32,7 @@ pub struct ReaderWriter<'a, R, W> {
 }
 
 impl<'a, R: Read, W: Write> Device for ReaderWriter<'a, R, W> {
-    ghost answers = { λ s call t. (t.reader.ghost_name ≡ s.reader.ghost_name) × (t.writer.ghost_name ≡ s.writer.ghost_name)
+    ghost transition = { λ s call t. (t.reader.ghost_name ≡ s.reader.ghost_name) × (t.writer.ghost_name ≡ s.writer.ghost_name)
         × KnownCall (known_of (R.remaining s.reader.now) (W.contents s.writer.now)) call
         (known_of (R.remaining t.reader.now) (W.contents t.writer.now)) };
 
@@ -47,7 +47,7 @@ impl<'a, R: Read, W: Write> Device for ReaderWriter<'a, R, W> {
 
 /// Writes all the bytes, by as many writes as that takes.
 pub fn write_whole<D: Device>(device: &mut D, bytes: &[u8]) -> Result<(), RunError>
-    ensures { Delivers D.answers device.old bytes.now result device.new }
+    ensures { Delivers D.transition device.old bytes.now result device.new }
 {
     let mut rest = bytes;
     'writes: while !rest.is_empty() {

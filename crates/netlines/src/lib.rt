@@ -15,6 +15,8 @@ mod output;
 mod reply_buffer;
 mod run_error;
 mod run_lines;
+#[cfg(test)]
+mod tests;
 mod udp_message;
 
 pub use limits::{LINE_LIMIT, READ_COUNT_LIMIT, READ_SIZE_LIMIT};

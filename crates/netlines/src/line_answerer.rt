@@ -50,7 +50,7 @@ impl LineAnswerer {
     // Answers the line that ends with these bytes.
     fn end_line<D: Device>(&mut self, tail: &[u8], device: &mut D) -> Result<(), RunError>
         ensures gathers { (start : List ℕ) → self.old.line.items ≡ take LINE_ROOM start
-            → Gathers D.answers device.old self.old.replies (reply_of (start ++ tail.now)) result self.new.replies device.new }
+            → Gathers D.transition device.old self.old.replies (reply_of (start ++ tail.now)) result self.new.replies device.new }
         ensures line { self.new.line.items ≡ [] }
     {
         if self.line.is_empty() {
@@ -66,7 +66,7 @@ impl LineAnswerer {
     pub fn feed<D: Device>(&mut self, piece: &[u8], device: &mut D) -> Result<(), RunError>
         requires { self.old.replies ≡ [] }
         ensures delivers { (start : List ℕ) → HasNoNewline start → self.old.line.items ≡ take LINE_ROOM start
-            → Delivers D.answers device.old (ended_answers_of (start ++ piece.now)) result device.new }
+            → Delivers D.transition device.old (ended_answers_of (start ++ piece.now)) result device.new }
         ensures line { (start : List ℕ) → HasNoNewline start → self.old.line.items ≡ take LINE_ROOM start
             → OnOk result (self.new.line.items ≡ take LINE_ROOM (split (start ++ piece.now)).rest) }
         ensures replies { OnOk result (self.new.replies ≡ []) }
@@ -85,7 +85,7 @@ impl LineAnswerer {
     pub fn finish<D: Device>(&mut self, device: &mut D) -> Result<(), RunError>
         requires { self.old.replies ≡ [] }
         ensures { (start : List ℕ) → self.old.line.items ≡ take LINE_ROOM start
-            → Delivers D.answers device.old (flat_map reply_of (last_line start)) result device.new }
+            → Delivers D.transition device.old (flat_map reply_of (last_line start)) result device.new }
     {
         if self.line.is_empty() {
             return Ok(());

@@ -44,7 +44,7 @@ impl ReplyBuffer {
 
     /// Adds the reply to a line. What waits is written first where a reply may have no room.
     pub fn push<D: Device>(&mut self, line: &[u8], device: &mut D) -> Result<(), RunError>
-        ensures { Gathers D.answers device.old self.old (reply_of line.now) result self.new device.new }
+        ensures { Gathers D.transition device.old self.old (reply_of line.now) result self.new device.new }
     {
         if !self.has_room() {
             self.write_out(device)?;
@@ -70,7 +70,7 @@ impl ReplyBuffer {
 
     /// Writes what waits.
     pub fn write_out<D: Device>(&mut self, device: &mut D) -> Result<(), RunError>
-        ensures delivers { Delivers D.answers device.old self.old result device.new }
+        ensures delivers { Delivers D.transition device.old self.old result device.new }
         ensures empty { OnOk result (self.new ≡ []) }
     {
         write_whole(device, &self.output.as_slice()[..self.used])?;

@@ -1,8 +1,8 @@
 //! A run: reads, and the answers to the lines that they give.
-ghost use Rattle.std.specs.Prelude.{◌≡◌, ◌<◌, ℕ, List, [], length, OnOk, IfOk, IfSome, IsErrOf, vec_len};
+ghost use Rattle.std.specs.Prelude.{◌≡◌, ℕ, List, [], length, OnOk, IfOk, IfSome, IsErrOf, vec_len};
 ghost use Rattle.std.specs.Io.KnownBytes.{Appends, IsAtEnd};
 ghost use Rattle.netlines.specs.Answers.{answers_of};
-ghost use Rattle.netlines.specs.Known.{KnownCall, known_of};
+ghost use Rattle.netlines.specs.Known.{KnownCall, Transfers, known_of};
 ghost use Rattle.netlines.specs.Runs.{Runs};
 
 use crate::device::{Device, ReaderWriter};
@@ -11,16 +11,23 @@ use crate::{READ_COUNT_LIMIT, READ_SIZE_LIMIT, RunError};
 use std::alloc::{AllocError, Global};
 use std::io::{Read, Write};
 
-/// Answers each line of the reader on the writer. The answers to the lines that a read gives are
-/// written before the next read.
+/// Answers each line of the reader by a line on the writer, up to the end of the reader.
+///
+/// A read that gives nothing tells the end, and nothing is read after it. Any fault that a read or a
+/// write answers ends the run, an interrupted call too.
 pub fn run<R: Read, W: Write>(alloc: Global, reader: &mut R, writer: &mut W) -> Result<(), RunError>
     // All lines are answered, and no byte is left to read.
     ensures ok { OnOk result (IfSome (R.remaining reader.old) (λ bytes.
         Appends (W.contents writer.old) (W.contents writer.new) (answers_of bytes))) }
     ensures end { OnOk result (IsAtEnd (R.remaining reader.new)) }
 
-    // Each outcome: which calls were made, what they read, and what was written by then.
-    ensures runs { Runs KnownCall READ_COUNT_LIMIT (known_of (R.remaining reader.old) (W.contents writer.old))
+    // However reads and writes cut the bytes, what is written is the output for the bytes read.
+    ensures bytes { Transfers (R.remaining reader.old) (R.remaining reader.new)
+        (W.contents writer.old) (W.contents writer.new) result }
+
+    // The calls, one by one, as far as they show in the known bytes.
+    ensures calls { Runs KnownCall READ_COUNT_LIMIT
+        (known_of (R.remaining reader.old) (W.contents writer.old))
         (known_of (R.remaining reader.new) (W.contents writer.new)) result }
 
     // Memory is taken before the first call.
@@ -35,9 +42,10 @@ pub fn run<R: Read, W: Write>(alloc: Global, reader: &mut R, writer: &mut W) -> 
     result
 }
 
-/// A run of at most so many reads over any device.
+/// A run of at most so many reads over any device: each call that it makes, in its order, and how
+/// these calls end it.
 pub fn run_over<D: Device>(alloc: Global, device: &mut D, reads: u64) -> Result<(), RunError>
-    ensures { Runs D.answers reads device.old device.new result }
+    ensures { Runs D.transition reads device.old device.new result }
 {
     let Ok((mut piece, mut answerer)) = buffers(alloc) else {
         return Err(RunError::Memory);
@@ -62,10 +70,10 @@ fn answer_reads<D: Device>(
     device: &mut D,
     reads: u64,
 ) -> Result<(), RunError>
-    requires room { 0 < length piece.old }
+    requires room { length piece.old ≡ READ_SIZE_LIMIT }
     requires line { answerer.old.line.items ≡ [] }
     requires replies { answerer.old.replies ≡ [] }
-    ensures { Runs D.answers reads device.old device.new result }
+    ensures { Runs D.transition reads device.old device.new result }
 {
     'reads: for _ in 0..reads {
         match device.read_some(piece) {

@@ -1,6 +1,9 @@
 //! Answers the lines of standard input on standard output.
 #![tactic(auto)]
 
+ghost use Rattle.std.specs.Prelude.{◌≡◌};
+ghost use Rattle.netlines_cli.specs.FaultName.{fault_name_of};
+
 use netlines::RunError;
 use std::io::Write;
 use std::process::ExitCode;
@@ -22,7 +25,9 @@ fn answer_input(rt: &HostRuntime) -> Result<(), RunError> {
     output.flush().map_err(|_| RunError::Write)
 }
 
-fn fault_name(error: RunError) -> &'static str {
+fn fault_name(error: RunError) -> &'static str
+    ensures { result.now ≡ fault_name_of error }
+{
     match error {
         RunError::Read => "read",
         RunError::Write | RunError::WriteZero => "write",

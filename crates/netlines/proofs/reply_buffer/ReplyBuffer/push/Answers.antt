@@ -6,12 +6,12 @@ use Rattle.netlines.proofs.reply_buffer.ReplyBuffer.push.Goals.{then-not-has_roo
 
 pub returns : goal.returns
 returns g c =
-    let answers = g.D.Device.answers in
+    let transition = g.D.Device.transition in
     let reply = reply_of c.args.line.now in
     elim c.if-not-has_room.branch [
       | then-not-has_room+in_ok-write_out w ↦
-          rw w.device-is (Gathers-after answers _ _ c.args.self.now reply c.add.new.self w.in_ok-write_out.ensures.delivers
+          rw w.device-is (Gathers-after transition _ _ c.args.self.now reply c.add.new.self w.in_ok-write_out.ensures.delivers
           (c.add.ensures ∙ ap (λ (l : List ℕ). l ++ reply) (w.self-is ∙ w.in_ok-write_out.ensures.empty)))
       | else-not-has_room w ↦
-          rw w.device-is (Gathers-waits answers _ c.args.self.now reply c.add.new.self (c.add.ensures ∙ ap (λ (l : List ℕ). l ++ reply) w.self-is))
+          rw w.device-is (Gathers-waits transition _ c.args.self.now reply c.add.new.self (c.add.ensures ∙ ap (λ (l : List ℕ). l ++ reply) w.self-is))
     ]
