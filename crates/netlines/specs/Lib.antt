@@ -4,3 +4,4 @@ pub mod Lines
 pub mod Packet
 pub mod Udp
 pub mod Verdict
+pub mod Posted

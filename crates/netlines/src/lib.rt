@@ -5,7 +5,16 @@ mod answer;
 mod command;
 mod ethernet;
 mod frame;
+mod ip_frag_version_spec_id;
 mod ipv4_packet;
 mod judge;
+mod letter;
 mod output;
+mod post;
 mod udp_message;
+mod vlan_id;
+
+pub use ip_frag_version_spec_id::IpFragVersionSpecId;
+pub use letter::Letter;
+pub use post::PostError;
+pub use vlan_id::VlanId;
