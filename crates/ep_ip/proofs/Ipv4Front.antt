@@ -1,10 +1,10 @@
 -- The header at the front of bytes.
-use Rattle.std.proofs.Common.{◌≡◌, ℕ, ◌-◌, ◌*◌, ◌<◌, ◌≤◌, Bool, true, false, not, cond, List, ◌++◌, length, take, drop, get_or, Result, Ok, Err, IfOk, arith, sym, refl, ap, ◌∙◌, ⊎_elim}
+use Rattle.std.proofs.Common.{◌≡◌, ℕ, ◌+◌, ◌-◌, ◌*◌, ◌/◌, ◌<◌, ◌≤◌, Bool, true, false, not, cond, List, ◌++◌, length, take, drop, get_or, Result, Ok, Err, IfOk, arith, sym, refl, ap, ◌∙◌, ⊎_elim}
 use Rattle.std.proofs.lemmas.Bool.{le-ltb, eq-eqb, ltb-false, eqb-true, cases_lt}
-use Rattle.std.proofs.lemmas.List.{get_or-take, length-take-le, take-append-drop, take_at, take_rest, drop_at, get_or_append_left, get_or_past, length-append}
+use Rattle.std.proofs.lemmas.List.{get_or-take, length-take-le, take-append-drop, take_at, take_rest, drop_at, get_or_append_left, get_or_past, length-append, length-drop}
 use Rattle.ep_base.specs.Bytes.{num, IsBytes}
 use Rattle.ep_ip.specs.declared.err.ipv4.header_slice_error.HeaderSliceError.{HeaderSliceError}
-use Rattle.ep_ip.specs.Ipv4.{IsIpv4Header, version_of, ihl_of}
+use Rattle.ep_ip.specs.Ipv4.{IsIpv4Header, version_of, ihl_of, options_of}
 use Rattle.ep_ip.specs.Ipv4Fault.{header_at}
 
 pub header_at-ok : (bytes : List ℕ) → 20 ≤ length bytes → version_of bytes ≡ 4 → 5 ≤ ihl_of bytes → 4 * ihl_of bytes ≤ length bytes → header_at bytes ≡ Ok (take (4 * ihl_of bytes) bytes)
@@ -69,3 +69,10 @@ front_fits bytes front rest e fits i =
     ⊎_elim (λ inside. omega (arith, fits i, ap (λ (xs : List ℕ). get_or xs i 0) e ∙ get_or_append_left front rest 0 i inside))
     (λ past. omega (arith, get_or_past front i 0 past))
     (cases_lt i (length front))
+
+-- the length field counts the options' words behind five
+pub options_words : (bytes options : List ℕ) → IsIpv4Header bytes → options ≡ options_of bytes → 5 + length options / 4 ≡ ihl_of bytes
+options_words bytes options header e = rw e (omega (arith, length-drop 20 bytes, header.minimum, header.whole))
+
+pub options_len : (bytes options : List ℕ) → IsIpv4Header bytes → options ≡ options_of bytes → 20 + length options ≡ length bytes
+options_len bytes options header e = rw e (omega (arith, length-drop 20 bytes, header.minimum, header.whole))

@@ -129,6 +129,15 @@ spelling h =
 abbrev pub cleared : List ℕ → List ℕ
 cleared bytes = slice_set bytes 6 (slice_index bytes 6 % 2 ^ 7)
 
+-- in front of the rest stood a header, with these fields; written again it is the same, but for
+-- the reserved bit
+pub record IsRead (bytes : List ℕ) (h : Ipv4Header) (rest : List ℕ) : Type 0 where
+  pub front : List ℕ
+  pub header : IsIpv4Header front
+  pub place : bytes ≡ front ++ rest
+  pub fields : h ≡ header_of front
+  pub again : spelling h ≡ cleared front
+
 -- the ranges of the fields
 pub record Fits (h : Ipv4Header) : Type 0 where
   pub dscp : h.dscp < 2 ^ 6

@@ -2,6 +2,7 @@
 #![tactic(auto)]
 
 pub mod err;
+pub mod laws;
 mod net;
 
 pub use net::{Ipv4Header, Ipv4HeaderSlice, Ipv4Options};

@@ -1,6 +1,6 @@
 use super::*;
 use crate::err::ipv4::{BadOptionsLen, HeaderError, HeaderSliceError};
-use ep_base::err::{Layer, LenError};
+use ep_base::err::{Layer, LenError, ValueTooBigError, ValueType};
 use ep_base::{IpDscp, IpEcn, IpFragOffset, IpNumber, LenSource};
 use std::test::*;
 
@@ -164,6 +164,115 @@ fn default_header(rt: HostRuntime) {
     assert_eq!(rt; header.is_fragmenting_payload(), false);
 }
 
+// A header with no options, whose checksum was summed by hand.
+fn summed() -> Result<Ipv4Header, ValueTooBigError<u16>> {
+    Ipv4Header::new(8, 64, IpNumber::UDP, [10, 0, 0, 1], [10, 0, 0, 2])
+}
+
+const SUMMED: [u8; 20] = [
+    0x45, 0, 0, 28, 0, 0, 0x40, 0, 64, 17, 0x26, 0xcf, 10, 0, 0, 1, 10, 0, 0, 2,
+];
+
+#[test]
+fn written_behind_a_byte(rt: HostRuntime) -> Result<(), Fail> {
+    let header = summed()?;
+    assert_eq!(rt; header.dont_fragment, true);
+    assert_eq!(rt; header.calc_header_checksum(), 0x26cf);
+    let mut buffer = Vec::new(rt.alloc());
+    buffer.push(9)?;
+    header.write(&mut buffer)?;
+    assert_eq!(rt; buffer.len(), 21);
+    assert_eq!(rt; &buffer[1..], SUMMED.as_slice());
+    header.write_raw(&mut buffer)?;
+    assert_eq!(rt; buffer.len(), 41);
+    assert_eq!(rt; &buffer[21..], header.to_bytes().as_slice());
+    assert_eq!(rt; &buffer[31..33], [0, 0].as_slice());
+    Ok(())
+}
+
+#[test]
+fn bytes_of_a_header_with_options(rt: HostRuntime) -> Result<(), Fail> {
+    let (header, _) = Ipv4Header::read_from_slice(&BYTES)?;
+    assert_eq!(rt; header.to_bytes().as_slice(), &BYTES[..24]);
+    assert_eq!(rt; header.calc_header_checksum(), 0x439f);
+    assert_eq!(rt; header.options(), [1, 1, 1, 0].as_slice());
+    Ok(())
+}
+
+#[test]
+fn checksum_zero(rt: HostRuntime) -> Result<(), Fail> {
+    let header = Ipv4Header {
+        identification: 0x26cf,
+        ..summed()?
+    };
+    assert_eq!(rt; header.calc_header_checksum(), 0);
+    Ok(())
+}
+
+#[test]
+fn payload_lengths(rt: HostRuntime) -> Result<(), Fail> {
+    let longest = Ipv4Header::new(65515, 1, IpNumber::UDP, [0; 4], [0; 4])?;
+    assert_eq!(rt; longest.total_len, 65535);
+    assert_eq!(rt;
+        Ipv4Header::new(65516, 1, IpNumber::UDP, [0; 4], [0; 4]),
+        Err(ValueTooBigError {
+            actual: 65516,
+            max_allowed: 65515,
+            value_type: ValueType::Ipv4PayloadLength,
+        })
+    );
+    let mut header = Ipv4Header::default();
+    header.set_options(&[7; 40])?;
+    assert_eq!(rt;
+        header.set_options(&[7; 6]),
+        Err(BadOptionsLen { bad_len: 6 })
+    );
+    assert_eq!(rt; header.max_payload_len(), 65475);
+    header.set_payload_len(65475)?;
+    assert_eq!(rt; header.total_len, 65535);
+    assert_eq!(rt; header.payload_len(), Ok(65475));
+    assert_eq!(rt;
+        header.set_payload_len(65476),
+        Err(ValueTooBigError {
+            actual: 65476,
+            max_allowed: 65475,
+            value_type: ValueType::Ipv4PayloadLength,
+        })
+    );
+    assert_eq!(rt; header.total_len, 65535);
+    Ok(())
+}
+
+#[test]
+fn header_lengths(rt: HostRuntime) {
+    assert_eq!(rt; Ipv4Header::MIN_LEN, 20);
+    assert_eq!(rt; Ipv4Header::MIN_LEN_U16, 20);
+    assert_eq!(rt; Ipv4Header::MAX_LEN, 60);
+    assert_eq!(rt; Ipv4Header::SERIALIZED_SIZE, 20);
+    assert_eq!(rt; Ipv4Options::MAX_LEN, 40);
+}
+
+#[test]
+fn options_of_arrays(rt: HostRuntime) {
+    let options = [
+        Ipv4Options::from([1; 0]),
+        Ipv4Options::from([1; 4]),
+        Ipv4Options::from([1; 8]),
+        Ipv4Options::from([1; 12]),
+        Ipv4Options::from([1; 16]),
+        Ipv4Options::from([1; 20]),
+        Ipv4Options::from([1; 24]),
+        Ipv4Options::from([1; 28]),
+        Ipv4Options::from([1; 32]),
+        Ipv4Options::from([1; 36]),
+        Ipv4Options::from([1; 40]),
+    ];
+    for (words, options) in options.iter().enumerate() {
+        assert_eq!(rt; options.len(), 4 * words);
+        assert_eq!(rt; options.as_slice(), &[1; 40][..options.len()]);
+    }
+}
+
 #[test]
 fn option_lengths(rt: HostRuntime) -> Result<(), Fail> {
     assert_eq!(rt;
@@ -176,6 +285,7 @@ fn option_lengths(rt: HostRuntime) -> Result<(), Fail> {
     );
     let mut options = Ipv4Options::try_from([1, 2, 3, 4].as_slice())?;
     assert_eq!(rt; options.len(), 4);
+    assert_eq!(rt; options.len_u8(), 4);
     assert_eq!(rt; options.is_empty(), false);
     for byte in options.as_mut_slice() {
         *byte = 9;

@@ -1,8 +1,8 @@
-ghost use Rattle.std.specs.Prelude.{◌≡◌, ℕ, ◌*◌, List, ◌++◌, IfOk, Ok, nat_eq};
+ghost use Rattle.std.specs.Prelude.{◌≡◌, ℕ, ◌+◌, ◌*◌, List, ◌++◌, length, IfOk, Ok, nat_eq};
 ghost use Rattle.std.specs.Cmp.Lexicographic.{pointwise};
 ghost use Rattle.std.specs.Cmp.Rules.{comparing};
 ghost use Rattle.std.proofs.Common.{rules};
-ghost use Rattle.ep_ip.specs.Ipv4.{IsIpv4Header, version_of, ihl_of, dscp_of, ecn_of, total_len_of, identification_of, dont_fragment_of, more_fragments_of, fragment_offset_of, time_to_live_of, protocol_of, header_checksum_of, source_of, destination_of, options_of, header_of, is_fragmenting};
+ghost use Rattle.ep_ip.specs.Ipv4.{IsIpv4Header, version_of, ihl_of, dscp_of, ecn_of, total_len_of, identification_of, dont_fragment_of, more_fragments_of, fragment_offset_of, time_to_live_of, protocol_of, header_checksum_of, source_of, destination_of, options_of, header_of, header_len, ihl, is_fragmenting};
 ghost use Rattle.ep_ip.specs.Ipv4Fault.{header_at, too_short, IsPayloadLen};
 ghost use Rattle.ep_ip.specs.Ipv4Options.{IsIpv4Options};
 
@@ -121,7 +121,8 @@ impl<'a> Ipv4HeaderSlice<'a> {
     /// A total length below the header's own is a `LenError` of the layer `Ipv4Packet` with the
     /// source `Ipv4HeaderTotalLen`.
     pub fn payload_len(&self) -> Result<u16, LenError>
-        ensures { IsPayloadLen (4 * ihl_of self.now) (total_len_of self.now) result }
+        ensures exact { IsPayloadLen (4 * ihl_of self.now) (total_len_of self.now) result }
+        ensures only { (n : ℕ) → 4 * ihl_of self.now + n ≡ total_len_of self.now → result ≡ Ok n }
     {
         payload_len_of(self.slice.len() as u16, self.total_len())
     }
@@ -217,8 +218,12 @@ impl<'a> Ipv4HeaderSlice<'a> {
 
     /// The fields. The reserved bit is dropped.
     pub fn to_header(&self) -> Ipv4Header
-        ensures { result ≡ header_of self.now }
+        ensures fields { result ≡ header_of self.now }
+        ensures ihl { ihl result ≡ ihl_of self.now }
+        ensures len { header_len result ≡ length self.now }
     {
+        let _header = &self.slice;
+        let options = Ipv4Options::from_words(self.options());
         Ipv4Header {
             dscp: self.dcp(),
             ecn: self.ecn(),
@@ -232,7 +237,7 @@ impl<'a> Ipv4HeaderSlice<'a> {
             header_checksum: self.header_checksum(),
             source: self.source(),
             destination: self.destination(),
-            options: Ipv4Options::from_words(self.options()),
+            options,
         }
     }
 }

@@ -74,6 +74,14 @@ impl Ipv4Options {
         self.bytes.len()
     }
 
+    /// The number of bytes, which is at most 40.
+    pub fn len_u8(&self) -> u8
+        ensures len { result ≡ length self.now }
+        ensures options { IsIpv4Options self.now }
+    {
+        self.bytes.len() as u8
+    }
+
     /// Whether there are none.
     pub fn is_empty(&self) -> bool
         ensures { result ≡ (length self.now == 0) }
@@ -102,5 +110,93 @@ impl TryFrom<&[u8]> for Ipv4Options {
             });
         }
         Ok(Ipv4Options::from_words(bytes))
+    }
+}
+
+impl From<[u8; 0]> for Ipv4Options {
+    ghost from_gives = { λ bytes options. options ≡ bytes };
+
+    fn from(bytes: [u8; 0]) -> Self {
+        Ipv4Options::from_words(&bytes)
+    }
+}
+
+impl From<[u8; 4]> for Ipv4Options {
+    ghost from_gives = { λ bytes options. options ≡ bytes };
+
+    fn from(bytes: [u8; 4]) -> Self {
+        Ipv4Options::from_words(&bytes)
+    }
+}
+
+impl From<[u8; 8]> for Ipv4Options {
+    ghost from_gives = { λ bytes options. options ≡ bytes };
+
+    fn from(bytes: [u8; 8]) -> Self {
+        Ipv4Options::from_words(&bytes)
+    }
+}
+
+impl From<[u8; 12]> for Ipv4Options {
+    ghost from_gives = { λ bytes options. options ≡ bytes };
+
+    fn from(bytes: [u8; 12]) -> Self {
+        Ipv4Options::from_words(&bytes)
+    }
+}
+
+impl From<[u8; 16]> for Ipv4Options {
+    ghost from_gives = { λ bytes options. options ≡ bytes };
+
+    fn from(bytes: [u8; 16]) -> Self {
+        Ipv4Options::from_words(&bytes)
+    }
+}
+
+impl From<[u8; 20]> for Ipv4Options {
+    ghost from_gives = { λ bytes options. options ≡ bytes };
+
+    fn from(bytes: [u8; 20]) -> Self {
+        Ipv4Options::from_words(&bytes)
+    }
+}
+
+impl From<[u8; 24]> for Ipv4Options {
+    ghost from_gives = { λ bytes options. options ≡ bytes };
+
+    fn from(bytes: [u8; 24]) -> Self {
+        Ipv4Options::from_words(&bytes)
+    }
+}
+
+impl From<[u8; 28]> for Ipv4Options {
+    ghost from_gives = { λ bytes options. options ≡ bytes };
+
+    fn from(bytes: [u8; 28]) -> Self {
+        Ipv4Options::from_words(&bytes)
+    }
+}
+
+impl From<[u8; 32]> for Ipv4Options {
+    ghost from_gives = { λ bytes options. options ≡ bytes };
+
+    fn from(bytes: [u8; 32]) -> Self {
+        Ipv4Options::from_words(&bytes)
+    }
+}
+
+impl From<[u8; 36]> for Ipv4Options {
+    ghost from_gives = { λ bytes options. options ≡ bytes };
+
+    fn from(bytes: [u8; 36]) -> Self {
+        Ipv4Options::from_words(&bytes)
+    }
+}
+
+impl From<[u8; 40]> for Ipv4Options {
+    ghost from_gives = { λ bytes options. options ≡ bytes };
+
+    fn from(bytes: [u8; 40]) -> Self {
+        Ipv4Options::from_words(&bytes)
     }
 }

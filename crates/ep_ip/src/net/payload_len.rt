@@ -1,3 +1,4 @@
+ghost use Rattle.std.specs.Prelude.{◌≡◌, ℕ, ◌+◌, Ok};
 ghost use Rattle.ep_ip.specs.Ipv4Fault.{IsPayloadLen};
 
 use ep_base::LenSource;
@@ -5,7 +6,8 @@ use ep_base::err::{Layer, LenError};
 
 // What a total length leaves behind a header of this length, all in bytes.
 pub fn payload_len_of(header_len: u16, total_len: u16) -> Result<u16, LenError>
-    ensures { IsPayloadLen header_len total_len result }
+    ensures exact { IsPayloadLen header_len total_len result }
+    ensures only { (n : ℕ) → header_len + n ≡ total_len → result ≡ Ok n }
 {
     if total_len < header_len {
         return Err(LenError {

@@ -1,0 +1,5 @@
+use Rattle.ep_ip.proofs.Ipv4Spelling.{same_fields}
+use Rattle.ep_ip.proofs.laws.ipv4.same_fields_from_same_bytes.Goals as goal
+
+pub returns : goal.returns
+returns c = same_fields
