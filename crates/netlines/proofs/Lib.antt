@@ -2,3 +2,4 @@ pub mod CommandLemmas
 pub mod PacketLemmas
 pub mod JudgeLemmas
 pub mod AnswerLemmas
+pub mod PostLemmas

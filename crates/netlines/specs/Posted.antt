@@ -1,22 +1,24 @@
 -- What a message is posted as: a frame of Ethernet II (IEEE 802.3, clause 3) that holds an IPv4 packet
 -- (RFC 791, section 3.1), and why it can't be posted.
-use Rattle.std.specs.Prelude.{ℕ, ◌+◌, ◌%◌, ◌&&◌, ◌||◌, ◌==◌, nat_lt, not, Bool, true, false, List, [], ◌∷◌, ◌++◌, length, position, Option, Some, None}
+use Rattle.std.specs.Prelude.{◌≡◌, ℕ, ◌+◌, ◌%◌, ◌&&◌, ◌||◌, ◌==◌, nat_lt, not, Bool, true, false, List, [], ◌∷◌, ◌++◌, length, position, Option, Some, None}
 use Rattle.std.specs.List.{zip}
 use Rattle.std.specs.Option.{option_map, option_or}
 use Rattle.std.specs.Int.{w16, to_be_bytes}
 use Rattle.ep_base.specs.Sum.{checksum}
+use Rattle.ep_ip.specs.Ipv4.{spelling}
+use Rattle.ep_ip.specs.declared.net.ipv4_header.Ipv4Header.{Ipv4Header}
 use Rattle.netlines.specs.declared.ip_frag_version_spec_id.IpFragVersionSpecId.{IpFragVersionSpecId}
 use Rattle.netlines.specs.declared.ip_frag_version_spec_id.IpFragVersionSpecId.TheVariants.{Ipv4, Ipv6}
 use Rattle.netlines.specs.declared.letter.Letter.{Letter}
-use Rattle.netlines.specs.declared.post.PostError.{PostError}
-use Rattle.netlines.specs.declared.post.PostError.TheVariants.{NotYet, Cuts, MessageTooLong, ExtensionNumber, IcmpOfOtherVersion, PieceTooLong}
+use Rattle.netlines.specs.declared.post_error.PostError.{PostError}
+use Rattle.netlines.specs.declared.post_error.PostError.TheVariants.{NotYet, Cuts, MessageTooLong, ExtensionNumber, IcmpOfOtherVersion, PieceTooLong}
 
 -- a header of 20 bytes with this checksum, for a payload of so many bytes: version 4 and five words, type of
 -- service 0, the total length, the identification, no flag set and offset 0, 64 hops, the protocol's number,
 -- the checksum, both addresses
 abbrev pub header_with : ℕ → (source destination : List ℕ) → (identification number len : ℕ) → List ℕ
-header_with sum source destination identification number len =
-    0x45 ∷ 0 ∷ to_be_bytes w16 (20 + len) ++ to_be_bytes w16 identification ++ 0 ∷ 0 ∷ 64 ∷ number ∷ to_be_bytes w16 sum
+header_with stored source destination identification number len =
+    0x45 ∷ 0 ∷ to_be_bytes w16 (20 + len) ++ to_be_bytes w16 identification ++ 0 ∷ 0 ∷ 64 ∷ number ∷ to_be_bytes w16 stored
     ++ source ++ destination
 
 -- the header, whose checksum is that of its bytes with the checksum as 0
@@ -70,10 +72,16 @@ first_of (e ∷ es) = option_or e (first_of es)
 -- leaves a piece 65515 bytes
 abbrev pub post_refusal : Letter → List ℕ → List ℕ → Option PostError
 post_refusal letter message cuts = first_of (
-  error_where (is_not_yet letter cuts) NotYet
-  ∷ option_map Cuts (bad_cut (length message) cuts)
-  ∷ error_where (nat_lt 65535 (length message)) MessageTooLong
-  ∷ error_where (letter.number.0 == 51) ExtensionNumber
-  ∷ error_where (letter.number.0 == 58) IcmpOfOtherVersion
-  ∷ error_where (nat_lt 65515 (length message)) (PieceTooLong 0)
-  ∷ [])
+    error_where (is_not_yet letter cuts) NotYet
+    ∷ option_map Cuts (bad_cut (length message) cuts)
+    ∷ error_where (nat_lt 65535 (length message)) MessageTooLong
+    ∷ error_where (letter.number.0 == 51) ExtensionNumber
+    ∷ error_where (letter.number.0 == 58) IcmpOfOtherVersion
+    ∷ error_where (nat_lt 65515 (length message)) (PieceTooLong 0)
+    ∷ [])
+
+-- with whatever checksum, the bytes of this header are those in front of such a message
+abbrev pub HeadsPacket : Ipv4Header → IpFragVersionSpecId → (number len : ℕ) → Type 0
+HeadsPacket h (Ipv4 source destination identification) number len =
+    (stored : ℕ) → spelling (record h { header_checksum = stored }) ≡ header_with stored source destination identification number len
+HeadsPacket h (Ipv6 source destination identification) number len = ⊥

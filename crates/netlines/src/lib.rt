@@ -10,11 +10,13 @@ mod ipv4_packet;
 mod judge;
 mod letter;
 mod output;
-mod post;
+mod post_error;
+mod post_message;
 mod udp_message;
 mod vlan_id;
 
 pub use ip_frag_version_spec_id::IpFragVersionSpecId;
 pub use letter::Letter;
-pub use post::PostError;
+pub use post_error::PostError;
+pub use post_message::post;
 pub use vlan_id::VlanId;
