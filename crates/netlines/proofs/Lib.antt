@@ -8,6 +8,7 @@ pub mod KnownLemmas
 pub mod LineLemmas
 pub mod PacketLaws
 pub mod PacketLemmas
+pub mod PostLemmas
 pub mod ReplyLemmas
 pub mod SplitLemmas
 pub mod WriteLemmas

@@ -4,6 +4,7 @@ pub mod Class
 pub mod Known
 pub mod Lines
 pub mod Packet
+pub mod Posted
 pub mod Runs
 pub mod Udp
 pub mod Verdict

@@ -1,4 +1,5 @@
-//! Answers the lines of a stream of bytes, each line by one line.
+//! Answers the lines of a stream of bytes, each line by one line; and makes the frames that such
+//! lines hold.
 #![tactic(auto)]
 
 mod answer;
@@ -6,19 +7,29 @@ mod command;
 pub mod device;
 mod ethernet;
 mod frame;
+mod ip_frag_version_spec_id;
 mod ipv4_packet;
 mod judge;
 pub mod laws;
+mod letter;
 mod limits;
 mod line_answerer;
 mod output;
+mod post_error;
+mod post_message;
 mod reply_buffer;
 mod run_error;
 mod run_lines;
 #[cfg(test)]
 mod tests;
 mod udp_message;
+mod vlan_id;
 
+pub use ip_frag_version_spec_id::IpFragVersionSpecId;
+pub use letter::Letter;
 pub use limits::{LINE_LIMIT, READ_COUNT_LIMIT, READ_SIZE_LIMIT};
+pub use post_error::PostError;
+pub use post_message::post;
 pub use run_error::RunError;
 pub use run_lines::{run, run_over};
+pub use vlan_id::VlanId;
