@@ -1,0 +1,5 @@
+pub mod Ipv6
+pub mod Ipv6Bytes
+pub mod Ipv6Fault
+pub mod Pseudo
+pub mod Skip
