@@ -1,4 +1,6 @@
 pub mod Bounded
+pub mod Bytes
+pub mod IpDscpKnown
 pub mod IpEcn
 pub mod IpNumber
-pub mod Bytes
+pub mod Sum

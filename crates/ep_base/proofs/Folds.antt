@@ -1,0 +1,192 @@
+-- Laws of `fold`.
+use Rattle.std.proofs.Common.{not, ◌&&◌, ◌==◌, ◌≡◌, Bool, true, false, ◌^◌, ◌⊎◌, ℕ, zero, suc, ◌+◌, ◌-◌, ◌*◌, ◌/◌, ◌%◌, ◌<◌, ◌≤◌, sym, ap, ◌∙◌, refl, arith, inl, inr}
+use Rattle.std.proofs.Math.Nat.{add-mul-mod_self_left}
+use Rattle.std.specs.Bool.{FalseIff}
+use Rattle.std.proofs.lemmas.Bool.Decides.{nat_tests}
+use mir.Val.{bool_byte}
+use Rattle.ep_base.specs.Sum.{fold, turned, accumulated}
+
+pub fold_zero : fold 0 ≡ 0
+unfolding fold
+fold_zero = refl
+
+pub fold_le : (n : ℕ) → fold n ≤ 65535
+unfolding fold
+fold_le zero = omega arith
+fold_le (suc n) = omega arith
+
+-- a positive total has a positive fold
+pub fold_pos : (n : ℕ) → 0 < n → 0 < fold n
+unfolding fold
+fold_pos zero h = absurd (omega arith)
+fold_pos (suc n) h = omega arith
+
+pub fold_id : (n : ℕ) → n ≤ 65535 → fold n ≡ n
+unfolding fold
+fold_id zero h = refl
+fold_id (suc n) h = omega arith
+
+-- 65535 is nothing to a positive total
+pub fold_step : (n k : ℕ) → 0 < n → fold (n + 65535 * k) ≡ fold n
+unfolding fold
+fold_step zero k h = absurd (omega arith)
+fold_step (suc n) k h =
+    let e : suc n + 65535 * k ≡ suc (n + 65535 * k) = omega arith in
+    ap fold e ∙ ap (λ x. 1 + x) (add-mul-mod_self_left n 65535 k)
+
+-- a total is its fold and a multiple of 65535
+pub fold_rest : (n : ℕ) → (k : ℕ) × (n ≡ fold n + 65535 * k)
+unfolding fold
+fold_rest zero = (0, refl)
+fold_rest (suc n) = (n / 65535, omega arith)
+
+zero_or_pos : (n : ℕ) → (n ≡ 0) ⊎ (0 < n)
+zero_or_pos zero = inl refl
+zero_or_pos (suc n) = inr (omega arith)
+
+-- a sum may be folded on the way
+pub fold_add : (m n : ℕ) → fold (fold m + n) ≡ fold (m + n)
+fold_add m n = elim (zero_or_pos m) [
+  | inl z ↦ (rw z (rw fold_zero refl))
+  | inr p ↦
+      let r = fold_rest m in
+      let e : m + n ≡ (fold m + n) + 65535 * r.0 = omega (arith, r.1) in
+      sym (ap fold e ∙ fold_step (fold m + n) r.0 (omega (arith, fold_pos m p)))
+]
+
+pub fold_cong : (a b n : ℕ) → fold a ≡ fold b → fold (a + n) ≡ fold (b + n)
+fold_cong a b n e = sym (fold_add a n) ∙ ap (λ f. fold (f + n)) e ∙ fold_add b n
+
+pub fold_cong_right : (a b n : ℕ) → fold a ≡ fold b → fold (n + a) ≡ fold (n + b)
+fold_cong_right a b n e =
+    let l : n + a ≡ a + n = omega arith in
+    let r : b + n ≡ n + b = omega arith in
+    ap fold l ∙ fold_cong a b n e ∙ ap fold r
+
+-- end-around: a power of 65536 is one
+pub fold_around : (k lo hi : ℕ) → fold (lo + hi + 65535 * (k * hi)) ≡ fold (lo + hi)
+fold_around k lo zero = let e : lo + 0 + 65535 * (k * 0) ≡ lo + 0 = omega arith in ap fold e
+fold_around k lo (suc hi) = fold_step (lo + suc hi) (k * suc hi) (omega arith)
+
+pub fold_around_16 : (lo hi : ℕ) → fold (lo + 65536 * hi) ≡ fold (lo + hi)
+fold_around_16 lo hi = let e : lo + 65536 * hi ≡ lo + hi + 65535 * (1 * hi) = omega arith in ap fold e ∙ fold_around 1 lo hi
+
+pub fold_around_32 : (lo hi : ℕ) → fold (lo + 4294967296 * hi) ≡ fold (lo + hi)
+fold_around_32 lo hi = let e : lo + 4294967296 * hi ≡ lo + hi + 65535 * (65537 * hi) = omega arith in ap fold e ∙ fold_around 65537 lo hi
+
+pub fold_around_64 : (lo hi : ℕ) → fold (lo + 18446744073709551616 * hi) ≡ fold (lo + hi)
+fold_around_64 lo hi = let e : lo + 18446744073709551616 * hi ≡ lo + hi + 65535 * (281479271743489 * hi) = omega arith in ap fold e ∙ fold_around 281479271743489 lo hi
+
+-- 256 times a fold
+fold_times : (m : ℕ) → fold (256 * fold m) ≡ fold (256 * m)
+fold_times m = elim (zero_or_pos m) [
+  | inl z ↦ let e : fold m ≡ m = (ap fold z ∙ fold_zero) ∙ sym z in ap (λ x. fold (256 * x)) e
+  | inr p ↦
+      let r = fold_rest m in
+      let e : 256 * m ≡ 256 * fold m + 65535 * (256 * r.0) = omega (arith, r.1) in
+      sym (ap fold e ∙ fold_step (256 * fold m) (256 * r.0) (omega (arith, fold_pos m p)))
+]
+
+fold_turned : (f : ℕ) → f ≤ 65535 → fold (256 * f) ≡ turned f
+fold_turned f h =
+    let e : 256 * f ≡ 256 * (f % 256) + 65536 * (f / 256) = omega arith in
+    let t : 256 * (f % 256) + f / 256 ≡ turned f = omega arith in
+    ap fold e ∙ fold_around_16 (256 * (f % 256)) (f / 256) ∙ ap fold t ∙ fold_id (turned f) (omega arith)
+
+-- to take a total 256 times is to turn the bytes of its fold
+pub fold_of_turned : (m : ℕ) → fold (256 * m) ≡ turned (fold m)
+fold_of_turned m = sym (fold_times m) ∙ fold_turned (fold m) (fold_le m)
+
+pub turned_twice : (f : ℕ) → f ≤ 65535 → turned (turned f) ≡ f
+turned_twice f h =
+    let high : turned f / 256 ≡ f % 256 = omega arith in
+    let low : turned f % 256 ≡ f / 256 = omega arith in
+    omega (arith, high, low)
+
+-- the wide sum less its carry out, and the carry
+pub fold_carry_64 : (a b s : ℕ) (carry : Bool) → a < 2 ^ 64 → b < 2 ^ 64 → s ≡ (a + b) % 2 ^ 64 → FalseIff carry (a + b < 2 ^ 64) → fold (s + bool_byte carry) ≡ fold (a + b)
+fold_carry_64 a b s true p q e wraps =
+    let w : a + b ≡ s + 18446744073709551616 * 1 = omega (arith, wraps) in
+    sym (ap fold w ∙ fold_around_64 s 1)
+fold_carry_64 a b s false p q e fits = let w : s + 0 ≡ a + b = omega (arith, fits) in ap fold w
+
+pub fold_carry_32 : (a b s : ℕ) (carry : Bool) → a < 2 ^ 32 → b < 2 ^ 32 → s ≡ (a + b) % 2 ^ 32 → FalseIff carry (a + b < 2 ^ 32) → fold (s + bool_byte carry) ≡ fold (a + b)
+fold_carry_32 a b s true p q e wraps =
+    let w : a + b ≡ s + 4294967296 * 1 = omega (arith, wraps) in
+    sym (ap fold w ∙ fold_around_32 s 1)
+fold_carry_32 a b s false p q e fits = let w : s + 0 ≡ a + b = omega (arith, fits) in ap fold w
+
+pub complement_turned : (f : ℕ) → f ≤ 65535 → 65535 - turned f ≡ turned (65535 - f)
+complement_turned f h = omega arith
+
+-- the four words of a wide number, added, and the sum's two words added twice
+pub fold_words : (n : ℕ) → fold (n / 281474976710656 + n / 4294967296 % 65536 + n / 65536 % 65536 + n % 65536) ≡ fold n
+fold_words n =
+    let w0 : ℕ = n % 65536 in
+    let w1 : ℕ = n / 65536 % 65536 in
+    let w2 : ℕ = n / 4294967296 % 65536 in
+    let w3 : ℕ = n / 281474976710656 in
+    let whole : n ≡ (w0 + 65536 * w1) + 4294967296 * (w2 + 65536 * w3) = omega arith in
+    let pairs : (w0 + 65536 * w1) + (w2 + 65536 * w3) ≡ (w0 + w2) + 65536 * (w1 + w3) = omega arith in
+    let sum : (w0 + w2) + (w1 + w3) ≡ w3 + w2 + w1 + w0 = omega arith in
+    sym (ap fold whole ∙ fold_around_32 (w0 + 65536 * w1) (w2 + 65536 * w3) ∙ ap fold pairs ∙ fold_around_16 (w0 + w2) (w1 + w3) ∙ ap fold sum)
+
+pub fold_once : (n : ℕ) → fold (n / 65536 + n % 65536) ≡ fold n
+fold_once n =
+    let whole : n ≡ n % 65536 + 65536 * (n / 65536) = omega arith in
+    let sum : n % 65536 + n / 65536 ≡ n / 65536 + n % 65536 = omega arith in
+    sym (ap fold whole ∙ fold_around_16 (n % 65536) (n / 65536) ∙ ap fold sum)
+
+pub fold_twice : (n : ℕ) → n ≤ 262140 → (n / 65536 + n % 65536) / 65536 + (n / 65536 + n % 65536) % 65536 ≡ fold n
+fold_twice n h =
+    let m : ℕ = n / 65536 + n % 65536 in
+    sym (fold_id (m / 65536 + m % 65536) (omega arith)) ∙ fold_once m ∙ fold_once n
+
+-- ---- numbers into which words were added low byte first
+
+pub fold_add_right : (m n : ℕ) → fold (m + fold n) ≡ fold (m + n)
+fold_add_right m n =
+    let l : m + fold n ≡ fold n + m = omega arith in
+    let r : n + m ≡ m + n = omega arith in
+    ap fold l ∙ fold_add n m ∙ ap fold r
+
+pub fold_plus_none : (m n : ℕ) → n ≡ 0 → fold (fold m + n) ≡ fold m
+fold_plus_none m n none = fold_add m n ∙ ap fold (let e : m + n ≡ m = omega (arith, none) in e)
+
+pub accumulated_cong : (m n : ℕ) → fold m ≡ fold n → accumulated m ≡ accumulated n
+accumulated_cong m n e = fold_of_turned m ∙ ap turned e ∙ sym (fold_of_turned n)
+
+pub accumulated-add : (m n : ℕ) → accumulated (m + n) ≡ fold (accumulated m + accumulated n)
+accumulated-add m n =
+    let e : 256 * (m + n) ≡ 256 * m + 256 * n = omega arith in
+    ap fold e ∙ sym (fold_add (256 * m) (256 * n)) ∙ sym (fold_add_right (fold (256 * m)) (256 * n))
+
+pub accumulated_carry_64 : (a b s : ℕ) (carry : Bool) → a < 2 ^ 64 → b < 2 ^ 64 → s ≡ (a + b) % 2 ^ 64 → FalseIff carry (a + b < 2 ^ 64)
+    → accumulated (s + bool_byte carry) ≡ fold (accumulated a + accumulated b)
+accumulated_carry_64 a b s carry p q e wraps =
+    accumulated_cong (s + bool_byte carry) (a + b) (fold_carry_64 a b s carry p q e wraps) ∙ accumulated-add a b
+
+pub accumulated_carry_32 : (a b s : ℕ) (carry : Bool) → a < 2 ^ 32 → b < 2 ^ 32 → s ≡ (a + b) % 2 ^ 32 → FalseIff carry (a + b < 2 ^ 32)
+    → accumulated (s + bool_byte carry) ≡ fold (accumulated a + accumulated b)
+accumulated_carry_32 a b s carry p q e wraps =
+    accumulated_cong (s + bool_byte carry) (a + b) (fold_carry_32 a b s carry p q e wraps) ∙ accumulated-add a b
+
+-- a wide number as its two halves
+pub accumulated_halves : (n : ℕ) → fold (accumulated (n % 4294967296) + accumulated (n / 4294967296)) ≡ accumulated n
+accumulated_halves n =
+    let whole : n ≡ n % 4294967296 + 4294967296 * (n / 4294967296) = omega arith in
+    sym (accumulated-add (n % 4294967296) (n / 4294967296))
+    ∙ accumulated_cong _ n (sym (ap fold whole ∙ fold_around_32 (n % 4294967296) (n / 4294967296)))
+
+-- the complement of a number's fold is that of its sum with the bytes turned
+pub complement_of_accumulated : (n : ℕ) → 65535 - fold n ≡ turned (65535 - accumulated n)
+complement_of_accumulated n =
+    let small : fold n ≤ 65535 = fold_le n in
+    let inner : 65535 - accumulated n ≡ turned (65535 - fold n) = ap (λ f. 65535 - f) (fold_of_turned n) ∙ complement_turned (fold n) small in
+    sym (ap turned inner ∙ turned_twice (65535 - fold n) (omega arith))
+
+-- the complement is 0 just where the words sum to all ones
+pub turned_complement_zero : (n answer : ℕ) → answer ≡ turned (65535 - fold n) → (answer == 0) ≡ (not (n == 0) && (n % 65535 == 0))
+unfolding fold
+turned_complement_zero zero answer is = grind (arith, nat_tests)
+turned_complement_zero (suc n) answer is = grind (arith, nat_tests)

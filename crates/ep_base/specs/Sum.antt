@@ -1,0 +1,55 @@
+-- The Internet checksum (RFC 1071, sections 1 and 2): a ones-complement sum of 16-bit words, and its complement.
+use Rattle.std.specs.Prelude.{◌≡◌, ◌≢◌, ◌<◌, IsPermutation, IsTrue, false, ℕ, zero, suc, ◌+◌, ◌-◌, ◌*◌, ◌/◌, ◌%◌, ◌==◌, ◌&&◌, not, Bool, List, [], ◌∷◌, ◌++◌, length, replicate}
+use Rattle.std.specs.List.{flat_map, concat}
+
+-- the sum of a text's 16-bit words, high byte first; an odd last byte is followed by a zero byte
+unfoldable pub total : List ℕ → ℕ
+total [] = 0
+total (a ∷ []) = 256 * a
+total (a ∷ b ∷ rest) = 256 * a + b + total rest
+
+-- what a ones-complement sum keeps of a total: whether it is 0, and its residue by 65535
+unfoldable pub fold : ℕ → ℕ
+fold zero = 0
+fold (suc n) = 1 + n % 65535
+
+-- a text whose words sum to all ones, as one with a right checksum in it
+abbrev pub all_ones : List ℕ → Bool
+all_ones text = not (total text == 0) && (total text % 65535 == 0)
+
+-- the complement of a text's sum
+abbrev pub checksum : List ℕ → ℕ
+checksum text = 65535 - fold (total text)
+
+-- a 16-bit number with its two bytes turned
+abbrev pub turned : ℕ → ℕ
+turned n = n / 256 + 256 * (n % 256)
+
+-- a piece as it is summed: with a zero byte after it where its length is odd
+abbrev pub padded : List ℕ → List ℕ
+padded piece = piece ++ replicate (length piece % 2) 0
+
+-- a checksum where 0 says that there is none (RFC 768)
+abbrev pub no_zero : ℕ → ℕ
+no_zero zero = 65535
+no_zero (suc n) = suc n
+
+-- the sum that a number stands for into which words were added low byte first
+abbrev pub accumulated : ℕ → ℕ
+accumulated n = fold (256 * n)
+
+-- pieces of a text that is cut at the ends of words: all but the last have an even length
+abbrev pub IsCutAtWords : List (List ℕ) → Type 0
+IsCutAtWords [] = Unit {0}
+IsCutAtWords (piece ∷ []) = Unit {0}
+IsCutAtWords (piece ∷ next ∷ rest) = (length piece % 2 ≡ 0) × IsCutAtWords (next ∷ rest)
+
+-- wherever a text is cut at the ends of words, and in whatever order its pieces are added, the fold is that of the text
+abbrev pub FoldOfPieces : Type 0
+FoldOfPieces = (text : List ℕ) (pieces order : List (List ℕ)) → concat pieces ≡ text → IsCutAtWords pieces → IsPermutation pieces order
+    → fold (total (flat_map padded order)) ≡ fold (total text)
+
+-- a text that sums to all ones doesn't with another value of one of its bytes
+abbrev pub OneChangedByte : Type 0
+OneChangedByte = (front rest : List ℕ) (old new : ℕ) → old < 256 → new < 256 → old ≢ new
+    → IsTrue (all_ones (front ++ old ∷ rest)) → all_ones (front ++ new ∷ rest) ≡ false

@@ -1,0 +1,89 @@
+//! The sum of 16-bit words in a number of 64 bits, whose carry is added back.
+//!
+//! Such a number stands for the sum `accumulated`, high byte first, of its words, which are added
+//! to it low byte first. It may begin at any number.
+
+ghost use Rattle.std.specs.Prelude.{◌≡◌, ◌+◌, ◌-◌};
+ghost use Rattle.ep_base.specs.Sum.{accumulated, fold, no_zero, total, turned};
+
+fn add_carrying(start: u64, word: u64) -> u64
+    ensures { accumulated result ≡ fold (accumulated start + accumulated word) }
+{
+    let (sum, carry) = start.overflowing_add(word);
+    sum + carry as u64
+}
+
+/// The number with a word of 2 bytes added.
+pub fn add_2bytes(start: u64, value: [u8; 2]) -> u64
+    ensures { accumulated result ≡ fold (accumulated start + total value) }
+{
+    add_carrying(start, u64::from(u16::from_le_bytes(value)))
+}
+
+/// The number with two words added.
+pub fn add_4bytes(start: u64, value: [u8; 4]) -> u64
+    ensures { accumulated result ≡ fold (accumulated start + total value) }
+{
+    add_carrying(start, u64::from(u32::from_le_bytes(value)))
+}
+
+/// The number with four words added.
+pub fn add_8bytes(start: u64, value: [u8; 8]) -> u64
+    ensures { accumulated result ≡ fold (accumulated start + total value) }
+{
+    add_carrying(start, u64::from_le_bytes(value))
+}
+
+// The number with the words of a short slice added, one by one.
+fn add_words(start: u64, slice: &[u8]) -> u64
+    ensures { accumulated result ≡ fold (accumulated start + total slice.now) }
+{
+    let (words, rest) = slice.as_chunks::<2>();
+    let mut sum = start;
+    for word in words {
+        sum = add_2bytes(sum, *word);
+    }
+    match rest {
+        [last] => add_2bytes(sum, [*last, 0]),
+        _ => sum,
+    }
+}
+
+/// The number with the words of a slice added. An odd last byte is followed by a zero byte.
+pub fn add_slice(start: u64, slice: &[u8]) -> u64
+    ensures { accumulated result ≡ fold (accumulated start + total slice.now) }
+{
+    let (blocks, rest) = slice.as_chunks::<8>();
+    let mut sum = start;
+    for block in blocks {
+        sum = add_8bytes(sum, *block);
+    }
+    add_words(sum, rest)
+}
+
+// The number's own fold, low byte first.
+pub(crate) fn folded(sum: u64) -> u16
+    ensures { result ≡ fold sum }
+{
+    let first = (sum >> 48) + (sum >> 32 & 0xffff) + (sum >> 16 & 0xffff) + (sum & 0xffff);
+    let second = (first >> 16) + (first & 0xffff);
+    let third = (second >> 16) + (second & 0xffff);
+    third as u16
+}
+
+/// The complement of the sum, low byte first.
+pub fn ones_complement(sum: u64) -> u16
+    ensures { result ≡ turned (65535 - accumulated sum) }
+{
+    !folded(sum)
+}
+
+/// The same with ffff in the place of 0.
+pub fn ones_complement_with_no_zero(sum: u64) -> u16
+    ensures { result ≡ turned (no_zero (65535 - accumulated sum)) }
+{
+    match ones_complement(sum) {
+        0 => 0xffff,
+        complement => complement,
+    }
+}
