@@ -1,5 +1,5 @@
 -- The bits of an IPv6 header that share bytes, as quotients and remainders.
-use Rattle.std.proofs.Common.{◌≡◌, ℕ, ◌+◌, ◌*◌, ◌/◌, ◌%◌, ◌^◌, ◌<◌, ◌≤◌, bit_and, bit_or, arith, refl, ap, ◌∙◌}
+use Rattle.std.proofs.Common.{◌≡◌, ℕ, zero, suc, ◌+◌, ◌*◌, ◌/◌, ◌%◌, ◌^◌, ◌<◌, ◌≤◌, bit_and, bit_or, arith, refl, ap, ◌∙◌}
 use Rattle.std.proofs.lemmas.Nat.{and_mask, or_shifted}
 use Rattle.ep_base.specs.IpEcn.{ecn_of, ecn_number}
 use Rattle.ep_base.specs.declared.net.ip_ecn.IpEcn.{IpEcn}
@@ -53,3 +53,13 @@ or-first_word class label h k =
     let fits : class * 2 ^ 20 % 2 ^ 32 ≡ class * 2 ^ 20 = omega arith in
     let above : 6 * 2 ^ 28 + class * 2 ^ 20 ≡ (6 * 2 ^ 8 + class) * 2 ^ 20 = omega arith in
     rw (fits, or_shifted 6 28 (class * 2 ^ 20) (omega arith), above) (or_shifted (6 * 2 ^ 8 + class) 20 label k)
+
+number-ecn_of : (n : ℕ) → n < 4 → ecn_number (ecn_of n) ≡ n
+number-ecn_of zero h = refl
+number-ecn_of (suc zero) h = refl
+number-ecn_of (suc (suc zero)) h = refl
+number-ecn_of (suc (suc (suc zero))) h = refl
+number-ecn_of (suc (suc (suc (suc n)))) h = absurd (omega arith)
+
+pub two_parts : (traffic_class : ℕ) → 4 * dscp_in traffic_class + ecn_number (ecn_in traffic_class) ≡ traffic_class
+two_parts traffic_class = rw (number-ecn_of (traffic_class % 4) (omega arith)) (omega arith)

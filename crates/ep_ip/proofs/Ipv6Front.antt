@@ -4,7 +4,7 @@ use Rattle.std.proofs.lemmas.Bool.{le-ltb, eq-eqb, ltb-false, eqb-true, cases_lt
 use Rattle.std.proofs.lemmas.List.{get_or-take, length-take-le, take-append-drop, take_at, take_rest, drop_at, get_or_append_left, get_or_past, length-append}
 use Rattle.ep_base.specs.Bytes.{num, IsBytes}
 use Rattle.ep_ip.specs.declared.err.ipv6.header_slice_error.HeaderSliceError.{HeaderSliceError}
-use Rattle.ep_ip.specs.Ipv6Bytes.{IsIpv6Header, IsFront, version_of}
+use Rattle.ep_ip.specs.Ipv6.{IsIpv6Header, version_of}
 use Rattle.ep_ip.specs.Ipv6Fault.{header_at}
 
 pub header_at-ok : (bytes : List ℕ) → 40 ≤ length bytes → version_of bytes ≡ 6 → header_at bytes ≡ Ok (take 40 bytes)
@@ -38,7 +38,7 @@ front_takes bytes front e =
     let same : take 40 bytes ≡ front = ok_same _ _ version.1 in
     rw (← same) (front_is bytes fits is_six, sym (take-append-drop 40 bytes))
 
-pub found_front : (bytes : List ℕ) (r : Result (List ℕ) HeaderSliceError) → r ≡ header_at bytes → IfOk r (λ front. IsIpv6Header front × IsFront front bytes)
+pub found_front : (bytes : List ℕ) (r : Result (List ℕ) HeaderSliceError) → r ≡ header_at bytes → IfOk r (λ front. IsIpv6Header front × ((rest : List ℕ) × (bytes ≡ front ++ rest)))
 found_front bytes (Ok front) e =
     let taken : IsIpv6Header front × (bytes ≡ front ++ drop 40 bytes) = front_takes bytes front (sym e) in
     (taken.0, (drop 40 bytes, taken.1))

@@ -4,8 +4,7 @@ use Rattle.std.proofs.lemmas.List.{length-append, length-drop, take_at, drop_at,
 use borrow.Rule.Slice.PartMut.{put_mid}
 use Rattle.ep_base.specs.Bytes.{IsBytes}
 use Rattle.ep_base.proofs.Cells.{cells, drop-cells, take-drop-cells}
-use Rattle.ep_ip.specs.Ipv6Bytes.{IsIpv6Header}
-use Rattle.ep_ip.specs.Ipv6.{header_of, spelling, Fits}
+use Rattle.ep_ip.specs.Ipv6.{IsIpv6Header, header_of, spelling, Fits}
 use Rattle.ep_ip.specs.declared.net.ipv6_header.Ipv6Header.{Ipv6Header}
 
 -- version, traffic class and flow label make up the first four bytes

@@ -1,11 +1,11 @@
--- Why bytes do not begin with an IPv6 header.
+-- Why bytes do not begin with an IPv6 header (RFC 8200, section 3).
 use Rattle.std.specs.Prelude.{ℕ, ◌+◌, ◌<◌, ◌^◌, ⊤, List, length, take, nat_lt, ◌==◌, not, if◌then◌else◌, Result, Ok, Err}
 use Rattle.ep_base.specs.declared.err.layer.Layer.TheVariants.{Ipv6Header}
 use Rattle.ep_base.specs.declared.len_source.LenSource.TheVariants.{Slice}
 use Rattle.ep_ip.specs.declared.err.ipv6.header_error.HeaderError.TheVariants.{UnexpectedVersion}
 use Rattle.ep_ip.specs.declared.err.ipv6.header_slice_error.HeaderSliceError.{HeaderSliceError}
 use Rattle.ep_ip.specs.declared.err.ipv6.header_slice_error.HeaderSliceError.TheVariants.{Len, Content}
-use Rattle.ep_ip.specs.Ipv6Bytes.{version_of}
+use Rattle.ep_ip.specs.Ipv6.{version_of}
 
 -- 40 bytes are needed, and fewer are there
 abbrev pub too_short : List ℕ → HeaderSliceError

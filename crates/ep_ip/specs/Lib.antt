@@ -1,5 +1,4 @@
 pub mod Ipv6
-pub mod Ipv6Bytes
 pub mod Ipv6Fault
 pub mod Pseudo
 pub mod Skip

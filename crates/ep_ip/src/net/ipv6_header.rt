@@ -1,8 +1,7 @@
 ghost use Rattle.std.specs.Prelude.{◌≡◌, ℕ, ◌+◌, ◌<◌, ◌≤◌, List, ◌++◌, length, IfOk, IfErr, IsOkAnd, OnOk, OnErr, IsOk, MatchResult, Err, vec_len, vec_capacity};
 ghost use Rattle.ep_base.specs.Bounded.{too_big};
-ghost use Rattle.ep_ip.specs.Ipv6Bytes.{IsIpv6Header};
 ghost use Rattle.ep_ip.specs.Ipv6Fault.{header_at};
-ghost use Rattle.ep_ip.specs.Ipv6.{header_of, spelling, Fits, dscp_in, ecn_in};
+ghost use Rattle.ep_ip.specs.Ipv6.{IsIpv6Header, IsRead, header_of, spelling, Fits, dscp_in, ecn_in};
 
 use crate::Ipv6HeaderSlice;
 use crate::err::ipv6::HeaderSliceError;
@@ -37,12 +36,10 @@ impl Ipv6Header {
     /// 40 bytes and a version other than 6.
     pub fn from_slice(slice: &[u8]) -> Result<(Ipv6Header, &[u8]), HeaderSliceError>
         // The front of the slice is a header, and is read so.
-        ensures found { IfOk result (λ r. (front : List ℕ) × IsIpv6Header front × (slice.now ≡ front ++ r.1.now) × (r.0 ≡ header_of front)) }
+        ensures found { IfOk result (λ r. IsRead slice.now r.0 r.1.now) }
         // A front that is a header is read.
         ensures only { (front rest : List ℕ) → IsIpv6Header front → slice.now ≡ front ++ rest
             → IsOkAnd result (λ r. (r.0 ≡ header_of front) × (r.1.now ≡ rest)) }
-        // Written again it is the front.
-        ensures again { IfOk result (λ r. slice.now ≡ spelling r.0 ++ r.1.now) }
         // Else it is the first fault.
         ensures err { IfErr result (λ e. header_at slice.now ≡ Err e) }
     {
@@ -53,10 +50,9 @@ impl Ipv6Header {
 
     /// The same as `from_slice`.
     pub fn read_from_slice(slice: &[u8]) -> Result<(Ipv6Header, &[u8]), HeaderSliceError>
-        ensures found { IfOk result (λ r. (front : List ℕ) × IsIpv6Header front × (slice.now ≡ front ++ r.1.now) × (r.0 ≡ header_of front)) }
+        ensures found { IfOk result (λ r. IsRead slice.now r.0 r.1.now) }
         ensures only { (front rest : List ℕ) → IsIpv6Header front → slice.now ≡ front ++ rest
             → IsOkAnd result (λ r. (r.0 ≡ header_of front) × (r.1.now ≡ rest)) }
-        ensures again { IfOk result (λ r. slice.now ≡ spelling r.0 ++ r.1.now) }
         ensures err { IfErr result (λ e. header_at slice.now ≡ Err e) }
     {
         Ipv6Header::from_slice(slice)

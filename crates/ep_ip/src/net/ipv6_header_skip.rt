@@ -108,7 +108,17 @@ impl Ipv6Header {
 fn is_skipped(number: IpNumber) -> bool
     ensures { result ≡ walk.is_skipped number.0 }
 {
-    matches!(number.0, 0 | 43 | 44 | 51 | 60 | 135 | 139 | 140)
+    matches!(
+        number,
+        IpNumber::IPV6_HEADER_HOP_BY_HOP
+            | IpNumber::IPV6_ROUTE_HEADER
+            | IpNumber::IPV6_FRAGMENTATION_HEADER
+            | IpNumber::AUTHENTICATION_HEADER
+            | IpNumber::IPV6_DESTINATION_OPTIONS
+            | IpNumber::MOBILITY_HEADER
+            | IpNumber::HIP
+            | IpNumber::SHIM6
+    )
 }
 
 fn required_len(slice: &[u8], number: IpNumber) -> usize
@@ -120,9 +130,9 @@ fn required_len(slice: &[u8], number: IpNumber) -> usize
         return 2;
     }
     let words = usize::from(slice[1]);
-    match number.0 {
-        44 => 8,
-        51 => (words + 2) * 4,
+    match number {
+        IpNumber::IPV6_FRAGMENTATION_HEADER => 8,
+        IpNumber::AUTHENTICATION_HEADER => (words + 2) * 4,
         _ => (words + 1) * 8,
     }
 }

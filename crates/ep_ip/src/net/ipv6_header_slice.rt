@@ -1,10 +1,9 @@
-ghost use Rattle.std.specs.Prelude.{◌≡◌, ℕ, List, length, IfOk, Ok, nat_eq};
+ghost use Rattle.std.specs.Prelude.{◌≡◌, ℕ, List, ◌++◌, length, IfOk, Ok, nat_eq};
 ghost use Rattle.std.specs.Cmp.Lexicographic.{pointwise};
 ghost use Rattle.std.specs.Cmp.Rules.{comparing};
 ghost use Rattle.std.proofs.Common.{rules};
-ghost use Rattle.ep_ip.specs.Ipv6Bytes.{IsIpv6Header, IsFront, version_of, traffic_class_of, flow_label_of, payload_length_of, next_header_of, hop_limit_of, source_of, destination_of};
+ghost use Rattle.ep_ip.specs.Ipv6.{IsIpv6Header, version_of, traffic_class_of, flow_label_of, payload_length_of, next_header_of, hop_limit_of, source_of, destination_of, header_of, dscp_in, ecn_in};
 ghost use Rattle.ep_ip.specs.Ipv6Fault.{header_at};
-ghost use Rattle.ep_ip.specs.Ipv6.{header_of, dscp_in, ecn_in};
 
 use crate::Ipv6Header;
 use crate::err::ipv6::{HeaderError, HeaderSliceError};
@@ -33,9 +32,9 @@ impl<'a> Ipv6HeaderSlice<'a> {
     /// other than 6.
     pub fn from_slice(slice: &'a [u8]) -> Result<Ipv6HeaderSlice<'a>, HeaderSliceError>
         // What is taken is a header, and a front of the slice.
-        ensures found { IfOk result (λ header. IsIpv6Header header × IsFront header slice.now) }
+        ensures found { IfOk result (λ header. IsIpv6Header header × ((rest : List ℕ) × (slice.now ≡ header ++ rest))) }
         // A front that is a header is taken.
-        ensures only { (header : List ℕ) → IsIpv6Header header → IsFront header slice.now → result ≡ Ok header }
+        ensures only { (header rest : List ℕ) → IsIpv6Header header → slice.now ≡ header ++ rest → result ≡ Ok header }
         // Else it is the first fault.
         ensures exact { result ≡ header_at slice.now }
     {

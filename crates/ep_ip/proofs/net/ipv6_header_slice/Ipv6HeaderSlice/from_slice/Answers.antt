@@ -7,4 +7,4 @@ pub returns-clause-found : goal.returns-clause-found
 returns-clause-found c = found_front c.args.slice.now c.tested.result c.tested.ensures
 
 pub returns-clause-only : goal.returns-clause-only
-returns-clause-only c = λ header is_header front. c.tested.ensures ∙ ap header_at front.1 ∙ front_again header front.0 is_header
+returns-clause-only c = λ header rest is_header front_is. c.tested.ensures ∙ ap header_at front_is ∙ front_again header rest is_header
