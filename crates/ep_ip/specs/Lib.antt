@@ -4,4 +4,7 @@ pub mod Ipv4Fault
 pub mod Ipv4Lends
 pub mod Ipv4Offset
 pub mod Ipv4Options
+pub mod Ipv6
+pub mod Ipv6Fault
 pub mod Pseudo
+pub mod Skip

@@ -1,0 +1,65 @@
+-- The bits of an IPv6 header that share bytes, as quotients and remainders.
+use Rattle.std.proofs.Common.{◌≡◌, ℕ, zero, suc, ◌+◌, ◌*◌, ◌/◌, ◌%◌, ◌^◌, ◌<◌, ◌≤◌, bit_and, bit_or, arith, refl, ap, ◌∙◌}
+use Rattle.std.proofs.lemmas.Nat.{and_mask, or_shifted}
+use Rattle.ep_base.specs.IpEcn.{ecn_of, ecn_number}
+use Rattle.ep_base.specs.declared.net.ip_ecn.IpEcn.{IpEcn}
+use Rattle.ep_base.specs.declared.net.ip_ecn.IpEcn.TheVariants.{NotEct, Ect1, Ect0, CongestionExperienced}
+use Rattle.ep_ip.specs.Ipv6.{dscp_in, ecn_in}
+
+pub and-1048575 : (n : ℕ) → bit_and n 1048575 ≡ n % 2 ^ 20
+and-1048575 n = and_mask n 20
+
+-- the lower half of a byte before the upper half of the next one
+pub or-halves : (a b : ℕ) → b < 256 → bit_or (a * 16 % 256) (b / 16) ≡ (256 * a + b) / 2 ^ 4 % 2 ^ 8
+or-halves a b h =
+    let high : a * 16 % 256 ≡ a % 16 * 2 ^ 4 = omega arith in
+    rw high (or_shifted (a % 16) 4 (b / 16) (omega arith) ∙ omega arith)
+
+pub ruleset shared_bits = (and-1048575, or-halves)
+
+joined_is : (dscp n : ℕ) → dscp ≤ 63 → n < 4 → bit_or (dscp * 4 % 256) n ≡ 4 * dscp + n
+joined_is dscp n most small =
+    let high : dscp * 4 % 256 ≡ dscp * 2 ^ 2 = omega arith in
+    rw high (or_shifted dscp 2 n small ∙ omega arith)
+
+ecn_number_below : (ecn : IpEcn) → ecn_number ecn < 4
+ecn_number_below NotEct = omega arith
+ecn_number_below Ect1 = omega arith
+ecn_number_below Ect0 = omega arith
+ecn_number_below CongestionExperienced = omega arith
+
+ecn_of-number : (ecn : IpEcn) → ecn_of (ecn_number ecn) ≡ ecn
+ecn_of-number NotEct = refl
+ecn_of-number Ect1 = refl
+ecn_of-number Ect0 = refl
+ecn_of-number CongestionExperienced = refl
+
+-- what a code point and a notification make up has both
+pub dscp_in-joined : (dscp : ℕ) (ecn : IpEcn) → dscp ≤ 63 → dscp_in (bit_or (dscp * 4 % 256) (ecn_number ecn)) ≡ dscp
+dscp_in-joined dscp ecn most =
+    let small = ecn_number_below ecn in
+    rw (joined_is dscp (ecn_number ecn) most small) (omega arith)
+
+pub ecn_in-joined : (dscp : ℕ) (ecn : IpEcn) → dscp ≤ 63 → ecn_in (bit_or (dscp * 4 % 256) (ecn_number ecn)) ≡ ecn
+ecn_in-joined dscp ecn most =
+    let small = ecn_number_below ecn in
+    let low : (4 * dscp + ecn_number ecn) % 4 ≡ ecn_number ecn = omega arith in
+    ap ecn_in (joined_is dscp (ecn_number ecn) most small) ∙ ap ecn_of low ∙ ecn_of-number ecn
+
+-- version, traffic class and flow label, each at its place
+pub or-first_word : (class label : ℕ) → class < 2 ^ 8 → label < 2 ^ 20 →
+    bit_or (bit_or (6 * 2 ^ 28) (class * 2 ^ 20 % 2 ^ 32)) label ≡ 6 * 2 ^ 28 + class * 2 ^ 20 + label
+or-first_word class label h k =
+    let fits : class * 2 ^ 20 % 2 ^ 32 ≡ class * 2 ^ 20 = omega arith in
+    let above : 6 * 2 ^ 28 + class * 2 ^ 20 ≡ (6 * 2 ^ 8 + class) * 2 ^ 20 = omega arith in
+    rw (fits, or_shifted 6 28 (class * 2 ^ 20) (omega arith), above) (or_shifted (6 * 2 ^ 8 + class) 20 label k)
+
+number-ecn_of : (n : ℕ) → n < 4 → ecn_number (ecn_of n) ≡ n
+number-ecn_of zero h = refl
+number-ecn_of (suc zero) h = refl
+number-ecn_of (suc (suc zero)) h = refl
+number-ecn_of (suc (suc (suc zero))) h = refl
+number-ecn_of (suc (suc (suc (suc n)))) h = absurd (omega arith)
+
+pub two_parts : (traffic_class : ℕ) → 4 * dscp_in traffic_class + ecn_number (ecn_in traffic_class) ≡ traffic_class
+two_parts traffic_class = rw (number-ecn_of (traffic_class % 4) (omega arith)) (omega arith)

@@ -1,0 +1,8 @@
+use Rattle.ep_ip.proofs.SkipWalk.{walk_headers, walk_skips}
+use Rattle.ep_ip.proofs.laws.ipv6.skip_follows_every_walk.Goals as goal
+
+pub returns-clause-headers : goal.returns-clause-headers
+returns-clause-headers c = walk_headers
+
+pub returns-clause-answer : goal.returns-clause-answer
+returns-clause-answer c = walk_skips

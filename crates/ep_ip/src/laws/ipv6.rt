@@ -1,0 +1,74 @@
+//! Laws of IPv6 headers and of the walk over extension headers (RFC 8200, sections 3 and 4).
+ghost use Rattle.std.specs.Prelude.{◌≡◌, ℕ, ◌+◌, ◌*◌, List, [], ◌∷◌, ◌++◌, length, ◌↔◌, IsTrue, IsOkAnd};
+ghost use Rattle.std.specs.List.{concat};
+ghost use Rattle.ep_base.specs.Bytes.{IsBytes};
+ghost use Rattle.ep_base.specs.IpEcn.{ecn_number};
+ghost use Rattle.ep_ip.specs.Ipv6.{IsIpv6Header, header_of, spelling, dscp_in, ecn_in};
+ghost use Rattle.ep_ip.specs.Skip.{Walk, skipped_headers, outcome, skip};
+
+use crate::err::ipv6::HeaderSliceError;
+use crate::{Ipv6Header, Ipv6HeaderSlice};
+use std::alloc::AllocError;
+
+/// The lengths of an IPv6 header in bytes.
+pub fn ipv6_header_lengths() -> [usize; 2]
+    ensures { result ≡ 40 ∷ 40 ∷ [] }
+{
+    [Ipv6Header::LEN, Ipv6Header::SERIALIZED_SIZE]
+}
+
+/// Headers and lists of 40 bytes whose first half byte is 6 are each other's: a header's bytes are such a list, which
+/// spells the header, and such a list spells a header whose bytes it is.
+pub fn ipv6_headers_are_their_bytes(header: &Ipv6Header)
+    ensures spelled { IsIpv6Header (spelling header.now) }
+    ensures read { header_of (spelling header.now) ≡ header.now }
+    ensures spelled_again { (bytes : List ℕ) → IsIpv6Header bytes → IsBytes bytes → spelling (header_of bytes) ≡ bytes }
+{
+    let _bytes = header.to_bytes();
+}
+
+/// What `to_bytes` gives is read again, whatever follows it.
+pub fn ipv6_header_is_read_again<'a>(
+    header: &Ipv6Header,
+    slice: &'a [u8],
+) -> Result<(Ipv6Header, &'a [u8]), HeaderSliceError>
+    ensures { (rest : List ℕ) → slice.now ≡ spelling header.now ++ rest
+        → IsOkAnd result (λ r. (r.0 ≡ header.now) × (r.1.now ≡ rest)) }
+{
+    let _bytes = header.to_bytes();
+    Ipv6Header::from_slice(slice)
+}
+
+/// A traffic class is its code point and its notification of congestion.
+pub fn traffic_class_has_two_parts()
+    ensures { (traffic_class : ℕ) → 4 * dscp_in traffic_class + ecn_number (ecn_in traffic_class) ≡ traffic_class }
+{}
+
+/// However bytes are headers in a row and a rest that begins with no whole header, the walk skips those headers.
+pub fn skip_follows_every_walk()
+    ensures headers { (number : ℕ) (bytes : List ℕ) (headers : List (List ℕ)) (last : ℕ) (rest : List ℕ)
+        → Walk number bytes headers last rest → skipped_headers number bytes ≡ headers }
+    ensures answer { (number : ℕ) (bytes : List ℕ) (headers : List (List ℕ)) (last : ℕ) (rest : List ℕ)
+        → Walk number bytes headers last rest → skip number bytes ≡ outcome (length (concat headers)) last rest }
+{}
+
+/// Headers are equal where their fields are.
+pub fn ipv6_headers_are_equal_as_fields(a: &Ipv6Header, b: &Ipv6Header) -> bool
+    ensures { IsTrue result ↔ (a.now ≡ b.now) }
+{
+    a == b
+}
+
+/// Header slices are equal where their bytes are.
+pub fn ipv6_header_slices_are_equal_as_bytes(a: &Ipv6HeaderSlice, b: &Ipv6HeaderSlice) -> bool
+    ensures { IsTrue result ↔ (a.now ≡ b.now) }
+{
+    a == b
+}
+
+/// A copy of a header is the header.
+pub fn ipv6_header_is_copied(header: &Ipv6Header) -> Result<Ipv6Header, AllocError>
+    ensures { IsOkAnd result (λ copy. copy ≡ header.now) }
+{
+    header.clone()
+}

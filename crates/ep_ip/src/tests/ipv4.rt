@@ -1,0 +1,314 @@
+use crate::{Ipv4Header, Ipv4HeaderSlice, Ipv4Options, laws};
+use crate::err::ipv4::{BadOptionsLen, HeaderError, HeaderSliceError};
+use ep_base::err::{Layer, LenError, ValueTooBigError, ValueType};
+use ep_base::{IpDscp, IpEcn, IpFragOffset, IpNumber, LenSource};
+use std::test::*;
+
+// A header with four bytes of options, made by hand after RFC 791, and two bytes behind it.
+const BYTES: [u8; 26] = [
+    0x46, 0x21, 0, 30, 0, 7, 0x20, 5, 64, 17, 0x43, 0x9f, 10, 0, 0, 1, 10, 0, 0, 2, 1, 1, 1, 0,
+    0xaa, 0xbb,
+];
+
+fn too_short(required_len: usize, len: usize) -> HeaderSliceError {
+    HeaderSliceError::Len(LenError {
+        required_len,
+        len,
+        len_source: LenSource::Slice,
+        layer: Layer::Ipv4Header,
+        layer_start_offset: 0,
+    })
+}
+
+// The fields of `BYTES`, read by hand.
+fn fields() -> Result<Ipv4Header, Fail> {
+    Ok(Ipv4Header {
+        dscp: IpDscp::CS1,
+        ecn: IpEcn::Ect1,
+        total_len: 30,
+        identification: 7,
+        dont_fragment: false,
+        more_fragments: true,
+        fragment_offset: IpFragOffset::try_new(5)?,
+        time_to_live: 64,
+        protocol: IpNumber::UDP,
+        header_checksum: 0x439f,
+        source: [10, 0, 0, 1],
+        destination: [10, 0, 0, 2],
+        options: Ipv4Options::from([1, 1, 1, 0]),
+    })
+}
+
+#[test]
+fn fields_by_position(rt: HostRuntime) -> Result<(), Fail> {
+    let (header, rest) = Ipv4Header::from_slice(&BYTES)?;
+    assert_eq!(rt; header, fields()?);
+    assert_eq!(rt; rest, [0xaa, 0xbb].as_slice());
+    assert_eq!(rt; header.ihl(), 6);
+    assert_eq!(rt; header.header_len(), 24);
+    assert_eq!(rt; header.payload_len(), Ok(6));
+    assert_eq!(rt; header.is_fragmenting_payload(), true);
+    Ok(())
+}
+
+#[test]
+fn getters_of_the_slice(rt: HostRuntime) -> Result<(), Fail> {
+    let header = Ipv4HeaderSlice::from_slice(&BYTES)?;
+    assert_eq!(rt; header.slice(), &BYTES[..24]);
+    let bytes = [
+        header.version(),
+        header.ihl(),
+        header.dcp().value(),
+        header.ecn().value(),
+        header.ttl(),
+        header.protocol().0,
+    ];
+    assert_eq!(rt; bytes, [4, 6, 8, 1, 64, 17]);
+    let words = [
+        header.total_len(),
+        header.identification(),
+        header.fragments_offset().value(),
+        header.header_checksum(),
+    ];
+    assert_eq!(rt; words, [30, 7, 5, 0x439f]);
+    let flags = [
+        header.dont_fragment(),
+        header.more_fragments(),
+        header.is_fragmenting_payload(),
+    ];
+    assert_eq!(rt; flags, [false, true, true]);
+    assert_eq!(rt; header.payload_len(), Ok(6));
+    assert_eq!(rt;
+        [header.source(), header.destination()],
+        [[10, 0, 0, 1], [10, 0, 0, 2]]
+    );
+    assert_eq!(rt; header.options(), [1, 1, 1, 0].as_slice());
+    assert_eq!(rt; header.to_header(), fields()?);
+    Ok(())
+}
+
+#[test]
+fn every_front_of_a_header(rt: HostRuntime) {
+    for len in 0..24 {
+        let required_len = if len < 20 { 20 } else { 24 };
+        let refused = too_short(required_len, len);
+        let front = &BYTES[..len];
+        assert_eq!(rt;
+            Ipv4HeaderSlice::from_slice(front),
+            Err(refused),
+            "at {len}"
+        );
+        assert_eq!(rt; Ipv4Header::from_slice(front), Err(refused), "at {len}");
+    }
+}
+
+#[test]
+fn faults_in_order(rt: HostRuntime) {
+    let version_6 = HeaderError::UnexpectedVersion { version_number: 6 };
+    let words_3 = HeaderError::HeaderLengthSmallerThanHeader { ihl: 3 };
+    for (bytes, refused) in [
+        ([0x63; 20], HeaderSliceError::Content(version_6)),
+        ([0x43; 20], HeaderSliceError::Content(words_3)),
+        ([0x4f; 20], too_short(60, 20)),
+    ] {
+        assert_eq!(rt; Ipv4HeaderSlice::from_slice(&bytes), Err(refused));
+    }
+    assert_eq!(rt;
+        Ipv4HeaderSlice::from_slice(&[0x63; 19]),
+        Err(too_short(20, 19))
+    );
+}
+
+#[test]
+fn error_in_a_later_place(rt: HostRuntime) {
+    let error = LenError {
+        required_len: 20,
+        len: 19,
+        len_source: LenSource::Slice,
+        layer: Layer::Ipv4Header,
+        layer_start_offset: 14,
+    };
+    let moved = LenError {
+        layer_start_offset: 18,
+        ..error
+    };
+    assert_eq!(rt;
+        HeaderSliceError::Len(error).add_slice_offset(4),
+        HeaderSliceError::Len(moved)
+    );
+    let content = HeaderSliceError::Content(HeaderError::UnexpectedVersion { version_number: 6 });
+    assert_eq!(rt; content.add_slice_offset(4), content);
+}
+
+#[test]
+fn total_length_below_the_header(rt: HostRuntime) {
+    let header = Ipv4Header {
+        total_len: 19,
+        ..Ipv4Header::default()
+    };
+    assert_eq!(rt;
+        header.payload_len(),
+        Err(LenError {
+            required_len: 20,
+            len: 19,
+            len_source: LenSource::Ipv4HeaderTotalLen,
+            layer: Layer::Ipv4Packet,
+            layer_start_offset: 0,
+        })
+    );
+}
+
+#[test]
+fn default_header(rt: HostRuntime) {
+    let header = Ipv4Header::default();
+    assert_eq!(rt;
+        header,
+        Ipv4Header {
+            dscp: IpDscp::ZERO,
+            ecn: IpEcn::NotEct,
+            total_len: 0,
+            identification: 0,
+            dont_fragment: true,
+            more_fragments: false,
+            fragment_offset: IpFragOffset::ZERO,
+            time_to_live: 0,
+            protocol: IpNumber(255),
+            header_checksum: 0,
+            source: [0; 4],
+            destination: [0; 4],
+            options: Ipv4Options::default(),
+        }
+    );
+    assert_eq!(rt; header.is_fragmenting_payload(), false);
+}
+
+// A header with no options, whose checksum was summed by hand.
+fn summed() -> Result<Ipv4Header, ValueTooBigError<u16>> {
+    Ipv4Header::new(8, 64, IpNumber::UDP, [10, 0, 0, 1], [10, 0, 0, 2])
+}
+
+const SUMMED: [u8; 20] = [
+    0x45, 0, 0, 28, 0, 0, 0x40, 0, 64, 17, 0x26, 0xcf, 10, 0, 0, 1, 10, 0, 0, 2,
+];
+
+#[test]
+fn written_behind_a_byte(rt: HostRuntime) -> Result<(), Fail> {
+    let header = summed()?;
+    assert_eq!(rt; header.dont_fragment, true);
+    assert_eq!(rt; header.calc_header_checksum(), 0x26cf);
+    let mut buffer = Vec::new(rt.alloc());
+    buffer.push(9)?;
+    header.write(&mut buffer)?;
+    assert_eq!(rt; buffer.len(), 21);
+    assert_eq!(rt; &buffer[1..], SUMMED.as_slice());
+    header.write_raw(&mut buffer)?;
+    assert_eq!(rt; buffer.len(), 41);
+    assert_eq!(rt; &buffer[21..], header.to_bytes().as_slice());
+    assert_eq!(rt; &buffer[31..33], [0, 0].as_slice());
+    Ok(())
+}
+
+#[test]
+fn bytes_of_a_header_with_options(rt: HostRuntime) -> Result<(), Fail> {
+    let (header, _) = Ipv4Header::read_from_slice(&BYTES)?;
+    assert_eq!(rt; header.to_bytes().as_slice(), &BYTES[..24]);
+    assert_eq!(rt; header.calc_header_checksum(), 0x439f);
+    assert_eq!(rt; header.options(), [1, 1, 1, 0].as_slice());
+    Ok(())
+}
+
+#[test]
+fn checksum_zero(rt: HostRuntime) -> Result<(), Fail> {
+    let header = Ipv4Header {
+        identification: 0x26cf,
+        ..summed()?
+    };
+    assert_eq!(rt; header.calc_header_checksum(), 0);
+    Ok(())
+}
+
+#[test]
+fn payload_lengths(rt: HostRuntime) -> Result<(), Fail> {
+    let longest = Ipv4Header::new(65515, 1, IpNumber::UDP, [0; 4], [0; 4])?;
+    assert_eq!(rt; longest.total_len, 65535);
+    assert_eq!(rt;
+        Ipv4Header::new(65516, 1, IpNumber::UDP, [0; 4], [0; 4]),
+        Err(ValueTooBigError {
+            actual: 65516,
+            max_allowed: 65515,
+            value_type: ValueType::Ipv4PayloadLength,
+        })
+    );
+    let mut header = Ipv4Header::default();
+    header.set_options(&[7; 40])?;
+    assert_eq!(rt;
+        header.set_options(&[7; 6]),
+        Err(BadOptionsLen { bad_len: 6 })
+    );
+    assert_eq!(rt; header.max_payload_len(), 65475);
+    header.set_payload_len(65475)?;
+    assert_eq!(rt; header.total_len, 65535);
+    assert_eq!(rt; header.payload_len(), Ok(65475));
+    assert_eq!(rt;
+        header.set_payload_len(65476),
+        Err(ValueTooBigError {
+            actual: 65476,
+            max_allowed: 65475,
+            value_type: ValueType::Ipv4PayloadLength,
+        })
+    );
+    assert_eq!(rt; header.total_len, 65535);
+    Ok(())
+}
+
+#[test]
+fn header_lengths(rt: HostRuntime) {
+    assert_eq!(rt; Ipv4Header::MIN_LEN, 20);
+    assert_eq!(rt; Ipv4Header::MIN_LEN_U16, 20);
+    assert_eq!(rt; Ipv4Header::MAX_LEN, 60);
+    assert_eq!(rt; Ipv4Header::SERIALIZED_SIZE, 20);
+    assert_eq!(rt; Ipv4Options::MAX_LEN, 40);
+}
+
+#[test]
+fn options_of_arrays(rt: HostRuntime) {
+    let options = [
+        Ipv4Options::from([1; 0]),
+        Ipv4Options::from([1; 4]),
+        Ipv4Options::from([1; 8]),
+        Ipv4Options::from([1; 12]),
+        Ipv4Options::from([1; 16]),
+        Ipv4Options::from([1; 20]),
+        Ipv4Options::from([1; 24]),
+        Ipv4Options::from([1; 28]),
+        Ipv4Options::from([1; 32]),
+        Ipv4Options::from([1; 36]),
+        Ipv4Options::from([1; 40]),
+    ];
+    for (words, options) in options.iter().enumerate() {
+        assert_eq!(rt; options.len(), 4 * words);
+        assert_eq!(rt; options.as_slice(), &[1; 40][..options.len()]);
+    }
+}
+
+#[test]
+fn option_lengths(rt: HostRuntime) -> Result<(), Fail> {
+    assert_eq!(rt;
+        Ipv4Options::try_from([1, 2, 3].as_slice()),
+        Err(BadOptionsLen { bad_len: 3 })
+    );
+    assert_eq!(rt;
+        Ipv4Options::try_from([0; 44].as_slice()),
+        Err(BadOptionsLen { bad_len: 44 })
+    );
+    let mut options = Ipv4Options::try_from([1, 2, 3, 4].as_slice())?;
+    assert_eq!(rt; options.len(), 4);
+    assert_eq!(rt; options.len_u8(), 4);
+    assert_eq!(rt; options.is_empty(), false);
+    for byte in options.as_mut_slice() {
+        *byte = 9;
+    }
+    assert_eq!(rt; options.as_slice(), [9; 4].as_slice());
+    assert_eq!(rt; Ipv4Options::new().is_empty(), true);
+    Ok(())
+}

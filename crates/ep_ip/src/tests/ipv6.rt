@@ -1,0 +1,267 @@
+ghost use Rattle.std.specs.Prelude.{◌≡◌};
+
+use crate::err::ipv6::{HeaderError, HeaderSliceError};
+use crate::{Ipv6Header, Ipv6HeaderSlice};
+use ep_base::err::{Layer, LenError, ValueTooBigError, ValueType};
+use ep_base::{IpDscp, IpEcn, IpNumber, Ipv6FlowLabel, LenSource};
+use std::test::*;
+
+// A header by the layout of RFC 8200, section 3, and two bytes behind it.
+const BYTES: [u8; 42] = [
+    0x6a, 0xbc, 0xde, 0xf1, 0x12, 0x34, 17, 64, 0xfd, 0, 0, 0, 0, 0, 0, 0, 0, 0, 0, 0, 0, 0, 0, 1,
+    0xfd, 0, 0, 0, 0, 0, 0, 0, 0, 0, 0, 0, 0, 0, 0, 2, 0xaa, 0xbb,
+];
+
+fn len_error(required_len: usize, len: usize, layer: Layer, layer_start_offset: usize) -> LenError
+    ensures { result.layer_start_offset ≡ layer_start_offset }
+{
+    LenError {
+        required_len,
+        len,
+        len_source: LenSource::Slice,
+        layer,
+        layer_start_offset,
+    }
+}
+
+#[test]
+fn a_header_and_its_rest(rt: HostRuntime) -> Result<(), Fail> {
+    let source = [0xfd, 0, 0, 0, 0, 0, 0, 0, 0, 0, 0, 0, 0, 0, 0, 1];
+    let destination = [0xfd, 0, 0, 0, 0, 0, 0, 0, 0, 0, 0, 0, 0, 0, 0, 2];
+    let bytes = BYTES;
+    let Ok((header, rest)) = Ipv6Header::from_slice(&bytes) else {
+        panic!(rt; "no header");
+    };
+    assert_eq!(rt; rest, [0xaa, 0xbb].as_slice());
+    assert_eq!(rt; header.traffic_class, 0xab);
+    assert_eq!(rt; header.flow_label.value(), 0xcdef1);
+    assert_eq!(rt; header.payload_length, 0x1234);
+    assert_eq!(rt; header.next_header, IpNumber::UDP);
+    assert_eq!(rt; header.hop_limit, 64);
+    assert_eq!(rt; header.source, source);
+    assert_eq!(rt; header.destination, destination);
+    assert_eq!(rt; header.dscp().value(), 42);
+    assert_eq!(rt; header.ecn(), IpEcn::CongestionExperienced);
+    assert_eq!(rt; header.header_len(), 40);
+    assert_eq!(rt; header.to_bytes().as_slice(), &BYTES[..40]);
+    assert_eq!(rt;
+        Ipv6Header::read_from_slice(&bytes),
+        Ipv6Header::from_slice(&bytes)
+    );
+
+    let view = Ipv6HeaderSlice::from_slice(&bytes)?;
+    assert_eq!(rt; view.slice(), &BYTES[..40]);
+    assert_eq!(rt; view.header_len(), 40);
+    assert_eq!(rt; view.version(), 6);
+    assert_eq!(rt; view.traffic_class(), 0xab);
+    assert_eq!(rt; view.dscp().value(), 42);
+    assert_eq!(rt; view.ecn(), IpEcn::CongestionExperienced);
+    assert_eq!(rt; view.flow_label().value(), 0xcdef1);
+    assert_eq!(rt; view.payload_length(), 0x1234);
+    assert_eq!(rt; view.next_header(), IpNumber::UDP);
+    assert_eq!(rt; view.hop_limit(), 64);
+    assert_eq!(rt; view.source(), source);
+    assert_eq!(rt; view.destination(), destination);
+    assert_eq!(rt; view.to_header(), header);
+    assert_eq!(rt; view.clone()?, view);
+    Ok(())
+}
+
+#[test]
+fn every_front_of_a_header(rt: HostRuntime) {
+    let bytes = BYTES;
+    for len in 0..40 {
+        let error = HeaderSliceError::Len(len_error(40, len, Layer::Ipv6Header, 0));
+        assert_eq!(rt; Ipv6Header::from_slice(&bytes[..len]), Err(error));
+        assert_eq!(rt;
+            Ipv6HeaderSlice::from_slice(&bytes[..len]).err(),
+            Some(error)
+        );
+    }
+    for len in 40..43 {
+        assert!(rt; Ipv6Header::from_slice(&bytes[..len]).is_ok());
+    }
+}
+
+#[test]
+fn the_length_is_tested_before_the_version(rt: HostRuntime) {
+    let bytes = [0x45; 41];
+    assert_eq!(rt;
+        Ipv6Header::from_slice(&bytes[..39]),
+        Err(HeaderSliceError::Len(len_error(40, 39, Layer::Ipv6Header, 0)))
+    );
+    for version_number in 0..16 {
+        let bytes = [version_number * 16 + 15; 40];
+        let error = HeaderError::UnexpectedVersion { version_number };
+        if version_number != 6 {
+            assert_eq!(rt;
+                Ipv6Header::from_slice(&bytes),
+                Err(HeaderSliceError::Content(error))
+            );
+        } else {
+            assert!(rt; Ipv6Header::from_slice(&bytes).is_ok());
+        }
+    }
+}
+
+#[test]
+fn errors_further_on(rt: HostRuntime) {
+    let short = HeaderSliceError::Len(len_error(40, 3, Layer::Ipv6Header, 5));
+    assert_eq!(rt;
+        short.add_slice_offset(14),
+        HeaderSliceError::Len(len_error(40, 3, Layer::Ipv6Header, 19))
+    );
+    let content = HeaderSliceError::Content(HeaderError::UnexpectedVersion { version_number: 4 });
+    assert_eq!(rt; content.add_slice_offset(14), content);
+}
+
+#[test]
+fn a_header_behind_a_byte_that_is_there(rt: HostRuntime) -> Result<(), Fail> {
+    let bytes = BYTES;
+    let Ok((header, _rest)) = Ipv6Header::from_slice(&bytes) else {
+        panic!(rt; "no header");
+    };
+    let mut buffer = Vec::new(rt.alloc());
+    buffer.push(9)?;
+    header.write(&mut buffer)?;
+    assert_eq!(rt; buffer.len(), 41);
+    assert_eq!(rt; buffer[0], 9);
+    assert_eq!(rt; &buffer[1..], &BYTES[..40]);
+    Ok(())
+}
+
+#[test]
+fn fields_set(rt: HostRuntime) -> Result<(), Fail> {
+    let mut header = Ipv6Header::default();
+    let mut bytes = [0; 40];
+    bytes[0] = 0x60;
+    bytes[6] = 255;
+    assert_eq!(rt; header.to_bytes(), bytes);
+    assert_eq!(rt; header.flow_label, Ipv6FlowLabel::ZERO);
+
+    header.traffic_class = 0xab;
+    header.set_ecn(IpEcn::Ect1);
+    assert_eq!(rt; header.traffic_class, 0xa9);
+    header.set_dscp(IpDscp::EF);
+    assert_eq!(rt; header.traffic_class, 0xb9);
+
+    assert_eq!(rt; header.set_payload_length(65535), Ok(()));
+    assert_eq!(rt;
+        header.set_payload_length(65536),
+        Err(ValueTooBigError {
+            actual: 65536,
+            max_allowed: 65535,
+            value_type: ValueType::Ipv6PayloadLength,
+        })
+    );
+    assert_eq!(rt; header.payload_length, 65535);
+    Ok(())
+}
+
+#[test]
+fn skip_walk(rt: HostRuntime) {
+    let bytes = [60, 0, 0, 0, 0, 0, 0, 0, 17, 0, 0, 0, 0, 0, 0, 0, 0xaa, 0xbb];
+    let behind = [0xaa, 0xbb];
+    assert_eq!(rt;
+        Ipv6Header::skip_all_header_extensions_in_slice(&bytes, IpNumber(0)),
+        Ok((IpNumber::UDP, behind.as_slice()))
+    );
+    assert_eq!(rt; Ipv6Header::skip_counted(&bytes, IpNumber(0)).1, 3);
+    assert_eq!(rt;
+        Ipv6Header::skip_all_header_extensions_in_slice(&[6], IpNumber(43)),
+        Err(len_error(2, 1, Layer::Ipv6ExtHeader, 0))
+    );
+}
+
+#[test]
+fn skip_walk_to_the_end_of_the_slice(rt: HostRuntime) {
+    let bytes = [0, 0, 0, 0, 0, 0, 0, 0, 17, 0, 0, 0, 0, 0, 0, 0];
+    assert_eq!(rt;
+        Ipv6Header::skip_all_header_extensions_in_slice(&bytes, IpNumber(60)),
+        Ok((IpNumber::UDP, [].as_slice()))
+    );
+}
+
+// Hop-by-hop options of 16 bytes, an authentication header of 12, a fragment header of 8 whose second byte says
+// nothing, and a routing header of 16.
+const ROW: [u8; 54] = [
+    51, 1, 0, 0, 0, 0, 0, 0, 0, 0, 0, 0, 0, 0, 0, 0, 44, 1, 0, 0, 0, 0, 0, 0, 0, 0, 0, 0, 43, 9, 0,
+    0, 0, 0, 0, 0, 6, 1, 0, 0, 0, 0, 0, 0, 0, 0, 0, 0, 0, 0, 0, 0, 7, 8,
+];
+
+#[test]
+fn every_front_of_headers_in_a_row(rt: HostRuntime) {
+    // The headers' places and lengths.
+    let headers = [(0, 16), (16, 12), (28, 8), (36, 16)];
+    for (i, (offset, header_len)) in headers.into_iter().enumerate() {
+        for len in 0..header_len {
+            let required_len = if len < 2 { 2 } else { header_len };
+            let (answer, turns) = Ipv6Header::skip_counted(&ROW[..offset + len], IpNumber(0));
+            assert_eq!(rt;
+                answer,
+                Err(len_error(required_len, len, Layer::Ipv6ExtHeader, offset))
+            );
+            assert_eq!(rt; turns, i + 1);
+        }
+    }
+    let (answer, turns) = Ipv6Header::skip_counted(&ROW, IpNumber(0));
+    assert_eq!(rt; answer, Ok((IpNumber::TCP, [7, 8].as_slice())));
+    assert_eq!(rt; turns, 5);
+}
+
+#[test]
+fn one_header_by_its_number(rt: HostRuntime) {
+    let mut bytes = [99; 32];
+    bytes[1] = 2;
+    let lens = [
+        (0, 24),
+        (43, 24),
+        (44, 8),
+        (51, 16),
+        (60, 24),
+        (135, 24),
+        (139, 24),
+        (140, 24),
+        (6, 24),
+    ];
+    for (number, len) in lens {
+        assert_eq!(rt;
+            Ipv6Header::skip_header_extension_in_slice(&bytes, IpNumber(number)),
+            Ok((IpNumber(99), &bytes[len..]))
+        );
+        assert_eq!(rt;
+            Ipv6Header::skip_header_extension_in_slice(&bytes[..len - 1], IpNumber(number)),
+            Err(len_error(len, len - 1, Layer::Ipv6ExtHeader, 0))
+        );
+    }
+}
+
+#[test]
+fn numbers_that_are_skipped(rt: HostRuntime) {
+    let bytes = [253, 0, 0, 0, 0, 0, 0, 0, 5];
+    for n in 0..=255 {
+        let skipped = matches!(n, 0 | 43 | 44 | 51 | 60 | 135 | 139 | 140);
+        let (number, behind) = if skipped { (253, 8) } else { (n, 0) };
+        assert_eq!(rt;
+            Ipv6Header::skip_all_header_extensions_in_slice(&bytes, IpNumber(n)),
+            Ok((IpNumber(number), &bytes[behind..]))
+        );
+    }
+}
+
+#[test]
+fn a_walk_over_8191_headers(rt: HostRuntime) -> Result<(), Fail> {
+    let mut bytes = Vec::new(rt.alloc());
+    for _ in 0..8190 {
+        bytes.extend_from_slice(&[60, 0, 0, 0, 0, 0, 0, 0])?;
+    }
+    bytes.extend_from_slice(&[253, 0, 0, 0, 0, 0, 0, 0])?;
+    bytes.extend_from_slice(&[1, 2, 3, 4, 5, 6, 7])?;
+    let (answer, turns) = Ipv6Header::skip_counted(&bytes, IpNumber(60));
+    assert_eq!(rt;
+        answer,
+        Ok((IpNumber(253), [1, 2, 3, 4, 5, 6, 7].as_slice()))
+    );
+    assert_eq!(rt; turns, 8192);
+    Ok(())
+}
