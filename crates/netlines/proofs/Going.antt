@@ -12,7 +12,7 @@ use Rattle.netlines.specs.declared.line_answerer.TheConstants.{LINE_ROOM}
 use Rattle.netlines.specs.Answers.{reply_of, answers_of, ended_answers_of}
 use Rattle.netlines.specs.Calls.{Call, Reads, Writes, Makes, bytes_given, bytes_taken, bytes_read, bytes_written, read_count, tells_end, is_end_told, fault_of, faults_of}
 use Rattle.netlines.specs.Lines.{Split, split, last_line}
-use Rattle.netlines.specs.Runs.{Follows, EachFollows, Ends, IsOutput, Runs}
+use Rattle.netlines.specs.Runs.{MayRead, Follows, EachFollows, Ends, IsOutput, Runs}
 use Rattle.netlines.specs.Writes.{Written, Stops, Delivers}
 use Rattle.netlines.proofs.CallLemmas.{Makes-append, read_count-append, EachFollows-append, writes_faults, writes_tell, writes_count, writes_read, writes_follow}
 use Rattle.netlines.proofs.SplitLemmas.{split-append, split-nil}
@@ -106,6 +106,9 @@ module _ {D : Type 0} (transition : D → Call → D → Type 0) where
   going_start : (old : D) → Going [] [] false 0 old old
   going_start old = record { calls = []; made = refl; each = tt; faults = refl; tells = refl; reads = refl; gave = refl; took = refl }
 
+  may_read : (read : List ℕ) (count : ℕ) (old new : D) (g : Going read (ended_answers_of read) false count old new) → MayRead g.calls
+  may_read read count old new g = record { no_fault = g.faults; no_end = g.tells; answered = g.took ∙ ap ended_answers_of (sym g.gave) }
+
   -- a call after those of a run that goes on
   going_read : (read : List ℕ) (count : ℕ) (old mid new : D) (g : Going read (ended_answers_of read) false count old mid) (piece : List ℕ) → transition mid (Reads (Some piece)) new
       → length piece ≤ READ_SIZE_LIMIT → Going (read ++ piece) (ended_answers_of read) (tells_end (Reads (Some piece))) (count + 1) old new
@@ -114,7 +117,7 @@ module _ {D : Type 0} (transition : D → Call → D → Type 0) where
       record {
         calls = g.calls ++ last;
         made = Makes-append transition old mid new g.calls last g.made (new, call, refl);
-        each = EachFollows-append [] g.calls last g.each ((g.faults, g.tells, g.took ∙ ap ended_answers_of (sym g.gave), size), tt);
+        each = EachFollows-append [] g.calls last g.each ((may_read read count old mid g, size), tt);
         faults = filter_map-append fault_of g.calls last ∙ ap (λ l. l ++ []) g.faults;
         tells = list_any-append tells_end g.calls last ∙ ap (λ b. b || (tells_end (Reads (Some piece)) || false)) g.tells ∙ or_false (tells_end (Reads (Some piece)));
         reads = read_count-append g.calls last ∙ ap (λ n. n + 1) g.reads;
@@ -235,7 +238,7 @@ module _ {D : Type 0} (transition : D → Call → D → Type 0) where
   answered_fails limit n old mid new line waiting a call fits =
       let g = a.going in
       let count = g.reads in
-      going_fails limit a.came (ended_answers_of a.came) false n old mid new g (Reads None) call (g.faults, g.tells, g.took ∙ ap ended_answers_of (sym g.gave), omega arith) Read refl (omega arith) refl
+      going_fails limit a.came (ended_answers_of a.came) false n old mid new g (Reads None) call (may_read a.came n old mid g, omega arith) Read refl (omega arith) refl
 
   -- as many reads as may be are made
   pub answered_all : (limit : ℕ) (old new : D) (line waiting : List ℕ) → Answered limit old new line waiting → Runs transition limit old new (Err TooManyReads)

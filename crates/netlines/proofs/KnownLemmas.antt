@@ -79,7 +79,7 @@ told_more before call told = list_any-append tells_end before (call ∷ []) ∙ 
 -- after the end is told nothing is read
 input_kept : (before : List Call) → is_end_told before ≡ true → (a b : Known) (calls : List Call) → EachFollows before calls → Makes KnownCall a calls b → b.input ≡ a.input
 input_kept before told a b [] each made = ap (λ (k : Known). k.input) made
-input_kept before told a b (Reads given ∷ calls) each made = let untold = each.0.1 in absurd (cc)
+input_kept before told a b (Reads given ∷ calls) each made = let untold = each.0.0.no_end in absurd (cc)
 input_kept before told a b (Writes bytes (Some n) ∷ calls) each made =
     input_kept (before ++ Writes bytes (Some n) ∷ []) (told_more before (Writes bytes (Some n)) told) made.0 b calls each.1 made.2 ∙ made.1.1
 input_kept before told a b (Writes bytes None ∷ calls) each made =

@@ -13,14 +13,15 @@ pub record Known : Type 0 where
 abbrev pub known_of : Option (List ℕ) → Option (List ℕ) → Known
 known_of input output = record { input = input; output = output }
 
--- a read gave these bytes, and none only at the end; a write took so many of the bytes; a call that failed took none; the other of the two stays as it was
+-- a read gave these bytes, and none only at the end; a write took so many of its bytes; a call that failed moved none;
+-- the other of the two stays as it was
 abbrev pub KnownCall : Known → Call → Known → Type 0
 KnownCall old (Reads (Some bytes)) new = Consumes old.input new.input bytes × (bytes ≡ [] → IsAtEnd new.input) × (new.output ≡ old.output)
 KnownCall old (Reads None) new = Keeps old.input new.input × (new.output ≡ old.output)
 KnownCall old (Writes bytes (Some n)) new = Appends old.output new.output (take n bytes) × (new.input ≡ old.input)
 KnownCall old (Writes bytes None) new = Keeps old.output new.output × (new.input ≡ old.input)
 
--- the bytes that a run with this result read, and those that it wrote, which are the output for what it read
+-- the bytes that a run with this result read, and those that it wrote, which are the output for the bytes read
 pub record Transfers (input input' output output' : Option (List ℕ)) (result : Result Unit RunError) : Type 0 where
   pub read : List ℕ
   pub written : List ℕ

@@ -11,20 +11,24 @@ use std::io;
 use std::io::{Read, Write};
 
 /// Gives bytes and takes bytes, one call at a time.
+///
+/// A run over a device is a chain of transitions, so it says of faults what `transition` says.
 pub trait Device {
     // From one state this call, with what it gives or takes, may lead to another.
     ghost transition: { Self → Call → Self → Type 0 };
 
+    /// Puts bytes into the front of `buf`, and returns how many. None tell the end of the input.
     fn read_some(&mut self, buf: &mut [u8]) -> io::Result<usize>
         ensures bound { ReadsAtMost result buf.new }
         ensures call { 0 < length buf.old → transition self.old (Reads (bytes_of_read result buf.new)) self.new };
 
+    /// Takes bytes from the front of `buf`, and returns how many.
     fn write_some(&mut self, buf: &[u8]) -> io::Result<usize>
         ensures bound { WritesAtMost result buf.now }
         ensures call { transition self.old (Writes buf.now (result_ok result)) self.new };
 }
 
-/// A reader and a writer as one device.
+/// A reader and a writer as one device. Its transitions are those of the known bytes of both.
 #[derive(Drop)]
 pub struct ReaderWriter<'a, R, W> {
     pub reader: &'a mut R,
@@ -46,7 +50,7 @@ impl<'a, R: Read, W: Write> Device for ReaderWriter<'a, R, W> {
 }
 
 /// Writes all the bytes, by as many writes as that takes.
-pub fn write_whole<D: Device>(device: &mut D, bytes: &[u8]) -> Result<(), RunError>
+pub(crate) fn write_whole<D: Device>(device: &mut D, bytes: &[u8]) -> Result<(), RunError>
     ensures { Delivers D.transition device.old bytes.now result device.new }
 {
     let mut rest = bytes;
