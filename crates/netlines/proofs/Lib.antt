@@ -3,3 +3,5 @@ pub mod PacketLemmas
 pub mod JudgeLemmas
 pub mod AnswerLemmas
 pub mod PostLemmas
+pub mod PostedClass
+pub mod PostedAnswer

@@ -8,6 +8,7 @@ mod frame;
 mod ip_frag_version_spec_id;
 mod ipv4_packet;
 mod judge;
+pub mod laws_posted;
 mod letter;
 mod output;
 mod post_error;
@@ -20,3 +21,6 @@ pub use letter::Letter;
 pub use post_error::PostError;
 pub use post_message::post;
 pub use vlan_id::VlanId;
+
+#[cfg(test)]
+mod tests;
