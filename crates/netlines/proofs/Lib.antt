@@ -9,6 +9,8 @@ pub mod LineLemmas
 pub mod PacketLaws
 pub mod PacketLemmas
 pub mod PostLemmas
+pub mod PostedAnswer
+pub mod PostedClass
 pub mod ReplyLemmas
 pub mod SplitLemmas
 pub mod WriteLemmas

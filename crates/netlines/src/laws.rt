@@ -1,15 +1,8 @@
-//! Laws of the definitions that the contracts cite. Each is a function that does nothing, and whose
+//! Laws of the definitions that contracts cite. Each is a function that does nothing, and whose
 //! contract is the law.
-ghost use Rattle.netlines.specs.Lines.{FrameLinesAreTheGrammar};
-ghost use Rattle.netlines.specs.Packet.{PacketsAreHeaderAndPayload};
 
-/// A line hands in a frame exactly where it has the form `frame CHANNEL HEX`.
-pub fn frame_lines_are_the_grammar()
-    ensures { FrameLinesAreTheGrammar }
-{}
+mod formats;
+mod posted;
 
-/// Bytes hold an IPv4 packet exactly where they are a header, a payload and padding, and header and
-/// payload have the total length.
-pub fn packets_are_header_and_payload()
-    ensures { PacketsAreHeaderAndPayload }
-{}
+pub use formats::{frame_lines_are_the_grammar, packets_are_header_and_payload};
+pub use posted::{frames_are_handed_in, posted_is_answered, posted_is_whole};

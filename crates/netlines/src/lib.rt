@@ -20,8 +20,6 @@ mod post_message;
 mod reply_buffer;
 mod run_error;
 mod run_lines;
-#[cfg(test)]
-mod tests;
 mod udp_message;
 mod vlan_id;
 
@@ -33,3 +31,6 @@ pub use post_message::post;
 pub use run_error::RunError;
 pub use run_lines::{run, run_over};
 pub use vlan_id::VlanId;
+
+#[cfg(test)]
+mod tests;
