@@ -154,15 +154,16 @@ fn posted_frames_are_answered(rt: HostRuntime) -> Result<(), Fail> {
     Ok(())
 }
 
-// To be run with each allocation failing in turn, too: then the first call wants memory, and the
-// second one gives the frame all the same.
+// To be run with each allocation failing in turn, too: then one of the calls wants memory, and the
+// other one gives the frame all the same.
 #[test]
 fn want_of_memory(rt: HostRuntime) {
     let letter = letter(over_ipv4(), 17);
     let first = post(rt.alloc(), &letter, &MESSAGE, &[]);
-    assert!(rt; matches!(first, Err(PostError::Memory)) || is_frame(&first, &FRAME));
     let second = post(rt.alloc(), &letter, &MESSAGE, &[]);
-    assert!(rt; is_frame(&second, &FRAME));
+    assert!(rt; matches!(first, Err(PostError::Memory)) || is_frame(&first, &FRAME));
+    assert!(rt; matches!(second, Err(PostError::Memory)) || is_frame(&second, &FRAME));
+    assert!(rt; is_frame(&first, &FRAME) || is_frame(&second, &FRAME));
 }
 
 #[test]
