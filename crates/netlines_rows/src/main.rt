@@ -1,10 +1,11 @@
-//! Compares `netlines::run` with worked rows.
+//! Compares `netlines::run`, and a plain program for the same answers, with worked rows.
 //!
 //! A row NAME is an input, `NAME.in`, and the output that it has to give, `NAME.out`. The rows were
 //! worked out by a program that is independent of this project.
 #![tactic(auto)]
 
 mod by_run;
+mod plain;
 
 use anyhow::{Context, Result};
 use std::process::ExitCode;
@@ -34,11 +35,15 @@ fn main(rt: HostRuntime) -> Result<ExitCode> {
 fn agrees<R: Files + AllocGlobal + Print>(rt: &R, name: &str) -> Result<bool> {
     let input = read(rt, name, "in")?;
     let wanted = read(rt, name, "out")?;
-    let agrees = by_run::answers(rt.alloc(), input.as_slice())?.as_slice() == wanted.as_slice();
-    if !agrees {
+    let by_run = by_run::answers(rt.alloc(), input.as_slice())?.as_slice() == wanted.as_slice();
+    if !by_run {
         println!(rt; "{name} differs")?;
     }
-    Ok(agrees)
+    let plain = plain::answers(rt.alloc(), input.as_slice())?.as_slice() == wanted.as_slice();
+    if !plain {
+        println!(rt; "{name} differs in the plain program")?;
+    }
+    Ok(by_run && plain)
 }
 
 // The bytes of one file of a row.

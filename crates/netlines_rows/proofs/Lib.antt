@@ -1,0 +1,4 @@
+pub mod CommandSteps
+pub mod FrameSteps
+pub mod LineSteps
+pub mod SumSteps
