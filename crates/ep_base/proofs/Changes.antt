@@ -1,7 +1,7 @@
 -- What a changed byte does to a text's sum.
-use Rattle.std.proofs.Common.{true, false, IsTrue, Bool, not, ◌&&◌, ◌==◌, ◌≢◌, ◌≡◌, ◌⊎◌, inl, inr, ℕ, zero, suc, ◌+◌, ◌*◌, ◌%◌, ◌<◌, List, [], ◌∷◌, ◌++◌, length, sym, ap, ◌∙◌, refl, arith}
+use Rattle.std.proofs.Common.{false, IsTrue, not, ◌&&◌, ◌==◌, ◌≢◌, ◌≡◌, ◌⊎◌, inl, inr, ℕ, ◌+◌, ◌*◌, ◌%◌, ◌<◌, List, [], ◌∷◌, ◌++◌, sym, ap, ◌∙◌, arith}
 use Rattle.std.proofs.lemmas.Bool.Decides.{nat_tests}
-use Rattle.ep_base.specs.Sum.{total, all_ones, OneChangedByte}
+use Rattle.ep_base.specs.Sum.{total, OneChangedByte}
 
 -- the total of a text less one of its bytes, and the worth of that byte
 total-byte : (front rest : List ℕ) → (others : ℕ) × (((byte : ℕ) → total (front ++ byte ∷ rest) ≡ others + 256 * byte) ⊎ ((byte : ℕ) → total (front ++ byte ∷ rest) ≡ others + byte))
@@ -10,11 +10,13 @@ total-byte [] [] = (0, inl (λ byte. omega arith))
 total-byte [] (b ∷ rest) = (b + total rest, inl (λ byte. omega arith))
 total-byte (a ∷ []) rest = (256 * a + total rest, inr (λ byte. omega arith))
 total-byte (a ∷ b ∷ front) rest =
-    let more = total-byte front rest in
-    (256 * a + b + more.0, elim more.1 [
-      | inl high ↦ inl (λ byte. omega (arith, high byte))
-      | inr low ↦ inr (λ byte. omega (arith, low byte))
-    ])
+    let more = total-byte front rest in (
+      256 * a + b + more.0,
+      elim more.1 [
+        | inl high ↦ inl (λ byte. omega (arith, high byte))
+        | inr low ↦ inr (λ byte. omega (arith, low byte))
+      ],
+    )
 
 -- two numbers that are a little apart aren't both divisible by 65535
 apart : (others m n : ℕ) → m < 65535 → n < 65535 → m ≢ n → (others + m) % 65535 ≡ 0 → (others + n) % 65535 ≡ 0 → ⊥
@@ -29,8 +31,8 @@ one_changed_byte front rest old new p q other h =
     elim parts.1 [
       | inl high ↦ changed (total (front ++ old ∷ rest)) (total (front ++ new ∷ rest))
           (λ first second. apart parts.0 (256 * old) (256 * new) (omega arith) (omega arith) (λ same. other (omega (arith, same)))
-              (ap (λ n. n % 65535) (sym (high old)) ∙ first) (ap (λ n. n % 65535) (sym (high new)) ∙ second)) h
+          (ap (λ n. n % 65535) (sym (high old)) ∙ first) (ap (λ n. n % 65535) (sym (high new)) ∙ second)) h
       | inr low ↦ changed (total (front ++ old ∷ rest)) (total (front ++ new ∷ rest))
           (λ first second. apart parts.0 old new (omega arith) (omega arith) other
-              (ap (λ n. n % 65535) (sym (low old)) ∙ first) (ap (λ n. n % 65535) (sym (low new)) ∙ second)) h
+          (ap (λ n. n % 65535) (sym (low old)) ∙ first) (ap (λ n. n % 65535) (sym (low new)) ∙ second)) h
     ]

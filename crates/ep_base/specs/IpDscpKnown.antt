@@ -34,3 +34,7 @@ code_point LowerEffort = 1
 abbrev pub IsKnown : ℕ → Result IpDscpKnown IpDscpUnknownValueError → Type 0
 IsKnown n (Ok known) = code_point known ≡ n
 IsKnown n (Err e) = (e ≡ record { value = n }) × ((known : IpDscpKnown) → code_point known ≢ n)
+
+-- the code point of a name has that name and no other
+abbrev pub KnownRoundTrip : Type 0
+KnownRoundTrip = (known : IpDscpKnown) (answer : Result IpDscpKnown IpDscpUnknownValueError) → IsKnown (code_point known) answer → answer ≡ Ok known

@@ -9,11 +9,11 @@ mod link;
 mod net;
 
 pub use len_source::LenSource;
-pub use link::ether_types as ether_type;
-pub use link::EtherType;
-pub use net::ip_numbers as ip_number;
-pub use net::{IpDscp, IpDscpKnown, IpDscpUnknownValueError, IpEcn, IpFragOffset, IpNumber};
-pub use net::{IpTrafficClass, Ipv4Dscp, Ipv4Ecn, Ipv6FlowLabel};
+pub use link::{EtherType, ether_types as ether_type};
+pub use net::{
+    IpDscp, IpDscpKnown, IpDscpUnknownValueError, IpEcn, IpFragOffset, IpNumber, IpTrafficClass,
+    Ipv4Dscp, Ipv4Ecn, Ipv6FlowLabel, ip_numbers as ip_number,
+};
 
 #[cfg(test)]
 mod tests;

@@ -1,6 +1,5 @@
 use super::Layer;
-use std::error;
-use std::fmt;
+use std::{error, fmt};
 
 /// A slice has fewer bytes than are to be written to it.
 #[derive(Clone, Copy, Debug, PartialEq, Eq, Hash)]

@@ -96,7 +96,7 @@ impl IpDscpKnown {
 
     // The code point.
     fn number(self) -> u8
-        ensures value { result ≡ code_point self }
+        ensures { result ≡ code_point self }
     {
         self as u8
     }

@@ -1,4 +1,4 @@
-use Rattle.std.proofs.Common.{Bor, List, ◌≡◌, ℕ, sym, ap, ◌∙◌}
+use Rattle.std.proofs.Common.{Bor, List, ℕ, sym, ap, ◌∙◌}
 use Rattle.std.specs.List.{sum_by, flat_map}
 use Rattle.std.proofs.lemmas.List.{take_all}
 use Rattle.ep_base.specs.Sum.{fold, total, padded}

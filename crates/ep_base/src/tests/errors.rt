@@ -1,0 +1,56 @@
+//! The texts of errors, one of each form.
+
+use crate::err::{Layer, LenError, SliceWriteSpaceError, ValueTooBigError, ValueType};
+use crate::{IpDscpUnknownValueError, LenSource};
+use std::test::Fail;
+
+#[test]
+fn texts_of_len_errors(rt: HostRuntime) -> Result<(), Fail> {
+    let error = LenError {
+        required_len: 20,
+        len: 19,
+        len_source: LenSource::Slice,
+        layer: Layer::Ipv4Header,
+        layer_start_offset: 0,
+    };
+    assert_eq!(rt;
+        format!(in rt.alloc(); "{error}")?.as_str(),
+        "IPv4 header Error: Not enough data to decode 'IPv4 header'. 20 byte(s) would be required, but only 19 byte(s) are available based on the slice length."
+    );
+    let further = error.add_offset(14);
+    assert_eq!(rt; further.layer_start_offset, 14);
+    assert_eq!(rt;
+        format!(in rt.alloc(); "{further}")?.as_str(),
+        "IPv4 header Error: Not enough data to decode 'IPv4 header'. 20 byte(s) would be required, but only 19 byte(s) are available based on the slice length, 'IPv4 header' starts at overall parsed byte 14."
+    );
+    Ok(())
+}
+
+#[test]
+fn texts_of_errors(rt: HostRuntime) -> Result<(), Fail> {
+    let too_big = ValueTooBigError {
+        actual: 64u8,
+        max_allowed: 63,
+        value_type: ValueType::IpDscp,
+    };
+    assert_eq!(rt;
+        format!(in rt.alloc(); "{too_big}")?.as_str(),
+        "Error '64' is too big to be a 'DSCP (Differentiated Services Code Point)' (maximum allowed value is '63')"
+    );
+    let space = SliceWriteSpaceError {
+        required_len: 14,
+        len: 13,
+        layer: Layer::Ethernet2Header,
+        layer_start_offset: 0,
+    };
+    assert_eq!(rt;
+        format!(in rt.alloc(); "{space}")?.as_str(),
+        "Ethernet 2 header Error: Not enough space to write 'Ethernet 2 header' to slice. Needed 14 byte(s), but only 13 byte(s) were available."
+    );
+    let unknown = IpDscpUnknownValueError { value: 63 };
+    assert_eq!(rt;
+        format!(in rt.alloc(); "{unknown}")?.as_str(),
+        "Unknown IP DSCP value 63"
+    );
+    Ok(())
+}

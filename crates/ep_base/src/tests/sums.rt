@@ -1,0 +1,91 @@
+//! The Internet checksum against values from outside.
+
+use crate::checksum::{Sum16BitWords, sum_pieces, u32_16bit_word, u64_16bit_word};
+
+// The eight bytes of RFC 1071, section 3, whose words sum to ddf2.
+const RFC_1071: [u8; 8] = [0x00, 0x01, 0xf2, 0x03, 0xf4, 0xf5, 0xf6, 0xf7];
+
+#[test]
+fn sums_of_pieces(rt: HostRuntime) {
+    assert_eq!(rt; sum_pieces(&[&[1, 2, 3], &[4]]), 0xfdf7);
+    assert_eq!(rt; sum_pieces(&[]), 0xffff);
+    assert_eq!(rt;
+        sum_pieces(&[&RFC_1071[..4], &RFC_1071[4..]]).swap_bytes(),
+        0x220d
+    );
+}
+
+// An IPv4 header whose checksum is b861: once with the field as 0, once as it stands.
+#[test]
+fn sum_of_a_header(rt: HostRuntime) {
+    let front = [0x45, 0x00, 0x00, 0x73, 0x00, 0x00, 0x40, 0x00];
+    let addresses = [0xc0, 0xa8, 0x00, 0x01, 0xc0, 0xa8, 0x00, 0xc7];
+    let unsummed = Sum16BitWords::new()
+        .add_8bytes(front)
+        .add_4bytes([0x40, 0x11, 0x00, 0x00])
+        .add_slice(&addresses);
+    assert_eq!(rt; unsummed.ones_complement().swap_bytes(), 0xb861);
+    let summed = unsummed.add_2bytes([0xb8, 0x61]);
+    assert_eq!(rt; summed.ones_complement(), 0);
+    assert_eq!(rt; summed.to_ones_complement_with_no_zero(), 0xffff);
+    assert_eq!(rt; Sum16BitWords::default().add_2bytes([0xff, 0xff]), summed);
+}
+
+#[test]
+fn sum_of_sixteen_bytes(rt: HostRuntime) {
+    let twice = [
+        0x00, 0x01, 0xf2, 0x03, 0xf4, 0xf5, 0xf6, 0xf7, 0x00, 0x01, 0xf2, 0x03, 0xf4, 0xf5, 0xf6,
+        0xf7,
+    ];
+    // Twice ddf2 is 1bbe4, and so bbe5.
+    assert_eq!(rt;
+        Sum16BitWords::new()
+            .add_16bytes(twice)
+            .ones_complement()
+            .swap_bytes(),
+        0x441a
+    );
+}
+
+#[test]
+fn both_widths_agree(rt: HostRuntime) {
+    let bytes = [
+        0xff, 0xff, 0x00, 0x80, 0x7f, 0xfe, 0x01, 0x00, 0xff, 0xfe, 0xfd, 0xfc, 0xfb, 0xfa, 0xf9,
+        0xf8, 0xf7,
+    ];
+    for len in 0..=17usize {
+        let slice = &bytes[..len];
+        for start in [0, 1, 0xffff, 0x1_0000, 0xffff_ffff] {
+            let narrow = u32_16bit_word::add_slice(start, slice);
+            let wide = u64_16bit_word::add_slice(u64::from(start), slice);
+            assert_eq!(rt;
+                u32_16bit_word::ones_complement(narrow),
+                u64_16bit_word::ones_complement(wide)
+            );
+            assert_eq!(rt;
+                u32_16bit_word::ones_complement_with_no_zero(narrow),
+                u64_16bit_word::ones_complement_with_no_zero(wide)
+            );
+        }
+    }
+    let narrow = u32_16bit_word::add_4bytes(
+        u32_16bit_word::add_2bytes(0, [0, 1]),
+        [0xf2, 3, 0xf4, 0xf5],
+    );
+    let wide = u64_16bit_word::add_4bytes(
+        u64_16bit_word::add_2bytes(0, [0, 1]),
+        [0xf2, 3, 0xf4, 0xf5],
+    );
+    assert_eq!(rt;
+        u32_16bit_word::ones_complement(u32_16bit_word::add_2bytes(narrow, [0xf6, 0xf7])),
+        0x0d22
+    );
+    assert_eq!(rt;
+        u64_16bit_word::ones_complement(u64_16bit_word::add_2bytes(wide, [0xf6, 0xf7])),
+        0x0d22
+    );
+    assert_eq!(rt;
+        u64_16bit_word::ones_complement(u64_16bit_word::add_8bytes(0, RFC_1071)),
+        0x0d22
+    );
+}
