@@ -1,5 +1,6 @@
--- The IPv6 header (RFC 8200, section 3): its bytes, and each field by its place in them. The traffic class is the code point
--- of differentiated services, 6 bits, and the notification of congestion, 2 bits (RFC 2474, section 3; RFC 3168, section 5).
+-- The IPv6 header (RFC 8200, section 3): its bytes, and each field by its place in them. The
+-- traffic class is the code point of differentiated services, 6 bits, and the notification of
+-- congestion, 2 bits (RFC 2474, section 3; RFC 3168, section 5).
 use Rattle.std.specs.Prelude.{◌≡◌, ℕ, ◌+◌, ◌*◌, ◌/◌, ◌%◌, ◌^◌, ◌<◌, List, [], ◌∷◌, ◌++◌, length, slice_range}
 use Rattle.std.specs.Int.{w16, w32, to_be_bytes}
 use Rattle.ep_base.specs.Bytes.{num}

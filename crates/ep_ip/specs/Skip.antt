@@ -1,4 +1,5 @@
--- The walk over IPv6 extension headers (RFC 8200, section 4; RFC 6564, section 4; for the authentication header RFC 4302, section 2).
+-- The walk over IPv6 extension headers (RFC 8200, section 4; RFC 6564, section 4; for the
+-- authentication header RFC 4302, section 2).
 use Rattle.std.specs.Prelude.{◌≡◌, ℕ, zero, suc, ◌+◌, ◌*◌, ◌<◌, ◌≤◌, Bool, IsTrue, ◌==◌, ◌&&◌, nat_lt, nat_le, if◌then◌else◌, List, [], ◌∷◌, ◌++◌, length, take, drop, Result, Ok, Err}
 use Rattle.std.specs.List.{list_any, concat}
 use Rattle.std.specs.Borrow.{Bor}
@@ -8,16 +9,18 @@ use Rattle.ep_base.specs.declared.err.len_error.LenError.{LenError}
 use Rattle.ep_base.specs.declared.len_source.LenSource.TheVariants.{Slice}
 use Rattle.ep_base.specs.declared.net.ip_number.IpNumber.{IpNumber}
 
--- the numbers of the headers that are skipped: hop-by-hop options, routing, fragment, authentication and destination options
--- (RFC 8200), mobility (RFC 6275), host identity (RFC 7401), shim6 (RFC 5533)
+-- the numbers of the headers that are skipped: hop-by-hop options, routing, fragment,
+-- authentication and destination options (RFC 8200), mobility (RFC 6275), host identity (RFC 7401),
+-- shim6 (RFC 5533)
 abbrev pub skipped_numbers : List ℕ
 skipped_numbers = 0 ∷ 43 ∷ 44 ∷ 51 ∷ 60 ∷ 135 ∷ 139 ∷ 140 ∷ []
 
 abbrev pub is_skipped : ℕ → Bool
 is_skipped number = list_any (λ n. number == n) skipped_numbers
 
--- the length of the header of this number that begins the bytes: a fragment header has 8 bytes, the second byte of an
--- authentication header counts words of 4 bytes without the first two, that of every other header words of 8 without the first
+-- the length of the header of this number that begins the bytes: a fragment header has 8 bytes, the
+-- second byte of an authentication header counts words of 4 bytes without the first two, that of
+-- every other header words of 8 without the first
 abbrev pub skipped_len : ℕ → List ℕ → ℕ
 skipped_len number bytes =
     if number == 44 then 8 else (if number == 51 then (num bytes 1 1 + 2) * 4 else (num bytes 1 1 + 1) * 8)
@@ -31,12 +34,14 @@ pub record IsWhole (number : ℕ) (header : List ℕ) : Type 0 where
   pub begun : 2 ≤ length header
   pub whole : length header ≡ skipped_len number header
 
--- headers in a row: the first has this number, each names the next by its first byte, and the last one names the last number
+-- headers in a row: the first has this number, each names the next by its first byte, and the last
+-- one names the last number
 abbrev pub Skips : ℕ → List (List ℕ) → ℕ → Type 0
 Skips number [] last = number ≡ last
 Skips number (header ∷ headers) last = IsTrue (is_skipped number) × IsWhole number header × Skips (num header 0 1) headers last
 
--- the bytes are headers in a row and a rest, and the rest begins with no whole header that is skipped
+-- the bytes are headers in a row and a rest, and the rest begins with no whole header that is
+-- skipped
 pub record Walk (number : ℕ) (bytes : List ℕ) (headers : List (List ℕ)) (last : ℕ) (rest : List ℕ) : Type 0 where
   pub named : Skips number headers last
   pub cut : bytes ≡ concat headers ++ rest
@@ -73,7 +78,8 @@ unfoldable pub named_behind : ℕ → List (List ℕ) → ℕ
 named_behind number [] = number
 named_behind number (header ∷ headers) = named_behind (num header 0 1) headers
 
--- the first number that is not skipped and what stands behind the headers, or the first header that is not whole
+-- the first number that is not skipped and what stands behind the headers, or the first header that
+-- is not whole
 abbrev pub skip : ℕ → List ℕ → Result (ℕ × List ℕ) LenError
 skip number bytes =
     let headers = skipped_headers number bytes in
@@ -85,7 +91,8 @@ abbrev pub Gives : Result (ℕ × List ℕ) LenError → Result (IpNumber × Bor
 Gives wanted (Ok r) = wanted ≡ Ok (r.0.0, r.1.now)
 Gives wanted (Err e) = wanted ≡ Err e
 
--- what is answered behind these headers, after one turn for each of them and one for the number at which the walk ends
+-- what is answered behind these headers, after one turn for each of them and one for the number at
+-- which the walk ends
 pub record Ends (headers : List (List ℕ)) (last : ℕ) (rest : List ℕ) (answer : Result (IpNumber × Bor (List ℕ)) LenError) (turns : ℕ) : Type 0 where
   pub gives : Gives (outcome (length (concat headers)) last rest) answer
   pub counted : turns ≡ length headers + 1

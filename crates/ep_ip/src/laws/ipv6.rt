@@ -17,12 +17,13 @@ pub fn ipv6_header_lengths() -> [usize; 2]
     [Ipv6Header::LEN, Ipv6Header::SERIALIZED_SIZE]
 }
 
-/// Headers and lists of 40 bytes whose first half byte is 6 are each other's: a header's bytes are such a list, which
-/// spells the header, and such a list spells a header whose bytes it is.
+/// Headers and lists of 40 bytes whose first half byte is 6 are each other's: a header's bytes are
+/// such a list, which spells the header, and such a list spells a header whose bytes it is.
 pub fn ipv6_headers_are_their_bytes(header: &Ipv6Header)
     ensures spelled { IsIpv6Header (spelling header.now) }
     ensures read { header_of (spelling header.now) ≡ header.now }
-    ensures spelled_again { (bytes : List ℕ) → IsIpv6Header bytes → IsBytes bytes → spelling (header_of bytes) ≡ bytes }
+    ensures spelled_again { (bytes : List ℕ) → IsIpv6Header bytes → IsBytes bytes
+        → spelling (header_of bytes) ≡ bytes }
 {
     let _bytes = header.to_bytes();
 }
@@ -41,15 +42,17 @@ pub fn ipv6_header_is_read_again<'a>(
 
 /// A traffic class is its code point and its notification of congestion.
 pub fn traffic_class_has_two_parts()
-    ensures { (traffic_class : ℕ) → 4 * dscp_in traffic_class + ecn_number (ecn_in traffic_class) ≡ traffic_class }
+    ensures { (class : ℕ) → 4 * dscp_in class + ecn_number (ecn_in class) ≡ class }
 {}
 
-/// However bytes are headers in a row and a rest that begins with no whole header, the walk skips those headers.
+/// However bytes are headers in a row and a rest that begins with no whole header, the walk skips
+/// those headers.
 pub fn skip_follows_every_walk()
     ensures headers { (number : ℕ) (bytes : List ℕ) (headers : List (List ℕ)) (last : ℕ) (rest : List ℕ)
         → Walk number bytes headers last rest → skipped_headers number bytes ≡ headers }
     ensures answer { (number : ℕ) (bytes : List ℕ) (headers : List (List ℕ)) (last : ℕ) (rest : List ℕ)
-        → Walk number bytes headers last rest → skip number bytes ≡ outcome (length (concat headers)) last rest }
+        → Walk number bytes headers last rest
+        → skip number bytes ≡ outcome (length (concat headers)) last rest }
 {}
 
 /// Headers are equal where their fields are.

@@ -12,7 +12,8 @@ use std::alloc::AllocError;
 /// An IPv6 header (RFC 8200, section 3). In its 40 bytes numbers stand high byte first.
 #[derive(Clone, Debug, PartialEq, Eq, Drop)]
 pub struct Ipv6Header {
-    /// The code point of differentiated services in the upper 6 bits, the notification of congestion in the lower 2.
+    /// The code point of differentiated services in the upper 6 bits, the notification of
+    /// congestion in the lower 2.
     pub traffic_class: u8,
     pub flow_label: Ipv6FlowLabel,
     /// How many bytes follow the header: its extension headers and the payload.
@@ -32,8 +33,8 @@ impl Ipv6Header {
     /// The same as `LEN`.
     pub const SERIALIZED_SIZE: usize = Ipv6Header::LEN;
 
-    /// The header at the front of the slice, and the bytes behind it. Refused are, in this order, a slice of fewer than
-    /// 40 bytes and a version other than 6.
+    /// The header at the front of the slice, and the bytes behind it. Refused are, in this order, a
+    /// slice of fewer than 40 bytes and a version other than 6.
     pub fn from_slice(slice: &[u8]) -> Result<(Ipv6Header, &[u8]), HeaderSliceError>
         // The front of the slice is a header, and is read so.
         ensures found { IfOk result (λ r. IsRead slice.now r.0 r.1.now) }
@@ -65,7 +66,8 @@ impl Ipv6Header {
         Ipv6Header::LEN
     }
 
-    /// The code point of differentiated services, the upper 6 bits of the traffic class (RFC 2474, section 3).
+    /// The code point of differentiated services, the upper 6 bits of the traffic class (RFC 2474,
+    /// section 3).
     pub fn dscp(&self) -> IpDscp
         ensures { result ≡ dscp_in self.now.traffic_class }
     {

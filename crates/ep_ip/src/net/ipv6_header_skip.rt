@@ -8,10 +8,11 @@ use ep_base::err::{Layer, LenError};
 use ep_base::{IpNumber, LenSource};
 
 impl Ipv6Header {
-    /// Skips one IPv6 extension header at the front of the slice, whatever its number, and answers the number that its
-    /// first byte names and the bytes behind it. The length goes by the number: 8 bytes for a fragment header (44), for
-    /// an authentication header (51) four times its second byte and 8 more, for every other number eight times its
-    /// second byte and 8 more (RFC 8200, section 4; RFC 4302, section 2.2; RFC 6564, section 4).
+    /// Skips one IPv6 extension header at the front of the slice, whatever its number, and answers
+    /// the number that its first byte names and the bytes behind it. The length goes by the number:
+    /// 8 bytes for a fragment header (44), for an authentication header (51) four times its second
+    /// byte and 8 more, for every other number eight times its second byte and 8 more (RFC 8200,
+    /// section 4; RFC 4302, section 2.2; RFC 6564, section 4).
     pub fn skip_header_extension_in_slice(
         slice: &[u8],
         next_header: IpNumber,
@@ -20,10 +21,12 @@ impl Ipv6Header {
         ensures found { IfOk result (λ r. (header : List ℕ) × walk.IsWhole next_header.0 header
             × (slice.now ≡ header ++ r.1.now) × (r.0.0 ≡ num header 0 1)) }
         // A whole header is skipped.
-        ensures only { (header rest : List ℕ) → walk.IsWhole next_header.0 header → slice.now ≡ header ++ rest
+        ensures only { (header rest : List ℕ) → walk.IsWhole next_header.0 header
+            → slice.now ≡ header ++ rest
             → IsOkAnd result (λ r. (r.0.0 ≡ num header 0 1) × (r.1.now ≡ rest)) }
         // Else so many bytes are missing.
-        ensures refused { IfErr result (λ e. (length slice.now < walk.required_len next_header.0 slice.now)
+        ensures refused { IfErr result (λ e.
+            (length slice.now < walk.required_len next_header.0 slice.now)
             × (e ≡ walk.not_whole 0 next_header.0 slice.now)) }
     {
         let required_len = required_len(slice, next_header);
@@ -39,9 +42,10 @@ impl Ipv6Header {
         Ok((IpNumber(slice[0]), &slice[required_len..]))
     }
 
-    /// Skips the IPv6 extension headers in a row at the front of the slice, of which the first has the given number, and
-    /// answers the first number that is none of 0, 43, 44, 51, 60, 135, 139 and 140, and the bytes behind the headers.
-    /// A header of one of these numbers that is not whole is refused, with its place in the slice.
+    /// Skips the IPv6 extension headers in a row at the front of the slice, of which the first has
+    /// the given number, and answers the first number that is none of 0, 43, 44, 51, 60, 135, 139
+    /// and 140, and the bytes behind the headers. A header of one of these numbers that is not
+    /// whole is refused, with its place in the slice.
     pub fn skip_all_header_extensions_in_slice(
         slice: &[u8],
         next_header: IpNumber,
@@ -59,8 +63,8 @@ impl Ipv6Header {
         Self::skip_counted(slice, next_header).0
     }
 
-    /// The same as `skip_all_header_extensions_in_slice`, and how many numbers it looked at: one for each header that it
-    /// skipped, and one for the number at which it ended.
+    /// The same as `skip_all_header_extensions_in_slice`, and how many numbers it looked at: one
+    /// for each header that it skipped, and one for the number at which it ended.
     pub fn skip_counted(
         slice: &[u8],
         next_header: IpNumber,

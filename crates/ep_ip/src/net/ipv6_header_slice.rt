@@ -11,8 +11,8 @@ use ep_base::err::{Layer, LenError};
 use ep_base::{IpDscp, IpEcn, IpNumber, Ipv6FlowLabel, LenSource};
 use std::marker::Model;
 
-/// The 40 bytes of an IPv6 header (RFC 8200, section 3), borrowed. They were tested when the value was made, so that
-/// getters test nothing. A contract sees the value as those bytes.
+/// The 40 bytes of an IPv6 header (RFC 8200, section 3), borrowed. They were tested when the value
+/// was made, so that getters test nothing. A contract sees the value as those bytes.
 #[derive(Clone, Debug, Drop)]
 pub struct Ipv6HeaderSlice<'a> {
     slice: &'a [u8],
@@ -28,13 +28,15 @@ impl<'a> Model for Ipv6HeaderSlice<'a> {
 
 #[tactic(auto, using(ep_base::proofs::Bits::masks, crate::proofs::Ipv6Bits::shared_bits))]
 impl<'a> Ipv6HeaderSlice<'a> {
-    /// The header at the front of the slice. Refused are, in this order, a slice of fewer than 40 bytes and a version
-    /// other than 6.
+    /// The header at the front of the slice. Refused are, in this order, a slice of fewer than 40
+    /// bytes and a version other than 6.
     pub fn from_slice(slice: &'a [u8]) -> Result<Ipv6HeaderSlice<'a>, HeaderSliceError>
         // What is taken is a header, and a front of the slice.
-        ensures found { IfOk result (λ header. IsIpv6Header header × ((rest : List ℕ) × (slice.now ≡ header ++ rest))) }
+        ensures found { IfOk result (λ header. IsIpv6Header header
+            × ((rest : List ℕ) × (slice.now ≡ header ++ rest))) }
         // A front that is a header is taken.
-        ensures only { (header rest : List ℕ) → IsIpv6Header header → slice.now ≡ header ++ rest → result ≡ Ok header }
+        ensures only { (header rest : List ℕ) → IsIpv6Header header → slice.now ≡ header ++ rest
+            → result ≡ Ok header }
         // Else it is the first fault.
         ensures exact { result ≡ header_at slice.now }
     {
@@ -94,7 +96,8 @@ impl<'a> Ipv6HeaderSlice<'a> {
         (self.slice[0] << 4) | (self.slice[1] >> 4)
     }
 
-    /// The code point of differentiated services, the upper 6 bits of the traffic class (RFC 2474, section 3).
+    /// The code point of differentiated services, the upper 6 bits of the traffic class (RFC 2474,
+    /// section 3).
     pub fn dscp(&self) -> IpDscp
         ensures { result ≡ dscp_in (traffic_class_of self.now) }
     {
@@ -116,7 +119,8 @@ impl<'a> Ipv6HeaderSlice<'a> {
         Ipv6FlowLabel::try_new(word & Ipv6FlowLabel::MAX_U32).unwrap()
     }
 
-    /// How many bytes follow the header: its extension headers and the payload. 0 also stands for a jumbo payload.
+    /// How many bytes follow the header: its extension headers and the payload. 0 also stands for a
+    /// jumbo payload.
     pub fn payload_length(&self) -> u16
         ensures { result ≡ payload_length_of self.now }
     {

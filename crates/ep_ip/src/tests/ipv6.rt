@@ -182,8 +182,8 @@ fn skip_walk_to_the_end_of_the_slice(rt: HostRuntime) {
     );
 }
 
-// Hop-by-hop options of 16 bytes, an authentication header of 12, a fragment header of 8 whose second byte says
-// nothing, and a routing header of 16.
+// Hop-by-hop options of 16 bytes, an authentication header of 12, a fragment header of 8 whose
+// second byte says nothing, and a routing header of 16.
 const ROW: [u8; 54] = [
     51, 1, 0, 0, 0, 0, 0, 0, 0, 0, 0, 0, 0, 0, 0, 0, 44, 1, 0, 0, 0, 0, 0, 0, 0, 0, 0, 0, 43, 9, 0,
     0, 0, 0, 0, 0, 6, 1, 0, 0, 0, 0, 0, 0, 0, 0, 0, 0, 0, 0, 0, 0, 7, 8,

@@ -34,7 +34,8 @@ impl From<HeaderError> for HeaderSliceError {
 }
 
 impl HeaderSliceError {
-    /// The same fault of a header that starts `offset` bytes further on. A `Content` stays as it is.
+    /// The same fault of a header that starts `offset` bytes further on. A `Content` stays as it
+    /// is.
     pub fn add_slice_offset(self, offset: usize) -> Self
         requires { CanMove self offset }
         ensures { result ≡ moved self offset }
