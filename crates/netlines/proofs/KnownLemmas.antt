@@ -1,14 +1,15 @@
 -- What the calls of a run do to known bytes.
-use Rattle.std.proofs.Common.{◌≡◌, ◌∙◌, sym, ap, refl, subst, ℕ, Bool, true, false, List, [], ◌∷◌, ◌++◌, Some, None, Result, Ok, Err, IfSome}
+use Rattle.std.proofs.Common.{Option, ◌≡◌, ◌∙◌, sym, ap, refl, subst, ℕ, Bool, true, false, List, [], ◌∷◌, ◌++◌, Some, None, Result, Ok, Err, IfSome, zero, suc, ◌≤◌, arith, length, length-append}
 use Rattle.std.specs.Prelude.{OnOk, ◌||◌}
 use Rattle.std.specs.Io.KnownBytes.{Appends, Consumes, IsAtEnd}
 use Rattle.std.proofs.KnownBytes.{Consumes-nil, Consumes-trans, Consumes-kept, Consumes-whole, Appends-nil, Appends-trans, Appends-kept}
 use Rattle.std.proofs.lemmas.List.Folds.{list_any-append}
 use Rattle.netlines.specs.declared.run_error.RunError.{RunError}
-use Rattle.netlines.specs.declared.run_error.RunError.TheVariants.{Memory}
+use Rattle.netlines.specs.declared.run_error.RunError.TheVariants.{Memory, TooManyReads}
 use Rattle.netlines.specs.Answers.{answers_of}
-use Rattle.netlines.specs.Calls.{Call, Reads, Writes, Makes, bytes_given, bytes_taken, bytes_read, bytes_written, tells_end, is_end_told}
+use Rattle.netlines.specs.Calls.{Call, Reads, Writes, Makes, bytes_given, bytes_taken, bytes_read, bytes_written, tells_end, is_end_told, read_count, faults_of}
 use Rattle.netlines.specs.Known.{Known, KnownCall, Transfers}
+use Rattle.netlines.proofs.CallLemmas.{read_count-append}
 use Rattle.netlines.specs.Runs.{EachFollows, Runs}
 
 -- what each call keeps, calls keep
@@ -112,3 +113,31 @@ runs_transfer limit a b result runs = record {
   appended = known_written a b runs.calls runs.made;
   due = runs.output;
 }
+
+-- reads that neither fail nor tell the end give a byte each
+read_count_le : (calls : List Call) → faults_of calls ≡ [] → is_end_told calls ≡ false → read_count calls ≤ length (bytes_read calls)
+read_count_le [] none untold = omega arith
+read_count_le (Reads None ∷ calls) none untold = absurd (cc)
+read_count_le (Reads (Some []) ∷ calls) none untold = absurd (cc)
+read_count_le (Reads (Some (x ∷ bytes)) ∷ calls) none untold =
+    let later = read_count_le calls none untold in
+    let first = read_count-append (Reads (Some (x ∷ bytes)) ∷ []) calls in
+    let size = length-append (x ∷ bytes) (bytes_read calls) in
+    omega arith
+read_count_le (Writes bytes None ∷ calls) none untold = absurd (cc)
+read_count_le (Writes bytes (Some zero) ∷ calls) none untold = absurd (cc)
+read_count_le (Writes bytes (Some (suc n)) ∷ calls) none untold = read_count_le calls none untold
+
+Consumes-length : (old new : Option (List ℕ)) (bytes : List ℕ) (n : ℕ) → Consumes old new bytes → n ≤ length bytes → IfSome old (λ all. n ≤ length all)
+Consumes-length None new bytes n consumed le = tt
+Consumes-length (Some x) None bytes n consumed le = absurd consumed
+Consumes-length (Some x) (Some y) bytes n consumed le = let whole = ap length consumed in omega (arith, length-append bytes y)
+
+too_many : (limit : ℕ) (a b : Known) → Runs KnownCall limit a b (Err TooManyReads) → IfSome a.input (λ bytes. limit ≤ length bytes)
+too_many limit a b runs =
+    let le = read_count_le runs.calls runs.ends.0 runs.ends.1 in
+    let all = runs.ends.2 in
+    Consumes-length a.input b.input (bytes_read runs.calls) limit (known_read a b runs.calls runs.made) (omega arith)
+
+pub runs_too_many : (limit : ℕ) (a b : Known) (result : Result Unit RunError) → result ≡ Err TooManyReads → Runs KnownCall limit a b result → IfSome a.input (λ bytes. limit ≤ length bytes)
+runs_too_many limit a b result is runs = too_many limit a b (subst (Runs KnownCall limit a b) is runs)

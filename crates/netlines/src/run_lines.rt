@@ -1,5 +1,5 @@
 //! A run: reads, and the answers to the lines that they give.
-ghost use Rattle.std.specs.Prelude.{◌≡◌, ℕ, List, [], length, OnOk, IfOk, IfSome, IsErrOf, vec_len};
+ghost use Rattle.std.specs.Prelude.{◌≡◌, ◌≤◌, ℕ, List, [], length, OnOk, IfOk, IfSome, IsErrOf, vec_len};
 ghost use Rattle.std.specs.Io.KnownBytes.{Appends, IsAtEnd};
 ghost use Rattle.netlines.specs.Answers.{answers_of};
 ghost use Rattle.netlines.specs.Known.{KnownCall, Transfers, known_of};
@@ -29,6 +29,10 @@ pub fn run<R: Read, W: Write>(alloc: Global, reader: &mut R, writer: &mut W) -> 
     ensures calls { Runs KnownCall READ_COUNT_LIMIT
         (known_of (R.remaining reader.old) (W.contents writer.old))
         (known_of (R.remaining reader.new) (W.contents writer.new)) result }
+
+    // Each of these reads gave a byte at least.
+    ensures too_many { IsErrOf result RunError.TooManyReads
+        → IfSome (R.remaining reader.old) (λ bytes. READ_COUNT_LIMIT ≤ length bytes) }
 
     // Memory is taken before the first call.
     ensures memory { IsErrOf result RunError.Memory
