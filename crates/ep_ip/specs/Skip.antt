@@ -1,5 +1,5 @@
 -- The walk over IPv6 extension headers (RFC 8200, section 4; RFC 6564, section 4; for the
--- authentication header RFC 4302, section 2).
+-- authentication header RFC 4302, section 2.2).
 use Rattle.std.specs.Prelude.{◌≡◌, ℕ, zero, suc, ◌+◌, ◌*◌, ◌<◌, ◌≤◌, Bool, IsTrue, ◌==◌, ◌&&◌, nat_lt, nat_le, if◌then◌else◌, List, [], ◌∷◌, ◌++◌, length, take, drop, Result, Ok, Err}
 use Rattle.std.specs.List.{list_any, concat}
 use Rattle.std.specs.Borrow.{Bor}

@@ -1,6 +1,7 @@
 ghost use Rattle.std.specs.Prelude.{◌≡◌};
 
 use crate::err::ipv6::{HeaderError, HeaderSliceError};
+use crate::laws::*;
 use crate::{Ipv6Header, Ipv6HeaderSlice};
 use ep_base::err::{Layer, LenError, ValueTooBigError, ValueType};
 use ep_base::{IpDscp, IpEcn, IpNumber, Ipv6FlowLabel, LenSource};
@@ -155,6 +156,24 @@ fn fields_set(rt: HostRuntime) -> Result<(), Fail> {
         })
     );
     assert_eq!(rt; header.payload_length, 65535);
+    Ok(())
+}
+
+#[test]
+fn laws_at_two_headers(rt: HostRuntime) -> Result<(), Fail> {
+    let bytes = BYTES;
+    let view = Ipv6HeaderSlice::from_slice(&bytes)?;
+    let header = view.to_header();
+    let other = Ipv6Header::default();
+    assert_eq!(rt; ipv6_header_lengths(), [40, 40]);
+    ipv6_headers_are_their_bytes(&header);
+    assert!(rt; ipv6_header_is_read_again(&header, &bytes).is_ok());
+    traffic_class_has_two_parts();
+    skip_follows_every_walk();
+    assert!(rt; ipv6_headers_are_equal_as_fields(&header, &header));
+    assert!(rt; !ipv6_headers_are_equal_as_fields(&header, &other));
+    assert!(rt; ipv6_header_slices_are_equal_as_bytes(&view, &view));
+    assert_eq!(rt; ipv6_header_is_copied(&header)?, header);
     Ok(())
 }
 
