@@ -1,8 +1,8 @@
 -- The sum of a header's words, and the checksum in it.
-use Rattle.std.proofs.Common.{◌≡◌, ℕ, zero, suc, ◌+◌, ◌-◌, ◌*◌, ◌/◌, ◌%◌, ◌^◌, ◌<◌, ◌≤◌, Bool, true, false, IsTrue, not, ◌&&◌, eqb, List, ◌++◌, length, ◌⊎◌, inl, inr, arith, ap, ◌↔◌, ⊎_elim}
+use Rattle.std.proofs.Common.{◌≡◌, ℕ, suc, ◌+◌, ◌-◌, ◌%◌, ◌^◌, ◌<◌, Bool, true, false, IsTrue, not, ◌&&◌, eqb, ◌⊎◌, inl, inr, arith, ap, ◌↔◌, ⊎_elim}
 use Rattle.std.proofs.lemmas.Bool.{eq-eqb, eqb-true, ne_eqb, cases_lt}
-use Rattle.ep_base.specs.Sum.{total, fold, checksum, all_ones}
-use Rattle.ep_ip.specs.Ipv4.{spelling, Fits}
+use Rattle.ep_base.specs.Sum.{total, fold, all_ones}
+use Rattle.ep_ip.specs.Ipv4.{spelling}
 use Rattle.ep_ip.specs.Ipv4Checksum.{right_checksum, HasRightChecksum}
 use Rattle.ep_ip.specs.declared.net.ipv4_header.Ipv4Header.{Ipv4Header}
 

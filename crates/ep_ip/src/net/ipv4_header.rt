@@ -131,8 +131,8 @@ impl Ipv4Header {
 
     /// The bytes of the header: the reserved bit is 0, and the checksum is the field as it stands.
     ///
-    /// The length field comes from the options. What the checksum has to be for the bytes to be
-    /// right is that of [`Ipv4Header::calc_header_checksum`].
+    /// The length field comes from the options. Where the checksum field holds
+    /// [`Ipv4Header::calc_header_checksum`], the bytes sum to all ones, as a receiver tests it.
     pub fn to_bytes(&self) -> ArrayVec<u8, 60>
         ensures bytes { result.items ≡ spelling self.now }
         ensures len { length result.items ≡ header_len self.now }

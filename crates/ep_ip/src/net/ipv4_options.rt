@@ -79,7 +79,7 @@ impl Ipv4Options {
         ensures len { result ≡ length self.now }
         ensures options { IsIpv4Options self.now }
     {
-        self.bytes.len() as u8
+        self.len() as u8
     }
 
     /// Whether there are none.

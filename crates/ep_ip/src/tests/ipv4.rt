@@ -51,39 +51,52 @@ fn fields_by_position(rt: HostRuntime) -> Result<(), Fail> {
     Ok(())
 }
 
-#[test]
-fn getters_of_the_slice(rt: HostRuntime) -> Result<(), Fail> {
-    let header = Ipv4HeaderSlice::from_slice(&BYTES)?;
-    assert_eq!(rt; header.slice(), &BYTES[..24]);
-    let bytes = [
+fn bytes_of(header: &Ipv4HeaderSlice<'_>) -> [u8; 6] {
+    [
         header.version(),
         header.ihl(),
         header.dcp().value(),
         header.ecn().value(),
         header.ttl(),
         header.protocol().0,
-    ];
-    assert_eq!(rt; bytes, [4, 6, 8, 1, 64, 17]);
-    let words = [
+    ]
+}
+
+fn words_of(header: &Ipv4HeaderSlice<'_>) -> [u16; 4] {
+    [
         header.total_len(),
         header.identification(),
         header.fragments_offset().value(),
         header.header_checksum(),
-    ];
-    assert_eq!(rt; words, [30, 7, 5, 0x439f]);
-    let flags = [
+    ]
+}
+
+fn flags_of(header: &Ipv4HeaderSlice<'_>) -> [bool; 3] {
+    [
         header.dont_fragment(),
         header.more_fragments(),
         header.is_fragmenting_payload(),
-    ];
-    assert_eq!(rt; flags, [false, true, true]);
-    assert_eq!(rt; header.payload_len(), Ok(6));
-    assert_eq!(rt;
-        [header.source(), header.destination()],
-        [[10, 0, 0, 1], [10, 0, 0, 2]]
-    );
-    assert_eq!(rt; header.options(), [1, 1, 1, 0].as_slice());
+    ]
+}
+
+#[test]
+fn getters_of_the_slice(rt: HostRuntime) -> Result<(), Fail> {
+    let header = Ipv4HeaderSlice::from_slice(&BYTES)?;
+    assert_eq!(rt; bytes_of(&header), [4, 6, 8, 1, 64, 17]);
+    assert_eq!(rt; words_of(&header), [30, 7, 5, 0x439f]);
+    assert_eq!(rt; flags_of(&header), [false, true, true]);
+    assert_eq!(rt; header.source(), [10, 0, 0, 1]);
+    assert_eq!(rt; header.destination(), [10, 0, 0, 2]);
     assert_eq!(rt; header.to_header(), fields()?);
+    Ok(())
+}
+
+#[test]
+fn parts_of_the_slice(rt: HostRuntime) -> Result<(), Fail> {
+    let header = Ipv4HeaderSlice::from_slice(&BYTES)?;
+    assert_eq!(rt; header.slice(), &BYTES[..24]);
+    assert_eq!(rt; header.options(), [1, 1, 1, 0].as_slice());
+    assert_eq!(rt; header.payload_len(), Ok(6));
     Ok(())
 }
 
