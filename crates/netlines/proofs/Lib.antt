@@ -5,3 +5,4 @@ pub mod AnswerLemmas
 pub mod PostLemmas
 pub mod PostedClass
 pub mod PostedAnswer
+pub mod UnrefusedLemmas
