@@ -13,4 +13,5 @@ pub mod PostedAnswer
 pub mod PostedClass
 pub mod ReplyLemmas
 pub mod SplitLemmas
+pub mod UnrefusedLemmas
 pub mod WriteLemmas
