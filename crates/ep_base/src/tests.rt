@@ -2,5 +2,6 @@
 
 mod errors;
 mod ip_number;
+mod laws;
 mod numbers;
 mod sums;

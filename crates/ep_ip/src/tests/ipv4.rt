@@ -2,6 +2,8 @@ use crate::err::ipv4::{BadOptionsLen, HeaderError, HeaderSliceError};
 use crate::{Ipv4Header, Ipv4HeaderSlice, Ipv4Options, laws};
 use ep_base::err::{Layer, LenError, ValueTooBigError, ValueType};
 use ep_base::{IpDscp, IpEcn, IpFragOffset, IpNumber, LenSource};
+use std::cmp::Ordering;
+use std::hash::FoldHasher;
 use std::test::*;
 
 // A header with four bytes of options, made by hand after RFC 791, and two bytes behind it.
@@ -323,5 +325,26 @@ fn option_lengths(rt: HostRuntime) -> Result<(), Fail> {
     }
     assert_eq!(rt; options.as_slice(), [9; 4].as_slice());
     assert_eq!(rt; Ipv4Options::new().is_empty(), true);
+    Ok(())
+}
+
+#[test]
+fn laws_are_called(rt: HostRuntime) -> Result<(), Fail> {
+    let slice = Ipv4HeaderSlice::from_slice(&BYTES)?;
+    let header = slice.to_header();
+    let (again, rest) = laws::header_is_read_again(&header, &BYTES)?;
+    assert_eq!(rt; rest, [0xaa, 0xbb].as_slice());
+    assert!(rt; laws::headers_are_equal_as_fields(&header, &again));
+    assert!(rt; laws::headers_are_equal_as_fields(&header, &laws::header_is_copied(&header)?));
+    laws::same_fields_from_same_bytes();
+    let (of_slice, of_header) = laws::payload_lengths_agree(&slice);
+    assert_eq!(rt; of_slice, of_header);
+    assert!(rt; laws::slices_are_equal_as_bytes(&slice, &slice));
+    assert!(rt; laws::options_are_equal_as_bytes(&header.options, &again.options));
+    assert_eq!(rt;
+        laws::options_are_ordered_as_bytes(&header.options, &Ipv4Options::new()),
+        Ordering::Greater
+    );
+    laws::options_hash_as_bytes(&header.options, &mut FoldHasher::default());
     Ok(())
 }
