@@ -1,27 +1,16 @@
 -- The header at the front of bytes.
-use Rattle.std.proofs.Common.{◌≡◌, ℕ, ◌+◌, ◌-◌, ◌*◌, ◌/◌, ◌<◌, ◌≤◌, Bool, true, false, not, cond, List, ◌++◌, length, take, drop, get_or, Result, Ok, Err, IfOk, arith, sym, refl, ap, ◌∙◌, ⊎_elim}
-use Rattle.std.proofs.lemmas.Bool.{le-ltb, eq-eqb, ltb-false, eqb-true, cases_lt}
-use Rattle.std.proofs.lemmas.List.{get_or-take, length-take-le, take-append-drop, take_at, take_rest, drop_at, get_or_append_left, get_or_past, length-append, length-drop}
-use Rattle.ep_base.specs.Bytes.{num, IsBytes}
+use Rattle.std.proofs.Common.{◌≡◌, ℕ, ◌+◌, ◌-◌, ◌*◌, ◌/◌, ◌<◌, ◌≤◌, List, ◌++◌, length, take, drop, Result, Ok, Err, IfOk, arith, sym, refl, ap, ◌∙◌}
+use Rattle.std.proofs.lemmas.Bool.{le-ltb, eq-eqb, ltb-false, eqb-true}
+use Rattle.std.proofs.lemmas.List.{get_or-take, length-take-le, take-append-drop, take_at, take_rest, drop_at, get_or_append_left, length-append, length-drop}
+use Rattle.ep_base.specs.Bytes.{num}
 use Rattle.ep_ip.specs.declared.err.ipv4.header_slice_error.HeaderSliceError.{HeaderSliceError}
 use Rattle.ep_ip.specs.Ipv4.{IsIpv4Header, version_of, ihl_of, options_of}
 use Rattle.ep_ip.specs.Ipv4Fault.{header_at}
+use Rattle.ep_ip.proofs.Front.{guard_ok, ok_same, not_false}
 
 pub header_at-ok : (bytes : List ℕ) → 20 ≤ length bytes → version_of bytes ≡ 4 → 5 ≤ ihl_of bytes → 4 * ihl_of bytes ≤ length bytes → header_at bytes ≡ Ok (take (4 * ihl_of bytes) bytes)
 header_at-ok bytes least version minimum whole =
     rw (le-ltb (length bytes) 20 least, eq-eqb (version_of bytes) 4 version, le-ltb (ihl_of bytes) 5 minimum, le-ltb (length bytes) (4 * ihl_of bytes) whole) refl
-
--- behind a test that gives up, `Ok` says that the test failed
-guard_ok : {A E : Type 0} (b : Bool) (e : E) (r : Result A E) (x : A) → cond b (Err e) r ≡ Ok x → (b ≡ false) × (r ≡ Ok x)
-guard_ok true e r x h = cc
-guard_ok false e r x h = (refl, h)
-
-pub ok_same : {A E : Type 0} (x y : A) → ◌≡◌ {A = Result A E} (Ok x) (Ok y) → x ≡ y
-ok_same x y h = cc
-
-not_false : (b : Bool) → not b ≡ false → b ≡ true
-not_false true h = refl
-not_false false h = cc
 
 none_empty : (n : ℕ) → 5 ≤ n → 0 < 4 * n
 none_empty n h = omega arith
@@ -62,13 +51,6 @@ only_front bytes r e front rest header front_is = e ∙ ap header_at front_is �
 pub rest_of : (bytes front rest taken : List ℕ) → bytes ≡ front ++ rest → taken ≡ front → take (length bytes - length taken) (drop (length taken) bytes) ≡ rest
 rest_of bytes front rest taken e f =
     take_rest bytes (length taken) ∙ rw (f, e) (drop_at front rest (length front) refl)
-
--- bytes stay below 256 in a front
-pub front_fits : (bytes front rest : List ℕ) → bytes ≡ front ++ rest → IsBytes bytes → IsBytes front
-front_fits bytes front rest e fits i =
-    ⊎_elim (λ inside. omega (arith, fits i, ap (λ (xs : List ℕ). get_or xs i 0) e ∙ get_or_append_left front rest 0 i inside))
-    (λ past. omega (arith, get_or_past front i 0 past))
-    (cases_lt i (length front))
 
 -- the length field counts the options' words behind five
 pub options_words : (bytes options : List ℕ) → IsIpv4Header bytes → options ≡ options_of bytes → 5 + length options / 4 ≡ ihl_of bytes

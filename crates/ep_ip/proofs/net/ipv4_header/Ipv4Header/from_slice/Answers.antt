@@ -1,5 +1,6 @@
 use Rattle.std.proofs.Common.{arith}
-use Rattle.ep_ip.proofs.Ipv4Front.{ok_same, rest_of, front_fits}
+use Rattle.ep_ip.proofs.Front.{ok_same, front_fits}
+use Rattle.ep_ip.proofs.Ipv4Front.{rest_of}
 use Rattle.ep_ip.proofs.Ipv4Spelling.{spelling-header_of}
 use Rattle.ep_ip.proofs.net.ipv4_header.Ipv4Header.from_slice.Goals as goal
 

@@ -1,6 +1,7 @@
 use Rattle.std.proofs.Common.{arith, ap, ◌∙◌}
 use Rattle.ep_ip.specs.Ipv6.{header_of, spelling}
-use Rattle.ep_ip.proofs.Ipv6Front.{ok_same, rest_of, front_fits}
+use Rattle.ep_ip.proofs.Front.{ok_same, front_fits}
+use Rattle.ep_ip.proofs.Ipv6Front.{rest_of}
 use Rattle.ep_ip.proofs.Ipv6Spelling.{spelling-header_of}
 use Rattle.ep_ip.proofs.net.ipv6_header.Ipv6Header.from_slice.Goals as goal
 
