@@ -4,31 +4,11 @@ use Rattle.std.proofs.lemmas.Bool.{eq-eqb, ne_eqb}
 use Rattle.std.proofs.lemmas.List.{length-append, length-take, length-drop, append_assoc, take_at, drop_at}
 use Rattle.ep_base.specs.Bytes.{IsBytes}
 use Rattle.ep_base.specs.IpEcn.{ecn_of, ecn_number}
-use Rattle.ep_base.specs.declared.net.ip_ecn.IpEcn.{IpEcn}
-use Rattle.ep_base.specs.declared.net.ip_ecn.IpEcn.TheVariants.{NotEct, Ect1, Ect0, CongestionExperienced}
 use Rattle.ep_base.proofs.Cells.{drop-cells, take-drop-cells}
 use Rattle.ep_ip.specs.Ipv4.{IsIpv4Header}
 use Rattle.ep_ip.specs.Ipv4.{header_of, spelling, cleared, Fits}
 use Rattle.ep_ip.specs.declared.net.ipv4_header.Ipv4Header.{Ipv4Header}
-
-ecn_of-number : (e : IpEcn) → ecn_of (ecn_number e) ≡ e
-ecn_of-number NotEct = refl
-ecn_of-number Ect1 = refl
-ecn_of-number Ect0 = refl
-ecn_of-number CongestionExperienced = refl
-
-ecn_number_below : (e : IpEcn) → ecn_number e < 4
-ecn_number_below NotEct = omega arith
-ecn_number_below Ect1 = omega arith
-ecn_number_below Ect0 = omega arith
-ecn_number_below CongestionExperienced = omega arith
-
-number-ecn_of : (n : ℕ) → n < 4 → ecn_number (ecn_of n) ≡ n
-number-ecn_of zero h = refl
-number-ecn_of (suc zero) h = refl
-number-ecn_of (suc (suc zero)) h = refl
-number-ecn_of (suc (suc (suc zero))) h = refl
-number-ecn_of (suc (suc (suc (suc n)))) h = absurd (omega arith)
+use Rattle.ep_ip.proofs.Ecn.{ecn_of-number, ecn_number_below, number-ecn_of}
 
 -- a bit at its worth
 bit_worth : (bit w : ℕ) → bit < 2 → cond (eqb bit 1) w 0 ≡ bit * w

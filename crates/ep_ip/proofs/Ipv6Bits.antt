@@ -3,8 +3,8 @@ use Rattle.std.proofs.Common.{◌≡◌, ℕ, zero, suc, ◌+◌, ◌*◌, ◌/�
 use Rattle.std.proofs.lemmas.Nat.{and_mask, or_shifted}
 use Rattle.ep_base.specs.IpEcn.{ecn_of, ecn_number}
 use Rattle.ep_base.specs.declared.net.ip_ecn.IpEcn.{IpEcn}
-use Rattle.ep_base.specs.declared.net.ip_ecn.IpEcn.TheVariants.{NotEct, Ect1, Ect0, CongestionExperienced}
 use Rattle.ep_ip.specs.Ipv6.{dscp_in, ecn_in}
+use Rattle.ep_ip.proofs.Ecn.{ecn_of-number, ecn_number_below, number-ecn_of}
 
 pub and-1048575 : (n : ℕ) → bit_and n 1048575 ≡ n % 2 ^ 20
 and-1048575 n = and_mask n 20
@@ -21,18 +21,6 @@ joined_is : (dscp n : ℕ) → dscp ≤ 63 → n < 4 → bit_or (dscp * 4 % 256)
 joined_is dscp n most small =
     let high : dscp * 4 % 256 ≡ dscp * 2 ^ 2 = omega arith in
     rw high (or_shifted dscp 2 n small ∙ omega arith)
-
-ecn_number_below : (ecn : IpEcn) → ecn_number ecn < 4
-ecn_number_below NotEct = omega arith
-ecn_number_below Ect1 = omega arith
-ecn_number_below Ect0 = omega arith
-ecn_number_below CongestionExperienced = omega arith
-
-ecn_of-number : (ecn : IpEcn) → ecn_of (ecn_number ecn) ≡ ecn
-ecn_of-number NotEct = refl
-ecn_of-number Ect1 = refl
-ecn_of-number Ect0 = refl
-ecn_of-number CongestionExperienced = refl
 
 -- what a code point and a notification make up has both
 pub dscp_in-joined : (dscp : ℕ) (ecn : IpEcn) → dscp ≤ 63 → dscp_in (bit_or (dscp * 4 % 256) (ecn_number ecn)) ≡ dscp
@@ -53,13 +41,6 @@ or-first_word class label h k =
     let fits : class * 2 ^ 20 % 2 ^ 32 ≡ class * 2 ^ 20 = omega arith in
     let above : 6 * 2 ^ 28 + class * 2 ^ 20 ≡ (6 * 2 ^ 8 + class) * 2 ^ 20 = omega arith in
     rw (fits, or_shifted 6 28 (class * 2 ^ 20) (omega arith), above) (or_shifted (6 * 2 ^ 8 + class) 20 label k)
-
-number-ecn_of : (n : ℕ) → n < 4 → ecn_number (ecn_of n) ≡ n
-number-ecn_of zero h = refl
-number-ecn_of (suc zero) h = refl
-number-ecn_of (suc (suc zero)) h = refl
-number-ecn_of (suc (suc (suc zero))) h = refl
-number-ecn_of (suc (suc (suc (suc n)))) h = absurd (omega arith)
 
 pub two_parts : (traffic_class : ℕ) → 4 * dscp_in traffic_class + ecn_number (ecn_in traffic_class) ≡ traffic_class
 two_parts traffic_class = rw (number-ecn_of (traffic_class % 4) (omega arith)) (omega arith)
