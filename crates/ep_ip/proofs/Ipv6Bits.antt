@@ -1,5 +1,5 @@
 -- The bits of an IPv6 header that share bytes, as quotients and remainders.
-use Rattle.std.proofs.Common.{◌≡◌, ℕ, zero, suc, ◌+◌, ◌*◌, ◌/◌, ◌%◌, ◌^◌, ◌<◌, ◌≤◌, bit_and, bit_or, arith, refl, ap, ◌∙◌}
+use Rattle.std.proofs.Common.{◌≡◌, ℕ, ◌+◌, ◌*◌, ◌/◌, ◌%◌, ◌^◌, ◌<◌, ◌≤◌, bit_and, bit_or, arith, ap, ◌∙◌}
 use Rattle.std.proofs.lemmas.Nat.{and_mask, or_shifted}
 use Rattle.ep_base.specs.IpEcn.{ecn_of, ecn_number}
 use Rattle.ep_base.specs.declared.net.ip_ecn.IpEcn.{IpEcn}

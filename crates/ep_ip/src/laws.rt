@@ -11,5 +11,6 @@ pub use ipv4::{
 pub use ipv6::{
     ipv6_header_is_copied, ipv6_header_is_read_again, ipv6_header_lengths,
     ipv6_header_slices_are_equal_as_bytes, ipv6_headers_are_equal_as_fields,
-    ipv6_headers_are_their_bytes, skip_follows_every_walk, traffic_class_has_two_parts,
+    ipv6_headers_are_their_bytes, skip_follows_every_walk, skipped_numbers_are_ext_headers,
+    traffic_class_has_two_parts,
 };

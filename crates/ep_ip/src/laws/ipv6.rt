@@ -1,10 +1,11 @@
 //! Laws of IPv6 headers and of the walk over extension headers (RFC 8200, sections 3 and 4).
-ghost use Rattle.std.specs.Prelude.{◌≡◌, ℕ, ◌+◌, ◌*◌, List, [], ◌∷◌, ◌++◌, length, ◌↔◌, IsTrue, IsOkAnd};
-ghost use Rattle.std.specs.List.{concat};
+ghost use Rattle.std.specs.Prelude.{◌≡◌, ℕ, ◌+◌, ◌*◌, List, [], ◌∷◌, ◌++◌, ◌||◌, ◌==◌, length, ◌↔◌, IsTrue, IsOkAnd};
+ghost use Rattle.std.specs.List.{concat, list_any};
 ghost use Rattle.ep_base.specs.Bytes.{IsBytes};
 ghost use Rattle.ep_base.specs.IpEcn.{ecn_number};
+ghost use Rattle.ep_base.specs.IpNumber.{ext_header_numbers};
 ghost use Rattle.ep_ip.specs.Ipv6.{IsIpv6Header, header_of, spelling, dscp_in, ecn_in};
-ghost use Rattle.ep_ip.specs.Skip.{Walk, skipped_headers, outcome, skip};
+ghost use Rattle.ep_ip.specs.Skip.{Walk, is_skipped, skipped_headers, outcome, skip};
 
 use crate::err::ipv6::HeaderSliceError;
 use crate::{Ipv6Header, Ipv6HeaderSlice};
@@ -43,6 +44,13 @@ pub fn ipv6_header_is_read_again<'a>(
 /// A traffic class is its code point and its notification of congestion.
 pub fn traffic_class_has_two_parts()
     ensures { (class : ℕ) → 4 * dscp_in class + ecn_number (ecn_in class) ≡ class }
+{}
+
+/// The numbers of extension headers are those that the walk skips, and 50, 253 and 254: an encrypted
+/// payload (RFC 4303) and headers of experiments (RFC 3692) don't begin with a number and a length.
+pub fn skipped_numbers_are_ext_headers()
+    ensures { (n : ℕ) → list_any (λ number. n == number) ext_header_numbers
+        ≡ (is_skipped n || ((n == 50) || ((n == 253) || (n == 254)))) }
 {}
 
 /// However bytes are headers in a row and a rest that begins with no whole header, the walk skips
