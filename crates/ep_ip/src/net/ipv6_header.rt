@@ -15,6 +15,7 @@ pub struct Ipv6Header {
     /// The code point of differentiated services in the upper 6 bits, the notification of
     /// congestion in the lower 2.
     pub traffic_class: u8,
+    /// The flow label, 20 bits.
     pub flow_label: Ipv6FlowLabel,
     /// How many bytes follow the header: its extension headers and the payload.
     pub payload_length: u16,
@@ -22,7 +23,9 @@ pub struct Ipv6Header {
     pub next_header: IpNumber,
     /// How many more nodes may forward the packet.
     pub hop_limit: u8,
+    /// The source address.
     pub source: [u8; 16],
+    /// The destination address.
     pub destination: [u8; 16],
 }
 
