@@ -1,10 +1,11 @@
 //! Laws of IPv4 headers (RFC 791, section 3.1).
-ghost use Rattle.std.specs.Prelude.{◌≡◌, ℕ, List, ◌++◌, ◌↔◌, IsTrue, IsOkAnd, fold};
+ghost use Rattle.std.specs.Prelude.{◌≡◌, ℕ, ◌*◌, List, ◌++◌, ◌↔◌, IsTrue, IsOkAnd, fold};
 ghost use Rattle.std.specs.Hash as fed;
 ghost use Rattle.std.specs.Ordering.{nat_cmp};
 ghost use Rattle.std.specs.Cmp.Lexicographic.{slice_cmp};
 ghost use Rattle.ep_base.specs.Bytes.{IsBytes};
-ghost use Rattle.ep_ip.specs.Ipv4.{IsIpv4Header, header_of, spelling, cleared};
+ghost use Rattle.ep_ip.specs.Ipv4.{IsIpv4Header, header_of, ihl_of, total_len_of, spelling, cleared};
+ghost use Rattle.ep_ip.specs.Ipv4Fault.{IsPayloadLen};
 
 use crate::err::ipv4::HeaderSliceError;
 use crate::{Ipv4Header, Ipv4HeaderSlice, Ipv4Options};
@@ -36,7 +37,8 @@ pub fn same_fields_from_same_bytes()
 pub fn payload_lengths_agree(
     header: &Ipv4HeaderSlice<'_>,
 ) -> (Result<u16, LenError>, Result<u16, LenError>)
-    ensures { result.0 ≡ result.1 }
+    ensures value { IsPayloadLen (4 * ihl_of header.now) (total_len_of header.now) result.0 }
+    ensures agree { result.0 ≡ result.1 }
 {
     (header.payload_len(), header.to_header().payload_len())
 }
