@@ -271,9 +271,9 @@ fn numbers_that_are_skipped(rt: HostRuntime) {
 
 #[test]
 fn walks_over_thousands_of_headers(rt: HostRuntime) -> Result<(), Fail> {
-    for (named_by_one, turns) in [(8189, 8191), (8190, 8192)] {
+    for (before_the_last, turns) in [(8189, 8191), (8190, 8192)] {
         let mut bytes = Vec::new(rt.alloc());
-        for _ in 0..named_by_one {
+        for _ in 0..before_the_last {
             bytes.extend_from_slice(&[60, 0, 0, 0, 0, 0, 0, 0])?;
         }
         bytes.extend_from_slice(&[253, 0, 0, 0, 0, 0, 0, 0])?;
