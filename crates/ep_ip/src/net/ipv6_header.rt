@@ -1,4 +1,4 @@
-ghost use Rattle.std.specs.Prelude.{◌≡◌, ℕ, ◌+◌, ◌/◌, ◌<◌, ◌≤◌, List, ◌++◌, length, IfOk, IfErr, IsOkAnd, OnOk, OnErr, IsOk, MatchResult, Err, vec_len, vec_capacity};
+ghost use Rattle.std.specs.Prelude.{◌≡◌, ℕ, ◌+◌, ◌*◌, ◌^◌, ◌/◌, ◌<◌, ◌≤◌, List, ◌++◌, length, IfOk, IfErr, IsOkAnd, OnOk, OnErr, IsOk, MatchResult, Err, vec_len, vec_capacity};
 ghost use Rattle.std.specs.List.{concat};
 ghost use Rattle.ep_base.specs.Bounded.{too_big};
 ghost use Rattle.ep_base.specs.Bytes.{num};
@@ -138,16 +138,24 @@ impl Ipv6Header {
         ensures fits { Fits self.now }
     {
         let payload_length = self.payload_length.to_be_bytes();
-        let class = u32::from(self.traffic_class) << 20;
-        let first_word = (6 << 28) | class | self.flow_label.value();
         let mut bytes = [0; 40];
-        bytes[..4].copy_from_slice(&first_word.to_be_bytes());
+        bytes[..4].copy_from_slice(&self.first_word().to_be_bytes());
         bytes[4..6].copy_from_slice(&payload_length);
         bytes[6] = self.next_header.0;
         bytes[7] = self.hop_limit;
         bytes[8..24].copy_from_slice(&self.source);
         bytes[24..].copy_from_slice(&self.destination);
         bytes
+    }
+
+    // Version, traffic class and flow label, as the first 4 bytes spell them.
+    fn first_word(&self) -> u32
+        ensures value { result ≡ 6 * 2 ^ 28 + self.now.traffic_class * 2 ^ 20 + self.now.flow_label }
+        ensures class { self.now.traffic_class < 2 ^ 8 }
+        ensures label { self.now.flow_label < 2 ^ 20 }
+    {
+        let class = u32::from(self.traffic_class) << 20;
+        (6 << 28) | class | self.flow_label.value()
     }
 
     /// Appends the bytes of the header.
