@@ -1,9 +1,18 @@
 //! The definitions and laws at values from outside: each clause is what a standard or a hand gives, so
 //! that a definition can't change with the code.
 
-ghost use Rattle.std.specs.Prelude.{◌≡◌, [], ◌∷◌, true, false};
+ghost use Rattle.std.specs.Prelude.{◌≡◌, [], ◌∷◌, true, false, Ok, Err};
 ghost use Rattle.std.specs.List.{flat_map};
+ghost use Rattle.ep_base.specs.Bounded.{IsBounded};
 ghost use Rattle.ep_base.specs.Bytes.{num, IsBytes};
+ghost use Rattle.ep_base.specs.declared.err.layer.Layer.TheVariants as layer;
+ghost use Rattle.ep_base.specs.declared.err.value_type.ValueType.TheVariants as kind;
+ghost use Rattle.ep_base.specs.declared.len_source.LenSource.TheVariants as source;
+ghost use Rattle.ep_base.specs.declared.net.ip_dscp_known.IpDscpKnown.TheVariants as name;
+ghost use Rattle.ep_base.specs.declared.net.ip_ecn.IpEcn.TheVariants as notification;
+ghost use Rattle.ep_base.specs.IpDscpKnown.{IsKnown};
+ghost use Rattle.ep_base.specs.IpEcn.{IsEcn};
+ghost use Rattle.ep_base.specs.Moved.{CanMove, moved};
 ghost use Rattle.ep_base.specs.Sum.{IsCutAtWords, accumulator_sum, all_ones, checksum, fold, no_zero, total, whole_words};
 
 use super::{fold_of_pieces, one_changed_byte};
@@ -16,6 +25,25 @@ pub fn numbers_by_place()
     ensures past { num (1 ∷ 2 ∷ []) 1 2 ≡ 512 }
     ensures bytes { IsBytes (0 ∷ 255 ∷ []) }
     ensures no_bytes { ¬ (IsBytes (256 ∷ [])) }
+{}
+
+/// A number is taken up to the greatest one, and refused above it with all three fields.
+pub fn bounded_numbers()
+    ensures greatest { IsBounded kind.IpDscp 63 63 (Ok 63) }
+    ensures refused { IsBounded kind.IpDscp 63 64 (Err (record { actual = 64; max_allowed = 63; value_type = kind.IpDscp })) }
+    ensures not_refused { ¬ (IsBounded kind.IpDscp 63 63 (Err (record { actual = 63; max_allowed = 63; value_type = kind.IpDscp }))) }
+    ensures ecn { IsEcn 3 (Ok notification.CongestionExperienced) }
+    ensures ect_0 { IsEcn 2 (Ok notification.Ect0) }
+    ensures ecn_refused { IsEcn 4 (Err (record { actual = 4; max_allowed = 3; value_type = kind.IpEcn })) }
+    ensures known { IsKnown 44 (Ok name.VoiceAdmit) }
+{}
+
+/// A want of bytes further on: from byte 14 as far as to the last place that a `usize` names.
+pub fn places_further_on()
+    ensures moved { moved (record { required_len = 20; len = 19; len_source = source.Slice; layer = layer.Ipv4Header; layer_start_offset = 14 }) 4
+        ≡ record { required_len = 20; len = 19; len_source = source.Slice; layer = layer.Ipv4Header; layer_start_offset = 18 } }
+    ensures greatest { CanMove (record { required_len = 20; len = 19; len_source = source.Slice; layer = layer.Ipv4Header; layer_start_offset = 14 }) 18446744073709551601 }
+    ensures too_great { ¬ (CanMove (record { required_len = 20; len = 19; len_source = source.Slice; layer = layer.Ipv4Header; layer_start_offset = 14 }) 18446744073709551602) }
 {}
 
 /// The eight bytes of RFC 1071, section 3, sum to 2ddf0, and so to ddf2. An odd last byte is the high

@@ -23,6 +23,8 @@ fn laws_are_called(rt: HostRuntime) {
 #[test]
 fn examples_and_traits_are_called(rt: HostRuntime) {
     examples::numbers_by_place();
+    examples::bounded_numbers();
+    examples::places_further_on();
     examples::sums_of_words();
     examples::folds();
     examples::texts_of_all_ones();
