@@ -22,17 +22,17 @@ total-byte (a ∷ b ∷ front) rest =
 apart : (others m n : ℕ) → m < 65535 → n < 65535 → m ≢ n → (others + m) % 65535 ≡ 0 → (others + n) % 65535 ≡ 0 → ⊥
 apart others m n p q other first second = other (omega arith)
 
-changed : (m n : ℕ) → (m % 65535 ≡ 0 → n % 65535 ≡ 0 → ⊥) → IsTrue (not (m == 0) && (m % 65535 == 0)) → (not (n == 0) && (n % 65535 == 0)) ≡ false
-changed m n never h = grind (arith, nat_tests)
+not_all_ones : (m n : ℕ) → (m % 65535 ≡ 0 → n % 65535 ≡ 0 → ⊥) → IsTrue (not (m == 0) && (m % 65535 == 0)) → (not (n == 0) && (n % 65535 == 0)) ≡ false
+not_all_ones m n never h = grind (arith, nat_tests)
 
 pub one_changed_byte : OneChangedByte
 one_changed_byte front rest old new p q other h =
     let parts = total-byte front rest in
     elim parts.1 [
-      | inl high ↦ changed (total (front ++ old ∷ rest)) (total (front ++ new ∷ rest))
+      | inl high ↦ not_all_ones (total (front ++ old ∷ rest)) (total (front ++ new ∷ rest))
           (λ first second. apart parts.0 (256 * old) (256 * new) (omega arith) (omega arith) (λ same. other (omega (arith, same)))
           (ap (λ n. n % 65535) (sym (high old)) ∙ first) (ap (λ n. n % 65535) (sym (high new)) ∙ second)) h
-      | inr low ↦ changed (total (front ++ old ∷ rest)) (total (front ++ new ∷ rest))
+      | inr low ↦ not_all_ones (total (front ++ old ∷ rest)) (total (front ++ new ∷ rest))
           (λ first second. apart parts.0 old new (omega arith) (omega arith) other
           (ap (λ n. n % 65535) (sym (low old)) ∙ first) (ap (λ n. n % 65535) (sym (low new)) ∙ second)) h
     ]

@@ -52,8 +52,8 @@ accumulator_sum_8 (a ∷ b ∷ c ∷ d ∷ e ∷ f ∷ g ∷ h ∷ []) long =
 accumulator_sum_8 t long = absurd (omega arith)
 
 -- a word that spells a text is added
-pub added : (sum word next : ℕ) (text : List ℕ) → next ≡ fold (sum + word) → word ≡ fold (total text) → next ≡ fold (sum + total text)
-added sum word next text step is = step ∙ ap (λ w. fold (sum + w)) is ∙ fold_add_right sum (total text)
+pub word_more : (sum word next : ℕ) (text : List ℕ) → next ≡ fold (sum + word) → word ≡ fold (total text) → next ≡ fold (sum + total text)
+word_more sum word next text step is = step ∙ ap (λ w. fold (sum + w)) is ∙ fold_add_right sum (total text)
 
 -- ---- a text cut into blocks
 

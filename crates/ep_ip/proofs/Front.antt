@@ -1,5 +1,5 @@
 -- The front of some bytes, behind tests that give up.
-use Rattle.std.proofs.Common.{◌≡◌, ℕ, Bool, true, false, not, cond, List, ◌++◌, length, get_or, Result, Ok, Err, arith, refl, ap, ◌∙◌, ⊎_elim}
+use Rattle.std.proofs.Common.{◌≡◌, ℕ, ◌+◌, ◌*◌, ◌/◌, ◌%◌, ◌^◌, ◌<◌, Bool, true, false, not, cond, List, ◌++◌, length, get_or, Result, Ok, Err, arith, refl, ap, ◌∙◌, ⊎_elim}
 use Rattle.std.proofs.lemmas.Bool.{cases_lt}
 use Rattle.std.proofs.lemmas.List.{get_or_append_left, get_or_past}
 use Rattle.ep_base.specs.Bytes.{IsBytes}
@@ -22,3 +22,7 @@ front_fits bytes front rest e fits i =
     ⊎_elim (λ inside. omega (arith, fits i, ap (λ (xs : List ℕ). get_or xs i 0) e ∙ get_or_append_left front rest 0 i inside))
     (λ past. omega (arith, get_or_past front i 0 past))
     (cases_lt i (length front))
+
+-- a word is its two bytes
+pub word_bytes : (n : ℕ) → n < 2 ^ 16 → 256 * (n / 256 % 256) + n % 256 ≡ n
+word_bytes n h = omega arith

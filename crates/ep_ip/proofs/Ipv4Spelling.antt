@@ -8,6 +8,7 @@ use Rattle.ep_base.proofs.Cells.{drop-cells, take-drop-cells}
 use Rattle.ep_ip.specs.Ipv4.{IsIpv4Header}
 use Rattle.ep_ip.specs.Ipv4.{header_of, spelling, with_reserved_bit_zero, Fits}
 use Rattle.ep_ip.specs.declared.net.ipv4_header.Ipv4Header.{Ipv4Header}
+use Rattle.ep_ip.proofs.Front.{word_bytes}
 use Rattle.ep_ip.proofs.Ecn.{ecn_of-number, ecn_number_below, number-ecn_of}
 
 -- a bit at its worth
@@ -80,9 +81,6 @@ offset_of true false n h = omega arith
 offset_of false true n h = omega arith
 offset_of false false n h = omega arith
 
-joined : (n : ℕ) → n < 2 ^ 16 → 256 * (n / 256 % 256) + n % 256 ≡ n
-joined n h = omega arith
-
 -- the fields are read again
 pub header_of-spelling : (h : Ipv4Header) → Fits h → header_of (spelling h) ≡ h
 header_of-spelling h fits =
@@ -90,12 +88,12 @@ header_of-spelling h fits =
     let ecn_bits : (4 * h.dscp + ecn_number h.ecn) % 4 ≡ ecn_number h.ecn = omega arith in
     let dscp : (4 * h.dscp + ecn_number h.ecn) / 4 ≡ h.dscp = omega arith in
     let ecn : ecn_of ((4 * h.dscp + ecn_number h.ecn) % 4) ≡ h.ecn = rw ecn_bits (ecn_of-number h.ecn) in
-    let total_len = joined h.total_len fits.total_len in
-    let identification = joined h.identification fits.identification in
+    let total_len = word_bytes h.total_len fits.total_len in
+    let identification = word_bytes h.identification fits.identification in
     let dont_fragment = dont_fragment_of h.dont_fragment h.more_fragments h.fragment_offset fits.fragment_offset in
     let more_fragments = more_fragments_of h.dont_fragment h.more_fragments h.fragment_offset fits.fragment_offset in
     let fragment_offset = offset_of h.dont_fragment h.more_fragments h.fragment_offset fits.fragment_offset in
-    let header_checksum = joined h.header_checksum fits.header_checksum in
+    let header_checksum = word_bytes h.header_checksum fits.header_checksum in
     let source : take 4 ((h.source ++ h.destination) ++ h.options) ≡ h.source = rw append_assoc (take_at h.source (h.destination ++ h.options) 4 fits.source) in
     let destination : take 4 (drop 4 ((h.source ++ h.destination) ++ h.options)) ≡ h.destination =
     rw (append_assoc, drop_at h.source (h.destination ++ h.options) 4 fits.source) (take_at h.destination h.options 4 fits.destination) in
@@ -132,8 +130,8 @@ fits-header_of bytes header fits =
     }
 
 -- the reserved bit is not read
-pub header_of-cleared : (bytes : List ℕ) → IsIpv4Header bytes → IsBytes bytes → header_of (with_reserved_bit_zero bytes) ≡ header_of bytes
-header_of-cleared bytes header fits =
+pub header_of-with_reserved_bit_zero : (bytes : List ℕ) → IsIpv4Header bytes → IsBytes bytes → header_of (with_reserved_bit_zero bytes) ≡ header_of bytes
+header_of-with_reserved_bit_zero bytes header fits =
     ap header_of (sym (spelling-header_of bytes header fits)) ∙ header_of-spelling (header_of bytes) (fits-header_of bytes header fits)
 
 -- equal fields are equal bytes but for the reserved bit, and the other way round
@@ -141,5 +139,5 @@ pub same_fields : (a b : List ℕ) → IsIpv4Header a → IsBytes a → IsIpv4He
     (header_of a ≡ header_of b) ↔ (with_reserved_bit_zero a ≡ with_reserved_bit_zero b)
 same_fields a b ha fa hb fb = (
   (λ e. sym (spelling-header_of a ha fa) ∙ ap spelling e ∙ spelling-header_of b hb fb),
-  (λ e. sym (header_of-cleared a ha fa) ∙ ap header_of e ∙ header_of-cleared b hb fb),
+  (λ e. sym (header_of-with_reserved_bit_zero a ha fa) ∙ ap header_of e ∙ header_of-with_reserved_bit_zero b hb fb),
 )

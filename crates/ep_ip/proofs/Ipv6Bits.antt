@@ -17,22 +17,22 @@ or-halves a b h =
 
 pub ruleset shared_bits = (and-1048575, or-halves)
 
-joined_is : (dscp n : ℕ) → dscp ≤ 63 → n < 4 → bit_or (dscp * 4 % 256) n ≡ 4 * dscp + n
-joined_is dscp n most small =
+or-shared_byte : (dscp n : ℕ) → dscp ≤ 63 → n < 4 → bit_or (dscp * 4 % 256) n ≡ 4 * dscp + n
+or-shared_byte dscp n most small =
     let high : dscp * 4 % 256 ≡ dscp * 2 ^ 2 = omega arith in
     rw high (or_shifted dscp 2 n small ∙ omega arith)
 
 -- what a code point and a notification make up has both
-pub dscp_in-joined : (dscp : ℕ) (ecn : IpEcn) → dscp ≤ 63 → dscp_in (bit_or (dscp * 4 % 256) (ecn_number ecn)) ≡ dscp
-dscp_in-joined dscp ecn most =
+pub dscp_in-or : (dscp : ℕ) (ecn : IpEcn) → dscp ≤ 63 → dscp_in (bit_or (dscp * 4 % 256) (ecn_number ecn)) ≡ dscp
+dscp_in-or dscp ecn most =
     let small = ecn_number_below ecn in
-    rw (joined_is dscp (ecn_number ecn) most small) (omega arith)
+    rw (or-shared_byte dscp (ecn_number ecn) most small) (omega arith)
 
-pub ecn_in-joined : (dscp : ℕ) (ecn : IpEcn) → dscp ≤ 63 → ecn_in (bit_or (dscp * 4 % 256) (ecn_number ecn)) ≡ ecn
-ecn_in-joined dscp ecn most =
+pub ecn_in-or : (dscp : ℕ) (ecn : IpEcn) → dscp ≤ 63 → ecn_in (bit_or (dscp * 4 % 256) (ecn_number ecn)) ≡ ecn
+ecn_in-or dscp ecn most =
     let small = ecn_number_below ecn in
     let low : (4 * dscp + ecn_number ecn) % 4 ≡ ecn_number ecn = omega arith in
-    ap ecn_in (joined_is dscp (ecn_number ecn) most small) ∙ ap ecn_of low ∙ ecn_of-number ecn
+    ap ecn_in (or-shared_byte dscp (ecn_number ecn) most small) ∙ ap ecn_of low ∙ ecn_of-number ecn
 
 -- version, traffic class and flow label, each at its place
 pub or-first_word : (class label : ℕ) → class < 2 ^ 8 → label < 2 ^ 20 →

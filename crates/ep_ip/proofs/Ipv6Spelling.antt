@@ -6,6 +6,7 @@ use Rattle.ep_base.specs.Bytes.{IsBytes}
 use Rattle.ep_base.proofs.Cells.{cells, drop-cells, take-drop-cells}
 use Rattle.ep_ip.specs.Ipv6.{IsIpv6Header, header_of, spelling, Fits}
 use Rattle.ep_ip.specs.declared.net.ipv6_header.Ipv6Header.{Ipv6Header}
+use Rattle.ep_ip.proofs.Front.{word_bytes}
 
 -- version, traffic class and flow label make up the first four bytes
 first_word : (a b c d : ℕ) → a / 2 ^ 4 ≡ 6 → b < 256 → c < 256 → d < 256 →
@@ -62,16 +63,13 @@ word_again n h = omega arith
 label_of : (tc label : ℕ) → tc < 2 ^ 8 → label < 2 ^ 20 → (6 * 2 ^ 28 + tc * 2 ^ 20 + label) % 2 ^ 20 ≡ label
 label_of tc label h k = omega arith
 
-joined : (n : ℕ) → n < 2 ^ 16 → 256 * (n / 256 % 256) + n % 256 ≡ n
-joined n h = omega arith
-
 -- the fields are read again
 pub header_of-spelling : (h : Ipv6Header) → Fits h → header_of (spelling h) ≡ h
 header_of-spelling h fits =
     let traffic_class = class_of h.traffic_class h.flow_label fits.traffic_class fits.flow_label in
     let again = word_again (6 * 2 ^ 28 + h.traffic_class * 2 ^ 20 + h.flow_label) (omega (arith, fits.traffic_class, fits.flow_label)) in
     let flow_label = ap (λ (n : ℕ). n % 2 ^ 20) again ∙ label_of h.traffic_class h.flow_label fits.traffic_class fits.flow_label in
-    let payload_length = joined h.payload_length fits.payload_length in
+    let payload_length = word_bytes h.payload_length fits.payload_length in
     let source : take 16 (h.source ++ h.destination) ≡ h.source = take_at h.source h.destination 16 fits.source in
     let destination : take 16 (drop 16 (h.source ++ h.destination)) ≡ h.destination =
     rw (drop_at h.source h.destination 16 fits.source) (take_all 16 h.destination (omega (arith, fits.destination))) in

@@ -20,15 +20,15 @@ fn sums_of_pieces(rt: HostRuntime) {
 fn sum_of_a_header(rt: HostRuntime) {
     let front = [0x45, 0x00, 0x00, 0x73, 0x00, 0x00, 0x40, 0x00];
     let addresses = [0xc0, 0xa8, 0x00, 0x01, 0xc0, 0xa8, 0x00, 0xc7];
-    let unsummed = Sum16BitWords::new()
+    let without_checksum = Sum16BitWords::new()
         .add_8bytes(front)
         .add_4bytes([0x40, 0x11, 0x00, 0x00])
         .add_slice(&addresses);
-    assert_eq!(rt; unsummed.ones_complement().swap_bytes(), 0xb861);
-    let summed = unsummed.add_2bytes([0xb8, 0x61]);
-    assert_eq!(rt; summed.ones_complement(), 0);
-    assert_eq!(rt; summed.to_ones_complement_with_no_zero(), 0xffff);
-    assert_eq!(rt; Sum16BitWords::default().add_2bytes([0xff, 0xff]), summed);
+    assert_eq!(rt; without_checksum.ones_complement().swap_bytes(), 0xb861);
+    let whole = without_checksum.add_2bytes([0xb8, 0x61]);
+    assert_eq!(rt; whole.ones_complement(), 0);
+    assert_eq!(rt; whole.to_ones_complement_with_no_zero(), 0xffff);
+    assert_eq!(rt; Sum16BitWords::default().add_2bytes([0xff, 0xff]), whole);
 }
 
 #[test]

@@ -245,24 +245,24 @@ fn default_header(rt: HostRuntime) {
 }
 
 // A header with no options, whose checksum was summed by hand.
-fn summed() -> Result<Ipv4Header, ValueTooBigError<u16>> {
+fn header_without_options() -> Result<Ipv4Header, ValueTooBigError<u16>> {
     Ipv4Header::new(8, 64, IpNumber::UDP, [10, 0, 0, 1], [10, 0, 0, 2])
 }
 
-const SUMMED: [u8; 20] = [
+const BYTES_WITHOUT_OPTIONS: [u8; 20] = [
     0x45, 0, 0, 28, 0, 0, 0x40, 0, 64, 17, 0x26, 0xcf, 10, 0, 0, 1, 10, 0, 0, 2,
 ];
 
 #[test]
 fn written_behind_a_byte(rt: HostRuntime) -> Result<(), Fail> {
-    let header = summed()?;
+    let header = header_without_options()?;
     assert_eq!(rt; header.dont_fragment, true);
     assert_eq!(rt; header.calc_header_checksum(), 0x26cf);
     let mut buffer = Vec::new(rt.alloc());
     buffer.push(9)?;
     header.write(&mut buffer)?;
     assert_eq!(rt; buffer.len(), 21);
-    assert_eq!(rt; &buffer[1..], SUMMED.as_slice());
+    assert_eq!(rt; &buffer[1..], BYTES_WITHOUT_OPTIONS.as_slice());
     header.write_raw(&mut buffer)?;
     assert_eq!(rt; buffer.len(), 41);
     assert_eq!(rt; &buffer[21..], header.to_bytes().as_slice());
@@ -283,7 +283,7 @@ fn bytes_of_a_header_with_options(rt: HostRuntime) -> Result<(), Fail> {
 fn checksum_zero(rt: HostRuntime) -> Result<(), Fail> {
     let header = Ipv4Header {
         identification: 0x26cf,
-        ..summed()?
+        ..header_without_options()?
     };
     assert_eq!(rt; header.calc_header_checksum(), 0);
     Ok(())
