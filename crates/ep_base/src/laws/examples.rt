@@ -1,8 +1,9 @@
 //! The definitions and laws at values from outside: each clause is what a standard or a hand gives, so
 //! that a definition can't change with the code.
 
-ghost use Rattle.std.specs.Prelude.{◌≡◌, [], ◌∷◌, true, false, Ok, Err};
+ghost use Rattle.std.specs.Prelude.{◌≡◌, ◌==◌, ◌%◌, ℕ, ⊤, [], ◌∷◌, true, false, Ok, Err};
 ghost use Rattle.std.specs.List.{flat_map};
+ghost use Rattle.std.specs.Ordering.{nat_cmp};
 ghost use Rattle.ep_base.specs.Bounded.{IsBounded};
 ghost use Rattle.ep_base.specs.Bytes.{num, IsBytes};
 ghost use Rattle.ep_base.specs.declared.err.layer.Layer.TheVariants as layer;
@@ -13,6 +14,7 @@ ghost use Rattle.ep_base.specs.declared.net.ip_ecn.IpEcn.TheVariants as notifica
 ghost use Rattle.ep_base.specs.IpDscpKnown.{IsKnown};
 ghost use Rattle.ep_base.specs.IpEcn.{IsEcn};
 ghost use Rattle.ep_base.specs.Moved.{CanMove, moved};
+ghost use Rattle.ep_base.specs.Traits.{CopyIsValue, CopyNeverFails, EqualIsSame, OrderIsOf};
 ghost use Rattle.ep_base.specs.Sum.{IsCutAtWords, accumulator_sum, all_ones, checksum, fold, no_zero, total, whole_words};
 
 use super::{fold_of_pieces, one_changed_byte};
@@ -44,6 +46,15 @@ pub fn places_further_on()
         ≡ record { required_len = 20; len = 19; len_source = source.Slice; layer = layer.Ipv4Header; layer_start_offset = 18 } }
     ensures greatest { CanMove (record { required_len = 20; len = 19; len_source = source.Slice; layer = layer.Ipv4Header; layer_start_offset = 14 }) 18446744073709551601 }
     ensures too_great { ¬ (CanMove (record { required_len = 20; len = 19; len_source = source.Slice; layer = layer.Ipv4Header; layer_start_offset = 14 }) 18446744073709551602) }
+{}
+
+/// What the words on traits rule out: a copy of every value, equality modulo 2, the order turned round,
+/// and copies of 0 alone.
+pub fn traits_ruled_out()
+    ensures copies { ¬ (CopyIsValue (λ (value copy : ℕ). ⊤)) }
+    ensures equals { ¬ (EqualIsSame (λ (a b : ℕ). a % 2 == b % 2)) }
+    ensures order { ¬ (OrderIsOf (λ (n : ℕ). n) (λ a b. nat_cmp b a)) }
+    ensures fails { ¬ (CopyNeverFails (λ (n : ℕ). n ≡ 0)) }
 {}
 
 /// The eight bytes of RFC 1071, section 3, sum to 2ddf0, and so to ddf2. An odd last byte is the high

@@ -25,6 +25,7 @@ fn examples_and_traits_are_called(rt: HostRuntime) {
     examples::numbers_by_place();
     examples::bounded_numbers();
     examples::places_further_on();
+    examples::traits_ruled_out();
     examples::sums_of_words();
     examples::folds();
     examples::texts_of_all_ones();
