@@ -35,6 +35,7 @@ pub fn header_is_read_again<'a>(
     ensures { (rest : List ℕ) → slice.now ≡ spelling header.now ++ rest
         → IsOkAnd result (λ r. (r.0 ≡ header.now) × (r.1.now ≡ rest)) }
 {
+    // For the proof alone, which reads its contract.
     let _bytes = header.to_bytes();
     Ipv4Header::from_slice(slice)
 }

@@ -26,6 +26,7 @@ pub fn headers_are_their_bytes(header: &Ipv6Header)
     ensures again { (bytes : List ℕ) → IsIpv6Header bytes → IsBytes bytes
         → spelling (header_of bytes) ≡ bytes }
 {
+    // For the proof alone, which reads its contract.
     let _bytes = header.to_bytes();
 }
 
@@ -37,6 +38,7 @@ pub fn header_is_read_again<'a>(
     ensures { (rest : List ℕ) → slice.now ≡ spelling header.now ++ rest
         → IsOkAnd result (λ r. (r.0 ≡ header.now) × (r.1.now ≡ rest)) }
 {
+    // For the proof alone, which reads its contract.
     let _bytes = header.to_bytes();
     Ipv6Header::from_slice(slice)
 }
