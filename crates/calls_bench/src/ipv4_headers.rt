@@ -1,11 +1,9 @@
-// Reads every field of a million IPv4 headers and prints the sum of all. With an argument it also
-// prints the microseconds that the reading took.
-#![tactic(auto)]
-
+//! Every getter of a million IPv4 headers.
+use crate::measured::Measured;
 use ep_ip::Ipv4HeaderSlice;
 use std::alloc::{AllocError, Global};
+use std::io;
 use std::time::Instant;
-use std::{env, io};
 
 const HEADERS: usize = 1_000_000;
 
@@ -13,19 +11,16 @@ const LONGEST: usize = 60;
 
 const SEED: u64 = 0x9e37_79b9_7f4a_7c15;
 
-fn main(rt: HostRuntime) -> io::Result<()> {
+/// Reads every field of the headers, and sums them all.
+pub fn measure(rt: &HostRuntime) -> io::Result<Measured> {
     let headers = make_headers(rt.alloc())?;
-    let start = Instant::now(&rt)?;
+    let start = Instant::now(rt)?;
     let sum = sum_of_all(headers.as_slice());
-    let took = start.elapsed(&rt)?;
-    println!(rt; "{sum}")?;
-    if env::args(&rt)?.count() > 1 {
-        println!(rt; "{}", took.as_micros())?;
-    }
-    Ok(())
+    let took = start.elapsed(rt)?;
+    Ok(Measured { sum, took })
 }
 
-/// Headers of 20 to 60 bytes with any fields, each followed by other bytes up to the longest.
+// Headers of 20 to 60 bytes with any fields, each followed by other bytes up to the longest.
 fn make_headers(alloc: Global) -> Result<Vec<u8>, AllocError> {
     let mut headers = vec![in alloc; 0u8; HEADERS * LONGEST]?;
     let mut state = SEED;
