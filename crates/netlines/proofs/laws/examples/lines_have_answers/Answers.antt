@@ -4,7 +4,7 @@ use Rattle.hex.specs.Hex.{encode_with, decode_pairs}
 use Rattle.ep_base.specs.Sum.{total}
 use Rattle.netlines.specs.Answers.{answer_of}
 use Rattle.netlines.specs.Lines.{command_of}
-use Rattle.netlines.proofs.laws.worked.lines_have_answers.Goals as goal
+use Rattle.netlines.proofs.laws.examples.lines_have_answers.Goals as goal
 
 pub returns-clause-good : goal.returns-clause-good
 unfolding answer_of command_of decode_pairs encode_with total digits
