@@ -1,4 +1,6 @@
-ghost use Rattle.std.specs.Prelude.{◌≡◌, ℕ, ◌+◌, ◌/◌, ◌<◌, ◌≤◌, List, ◌++◌, length, IfOk, IfErr, IsOkAnd, OnOk, OnErr, IsOk, MatchResult, Err, vec_len, vec_capacity};
+//! IPv6 headers as values, and the walk over the extension headers behind them.
+
+ghost use Rattle.std.specs.Prelude.{◌≡◌, ℕ, ◌+◌, ◌*◌, ◌^◌, ◌/◌, ◌<◌, ◌≤◌, List, ◌++◌, length, IfOk, IfErr, IsOkAnd, OnOk, OnErr, IsOk, MatchResult, Err, vec_len, vec_capacity};
 ghost use Rattle.std.specs.List.{concat};
 ghost use Rattle.ep_base.specs.Bounded.{too_big};
 ghost use Rattle.ep_base.specs.Bytes.{num};
@@ -15,8 +17,8 @@ use std::alloc::AllocError;
 /// An IPv6 header (RFC 8200, section 3). In its 40 bytes numbers stand high byte first.
 #[derive(Clone, Debug, PartialEq, Eq, Drop)]
 pub struct Ipv6Header {
-    /// The code point of differentiated services in the upper 6 bits, the notification of
-    /// congestion in the lower 2.
+    /// The differentiated services code point in the upper 6 bits (RFC 2474, section 3), explicit
+    /// congestion notification in the lower 2 (RFC 3168, section 5).
     pub traffic_class: u8,
     /// The flow label, 20 bits.
     pub flow_label: Ipv6FlowLabel,
@@ -72,7 +74,7 @@ impl Ipv6Header {
         Ipv6Header::LEN
     }
 
-    /// The code point of differentiated services, the upper 6 bits of the traffic class (RFC 2474,
+    /// The differentiated services code point, the upper 6 bits of the traffic class (RFC 2474,
     /// section 3).
     pub fn dscp(&self) -> IpDscp
         ensures { result ≡ dscp_in self.now.traffic_class }
@@ -80,7 +82,7 @@ impl Ipv6Header {
         IpDscp::try_new(self.traffic_class >> 2).unwrap()
     }
 
-    /// The notification of congestion, the lower 2 bits of the traffic class (RFC 3168, section 5).
+    /// Explicit congestion notification, the lower 2 bits of the traffic class (RFC 3168, section 5).
     pub fn ecn(&self) -> IpEcn
         ensures { result ≡ ecn_in self.now.traffic_class }
     {
@@ -133,21 +135,30 @@ impl Ipv6Header {
         self.field_bytes()
     }
 
+    // Apart from `to_bytes`, whose other clauses follow from these.
     fn field_bytes(&self) -> [u8; 40]
         ensures bytes { result ≡ spelling self.now }
         ensures fits { Fits self.now }
     {
         let payload_length = self.payload_length.to_be_bytes();
-        let class = u32::from(self.traffic_class) << 20;
-        let first_word = (6 << 28) | class | self.flow_label.value();
         let mut bytes = [0; 40];
-        bytes[..4].copy_from_slice(&first_word.to_be_bytes());
+        bytes[..4].copy_from_slice(&self.first_word().to_be_bytes());
         bytes[4..6].copy_from_slice(&payload_length);
         bytes[6] = self.next_header.0;
         bytes[7] = self.hop_limit;
         bytes[8..24].copy_from_slice(&self.source);
         bytes[24..].copy_from_slice(&self.destination);
         bytes
+    }
+
+    // Version, traffic class and flow label, as the first 4 bytes spell them.
+    fn first_word(&self) -> u32
+        ensures value { result ≡ 6 * 2 ^ 28 + self.now.traffic_class * 2 ^ 20 + self.now.flow_label }
+        ensures class { self.now.traffic_class < 2 ^ 8 }
+        ensures label { self.now.flow_label < 2 ^ 20 }
+    {
+        let class = u32::from(self.traffic_class) << 20;
+        (6 << 28) | class | self.flow_label.value()
     }
 
     /// Appends the bytes of the header.
@@ -236,6 +247,7 @@ impl Ipv6Header {
         Self::walk(slice, next_header)
     }
 
+    // Apart from `skip_counted`, whose other clauses follow from this one.
     fn walk(slice: &[u8], next_header: IpNumber) -> (Result<(IpNumber, &[u8]), LenError>, usize)
         ensures { (headers : List (List ℕ)) × (last : ℕ) × (rest : List ℕ)
             × walk.Walk next_header.0 slice.now headers last rest
