@@ -6,12 +6,14 @@ pub mod Going
 pub mod JudgeLemmas
 pub mod KnownLemmas
 pub mod LineLemmas
+pub mod MemoryLemmas
 pub mod PacketLaws
 pub mod PacketLemmas
 pub mod PostLemmas
 pub mod PostedAnswer
 pub mod PostedClass
 pub mod ReplyLemmas
+pub mod SplitLaws
 pub mod SplitLemmas
 pub mod UnrefusedLemmas
 pub mod WriteLemmas

@@ -1,5 +1,5 @@
 -- What is known of a reader and a writer: the bytes that the one has left and those that the other holds.
-use Rattle.std.specs.Prelude.{◌≡◌, ℕ, List, [], take, Option, Some, None, Result}
+use Rattle.std.specs.Prelude.{◌≡◌, ℕ, List, [], length, take, Option, Some, None, Result}
 use Rattle.std.specs.Io.KnownBytes.{Appends, Consumes, Keeps, IsAtEnd}
 use Rattle.netlines.specs.declared.run_error.RunError.{RunError}
 use Rattle.netlines.specs.Calls.{Call, Reads, Writes}
@@ -20,6 +20,16 @@ KnownCall old (Reads (Some bytes)) new = Consumes old.input new.input bytes × (
 KnownCall old (Reads None) new = Keeps old.input new.input × (new.output ≡ old.output)
 KnownCall old (Writes bytes (Some n)) new = Appends old.output new.output (take n bytes) × (new.input ≡ old.input)
 KnownCall old (Writes bytes None) new = Keeps old.output new.output × (new.input ≡ old.input)
+
+-- calls of a device in memory: no read fails, and a write that doesn't fail takes all its bytes
+abbrev pub IsInMemory : Call → Type 0
+IsInMemory (Reads None) = ⊥
+IsInMemory (Reads (Some bytes)) = Unit {0}
+IsInMemory (Writes bytes None) = Unit {0}
+IsInMemory (Writes bytes (Some n)) = n ≡ length bytes
+
+abbrev pub MemoryCall : Known → Call → Known → Type 0
+MemoryCall old call new = KnownCall old call new × IsInMemory call
 
 -- the bytes that a run with this result read, and those that it wrote, which are the output for the bytes read
 pub record Transfers (input input' output output' : Option (List ℕ)) (result : Result Unit RunError) : Type 0 where

@@ -1,9 +1,13 @@
 pub mod Answers
 pub mod Calls
 pub mod Class
+pub mod Ethernet
+pub mod FrameClass
 pub mod Known
+pub mod Letter
 pub mod Lines
 pub mod Packet
+pub mod PostRefusal
 pub mod Posted
 pub mod Runs
 pub mod Udp

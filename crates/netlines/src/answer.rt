@@ -39,7 +39,7 @@ fn write_answer(line: &[u8], frame: &mut [u8], out: &mut [u8]) -> usize
         return append(out, 0, BAD_LINE);
     };
     let frame = &mut frame[..line.digits.len() / 2];
-    if frame.is_empty() || hex::decode_to_slice(line.digits, frame).is_err() {
+    if frame.is_empty() || !digits::decode(line.digits, frame) {
         return append(out, 0, BAD_LINE);
     }
     write_frame_answer(frame, out)

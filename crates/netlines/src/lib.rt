@@ -7,6 +7,7 @@ mod command;
 pub mod device;
 mod ethernet;
 mod frame;
+mod in_memory;
 mod ip_frag_version_spec_id;
 mod ipv4_packet;
 mod judge;
@@ -23,6 +24,7 @@ mod run_lines;
 mod udp_message;
 mod vlan_id;
 
+pub use in_memory::answers;
 pub use ip_frag_version_spec_id::IpFragVersionSpecId;
 pub use letter::Letter;
 pub use limits::{LINE_LIMIT, READ_COUNT_LIMIT, READ_SIZE_LIMIT};

@@ -14,7 +14,8 @@ use std::io::{Read, Write};
 /// Answers each line of the reader by a line on the writer, up to the end of the reader.
 ///
 /// A read that gives nothing tells the end, and nothing is read after it. Any fault that a read or a
-/// write answers ends the run, an interrupted call too.
+/// write answers ends the run, an interrupted call too. That an error was caused by such a call is
+/// said by [`run_over`] alone: `Read` and `Write` give a failing call no meaning.
 pub fn run<R: Read, W: Write>(alloc: Global, reader: &mut R, writer: &mut W) -> Result<(), RunError>
     // All lines are answered, and no byte is left to read.
     ensures ok { OnOk result (IfSome (R.remaining reader.old) (λ bytes.

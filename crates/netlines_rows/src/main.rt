@@ -1,12 +1,13 @@
-//! Compares `netlines::run`, and a plain program for the same answers, with worked rows.
+//! Compares the answers of `netlines` with worked rows.
 //!
 //! A row NAME is an input, `NAME.in`, and the output that it has to give, `NAME.out`. The rows were
-//! worked out by a program that is independent of this project.
+//! worked out by a program that is independent of this project. The arguments name the rows that
+//! are compared. Those that differ are told, and then the program fails.
 #![tactic(auto)]
 
-mod by_run;
-mod plain;
+mod comparison;
 
+use crate::comparison::agrees;
 use anyhow::{Context, Result};
 use std::process::ExitCode;
 use std::rt::Files;
@@ -14,36 +15,21 @@ use std::{env, fs};
 
 fn main(rt: HostRuntime) -> Result<ExitCode> {
     let names: Vec<String> = env::args(&rt)?.skip(1).collect(rt.alloc())?;
-    let mut agreeing = 0usize;
     let mut differing = 0usize;
     for name in &names {
-        if agrees(&rt, name.as_str())? {
-            agreeing += 1;
-        } else {
+        let input = read(&rt, name.as_str(), "in")?;
+        let wanted = read(&rt, name.as_str(), "out")?;
+        if !agrees(rt.alloc(), input.as_slice(), wanted.as_slice())? {
+            println!(rt; "{name} differs")?;
             differing += 1;
         }
     }
-    println!(rt; "{agreeing} rows agree, {differing} differ")?;
+    println!(rt; "{} rows compared, {differing} of them differ", names.len())?;
     Ok(if differing == 0 {
         ExitCode::SUCCESS
     } else {
         ExitCode::FAILURE
     })
-}
-
-// Whether a row agrees. One that does not is named.
-fn agrees<R: Files + AllocGlobal + Print>(rt: &R, name: &str) -> Result<bool> {
-    let input = read(rt, name, "in")?;
-    let wanted = read(rt, name, "out")?;
-    let by_run = by_run::answers(rt.alloc(), input.as_slice())?.as_slice() == wanted.as_slice();
-    if !by_run {
-        println!(rt; "{name} differs")?;
-    }
-    let plain = plain::answers(rt.alloc(), input.as_slice())?.as_slice() == wanted.as_slice();
-    if !plain {
-        println!(rt; "{name} differs in the plain program")?;
-    }
-    Ok(by_run && plain)
 }
 
 // The bytes of one file of a row.

@@ -1,7 +1,7 @@
 //! Runs over readers and writers that give and take little, and fail.
 ghost use Rattle.std.specs.Prelude.{◌≡◌, IfOk};
 
-use crate::{RunError, run};
+use crate::{RunError, answers, run};
 use std::alloc::{AllocError, Global};
 use std::io::{self, ErrorKind, Read, Write};
 use std::test::Fail;
@@ -162,6 +162,23 @@ fn answers_each_line_once(rt: HostRuntime) -> Result<(), Fail> {
             "{count} lines by bytes"
         );
     }
+    Ok(())
+}
+
+#[test]
+fn answers_texts_in_memory(rt: HostRuntime) -> Result<(), Fail> {
+    let cases: [(&[u8], usize); 4] = [(b"", 0), (b"\n\nx\n", 3), (b"\nx", 2), (INPUT, 6)];
+    for (text, count) in cases {
+        let want = bad_lines(rt.alloc(), count)?;
+        let replies = answers(rt.alloc(), text)?;
+        assert_eq!(rt; replies.as_slice(), want.as_slice(), "{count} lines");
+    }
+    let many = vec![in rt.alloc(); b'\n'; 150_000]?;
+    let replies = answers(rt.alloc(), many.as_slice())?;
+    assert_eq!(rt;
+        replies.as_slice(),
+        bad_lines(rt.alloc(), 150_000)?.as_slice()
+    );
     Ok(())
 }
 

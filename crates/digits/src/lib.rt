@@ -1,0 +1,13 @@
+//! Hex digits to bytes and back, by vectors of 32 digits, with the meaning of the crate `hex`.
+#![tactic(auto)]
+
+mod decoding;
+mod encoding;
+mod lanes;
+pub mod laws;
+
+pub use decoding::{decode, decode_to_slice};
+pub use encoding::encode;
+
+#[cfg(test)]
+mod tests;

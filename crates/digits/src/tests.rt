@@ -1,0 +1,127 @@
+ghost use Rattle.std.specs.Prelude.{◌*◌, ◌<◌, ◌≤◌};
+
+use crate::{decode, decode_to_slice, encode};
+use hex::FromHexError;
+
+// The SHA-256 of no bytes, from FIPS 180-4's examples.
+const DIGITS: &[u8; 64] = b"e3b0c44298fc1c149afbf4c8996fb92427ae41e4649b934ca495991b7852b855";
+
+const UPPER_DIGITS: &[u8; 64] = b"E3B0C44298FC1C149AFBF4C8996FB92427AE41E4649B934CA495991B7852B855";
+
+const BYTES: [u8; 32] = [
+    0xe3, 0xb0, 0xc4, 0x42, 0x98, 0xfc, 0x1c, 0x14, 0x9a, 0xfb, 0xf4, 0xc8, 0x99, 0x6f, 0xb9, 0x24,
+    0x27, 0xae, 0x41, 0xe4, 0x64, 0x9b, 0x93, 0x4c, 0xa4, 0x95, 0x99, 0x1b, 0x78, 0x52, 0xb8, 0x55,
+];
+
+// Each length up to two blocks, so also those whose last block overlaps the one before it.
+#[test]
+fn each_length(rt: HostRuntime) {
+    for n in 0..=32 {
+        let mut bytes = [0u8; 32];
+        assert!(rt; decode(&DIGITS[..2 * n], &mut bytes[..n]));
+        assert_eq!(rt; &bytes[..n], &BYTES[..n]);
+        let mut bytes = [0u8; 32];
+        assert!(rt; decode_to_slice(&UPPER_DIGITS[..2 * n], &mut bytes[..n]).is_ok());
+        assert_eq!(rt; &bytes[..n], &BYTES[..n]);
+        let mut digits = [0u8; 64];
+        encode(&BYTES[..n], &mut digits[..2 * n]);
+        assert_eq!(rt; &digits[..2 * n], &DIGITS[..2 * n]);
+    }
+}
+
+fn with_digit(place: usize, digit: u8) -> [u8; 64]
+    requires { place < 64 }
+{
+    let mut digits = *DIGITS;
+    digits[place] = digit;
+    digits
+}
+
+// Whether n bytes' digits are refused for a bad one at a place.
+fn is_refused(n: usize, place: usize, bad: u8) -> bool
+    requires { (n ≤ 32) × (place < 2 * n) }
+{
+    let digits = with_digit(place, bad);
+    let digits = &digits[..2 * n];
+    let mut bytes = [0u8; 32];
+    let bytes = &mut bytes[..n];
+    let error = FromHexError::InvalidHexCharacter {
+        c: char::from(bad),
+        index: place,
+    };
+    !decode(digits, bytes) && decode_to_slice(digits, bytes) == Err(error)
+}
+
+#[test]
+fn each_place_of_a_bad_digit(rt: HostRuntime) {
+    for n in 1..=32 {
+        for place in 0..2 * n {
+            for bad in b"/:@G`g\x00\xb0\xff" {
+                assert!(rt; is_refused(n, place, *bad));
+            }
+        }
+    }
+}
+
+// Which of the 256 bytes are digits, as std has it, in a short text and in one of two blocks.
+#[test]
+fn each_byte_as_a_digit(rt: HostRuntime) {
+    for digit in 0..=255 {
+        let digits = with_digit(41, digit);
+        let mut bytes = [0u8; 32];
+        assert_eq!(rt;
+            decode(&digits[40..42], &mut bytes[..1]),
+            digit.is_ascii_hexdigit()
+        );
+        assert_eq!(rt; decode(&digits, &mut bytes), digit.is_ascii_hexdigit());
+    }
+}
+
+// The value of each digit, and its digits in turn, in each lane.
+#[test]
+fn each_byte_in_each_lane(rt: HostRuntime) {
+    for byte in 0..=255 {
+        let mut digits = [0u8; 34];
+        encode(&[byte; 17], &mut digits);
+        for pair in digits.chunks_exact(2) {
+            assert_eq!(rt;
+                char::from(pair[0]).to_digit(16),
+                Some(u32::from(byte / 16))
+            );
+            assert_eq!(rt;
+                char::from(pair[1]).to_digit(16),
+                Some(u32::from(byte % 16))
+            );
+        }
+        let mut bytes = [0u8; 17];
+        assert!(rt; decode(&digits, &mut bytes));
+        assert_eq!(rt; bytes, [byte; 17]);
+    }
+}
+
+// RFC 4648, section 10, and the same in lower case.
+#[test]
+fn text_of_rfc_4648(rt: HostRuntime) {
+    let mut bytes = [0u8; 6];
+    assert!(rt; decode(b"666F6F626172", &mut bytes));
+    assert_eq!(rt; &bytes, b"foobar");
+    let mut digits = [0u8; 12];
+    encode(b"foobar", &mut digits);
+    assert_eq!(rt; &digits, b"666f6f626172");
+}
+
+#[test]
+fn other_lengths(rt: HostRuntime) {
+    let mut bytes = [7u8; 31];
+    assert!(rt; !decode(DIGITS, &mut bytes));
+    assert_eq!(rt;
+        decode_to_slice(DIGITS, &mut bytes),
+        Err(FromHexError::InvalidStringLength)
+    );
+    assert_eq!(rt;
+        decode_to_slice(&DIGITS[..63], &mut bytes),
+        Err(FromHexError::OddLength)
+    );
+    assert!(rt; !decode(&DIGITS[..1], &mut []));
+    assert_eq!(rt; bytes, [7u8; 31]);
+}

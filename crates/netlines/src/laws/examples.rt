@@ -1,0 +1,35 @@
+//! Worked examples of the definitions. The answers were worked out by hand after RFC 768, 791 and
+//! 1071.
+ghost use Rattle.std.specs.Prelude.{◌≡◌, [], ◌∷◌, codes, Some, None};
+ghost use Rattle.netlines.specs.Answers.{answer_of, message_answer};
+ghost use Rattle.netlines.specs.PostRefusal.{bad_cut};
+ghost use Rattle.netlines.specs.declared.judge.Verdict.TheVariants as verdict;
+
+/// What these lines are answered: a UDP message with a right checksum, with a wrong one and with
+/// none, a frame of another ether type, a frame of 13 bytes, and a frame with half a byte.
+pub fn lines_have_answers()
+    ensures good { answer_of (codes "frame 0 02000000000202000000000108004500002400070000401166c00a0000010a000002000100020010dbb40102030405060708")
+        ≡ codes "message 17 good 000100020010dbb40102030405060708" }
+    ensures bad { answer_of (codes "frame 0 02000000000202000000000108004500002400070000401166c00a0000010a000002000100020010dbb40102030405060709")
+        ≡ codes "message 17 bad 000100020010dbb40102030405060709" }
+    ensures none { answer_of (codes "frame 0 02000000000202000000000108004500002400070000401166c00a0000010a00000200010002001000000102030405060708")
+        ≡ codes "message 17 none 00010002001000000102030405060708" }
+    ensures other { answer_of (codes "frame 0 0200000000020200000000011234") ≡ codes "other" }
+    ensures refused { answer_of (codes "frame 0 02000000000202000000000108") ≡ codes "refused frame" }
+    ensures bad_line { answer_of (codes "frame 0 0") ≡ codes "bad line" }
+{}
+
+/// The answer with an empty message has a dash for it.
+pub fn empty_message_is_a_dash()
+    ensures { message_answer 17 verdict.None [] ≡ codes "message 17 none -" }
+{}
+
+/// A message of 24 bytes can be cut at 8 and at 16. It can't be cut at its ends, twice at one place,
+/// behind its end, or at no multiple of 8.
+pub fn cuts_are_refused()
+    ensures both { bad_cut 24 (8 ∷ 16 ∷ []) ≡ None }
+    ensures first { bad_cut 24 (0 ∷ 8 ∷ []) ≡ Some 0 }
+    ensures twice { bad_cut 24 (8 ∷ 8 ∷ []) ≡ Some 1 }
+    ensures last { bad_cut 24 (8 ∷ 24 ∷ []) ≡ Some 1 }
+    ensures unaligned { bad_cut 24 (8 ∷ 12 ∷ []) ≡ Some 1 }
+{}

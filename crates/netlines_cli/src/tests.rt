@@ -1,0 +1,64 @@
+//! The flush, the status and what is told of an error.
+use crate::{answer_input, exit_code, fault_name};
+use netlines::RunError;
+use std::io::{self, ErrorKind, Write};
+use std::process::ExitCode;
+use std::test::Fail;
+
+// Takes all bytes, and fails at the flush.
+#[derive(Drop)]
+struct UnflushableWriter {
+    taken: Vec<u8>,
+}
+
+impl Write for UnflushableWriter {
+    fn write(&mut self, buf: &[u8]) -> io::Result<usize> {
+        self.taken.extend_from_slice(buf)?;
+        Ok(buf.len())
+    }
+
+    fn flush(&mut self) -> io::Result<()> {
+        Err(ErrorKind::Other.into())
+    }
+}
+
+#[test]
+fn answers_what_is_read(rt: HostRuntime) -> Result<(), Fail> {
+    let mut output = Vec::new(rt.alloc());
+    answer_input(rt.alloc(), &mut b"\n".as_slice(), &mut output)?;
+    assert_eq!(rt; output.as_slice(), b"bad line\n".as_slice());
+    Ok(())
+}
+
+#[test]
+fn a_flush_that_fails_is_a_failed_write(rt: HostRuntime) {
+    let mut writer = UnflushableWriter {
+        taken: Vec::new(rt.alloc()),
+    };
+    let done = answer_input(rt.alloc(), &mut b"\n".as_slice(), &mut writer);
+    assert_eq!(rt; done, Err(RunError::Write));
+    assert_eq!(rt; writer.taken.as_slice(), b"bad line\n".as_slice());
+}
+
+#[test]
+fn errors_have_names(rt: HostRuntime) {
+    let rows = [
+        (RunError::Read, "read"),
+        (RunError::Write, "write"),
+        (RunError::WriteZero, "write"),
+        (RunError::Memory, "memory"),
+        (RunError::TooManyReads, "reads"),
+    ];
+    for (error, name) in rows {
+        assert_eq!(rt; fault_name(error), name);
+        assert_eq!(rt; exit_code(&rt, Err(error)), ExitCode::FAILURE);
+    }
+    assert_eq!(rt; exit_code(&rt, Ok(())), ExitCode::SUCCESS);
+}
+
+#[test]
+#[should_panic(expected = "netlines: reads")]
+fn errors_are_told(rt: HostRuntime) {
+    let _ = exit_code(&rt, Err(RunError::TooManyReads));
+    panic!(rt; "told");
+}

@@ -1,4 +1,0 @@
-pub mod CommandSteps
-pub mod FrameSteps
-pub mod LineSteps
-pub mod SumSteps
