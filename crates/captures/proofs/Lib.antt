@@ -1,0 +1,6 @@
+pub mod BufferLemmas
+pub mod CallLemmas
+pub mod Going
+pub mod KnownLemmas
+pub mod UnitLemmas
+pub mod WriteLemmas

@@ -1,0 +1,18 @@
+//! Capture files in and out: the packets of a capture as lines for `netlines`.
+#![tactic(auto)]
+
+mod byte_order;
+mod capture_error;
+pub mod device;
+mod limits;
+mod line;
+mod run_captures;
+mod run_error;
+mod state;
+mod unit;
+mod units;
+
+pub use capture_error::CaptureError;
+pub use limits::{FRAME_LIMIT, READ_COUNT_LIMIT};
+pub use run_captures::{run, run_over};
+pub use run_error::RunError;
