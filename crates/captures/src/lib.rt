@@ -16,3 +16,6 @@ pub use capture_error::CaptureError;
 pub use limits::{FRAME_LIMIT, READ_COUNT_LIMIT};
 pub use run_captures::{run, run_over};
 pub use run_error::RunError;
+
+#[cfg(test)]
+mod tests;
