@@ -1,17 +1,17 @@
 -- A run, call by call.
-use Rattle.std.proofs.Common.{◌≡◌, ◌≢◌, ◌∙◌, sym, ap, refl, subst, ℕ, zero, suc, ◌+◌, ◌<◌, ◌≤◌, arith, Bool, true, false, List, [], ◌∷◌, ◌++◌, length, Option, Some, None, Result, Ok, Err, append_assoc, append-nil, inl, inr, length-append}
-use Rattle.std.specs.Prelude.{◌||◌}
+use Rattle.std.proofs.Common.{◌≡◌, ◌≢◌, ◌∙◌, sym, ap, refl, subst, ℕ, zero, suc, ◌+◌, ◌<◌, ◌≤◌, arith, Bool, true, false, List, [], ◌∷◌, ◌++◌, length, Option, Some, None, Result, Ok, Err, append_assoc, append-nil, inl, inr, length-append, ltb-true, ltb-false}
+use Rattle.std.specs.Prelude.{◌||◌, ◌⊎◌, nat_lt, if◌then◌else◌}
 use Rattle.std.specs.List.{cons_option}
 use Rattle.std.proofs.lemmas.List.Concat.{flat_map-append}
 use Rattle.std.proofs.lemmas.List.Elements.{filter_map-append}
 use Rattle.std.proofs.lemmas.List.Folds.{list_any-append}
 use Rattle.captures.specs.declared.capture_error.CaptureError.{CaptureError}
-use Rattle.captures.specs.declared.capture_error.CaptureError.TheVariants.{NotCapture, LinkType, FrameTooLong, CutOff}
+use Rattle.captures.specs.declared.capture_error.CaptureError.TheVariants.{NotCapture, LinkType, FrameTooLong, CutOff, BlockTooLong, BadBlock}
 use Rattle.captures.specs.declared.run_error.RunError.{RunError}
 use Rattle.captures.specs.declared.run_error.RunError.TheVariants.{Read, Write, WriteZero, Memory, TooManyReads, Capture}
 use Rattle.captures.specs.declared.limits.TheConstants.{INPUT_ROOM, FIRST_UNIT_LEN}
 use Rattle.captures.specs.declared.state.State.{State}
-use Rattle.captures.specs.declared.state.State.TheVariants.{Start, Classic}
+use Rattle.captures.specs.declared.state.State.TheVariants.{Start, Classic, Pcapng}
 use Rattle.captures.specs.Calls.{Call, Reads, Writes, Makes, bytes_given, bytes_taken, bytes_read, bytes_written, read_count, tells_end, is_end_told, fault_of, faults_of}
 use Rattle.captures.specs.Lines.{lines_of}
 use Rattle.captures.specs.Pcap.{IsFileHeader}
@@ -186,7 +186,7 @@ module _ {D : Type 0} (transition : D → Call → D → Type 0) where
     came = [];
     text = [];
     going = going_start old;
-    takes = record { packets = []; passes = passes_start Start []; told = refl; left = omega arith };
+    takes = record { packets = []; passes = passes_start Start []; told = refl; left = inl (omega arith) };
   }
 
   -- a piece is read, and the packets in it are told
@@ -222,10 +222,14 @@ module _ {D : Type 0} (transition : D → Call → D → Type 0) where
       let whole = ap length same.0 in
       ((none, inr (omega arith)), (subst IsNoCapture (sym same.0) takes.left.1, takes.told ∙ ap lines_of same.1))
   refusal_ends limit calls read written (Classic order) rest NotCapture none gave takes = absurd takes.left
+  refusal_ends limit calls read written (Pcapng section) rest NotCapture none gave takes = absurd takes.left
+  refusal_ends limit calls read written state rest (BlockTooLong len) none gave takes = (none, (state, rest, takes))
+  refusal_ends limit calls read written state rest BadBlock none gave takes = (none, (state, rest, takes))
   refusal_ends limit calls read written state rest (LinkType number) none gave takes = (none, (state, rest, takes))
   refusal_ends limit calls read written state rest (FrameTooLong captured) none gave takes = (none, (state, rest, takes))
   refusal_ends limit calls read written Start rest CutOff none gave takes = absurd takes.left
   refusal_ends limit calls read written (Classic order) rest CutOff none gave takes = absurd takes.left
+  refusal_ends limit calls read written (Pcapng section) rest CutOff none gave takes = absurd takes.left
 
   pub standing_refused : (limit n : ℕ) (old mid later new : D) (state state' : State) (rest rest' text : List ℕ) (error : CaptureError) (s : Standing n old mid state rest) (piece : List ℕ)
       → transition mid (Reads (Some piece)) later → length piece ≤ INPUT_ROOM → n < limit → Takes state (rest ++ piece) state' rest' text (Some error)
@@ -237,29 +241,50 @@ module _ {D : Type 0} (transition : D → Call → D → Type 0) where
       let ends = refusal_ends limit done.calls (s.came ++ piece) (s.text ++ text) state' rest' error done.faults done.gave (takes_more Start state state' s.came piece rest rest' s.text text (Some error) s.takes takes) in
       going_ends limit (s.came ++ piece) (s.text ++ text) told (n + 1) old new done (Err (Capture error)) (omega arith) ends.0 ends.1
 
-  -- the end is told
-  at_end : (limit n : ℕ) (old mid new : D) (state : State) (rest : List ℕ) (left : ℕ) (s : Standing n old mid state rest) → transition mid (Reads (Some [])) new → n < limit
-      → left ≡ length rest → Runs transition limit old new (result_at_end state left)
-  at_end limit n old mid new Start rest left s call fits size =
+  -- the end is told, where nothing is left of a capture,
+  ends_whole : (limit n : ℕ) (old mid new : D) (state : State) (s : Standing n old mid state []) → transition mid (Reads (Some [])) new → n < limit
+      → state ≢ Start → Runs transition limit old new (Ok tt)
+  ends_whole limit n old mid new state s call fits known =
+      let asked = going_read s.came s.text n old mid new state [] s.going s.takes [] call (omega arith) in
+      going_ends limit (s.came ++ []) s.text true (n + 1) old new asked (Ok tt) (omega arith) (asked.faults, asked.tells)
+      (rw (append-nil s.came) (s.takes.packets, record { state = state; passes = s.takes.passes; known = known }, s.takes.told))
+
+  -- where something is,
+  ends_cut : (limit n : ℕ) (old mid new : D) (state : State) (rest : List ℕ) (s : Standing n old mid state rest) → transition mid (Reads (Some [])) new → n < limit
+      → 0 < length rest → (state ≢ Start) ⊎ (FIRST_UNIT_LEN ≤ length rest) → Runs transition limit old new (Err (Capture CutOff))
+  ends_cut limit n old mid new state rest s call fits some known =
+      let asked = going_read s.came s.text n old mid new state rest s.going s.takes [] call (omega arith) in
+      going_ends limit (s.came ++ []) s.text true (n + 1) old new asked (Err (Capture CutOff)) (omega arith) (asked.faults, asked.tells)
+      (rw (append-nil s.came) (record { state = state; rest = rest; some = some; known = known; takes = s.takes }))
+
+  -- and where nothing is known yet
+  ends_unknown : (limit n : ℕ) (old mid new : D) (rest : List ℕ) (s : Standing n old mid Start rest) → transition mid (Reads (Some [])) new → n < limit
+      → length rest < FIRST_UNIT_LEN → Runs transition limit old new (Err (Capture NotCapture))
+  ends_unknown limit n old mid new rest s call fits few =
       let asked = going_read s.came s.text n old mid new Start rest s.going s.takes [] call (omega arith) in
       let same = passes_to_start s.came rest s.takes.packets s.takes.passes in
       going_ends limit (s.came ++ []) s.text true (n + 1) old new asked (Err (Capture NotCapture)) (omega arith) (asked.faults, inl asked.tells)
-      (rw (append-nil s.came) (subst IsNoCapture (sym same.0) (no_capture_begun rest s.takes.left), s.takes.told ∙ ap lines_of same.1))
-  at_end limit n old mid new (Classic order) [] left s call fits size =
-      let asked = going_read s.came s.text n old mid new (Classic order) [] s.going s.takes [] call (omega arith) in
-      let none : left ≡ 0 = omega arith in
-      rw none (going_ends limit (s.came ++ []) s.text true (n + 1) old new asked (Ok tt) (omega arith) (asked.faults, asked.tells)
-      (rw (append-nil s.came) (s.takes.packets, record { state = Classic order; passes = s.takes.passes; known = λ e. cc e }, s.takes.told)))
-  at_end limit n old mid new (Classic order) (b ∷ bytes) left s call fits size =
-      let rest = b ∷ bytes in
-      let asked = going_read s.came s.text n old mid new (Classic order) rest s.going s.takes [] call (omega arith) in
-      rw size (going_ends limit (s.came ++ []) s.text true (n + 1) old new asked (Err (Capture CutOff)) (omega arith) (asked.faults, asked.tells)
-      (rw (append-nil s.came) (record { state = Classic order; known = λ e. cc e; rest = rest; some = omega arith; takes = s.takes })))
+      (rw (append-nil s.came) (subst IsNoCapture (sym same.0) (no_capture_begun rest few), s.takes.told ∙ ap lines_of same.1))
+
+  at_start : (limit n : ℕ) (old mid new : D) (rest : List ℕ) (s : Standing n old mid Start rest) → transition mid (Reads (Some [])) new → n < limit
+      → (few : Bool) → nat_lt (length rest) FIRST_UNIT_LEN ≡ few → Runs transition limit old new (if few then Err (Capture NotCapture) else Err (Capture CutOff))
+  at_start limit n old mid new rest s call fits true few = ends_unknown limit n old mid new rest s call fits (ltb-true (length rest) FIRST_UNIT_LEN few)
+  at_start limit n old mid new rest s call fits false few =
+      let long = ltb-false (length rest) FIRST_UNIT_LEN few in
+      ends_cut limit n old mid new Start rest s call fits (omega arith) (inr long)
+
+  at_end : (limit n : ℕ) (old mid new : D) (state : State) (rest : List ℕ) (s : Standing n old mid state rest) → transition mid (Reads (Some [])) new → n < limit
+      → Runs transition limit old new (result_at_end state (length rest))
+  at_end limit n old mid new Start rest s call fits = at_start limit n old mid new rest s call fits (nat_lt (length rest) FIRST_UNIT_LEN) refl
+  at_end limit n old mid new (Classic order) [] s call fits = ends_whole limit n old mid new (Classic order) s call fits (λ e. cc e)
+  at_end limit n old mid new (Classic order) (b ∷ bytes) s call fits = ends_cut limit n old mid new (Classic order) (b ∷ bytes) s call fits (omega arith) (inl (λ e. cc e))
+  at_end limit n old mid new (Pcapng section) [] s call fits = ends_whole limit n old mid new (Pcapng section) s call fits (λ e. cc e)
+  at_end limit n old mid new (Pcapng section) (b ∷ bytes) s call fits = ends_cut limit n old mid new (Pcapng section) (b ∷ bytes) s call fits (omega arith) (inl (λ e. cc e))
 
   pub standing_end : (limit n : ℕ) (old mid new : D) (state : State) (rest : List ℕ) (left : ℕ) (s : Standing n old mid state rest) (piece : List ℕ) → piece ≡ [] → transition mid (Reads (Some piece)) new
       → n < limit → left ≡ length rest → (result : Result Unit RunError) → result ≡ result_at_end state left → Runs transition limit old new result
   standing_end limit n old mid new state rest left s piece none call fits size result is =
-      rw is (at_end limit n old mid new state rest left s (subst (λ p. transition mid (Reads (Some p)) new) none call) fits size)
+      rw (is, size) (at_end limit n old mid new state rest s (subst (λ p. transition mid (Reads (Some p)) new) none call) fits)
 
   -- a read fails
   pub standing_fails : (limit n : ℕ) (old mid new : D) (state : State) (rest : List ℕ) → Standing n old mid state rest → transition mid (Reads None) new → n < limit → Runs transition limit old new (Err Read)

@@ -1,3 +1,4 @@
+pub mod BlockLemmas
 pub mod BufferLemmas
 pub mod CallLemmas
 pub mod Going

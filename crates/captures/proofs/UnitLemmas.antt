@@ -3,12 +3,13 @@ use Rattle.std.proofs.Common.{◌≡◌, ◌∙◌, sym, ap, refl, subst, ℕ, �
 use Rattle.std.proofs.Math.Seq.{take-append_seam}
 use Rattle.std.proofs.lemmas.List.Concat.{flat_map-append}
 use Rattle.captures.specs.Lines.{Packet, packets_of, line_of, lines_of}
-use Rattle.captures.specs.Units.{Row, joined, Passes, HasUnit, IsBegun, IsNoCapture, Takes}
+use Rattle.captures.specs.Units.{IsUnit, Row, joined, Passes, HasUnit, IsBegun, IsShortBlock, IsNoCapture, Takes, no_section}
+use Rattle.captures.specs.declared.section.Section.{Section}
 use Rattle.captures.specs.declared.byte_order.ByteOrder.{ByteOrder}
 use Rattle.captures.specs.declared.capture_error.CaptureError.{CaptureError}
 use Rattle.captures.specs.declared.state.State.{State}
-use Rattle.captures.specs.declared.state.State.TheVariants.{Start, Classic}
-use Rattle.captures.specs.declared.limits.TheConstants.{INPUT_ROOM}
+use Rattle.captures.specs.declared.state.State.TheVariants.{Start, Classic, Pcapng}
+use Rattle.captures.specs.declared.limits.TheConstants.{INPUT_ROOM, FIRST_UNIT_LEN}
 
 -- bytes with so many in front have that front
 pub front_is : (bytes header rest front : List ℕ) (n : ℕ) → bytes ≡ header ++ rest → front ≡ take n bytes → length header ≡ n → front ≡ header
@@ -60,9 +61,16 @@ passes_more state mid after bytes piece rest rest' ps qs p q = record {
       ∙ sym (append_assoc (joined p.units) (joined q.units) rest') ∙ ap (λ l. l ++ rest') (sym (joined-append p.units q.units));
 }
 
+short_block_room : (section : Section) (bytes : List ℕ) → IsShortBlock section bytes → length bytes < INPUT_ROOM
+short_block_room section bytes h =
+    let short = h.short in
+    let fits = h.fits in
+    omega arith
+
 -- what is begun leaves room for more
 pub begun_room : (state : State) (bytes : List ℕ) → IsBegun state bytes → length bytes < INPUT_ROOM
-begun_room Start bytes h = omega arith
+begun_room Start bytes (inl h) = omega arith
+begun_room Start bytes (inr h) = short_block_room no_section bytes h.1
 begun_room (Classic order) bytes (inl h) = omega arith
 begun_room (Classic order) bytes (inr h) =
     let size = ap length h.parts in
@@ -71,6 +79,8 @@ begun_room (Classic order) bytes (inr h) =
     let short = h.short in
     let fits = h.fits in
     omega arith
+begun_room (Pcapng section) bytes (inl h) = omega arith
+begun_room (Pcapng section) bytes (inr h) = short_block_room section bytes h
 
 -- units are passed, and their packets are told
 pub record Told (state : State) (bytes : List ℕ) (after : State) (rest text : List ℕ) : Type 0 where
@@ -99,17 +109,20 @@ pub no_frame : (channel : ℕ) (frame : List ℕ) → (length frame == 0) ≡ tr
 no_frame channel [] none = refl
 no_frame channel (b ∷ bytes) none = absurd (let zero = eqb-true (length (b ∷ bytes)) 0 none in omega arith)
 
-row_classic : (order : ByteOrder) (after : State) (units : List (List ℕ)) (packets : List Packet) → Row (Classic order) units packets after → after ≡ Classic order
-row_classic order after [] packets row = row.1
-row_classic order after (unit ∷ units) packets row =
-    row_classic order after units row.3 (subst (λ (s : State). Row s units row.3 after) row.4.2 row.5)
+-- after a unit something is known
+known_after : (state : State) (unit : List ℕ) (after : State) (channel : ℕ) (frame : List ℕ) → IsUnit state unit after channel frame → after ≡ Start → ⊥
+known_after Start unit after channel frame (inl h) is = let next = h.0.next in cc
+known_after Start unit after channel frame (inr h) is = let next = h.1.becomes in cc
+known_after (Classic order) unit after channel frame h is = let next = h.2 in cc
+known_after (Pcapng section) unit after channel frame h is = let next = h.becomes in cc
+
+row_known : (state after : State) (units : List (List ℕ)) (packets : List Packet) → Row state units packets after → (state ≡ Start → ⊥) → after ≡ Start → ⊥
+row_known state after [] packets row known is = known (sym row.1 ∙ is)
+row_known state after (unit ∷ units) packets row known is = row_known row.0 after units row.3 row.5 (known_after state unit row.0 row.1 row.2 row.4) is
 
 row_start : (units : List (List ℕ)) (packets : List Packet) → Row Start units packets Start → (units ≡ []) × (packets ≡ [])
 row_start [] packets row = (refl, row.0)
-row_start (unit ∷ units) packets row =
-    let opens = row.4.0 in
-    let classic : Start ≡ Classic opens.order = row_classic opens.order Start units row.3 (subst (λ (s : State). Row s units row.3 Start) opens.next row.5) in
-    absurd (cc classic)
+row_start (unit ∷ units) packets row = absurd (row_known row.0 Start units row.3 row.5 (known_after Start unit row.0 row.1 row.2 row.4) refl)
 
 -- where nothing is known yet, no unit is passed
 pub passes_to_start : (bytes rest : List ℕ) (packets : List Packet) → Passes Start bytes packets Start rest → (bytes ≡ rest) × (packets ≡ [])
@@ -118,12 +131,15 @@ passes_to_start bytes rest packets p =
     (p.parts ∙ ap (λ (us : List (List ℕ)). joined us ++ rest) none.0, none.1)
 
 -- fewer bytes than a header has begin with none
-pub no_capture_begun : (bytes : List ℕ) → IsBegun Start bytes → IsNoCapture bytes
-no_capture_begun bytes begun order header rest parts is_header =
+pub no_capture_begun : (bytes : List ℕ) → length bytes < FIRST_UNIT_LEN → IsNoCapture bytes
+no_capture_begun bytes begun = (
+  λ order header rest parts is_header.
     let size = ap length parts in
     let both = length-append header rest in
     let whole = is_header.size in
-    absurd (omega arith)
+    absurd (omega arith),
+  λ long begins. absurd (omega arith),
+)
 
 -- the units of what was left and of what came then
 pub takes_more : (state mid after : State) (bytes piece rest rest' text text' : List ℕ) (refusal : Option CaptureError) → Takes state bytes mid rest text None

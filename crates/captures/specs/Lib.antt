@@ -3,6 +3,7 @@ pub mod Known
 pub mod Lines
 pub mod Numbers
 pub mod Pcap
+pub mod Pcapng
 pub mod Runs
 pub mod Units
 pub mod Writes

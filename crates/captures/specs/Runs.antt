@@ -1,12 +1,12 @@
 -- How a run goes over a device: which call may follow which, how it ends, and what it has written by then.
-use Rattle.std.specs.Prelude.{◌≡◌, ◌≢◌, ◌⊎◌, ℕ, zero, suc, ◌<◌, ◌≤◌, true, false, List, [], ◌∷◌, ◌++◌, length, Option, Some, None, Result, Ok, Err}
-use Rattle.captures.specs.declared.capture_error.CaptureError.TheVariants.{NotCapture, LinkType, FrameTooLong, CutOff}
+use Rattle.std.specs.Prelude.{◌≡◌, ◌≢◌, ◌⊎◌, nat_lt, if◌then◌else◌, ℕ, zero, suc, ◌<◌, ◌≤◌, true, false, List, [], ◌∷◌, ◌++◌, length, Option, Some, None, Result, Ok, Err}
+use Rattle.captures.specs.declared.capture_error.CaptureError.TheVariants.{NotCapture, LinkType, FrameTooLong, CutOff, BlockTooLong, BadBlock}
 use Rattle.captures.specs.declared.capture_error.CaptureError.{CaptureError}
 use Rattle.captures.specs.declared.run_error.RunError.{RunError}
 use Rattle.captures.specs.declared.run_error.RunError.TheVariants.{Read, Write, WriteZero, Memory, TooManyReads, Capture}
 use Rattle.captures.specs.declared.limits.TheConstants.{INPUT_ROOM, FIRST_UNIT_LEN}
 use Rattle.captures.specs.declared.state.State.{State}
-use Rattle.captures.specs.declared.state.State.TheVariants.{Start, Classic}
+use Rattle.captures.specs.declared.state.State.TheVariants.{Start, Classic, Pcapng}
 use Rattle.captures.specs.Calls.{Call, Reads, Writes, Makes, bytes_given, bytes_read, bytes_written, read_count, is_end_told, faults_of}
 use Rattle.captures.specs.Lines.{Packet, lines_of}
 use Rattle.captures.specs.Units.{Passes, Takes, IsNoCapture}
@@ -30,12 +30,13 @@ abbrev pub AreToldInPart : List ℕ → List ℕ → Type 0
 AreToldInPart bytes text =
     (missing : List ℕ) × (state : State) × (rest : List ℕ) × (refusal : Option CaptureError) × Takes Start bytes state rest (text ++ missing) refusal
 
--- the bytes end within a packet, and the text is the lines of all packets before it
+-- the bytes end within a packet or a block, a section header at the front among them, and the text is the lines
+-- of all packets before it
 pub record EndsWithinPacket (bytes text : List ℕ) : Type 0 where
   pub state : State
-  pub known : state ≢ Start
   pub rest : List ℕ
   pub some : 0 < length rest
+  pub known : (state ≢ Start) ⊎ (FIRST_UNIT_LEN ≤ length rest)
   pub takes : Takes Start bytes state rest text None
 
 -- a read may follow these calls: none of them is a fault, the end is not told yet,
@@ -69,6 +70,8 @@ Ends limit calls (Err (Capture NotCapture)) = (faults_of calls ≡ []) × ((is_e
 Ends limit calls (Err (Capture CutOff)) = (faults_of calls ≡ []) × (is_end_told calls ≡ true)
 Ends limit calls (Err (Capture (LinkType number))) = faults_of calls ≡ []
 Ends limit calls (Err (Capture (FrameTooLong captured))) = faults_of calls ≡ []
+Ends limit calls (Err (Capture (BlockTooLong len))) = faults_of calls ≡ []
+Ends limit calls (Err (Capture BadBlock)) = faults_of calls ≡ []
 
 -- what a run that ends by this result has written: it depends on the bytes that it has read and on nothing else
 abbrev pub IsOutput : Result Unit RunError → List ℕ → List ℕ → Type 0
@@ -82,12 +85,16 @@ IsOutput (Err (Capture NotCapture)) read written = IsNoCapture read × (written 
 IsOutput (Err (Capture CutOff)) read written = EndsWithinPacket read written
 IsOutput (Err (Capture (LinkType number))) read written = AreToldBefore (LinkType number) read written
 IsOutput (Err (Capture (FrameTooLong captured))) read written = AreToldBefore (FrameTooLong captured) read written
+IsOutput (Err (Capture (BlockTooLong len))) read written = AreToldBefore (BlockTooLong len) read written
+IsOutput (Err (Capture BadBlock)) read written = AreToldBefore BadBlock read written
 
 -- how a run ends where the input does: what is known of the capture, and how many bytes are left
 abbrev pub result_at_end : State → ℕ → Result Unit RunError
-result_at_end Start left = Err (Capture NotCapture)
+result_at_end Start left = if nat_lt left FIRST_UNIT_LEN then Err (Capture NotCapture) else Err (Capture CutOff)
 result_at_end (Classic order) zero = Ok tt
 result_at_end (Classic order) (suc left) = Err (Capture CutOff)
+result_at_end (Pcapng section) zero = Ok tt
+result_at_end (Pcapng section) (suc left) = Err (Capture CutOff)
 
 -- a run of at most so many reads took a device from old to new by these calls, each of which may follow those before it,
 -- and ended by this result

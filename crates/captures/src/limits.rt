@@ -7,6 +7,9 @@ pub const FRAME_LIMIT: usize = 99_991;
 /// The bytes of the shortest capture there is: a file header.
 pub const FIRST_UNIT_LEN: usize = 24;
 
+/// The bytes of a block of a pcapng file at most.
+pub const BLOCK_LIMIT: usize = INPUT_ROOM;
+
 /// The bytes that a run holds at most of what it has read.
 pub const INPUT_ROOM: usize = 262_144;
 

@@ -6,7 +6,7 @@ ghost use Rattle.captures.specs.Lines.{Packet, lines_of};
 ghost use Rattle.captures.specs.Runs.{Runs, IsCapture, result_at_end};
 
 use crate::device::{Device, ReaderWriter, write_whole};
-use crate::limits::{INPUT_ROOM, OUTPUT_ROOM};
+use crate::limits::{FIRST_UNIT_LEN, INPUT_ROOM, OUTPUT_ROOM};
 use crate::state::State;
 use crate::units::take_units;
 use crate::{CaptureError, READ_COUNT_LIMIT, RunError};
@@ -106,8 +106,9 @@ fn end(state: State, left: usize) -> Result<(), RunError>
     ensures { result ≡ result_at_end state left }
 {
     match state {
-        State::Start => Err(RunError::Capture(CaptureError::NotCapture)),
-        State::Classic(_) if left == 0 => Ok(()),
-        State::Classic(_) => Err(RunError::Capture(CaptureError::CutOff)),
+        State::Start if left < FIRST_UNIT_LEN => Err(RunError::Capture(CaptureError::NotCapture)),
+        State::Start => Err(RunError::Capture(CaptureError::CutOff)),
+        _ if left == 0 => Ok(()),
+        _ => Err(RunError::Capture(CaptureError::CutOff)),
     }
 }

@@ -1,8 +1,6 @@
 //! What a capture is known to be, after some of its units.
 use crate::byte_order::ByteOrder;
-
-/// The link type of Ethernet frames.
-pub(crate) const ETHERNET: u16 = 1;
+use crate::section::Section;
 
 /// What a capture is known to be.
 #[derive(Clone, Copy, Debug, PartialEq, Eq)]
@@ -11,4 +9,6 @@ pub(crate) enum State {
     Start,
     /// A classic capture of Ethernet frames, with its numbers in this order.
     Classic(ByteOrder),
+    /// A pcapng file, within this section.
+    Pcapng(Section),
 }

@@ -1,13 +1,16 @@
 //! The unit at the front of some bytes of a capture: a file header, or a packet record.
 ghost use Rattle.std.specs.Prelude.{◌≡◌, ◌≤◌, ◌+◌, ℕ, List, length, IfOk, IfErr, IfSome, MatchOption, ◌↔◌, IsTrue};
 ghost use Rattle.captures.specs.Pcap.{IsFileHeader, is_magic};
-ghost use Rattle.captures.specs.Units.{IsBegun, Refuses, HasUnit};
+ghost use Rattle.captures.specs.Units.{IsBegun, Refuses, HasUnit, BeginsSection};
 ghost use Rattle.captures.specs.declared.byte_order.ByteOrder.{ByteOrder};
 ghost use Rattle.captures.specs.declared.state.State.TheVariants.{Start, Classic};
 
+use crate::block::{BYTE_ORDER_MAGIC, SECTION_HEADER};
 use crate::byte_order::ByteOrder;
 use crate::limits::{FIRST_UNIT_LEN, FRAME_LIMIT};
-use crate::state::{ETHERNET, State};
+use crate::section::{ETHERNET, NO_SECTION};
+use crate::section_unit::section_unit;
+use crate::state::State;
 use crate::CaptureError;
 
 const RECORD_HEAD_LEN: usize = 16;
@@ -28,24 +31,39 @@ pub(crate) struct Unit<'a> {
 pub(crate) fn front_unit(state: State, bytes: &[u8]) -> Result<Option<Unit<'_>>, CaptureError>
     ensures found { IfOk result (λ found. MatchOption found (IsBegun state bytes.now)
         (λ u. HasUnit state bytes.now u.after u.channel u.frame.now u.rest.now)) }
-    ensures size { IfOk result (λ found. IfSome found (λ u. length u.frame.now + 16 + length u.rest.now ≤ length bytes.now)) }
+    ensures size { IfOk result (λ found. IfSome found (λ u. length u.frame.now + 12 + length u.rest.now ≤ length bytes.now)) }
     ensures refused { IfErr result (λ e. Refuses state bytes.now e) }
 {
     match state {
-        State::Start => file_header(bytes),
+        State::Start => first_unit(bytes),
         State::Classic(order) => packet_record(order, bytes),
+        State::Pcapng(section) => section_unit(section, bytes),
     }
 }
 
-fn file_header(bytes: &[u8]) -> Result<Option<Unit<'_>>, CaptureError>
+fn first_unit(bytes: &[u8]) -> Result<Option<Unit<'_>>, CaptureError>
     ensures found { IfOk result (λ found. MatchOption found (IsBegun Start bytes.now)
         (λ u. HasUnit Start bytes.now u.after u.channel u.frame.now u.rest.now)) }
-    ensures size { IfOk result (λ found. IfSome found (λ u. length u.frame.now + 16 + length u.rest.now ≤ length bytes.now)) }
+    ensures size { IfOk result (λ found. IfSome found (λ u. length u.frame.now + 12 + length u.rest.now ≤ length bytes.now)) }
     ensures refused { IfErr result (λ e. Refuses Start bytes.now e) }
 {
     if bytes.len() < FIRST_UNIT_LEN {
         return Ok(None);
     }
+    if begins_section(bytes) {
+        return section_unit(NO_SECTION, bytes);
+    }
+    file_header(bytes)
+}
+
+fn file_header(bytes: &[u8]) -> Result<Option<Unit<'_>>, CaptureError>
+    requires size { FIRST_UNIT_LEN ≤ length bytes.now }
+    requires other { BeginsSection bytes.now → ⊥ }
+    ensures found { IfOk result (λ found. MatchOption found (IsBegun Start bytes.now)
+        (λ u. HasUnit Start bytes.now u.after u.channel u.frame.now u.rest.now)) }
+    ensures size { IfOk result (λ found. IfSome found (λ u. length u.frame.now + 12 + length u.rest.now ≤ length bytes.now)) }
+    ensures refused { IfErr result (λ e. Refuses Start bytes.now e) }
+{
     let (header, rest) = bytes.split_at(FIRST_UNIT_LEN);
     let Some(order) = header_order(header) else {
         return Err(CaptureError::NotCapture);
@@ -60,6 +78,16 @@ fn file_header(bytes: &[u8]) -> Result<Option<Unit<'_>>, CaptureError>
         frame: &[],
         rest,
     }))
+}
+
+// Whether the bytes begin with a section header of a pcapng file.
+fn begins_section(bytes: &[u8]) -> bool
+    requires { 12 ≤ length bytes.now }
+    ensures { IsTrue result ↔ BeginsSection bytes.now }
+{
+    ByteOrder::Big.word(bytes, 0) == SECTION_HEADER
+        && (ByteOrder::Big.word(bytes, 8) == BYTE_ORDER_MAGIC
+            || ByteOrder::Little.word(bytes, 8) == BYTE_ORDER_MAGIC)
 }
 
 // The byte order of a file header.
@@ -93,7 +121,7 @@ fn is_magic(number: u32) -> bool
 fn packet_record(order: ByteOrder, bytes: &[u8]) -> Result<Option<Unit<'_>>, CaptureError>
     ensures found { IfOk result (λ found. MatchOption found (IsBegun (Classic order) bytes.now)
         (λ u. HasUnit (Classic order) bytes.now u.after u.channel u.frame.now u.rest.now)) }
-    ensures size { IfOk result (λ found. IfSome found (λ u. length u.frame.now + 16 + length u.rest.now ≤ length bytes.now)) }
+    ensures size { IfOk result (λ found. IfSome found (λ u. length u.frame.now + 12 + length u.rest.now ≤ length bytes.now)) }
     ensures refused { IfErr result (λ e. Refuses (Classic order) bytes.now e) }
 {
     if bytes.len() < RECORD_HEAD_LEN {

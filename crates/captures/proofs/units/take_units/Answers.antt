@@ -8,7 +8,7 @@ pub units-preserved : goal.units-preserved
 units-preserved c =
     let unit = c.in-Ok-Some.unit in
     let frame = unit.frame.now in
-    let size : length frame + 16 + length unit.rest.now ≤ length c.units.rest.now = rw c.in-Ok-Some.field-0-is at c.in-Ok-Some.ensures.size in
+    let size : length frame + 12 + length unit.rest.now ≤ length c.units.rest.now = rw c.in-Ok-Some.field-0-is at c.in-Ok-Some.ensures.size in
     let found = rw c.in-Ok-Some.field-0-is at c.in-Ok-Some.ensures.found in
     let before = c.units.invariant in
     elim c.if-not-is_empty.branch [
