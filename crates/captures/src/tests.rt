@@ -2,7 +2,9 @@
 use crate::{RunError, run};
 use std::alloc::{AllocError, Global};
 
+mod blocks;
 mod classic;
+mod pieces;
 
 // The packets that the files hold.
 const LINES: &[u8; 202] = b"frame 0 02000000000202000000000108004500002400010000401166c60a0000010a000002000100020010dbb40102030405060708\n\

@@ -1,8 +1,8 @@
 //! Classic captures. The files were written by scapy 2.5.0.
-ghost use Rattle.std.specs.Prelude.{◌≡◌, ◌≤◌, length};
+ghost use Rattle.std.specs.Prelude.{◌+◌, ◌≤◌, length};
 
 use super::{LINES, lines_of};
-use crate::{CaptureError, RunError, run};
+use crate::{CaptureError, RunError};
 use std::alloc::{AllocError, Global};
 use std::test::Fail;
 
@@ -83,5 +83,61 @@ fn each_front(rt: HostRuntime) -> Result<(), Fail> {
         assert_eq!(rt; result, wanted);
         assert_eq!(rt; lines.as_slice(), &LINES[..len]);
     }
+    Ok(())
+}
+
+// The result and the lines with other bytes at a place.
+fn with_bytes(
+    alloc: Global,
+    at: usize,
+    bytes: &[u8],
+) -> Result<(Result<(), RunError>, Vec<u8>), AllocError>
+    requires { at + length bytes.now ≤ 148 }
+{
+    let mut file = *BIG_MICROSECONDS;
+    file[at..at + bytes.len()].copy_from_slice(bytes);
+    lines_of(alloc, &file)
+}
+
+#[test]
+fn each_refusal(rt: HostRuntime) -> Result<(), Fail> {
+    for (at, bytes, error, len) in [
+        // Another magic number.
+        (3, b"\xd5".as_slice(), CaptureError::NotCapture, 0),
+        // Version 2.3.
+        (7, b"\x03".as_slice(), CaptureError::NotCapture, 0),
+        // Version 1.4.
+        (5, b"\x01".as_slice(), CaptureError::NotCapture, 0),
+        // The link type of Linux cooked captures.
+        (23, b"\x71".as_slice(), CaptureError::LinkType(113), 0),
+        // 99,992 bytes of the second packet.
+        (98, b"\x00\x01\x86\x98".as_slice(), CaptureError::FrameTooLong(99_992), 109),
+        // 99,991 bytes, which aren't there.
+        (98, b"\x00\x01\x86\x97".as_slice(), CaptureError::CutOff, 109),
+    ] {
+        let (result, lines) = with_bytes(rt.alloc(), at, bytes)?;
+        assert_eq!(rt; result, Err(RunError::Capture(error)));
+        assert_eq!(rt; lines.len(), len);
+    }
+    Ok(())
+}
+
+// The upper half of the last number of a file header may tell of frame check sequences.
+#[test]
+fn frame_check_sequences_are_passed_over(rt: HostRuntime) -> Result<(), Fail> {
+    let (result, lines) = with_bytes(rt.alloc(), 20, b"\x24\x00")?;
+    assert_eq!(rt; result, Ok(()));
+    assert_eq!(rt; lines.as_slice(), LINES.as_slice());
+    Ok(())
+}
+
+// A packet of which no byte was captured stands between the header and nothing else.
+#[test]
+fn packet_of_no_bytes(rt: HostRuntime) -> Result<(), Fail> {
+    let mut file = Vec::from_slice(rt.alloc(), &LITTLE_MICROSECONDS[..24])?;
+    file.extend_from_slice(b"\0\0\0\0\0\0\0\0\0\0\0\0\x3c\0\0\0")?;
+    let (result, lines) = lines_of(rt.alloc(), file.as_slice())?;
+    assert_eq!(rt; result, Ok(()));
+    assert_eq!(rt; lines.len(), 0);
     Ok(())
 }
