@@ -1,5 +1,5 @@
 -- The input of a run: what a read puts behind what is left, and what is left moved to the front.
-use Rattle.std.proofs.Common.{◌≡◌, ◌∙◌, sym, ap, refl, ℕ, ◌+◌, ◌-◌, ◌≤◌, arith, List, [], ◌++◌, length, take, drop, length-append, zero-add}
+use Rattle.std.proofs.Common.{◌≡◌, ◌∙◌, sym, ap, ℕ, ◌+◌, ◌-◌, ◌≤◌, arith, List, ◌++◌, length, take, drop, length-append, zero-add}
 use Rattle.std.proofs.Math.Seq.{take-append-add, drop-append_seam, paste}
 use Rattle.std.proofs.lemmas.List.{take-append-le, length-take-le, length-drop, drop-take}
 use Rattle.std.proofs.lemmas.List.Edits.{take-paste}

@@ -1,5 +1,5 @@
 -- A run, call by call.
-use Rattle.std.proofs.Common.{◌≡◌, ◌≢◌, ◌∙◌, sym, ap, refl, subst, ℕ, zero, suc, ◌+◌, ◌<◌, ◌≤◌, arith, Bool, true, false, List, [], ◌∷◌, ◌++◌, length, Option, Some, None, Result, Ok, Err, append_assoc, append-nil, inl, inr, length-append, ltb-true, ltb-false}
+use Rattle.std.proofs.Common.{◌≡◌, ◌≢◌, ◌∙◌, sym, ap, refl, subst, ℕ, zero, suc, ◌+◌, ◌<◌, ◌≤◌, arith, Bool, true, false, List, [], ◌∷◌, ◌++◌, length, Option, Some, None, Result, Ok, Err, append_assoc, append-nil, inl, inr, ltb-true, ltb-false}
 use Rattle.std.specs.Prelude.{◌||◌, ◌⊎◌, nat_lt, if◌then◌else◌}
 use Rattle.std.specs.List.{cons_option}
 use Rattle.std.proofs.lemmas.List.Concat.{flat_map-append}
@@ -14,9 +14,8 @@ use Rattle.captures.specs.declared.state.State.{State}
 use Rattle.captures.specs.declared.state.State.TheVariants.{Start, Classic, Pcapng}
 use Rattle.captures.specs.Calls.{Call, Reads, Writes, Makes, bytes_given, bytes_taken, bytes_read, bytes_written, read_count, tells_end, is_end_told, fault_of, faults_of}
 use Rattle.captures.specs.Lines.{lines_of}
-use Rattle.captures.specs.Pcap.{IsFileHeader}
-use Rattle.captures.specs.Units.{Takes, IsBegun, IsNoCapture, Refuses}
-use Rattle.captures.specs.Runs.{IsCapture, AreTold, AreToldBefore, MayRead, Follows, EachFollows, Ends, IsOutput, Runs, result_at_end}
+use Rattle.captures.specs.Units.{Takes, IsNoCapture}
+use Rattle.captures.specs.Runs.{MayRead, Follows, EachFollows, Ends, IsOutput, Runs, result_at_end}
 use Rattle.captures.specs.Writes.{Written, Stops}
 use Rattle.captures.proofs.CallLemmas.{Makes-append, read_count-append, EachFollows-append, writes_faults, writes_tell, writes_count, writes_read, writes_follow}
 use Rattle.captures.proofs.UnitLemmas.{passes_start, takes_more, passes_to_start, no_capture_begun}

@@ -1,11 +1,10 @@
 -- Units in a row.
-use Rattle.std.proofs.Common.{◌≡◌, ◌∙◌, sym, ap, refl, subst, ℕ, ◌==◌, true, false, ◌+◌, ◌<◌, ◌≤◌, arith, List, [], ◌∷◌, ◌++◌, length, take, append_assoc, append-nil, inl, inr, length-append, eqb-true, Option, Some, None}
+use Rattle.std.proofs.Common.{◌≡◌, ◌∙◌, sym, ap, refl, subst, ℕ, ◌==◌, true, false, ◌<◌, ◌≤◌, arith, List, [], ◌∷◌, ◌++◌, length, take, append_assoc, append-nil, inl, inr, length-append, eqb-true, Option, None}
 use Rattle.std.proofs.Math.Seq.{take-append_seam}
 use Rattle.std.proofs.lemmas.List.Concat.{flat_map-append}
 use Rattle.captures.specs.Lines.{Packet, packets_of, line_of, lines_of}
 use Rattle.captures.specs.Units.{IsUnit, Row, joined, Passes, HasUnit, IsBegun, IsShortBlock, IsNoCapture, Takes, no_section}
 use Rattle.captures.specs.declared.section.Section.{Section}
-use Rattle.captures.specs.declared.byte_order.ByteOrder.{ByteOrder}
 use Rattle.captures.specs.declared.capture_error.CaptureError.{CaptureError}
 use Rattle.captures.specs.declared.state.State.{State}
 use Rattle.captures.specs.declared.state.State.TheVariants.{Start, Classic, Pcapng}
@@ -134,10 +133,10 @@ passes_to_start bytes rest packets p =
 pub no_capture_begun : (bytes : List ℕ) → length bytes < FIRST_UNIT_LEN → IsNoCapture bytes
 no_capture_begun bytes begun = (
   λ order header rest parts is_header.
-    let size = ap length parts in
-    let both = length-append header rest in
-    let whole = is_header.size in
-    absurd (omega arith),
+      let size = ap length parts in
+      let both = length-append header rest in
+      let whole = is_header.size in
+      absurd (omega arith),
   λ long begins. absurd (omega arith),
 )
 

@@ -5,5 +5,6 @@ pub mod Numbers
 pub mod Pcap
 pub mod Pcapng
 pub mod Runs
+pub mod Spelling
 pub mod Units
 pub mod Writes

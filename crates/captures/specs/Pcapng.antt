@@ -1,12 +1,12 @@
 -- Pcapng files (draft-ietf-opsawg-pcapng): blocks in a row. Each begins with its kind and its length, ends with its
 -- length, and has whole words of 4 bytes. Numbers are in the byte order of the section, which its header tells.
-use Rattle.std.specs.Prelude.{◌≡◌, ◌≢◌, ◌⊎◌, ℕ, ◌+◌, ◌-◌, ◌%◌, ◌^◌, ◌<◌, ◌≤◌, ◌==◌, min, if◌then◌else◌, List, [], ◌++◌, length, take, drop}
+use Rattle.std.specs.Prelude.{◌≡◌, ◌≢◌, ◌⊎◌, ℕ, ◌+◌, ◌-◌, ◌%◌, ◌^◌, ◌<◌, ◌≤◌, ◌==◌, min, if◌then◌else◌, List, [], length, take, drop}
 use Rattle.captures.specs.Numbers.{half, word}
 use Rattle.captures.specs.declared.byte_order.ByteOrder.{ByteOrder}
 use Rattle.captures.specs.declared.byte_order.ByteOrder.TheVariants.{Big}
 use Rattle.captures.specs.declared.capture_error.CaptureError.{CaptureError}
 use Rattle.captures.specs.declared.capture_error.CaptureError.TheVariants.{NotCapture, LinkType, FrameTooLong, CutOff, BlockTooLong, BadBlock}
-use Rattle.captures.specs.declared.limits.TheConstants.{FRAME_LIMIT, BLOCK_LIMIT}
+use Rattle.captures.specs.declared.limits.TheConstants.{FRAME_LIMIT}
 use Rattle.captures.specs.declared.section.Section.{Section}
 use Rattle.captures.specs.declared.section.TheConstants.{ETHERNET}
 

@@ -9,9 +9,13 @@ use crate::limits::FRAME_LIMIT;
 use crate::section::{ETHERNET, Section};
 
 pub(crate) const SECTION_HEADER: u32 = 0x0a0d_0d0a;
+
 pub(crate) const BYTE_ORDER_MAGIC: u32 = 0x1a2b_3c4d;
+
 const INTERFACE_DESCRIPTION: u32 = 1;
+
 const SIMPLE_PACKET: u32 = 3;
+
 const ENHANCED_PACKET: u32 = 6;
 
 /// What is known after a block, and the frame in it: no bytes where there is none.

@@ -5,13 +5,13 @@ ghost use Rattle.captures.specs.Units.{IsBegun, Refuses, HasUnit, BeginsSection}
 ghost use Rattle.captures.specs.declared.byte_order.ByteOrder.{ByteOrder};
 ghost use Rattle.captures.specs.declared.state.State.TheVariants.{Start, Classic};
 
+use crate::CaptureError;
 use crate::block::{BYTE_ORDER_MAGIC, SECTION_HEADER};
 use crate::byte_order::ByteOrder;
 use crate::limits::{FIRST_UNIT_LEN, FRAME_LIMIT};
 use crate::section::{ETHERNET, NO_SECTION};
 use crate::section_unit::section_unit;
 use crate::state::State;
-use crate::CaptureError;
 
 const RECORD_HEAD_LEN: usize = 16;
 

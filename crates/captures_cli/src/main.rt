@@ -4,6 +4,7 @@
 ghost use Rattle.std.specs.Prelude.{◌≡◌};
 ghost use Rattle.captures_cli.specs.ErrorStatus.{status_of};
 
+use anyhow::Context;
 use captures::RunError;
 use clap::{Arg, ArgMatches, Command};
 use std::alloc::Global;
@@ -47,7 +48,7 @@ fn tell_lines(rt: &HostRuntime, matches: &ArgMatches) -> anyhow::Result<ExitCode
     let told = if name == "-" {
         captures::run(rt.alloc(), &mut rt.stdin(), &mut output)
     } else {
-        captures::run(rt.alloc(), &mut File::open(rt, name)?, &mut output)
+        captures::run(rt.alloc(), &mut File::open(rt, name).context("the capture cannot be opened")?, &mut output)
     };
     let told = told.and(output.flush().map_err(|_| RunError::Write));
     Ok(match told {

@@ -83,7 +83,11 @@ fn each_front_of_two_sections(rt: HostRuntime) -> Result<(), Fail> {
 }
 
 // The result and the lines with other bytes at a place of the two sections.
-fn with_bytes(alloc: Global, at: usize, bytes: &[u8]) -> Result<(Result<(), RunError>, Vec<u8>), AllocError>
+fn with_bytes(
+    alloc: Global,
+    at: usize,
+    bytes: &[u8],
+) -> Result<(Result<(), RunError>, Vec<u8>), AllocError>
     requires { at + length bytes.now ≤ 320 }
 {
     let mut file = *TWO_SECTIONS;
@@ -110,7 +114,12 @@ fn each_refusal(rt: HostRuntime) -> Result<(), Fail> {
         // link type of Linux cooked captures
         (36, b"\x71".as_slice(), CaptureError::LinkType(113), 0),
         // 4 bytes above the limit
-        (32, b"\x04\x00\x04".as_slice(), CaptureError::BlockTooLong(262_148), 0),
+        (
+            32,
+            b"\x04\x00\x04".as_slice(),
+            CaptureError::BlockTooLong(262_148),
+            0,
+        ),
         // an interface that is not described
         (96, b"\x02".as_slice(), bad, 0),
         // more bytes than the block has

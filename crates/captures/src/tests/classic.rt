@@ -111,9 +111,19 @@ fn each_refusal(rt: HostRuntime) -> Result<(), Fail> {
         // The link type of Linux cooked captures.
         (23, b"\x71".as_slice(), CaptureError::LinkType(113), 0),
         // 99,992 bytes of the second packet.
-        (98, b"\x00\x01\x86\x98".as_slice(), CaptureError::FrameTooLong(99_992), 109),
+        (
+            98,
+            b"\x00\x01\x86\x98".as_slice(),
+            CaptureError::FrameTooLong(99_992),
+            109,
+        ),
         // 99,991 bytes, which aren't there.
-        (98, b"\x00\x01\x86\x97".as_slice(), CaptureError::CutOff, 109),
+        (
+            98,
+            b"\x00\x01\x86\x97".as_slice(),
+            CaptureError::CutOff,
+            109,
+        ),
     ] {
         let (result, lines) = with_bytes(rt.alloc(), at, bytes)?;
         assert_eq!(rt; result, Err(RunError::Capture(error)));

@@ -1,5 +1,5 @@
-use Rattle.std.proofs.Common.{rules, arith, refl, inl, inr, ◌≡◌, ◌<◌, length}
-use Rattle.captures.specs.Pcapng.Content.{Opens, Describes, Holds, Nothing}
+use Rattle.std.proofs.Common.{rules, refl}
+use Rattle.captures.specs.Pcapng.Content.{Opens}
 use Rattle.captures.proofs.block.begin_section.Goals as goal
 
 pub returns-clause-reads : goal.returns-clause-reads

@@ -1,4 +1,4 @@
-use Rattle.std.proofs.Common.{rules, arith, refl, ap₂, ◌≡◌, ◌∙◌, ◌+◌, ℕ}
+use Rattle.std.proofs.Common.{rules, arith, refl, ap₂, ◌≡◌, ◌+◌, ℕ}
 use Rattle.captures.specs.Pcapng.Content.{Describes}
 use Rattle.captures.specs.declared.section.Section.{Section}
 use Rattle.captures.proofs.block.describe_interface.Goals as goal

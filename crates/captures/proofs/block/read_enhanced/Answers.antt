@@ -1,5 +1,5 @@
-use Rattle.std.proofs.Common.{rules, arith, refl, inl, inr, ◌≡◌, ◌<◌, length}
-use Rattle.captures.specs.Pcapng.Content.{Opens, Describes, Holds, Nothing}
+use Rattle.std.proofs.Common.{arith, refl, inl}
+use Rattle.captures.specs.Pcapng.Content.{Holds}
 use Rattle.captures.proofs.BlockLemmas.{no_enhanced}
 use Rattle.captures.proofs.block.read_enhanced.Goals as goal
 

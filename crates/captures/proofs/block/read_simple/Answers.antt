@@ -1,6 +1,5 @@
-use Rattle.std.proofs.Common.{rules, arith, refl, inl, inr, ◌≡◌, ◌<◌, length}
-use Rattle.captures.specs.Pcapng.Content.{Opens, Describes, Holds, Nothing}
-use Rattle.captures.proofs.BlockLemmas.{no_enhanced}
+use Rattle.std.proofs.Common.{arith, refl, inr}
+use Rattle.captures.specs.Pcapng.Content.{Holds}
 use Rattle.captures.proofs.block.read_simple.Goals as goal
 
 pub returns-then-held-gt-FRAME_LIMIT-clause-refused : goal.returns-then-held-gt-FRAME_LIMIT-clause-refused

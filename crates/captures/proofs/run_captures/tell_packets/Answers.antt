@@ -1,11 +1,9 @@
-use Rattle.std.proofs.Common.{rules, arith, ◌≡◌, ◌<◌, ◌≤◌, ◌+◌, ◌-◌, ◌∙◌, ◌++◌, sym, ap, subst, refl, List, ℕ, take, drop, length, length-append, length-take, Some, None, Option}
+use Rattle.std.proofs.Common.{rules, arith, ◌≡◌, ◌<◌, ◌≤◌, ◌+◌, ◌-◌, sym, ap, subst, List, ℕ, take, drop, length, length-take, None}
 use Rattle.std.proofs.lemmas.List.{length-take-le}
 use Rattle.std.proofs.lemmas.Result.{err_from_is_err_and}
 use borrow.Rule.Slice.PartMut.{put_mid}
 use Rattle.captures.specs.Units.{Takes, joined}
-use Rattle.captures.specs.declared.capture_error.CaptureError.{CaptureError}
 use Rattle.captures.specs.declared.limits.TheConstants.{INPUT_ROOM}
-use Rattle.captures.specs.declared.state.State.{State}
 use Rattle.captures.proofs.BufferLemmas.{read_front, moved_front}
 use Rattle.captures.proofs.Going.{Standing, standing_start, standing_end, standing_fails, standing_stops, standing_refused, standing_more}
 use Rattle.captures.proofs.UnitLemmas.{begun_room, rest_size}

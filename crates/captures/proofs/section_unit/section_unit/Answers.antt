@@ -1,4 +1,4 @@
-use Rattle.std.proofs.Common.{rules, arith, refl, sym, ◌≡◌, ◌∙◌, ◌≤◌, ◌%◌, ◌-◌, length}
+use Rattle.std.proofs.Common.{arith, refl, sym, ◌≡◌, ◌∙◌, ◌≤◌, length}
 use Rattle.captures.specs.Numbers.{word}
 use Rattle.captures.specs.Pcapng.{IsBlock}
 use Rattle.captures.proofs.BlockLemmas.{word_of, order_of, refused_at}

@@ -1,4 +1,4 @@
-use Rattle.std.proofs.Common.{◌≡◌, ◌∙◌, ◌++◌, sym, ap, refl, arith, append_assoc, List, ℕ}
+use Rattle.std.proofs.Common.{◌∙◌, ◌++◌, sym, ap, refl, arith, append_assoc, List, ℕ}
 use Rattle.captures.proofs.unit.packet_record.Goals as goal
 
 pub returns-clause-found : goal.returns-clause-found

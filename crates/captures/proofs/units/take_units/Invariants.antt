@@ -1,6 +1,4 @@
-use Rattle.std.proofs.Common.{◌≡◌, ◌+◌, ◌*◌, ◌≤◌, List, length, take}
-use Rattle.captures.specs.Lines.{Packet, lines_of}
-use Rattle.captures.specs.Units.{Passes}
+use Rattle.std.proofs.Common.{◌+◌, ◌*◌, ◌≤◌, length, take}
 use Rattle.captures.proofs.UnitLemmas.{Told}
 use Rattle.captures.proofs.units.take_units.Given as goal
 
