@@ -36,10 +36,12 @@ fn command<'a>(alloc: Global) -> Result<Command<'a>, clap::Error> {
     let lines = Command::new(alloc, "lines")
         .about("Writes a line for each packet of a capture of Ethernet frames")
         .arg(file)?;
-    Ok(Command::new(alloc, "captures_cli")
-        .about("Capture files as lines")
-        .subcommand_required(true)
-        .subcommand(lines)?)
+    Ok(
+        Command::new(alloc, "captures_cli")
+            .about("Capture files as lines")
+            .subcommand_required(true)
+            .subcommand(lines)?,
+    )
 }
 
 fn tell_lines(rt: &HostRuntime, matches: &ArgMatches) -> anyhow::Result<ExitCode> {
@@ -48,7 +50,11 @@ fn tell_lines(rt: &HostRuntime, matches: &ArgMatches) -> anyhow::Result<ExitCode
     let told = if name == "-" {
         captures::run(rt.alloc(), &mut rt.stdin(), &mut output)
     } else {
-        captures::run(rt.alloc(), &mut File::open(rt, name).context("the capture cannot be opened")?, &mut output)
+        captures::run(
+            rt.alloc(),
+            &mut File::open(rt, name).context("the capture cannot be opened")?,
+            &mut output,
+        )
     };
     let told = told.and(output.flush().map_err(|_| RunError::Write));
     Ok(match told {
