@@ -1,0 +1,158 @@
+-- Units in a row.
+use Rattle.std.proofs.Common.{◌≡◌, ◌∙◌, sym, ap, refl, subst, ℕ, ◌==◌, true, false, ◌<◌, ◌≤◌, arith, List, [], ◌∷◌, ◌++◌, length, take, append_assoc, append-nil, inl, inr, length-append, eqb-true, Option, None}
+use Rattle.std.proofs.Math.Seq.{take-append_seam}
+use Rattle.std.proofs.lemmas.List.Concat.{flat_map-append}
+use Rattle.captures.specs.Lines.{Packet, packets_of, line_of, lines_of}
+use Rattle.captures.specs.Units.{IsUnit, Row, joined, Passes, HasUnit, IsBegun, IsShortBlock, IsNoCapture, Takes, no_section}
+use Rattle.captures.specs.declared.section.Section.{Section}
+use Rattle.captures.specs.declared.capture_error.CaptureError.{CaptureError}
+use Rattle.captures.specs.declared.state.State.{State}
+use Rattle.captures.specs.declared.state.State.TheVariants.{Start, Classic, Pcapng}
+use Rattle.captures.specs.declared.limits.TheConstants.{INPUT_ROOM, FIRST_UNIT_LEN}
+
+-- bytes with so many in front have that front
+pub front_is : (bytes header rest front : List ℕ) (n : ℕ) → bytes ≡ header ++ rest → front ≡ take n bytes → length header ≡ n → front ≡ header
+front_is bytes header rest front n parts is size =
+    is ∙ ap (λ l. take n l) parts ∙ ap (λ m. take m (header ++ rest)) (sym size) ∙ take-append_seam header rest
+
+pub lines_of-append : (ps qs : List Packet) → lines_of (ps ++ qs) ≡ lines_of ps ++ lines_of qs
+lines_of-append ps qs = flat_map-append line_of ps qs
+
+joined-append : (us vs : List (List ℕ)) → joined (us ++ vs) ≡ joined us ++ joined vs
+joined-append [] vs = refl
+joined-append (u ∷ us) vs = ap (λ l. u ++ l) (joined-append us vs) ∙ sym (append_assoc u (joined us) (joined vs))
+
+Row-append : (state mid after : State) (us vs : List (List ℕ)) (ps qs : List Packet) → Row state us ps mid → Row mid vs qs after → Row state (us ++ vs) (ps ++ qs) after
+Row-append state mid after [] vs ps qs p q = rw p.0 (subst (λ (s : State). Row s vs qs after) p.1 q)
+Row-append state mid after (u ∷ us) vs ps qs p q = (
+  p.0,
+  p.1,
+  p.2,
+  p.3 ++ qs,
+  p.4,
+  Row-append p.0 mid after us vs p.3 qs p.5 q,
+  ap (λ l. l ++ qs) p.6 ∙ append_assoc (packets_of p.1 p.2) p.3 qs,
+)
+
+-- no unit yet
+pub passes_start : (state : State) (bytes : List ℕ) → Passes state bytes [] state bytes
+passes_start state bytes = record { units = []; row = (refl, refl); parts = refl }
+
+-- one more unit
+pub passes_unit : (state mid after : State) (bytes rest rest' : List ℕ) (packets : List Packet) (channel : ℕ) (frame : List ℕ) → Passes state bytes packets mid rest
+    → HasUnit mid rest after channel frame rest' → Passes state bytes (packets ++ packets_of channel frame) after rest'
+passes_unit state mid after bytes rest rest' packets channel frame p h = record {
+  units = p.units ++ h.unit ∷ [];
+  row = Row-append state mid after p.units (h.unit ∷ []) packets (packets_of channel frame) p.row (after, channel, frame, [], h.is_unit, (refl, refl), sym (append-nil (packets_of channel frame)));
+  parts =
+      p.parts ∙ ap (λ l. joined p.units ++ l) h.parts ∙ sym (append_assoc (joined p.units) h.unit rest')
+      ∙ ap (λ l. l ++ rest') (ap (λ l. joined p.units ++ l) (sym (append-nil h.unit)) ∙ sym (joined-append p.units (h.unit ∷ [])));
+}
+
+-- more units, in the rest and what follows it
+pub passes_more : (state mid after : State) (bytes piece rest rest' : List ℕ) (ps qs : List Packet) → Passes state bytes ps mid rest → Passes mid (rest ++ piece) qs after rest'
+    → Passes state (bytes ++ piece) (ps ++ qs) after rest'
+passes_more state mid after bytes piece rest rest' ps qs p q = record {
+  units = p.units ++ q.units;
+  row = Row-append state mid after p.units q.units ps qs p.row q.row;
+  parts =
+      ap (λ l. l ++ piece) p.parts ∙ append_assoc (joined p.units) rest piece ∙ ap (λ l. joined p.units ++ l) q.parts
+      ∙ sym (append_assoc (joined p.units) (joined q.units) rest') ∙ ap (λ l. l ++ rest') (sym (joined-append p.units q.units));
+}
+
+short_block_room : (section : Section) (bytes : List ℕ) → IsShortBlock section bytes → length bytes < INPUT_ROOM
+short_block_room section bytes h =
+    let short = h.short in
+    let fits = h.fits in
+    omega arith
+
+-- what is begun leaves room for more
+pub begun_room : (state : State) (bytes : List ℕ) → IsBegun state bytes → length bytes < INPUT_ROOM
+begun_room Start bytes (inl h) = omega arith
+begun_room Start bytes (inr h) = short_block_room no_section bytes h.1
+begun_room (Classic order) bytes (inl h) = omega arith
+begun_room (Classic order) bytes (inr h) =
+    let size = ap length h.parts in
+    let parts = length-append h.head h.body in
+    let head = h.size in
+    let short = h.short in
+    let fits = h.fits in
+    omega arith
+begun_room (Pcapng section) bytes (inl h) = omega arith
+begun_room (Pcapng section) bytes (inr h) = short_block_room section bytes h
+
+-- units are passed, and their packets are told
+pub record Told (state : State) (bytes : List ℕ) (after : State) (rest text : List ℕ) : Type 0 where
+  pub packets : List Packet
+  pub passes : Passes state bytes packets after rest
+  pub lines : text ≡ lines_of packets
+
+pub told_start : (state : State) (bytes text : List ℕ) → text ≡ [] → Told state bytes state bytes text
+told_start state bytes text none = record { packets = []; passes = passes_start state bytes; lines = none }
+
+-- one more unit, of which this is the text
+pub told_unit : (state mid after : State) (bytes rest rest' text more text' : List ℕ) (channel : ℕ) (frame : List ℕ) → Told state bytes mid rest text
+    → HasUnit mid rest after channel frame rest' → more ≡ lines_of (packets_of channel frame) → text' ≡ text ++ more → Told state bytes after rest' text'
+told_unit state mid after bytes rest rest' text more text' channel frame t h is all = record {
+  packets = t.packets ++ packets_of channel frame;
+  passes = passes_unit state mid after bytes rest rest' t.packets channel frame t.passes h;
+  lines = all ∙ ap (λ l. l ++ more) t.lines ∙ ap (λ l. lines_of t.packets ++ l) is ∙ sym (lines_of-append t.packets (packets_of channel frame));
+}
+
+-- the lines of a packet that has bytes, and of none
+pub some_frame : (channel : ℕ) (frame : List ℕ) → (length frame == 0) ≡ false → line_of (record { channel = channel; frame = frame }) ≡ lines_of (packets_of channel frame)
+some_frame channel [] some = absurd (cc)
+some_frame channel (b ∷ bytes) some = sym (append-nil (line_of (record { channel = channel; frame = b ∷ bytes })))
+
+pub no_frame : (channel : ℕ) (frame : List ℕ) → (length frame == 0) ≡ true → [] ≡ lines_of (packets_of channel frame)
+no_frame channel [] none = refl
+no_frame channel (b ∷ bytes) none = absurd (let zero = eqb-true (length (b ∷ bytes)) 0 none in omega arith)
+
+-- after a unit something is known
+known_after : (state : State) (unit : List ℕ) (after : State) (channel : ℕ) (frame : List ℕ) → IsUnit state unit after channel frame → after ≡ Start → ⊥
+known_after Start unit after channel frame (inl h) is = let next = h.0.next in cc
+known_after Start unit after channel frame (inr h) is = let next = h.1.becomes in cc
+known_after (Classic order) unit after channel frame h is = let next = h.2 in cc
+known_after (Pcapng section) unit after channel frame h is = let next = h.becomes in cc
+
+row_known : (state after : State) (units : List (List ℕ)) (packets : List Packet) → Row state units packets after → (state ≡ Start → ⊥) → after ≡ Start → ⊥
+row_known state after [] packets row known is = known (sym row.1 ∙ is)
+row_known state after (unit ∷ units) packets row known is = row_known row.0 after units row.3 row.5 (known_after state unit row.0 row.1 row.2 row.4) is
+
+row_start : (units : List (List ℕ)) (packets : List Packet) → Row Start units packets Start → (units ≡ []) × (packets ≡ [])
+row_start [] packets row = (refl, row.0)
+row_start (unit ∷ units) packets row = absurd (row_known row.0 Start units row.3 row.5 (known_after Start unit row.0 row.1 row.2 row.4) refl)
+
+-- where nothing is known yet, no unit is passed
+pub passes_to_start : (bytes rest : List ℕ) (packets : List Packet) → Passes Start bytes packets Start rest → (bytes ≡ rest) × (packets ≡ [])
+passes_to_start bytes rest packets p =
+    let none = row_start p.units packets p.row in
+    (p.parts ∙ ap (λ (us : List (List ℕ)). joined us ++ rest) none.0, none.1)
+
+-- fewer bytes than a header has begin with none
+pub no_capture_begun : (bytes : List ℕ) → length bytes < FIRST_UNIT_LEN → IsNoCapture bytes
+no_capture_begun bytes begun = (
+  λ order header rest parts is_header.
+      let size = ap length parts in
+      let both = length-append header rest in
+      let whole = is_header.size in
+      absurd (omega arith),
+  λ long begins. absurd (omega arith),
+)
+
+-- the units of what was left and of what came then
+pub takes_more : (state mid after : State) (bytes piece rest rest' text text' : List ℕ) (refusal : Option CaptureError) → Takes state bytes mid rest text None
+    → Takes mid (rest ++ piece) after rest' text' refusal → Takes state (bytes ++ piece) after rest' (text ++ text') refusal
+takes_more state mid after bytes piece rest rest' text text' refusal p q = record {
+  packets = p.packets ++ q.packets;
+  passes = passes_more state mid after bytes piece rest rest' p.packets q.packets p.passes q.passes;
+  told = ap (λ l. l ++ text') p.told ∙ ap (λ l. lines_of p.packets ++ l) q.told ∙ sym (lines_of-append p.packets q.packets);
+  left = q.left;
+}
+
+-- what is left is no more than there was
+pub rest_size : (state : State) (bytes : List ℕ) (after : State) (rest text : List ℕ) (refusal : Option CaptureError) → Takes state bytes after rest text refusal → length rest ≤ length bytes
+rest_size state bytes after rest text refusal t =
+    let parts = ap length t.passes.parts in
+    let both = length-append (joined t.passes.units) rest in
+    omega arith

@@ -1,0 +1,5 @@
+use Rattle.captures.proofs.SpellingLemmas.{capture_is}
+use Rattle.captures.proofs.laws.written_frames_are_read.Goals as goal
+
+pub returns : goal.returns
+returns c = capture_is

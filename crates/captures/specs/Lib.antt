@@ -1,0 +1,10 @@
+pub mod Calls
+pub mod Known
+pub mod Lines
+pub mod Numbers
+pub mod Pcap
+pub mod Pcapng
+pub mod Runs
+pub mod Spelling
+pub mod Units
+pub mod Writes

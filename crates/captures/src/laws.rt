@@ -1,0 +1,37 @@
+//! Laws of captures: the contract of each function is the law, and its body is empty.
+
+ghost use Rattle.std.specs.Prelude.{◌≡◌, ◌≤◌, ◌<◌, ◌^◌, List, [], ◌∷◌, codes, length};
+ghost use Rattle.std.specs.List.{AllByRecursion};
+ghost use Rattle.captures.specs.Lines.{Packet, line_of};
+ghost use Rattle.captures.specs.Runs.{IsCapture};
+ghost use Rattle.captures.specs.Spelling.{TimedFrame, capture_of, packets_in};
+
+use crate::limits::{BLOCK_LIMIT, FIRST_UNIT_LEN, FRAME_LIMIT, INPUT_ROOM, READ_COUNT_LIMIT};
+use crate::section::ETHERNET;
+
+/// What is written is read again, as the same frames in the same order.
+pub fn written_frames_are_read()
+    ensures { (frames : List TimedFrame) → AllByRecursion (λ timed. length timed.frame ≤ FRAME_LIMIT) frames
+        → IsCapture (capture_of frames) (packets_in frames) }
+{}
+
+/// The line of a frame that isn't too long has 200,000 bytes at most before its end, whatever its channel.
+pub fn lines_are_short()
+    ensures { (packet : Packet) → packet.channel < 2 ^ 32 → length packet.frame ≤ FRAME_LIMIT
+        → length (line_of packet) ≤ 200_001 }
+{}
+
+/// The line of two bytes.
+pub fn worked_line()
+    ensures { line_of (record { channel = 7; frame = 0x0a ∷ 0xff ∷ [] }) ≡ codes "frame 7 0aff\n" }
+{}
+
+/// The numbers that the definitions take from the code.
+pub fn constants()
+    ensures frame { FRAME_LIMIT ≡ 99_991 }
+    ensures block { BLOCK_LIMIT ≡ 262_144 }
+    ensures first { FIRST_UNIT_LEN ≡ 24 }
+    ensures input { INPUT_ROOM ≡ 262_144 }
+    ensures reads { READ_COUNT_LIMIT ≡ 2 ^ 40 }
+    ensures ethernet { ETHERNET ≡ 1 }
+{}

@@ -1,0 +1,27 @@
+//! Capture files in and out: the packets of a capture as lines for `netlines`.
+#![tactic(auto)]
+
+mod block;
+mod byte_order;
+mod capture_error;
+pub mod device;
+pub mod laws;
+mod limits;
+mod line;
+mod run_captures;
+mod run_error;
+mod section;
+mod section_unit;
+mod state;
+mod unit;
+mod units;
+mod writer;
+
+pub use capture_error::CaptureError;
+pub use limits::{BLOCK_LIMIT, FRAME_LIMIT, READ_COUNT_LIMIT};
+pub use run_captures::{run, run_over};
+pub use run_error::RunError;
+pub use writer::Writer;
+
+#[cfg(test)]
+mod tests;

@@ -1,0 +1,20 @@
+//! How much a run takes.
+
+/// The bytes of a frame at most. The line of such a frame has 200,000 bytes at most, without the 0a
+/// that ends it, whatever its channel.
+pub const FRAME_LIMIT: usize = 99_991;
+
+/// The bytes of the shortest capture there is: a file header.
+pub const FIRST_UNIT_LEN: usize = 24;
+
+/// The bytes of a block of a pcapng file at most.
+pub const BLOCK_LIMIT: usize = INPUT_ROOM;
+
+/// The bytes that a run holds at most of what it has read.
+pub const INPUT_ROOM: usize = 262_144;
+
+/// The bytes of lines that come out of so many bytes at most.
+pub const OUTPUT_ROOM: usize = 4 * INPUT_ROOM;
+
+/// The reads of a run at most.
+pub const READ_COUNT_LIMIT: u64 = 1 << 40;

@@ -1,0 +1,25 @@
+//! A section of a pcapng file.
+use crate::byte_order::ByteOrder;
+
+/// The link type of Ethernet frames.
+pub(crate) const ETHERNET: u16 = 1;
+
+/// What is known of a section after some of its blocks.
+#[derive(Clone, Copy, Debug, PartialEq, Eq)]
+pub(crate) struct Section {
+    pub order: ByteOrder,
+    /// The number of its first interface, over the whole file.
+    pub first: u32,
+    /// How many interfaces it has described.
+    pub interfaces: u32,
+    /// The snap length of its first interface, 0 for no limit.
+    pub snap_len: u32,
+}
+
+/// Before the first block of a file: no interface is described, and any byte order serves.
+pub(crate) const NO_SECTION: Section = Section {
+    order: ByteOrder::Big,
+    first: 0,
+    interfaces: 0,
+    snap_len: 0,
+};

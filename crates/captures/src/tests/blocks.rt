@@ -1,0 +1,135 @@
+//! Pcapng files. The first was written by scapy 2.5.0, the second by hand from the format's description.
+ghost use Rattle.std.specs.Prelude.{◌+◌, ◌≤◌, length};
+
+use super::{LINES, lines_of};
+use crate::{CaptureError, RunError};
+use std::alloc::{AllocError, Global};
+use std::test::Fail;
+
+const SCAPY: &[u8; 208] = b"\
+    \x0a\x0d\x0d\x0a\x1c\x00\x00\x00\x4d\x3c\x2b\x1a\x01\x00\x00\x00\x00\x00\x00\x00\
+    \x00\x00\x00\x00\x1c\x00\x00\x00\x01\x00\x00\x00\x14\x00\x00\x00\x01\x00\x00\x00\
+    \x00\x00\x04\x00\x14\x00\x00\x00\x06\x00\x00\x00\x54\x00\x00\x00\x00\x00\x00\x00\
+    \x24\x0a\x06\x00\x90\x10\x22\x18\x32\x00\x00\x00\x32\x00\x00\x00\x02\x00\x00\x00\
+    \x00\x02\x02\x00\x00\x00\x00\x01\x08\x00\x45\x00\x00\x24\x00\x01\x00\x00\x40\x11\
+    \x66\xc6\x0a\x00\x00\x01\x0a\x00\x00\x02\x00\x01\x00\x02\x00\x10\xdb\xb4\x01\x02\
+    \x03\x04\x05\x06\x07\x08\x00\x00\x54\x00\x00\x00\x06\x00\x00\x00\x4c\x00\x00\x00\
+    \x00\x00\x00\x00\x24\x0a\x06\x00\xd0\x52\x31\x18\x2a\x00\x00\x00\x2a\x00\x00\x00\
+    \xff\xff\xff\xff\xff\xff\x02\x00\x00\x00\x00\x01\x08\x06\x00\x01\x08\x00\x06\x04\
+    \x00\x01\x02\x00\x00\x00\x00\x01\x0a\x00\x00\x01\x00\x00\x00\x00\x00\x00\x0a\x00\
+    \x00\x02\x00\x00\x4c\x00\x00\x00\
+";
+
+// A section of either byte order, each with two interfaces. The first has a block of another kind and a packet
+// with options, the second a comment and a simple packet that its interface cut.
+const TWO_SECTIONS: &[u8; 320] = b"\
+    \x0a\x0d\x0d\x0a\x1c\x00\x00\x00\x4d\x3c\x2b\x1a\x01\x00\x00\x00\xff\xff\xff\xff\
+    \xff\xff\xff\xff\x1c\x00\x00\x00\x01\x00\x00\x00\x14\x00\x00\x00\x01\x00\x00\x00\
+    \x00\x00\x00\x00\x14\x00\x00\x00\x01\x00\x00\x00\x14\x00\x00\x00\x01\x00\x00\x00\
+    \x00\x00\x00\x00\x14\x00\x00\x00\x05\x00\x00\x00\x14\x00\x00\x00\x00\x00\x00\x00\
+    \x00\x00\x00\x00\x14\x00\x00\x00\x06\x00\x00\x00\x2c\x00\x00\x00\x01\x00\x00\x00\
+    \x01\x00\x00\x00\x02\x00\x00\x00\x05\x00\x00\x00\x3c\x00\x00\x00\x01\x02\x03\x04\
+    \x05\x00\x00\x00\x00\x00\x00\x00\x2c\x00\x00\x00\x03\x00\x00\x00\x14\x00\x00\x00\
+    \x03\x00\x00\x00\xaa\xbb\xcc\x00\x14\x00\x00\x00\x0a\x0d\x0d\x0a\x00\x00\x00\x28\
+    \x1a\x2b\x3c\x4d\x00\x01\x00\x00\xff\xff\xff\xff\xff\xff\xff\xff\x00\x01\x00\x02\
+    \x68\x69\x00\x00\x00\x00\x00\x00\x00\x00\x00\x28\x00\x00\x00\x01\x00\x00\x00\x14\
+    \x00\x01\x00\x00\x00\x00\x00\x04\x00\x00\x00\x14\x00\x00\x00\x01\x00\x00\x00\x14\
+    \x00\x01\x00\x00\x00\x00\x00\x09\x00\x00\x00\x14\x00\x00\x00\x03\x00\x00\x00\x14\
+    \x00\x00\x00\x06\x11\x22\x33\x44\x00\x00\x00\x14\x00\x00\x00\x06\x00\x00\x00\x24\
+    \x00\x00\x00\x01\x00\x00\x00\x01\x00\x00\x00\x02\x00\x00\x00\x02\x00\x00\x00\x02\
+    \x55\x66\x00\x00\x00\x00\x00\x24\x00\x00\x00\x06\x00\x00\x00\x20\x00\x00\x00\x00\
+    \x00\x00\x00\x01\x00\x00\x00\x02\x00\x00\x00\x00\x00\x00\x00\x07\x00\x00\x00\x20\
+";
+
+const TWO_SECTIONS_LINES: &[u8; 64] = b"frame 1 0102030405\n\
+    frame 0 aabbcc\n\
+    frame 2 11223344\n\
+    frame 3 5566\n";
+
+#[test]
+fn file_of_scapy(rt: HostRuntime) -> Result<(), Fail> {
+    let (result, lines) = lines_of(rt.alloc(), SCAPY)?;
+    assert_eq!(rt; result, Ok(()));
+    assert_eq!(rt; lines.as_slice(), LINES.as_slice());
+    Ok(())
+}
+
+// How many bytes of lines a front of the two sections gives.
+fn line_bytes(n: usize) -> usize {
+    match n {
+        0..=131 => 0,
+        132..=151 => 19,
+        152..=251 => 34,
+        252..=287 => 51,
+        _ => 64,
+    }
+}
+
+#[test]
+fn each_front_of_two_sections(rt: HostRuntime) -> Result<(), Fail> {
+    for n in 0..=320 {
+        let (result, lines) = lines_of(rt.alloc(), &TWO_SECTIONS[..n])?;
+        let wanted = match n {
+            0..=23 => Err(RunError::Capture(CaptureError::NotCapture)),
+            28 | 48 | 68 | 88 | 132 | 152 | 192 | 212 | 232 | 252 | 288 | 320 => Ok(()),
+            _ => Err(RunError::Capture(CaptureError::CutOff)),
+        };
+        assert_eq!(rt; result, wanted);
+        let len = line_bytes(n);
+        assert!(rt; len <= TWO_SECTIONS_LINES.len());
+        assert_eq!(rt; lines.as_slice(), &TWO_SECTIONS_LINES[..len]);
+    }
+    Ok(())
+}
+
+// The result and the lines with other bytes at a place of the two sections.
+fn with_bytes(
+    alloc: Global,
+    at: usize,
+    bytes: &[u8],
+) -> Result<(Result<(), RunError>, Vec<u8>), AllocError>
+    requires { at + length bytes.now ≤ 320 }
+{
+    let mut file = *TWO_SECTIONS;
+    file[at..at + bytes.len()].copy_from_slice(bytes);
+    lines_of(alloc, &file)
+}
+
+#[test]
+fn each_refusal(rt: HostRuntime) -> Result<(), Fail> {
+    let bad = CaptureError::BadBlock;
+    for (at, bytes, error, len) in [
+        // no kind of a section header
+        (0, b"\x0b".as_slice(), CaptureError::NotCapture, 0),
+        // no byte order magic
+        (8, b"\x4e".as_slice(), CaptureError::NotCapture, 0),
+        // version 2
+        (12, b"\x02".as_slice(), bad, 0),
+        // another length at the end
+        (24, b"\x20".as_slice(), bad, 0),
+        // less than a block has
+        (4, b"\x08".as_slice(), bad, 0),
+        // no whole words
+        (32, b"\x15".as_slice(), bad, 0),
+        // link type of Linux cooked captures
+        (36, b"\x71".as_slice(), CaptureError::LinkType(113), 0),
+        // 4 bytes above the limit
+        (
+            32,
+            b"\x04\x00\x04".as_slice(),
+            CaptureError::BlockTooLong(262_148),
+            0,
+        ),
+        // an interface that is not described
+        (96, b"\x02".as_slice(), bad, 0),
+        // more bytes than the block has
+        (108, b"\x0d".as_slice(), bad, 0),
+        // a second section without byte order magic
+        (160, b"\x1b".as_slice(), bad, 34),
+    ] {
+        let (result, lines) = with_bytes(rt.alloc(), at, bytes)?;
+        assert_eq!(rt; result, Err(RunError::Capture(error)));
+        assert_eq!(rt; lines.len(), len);
+    }
+    Ok(())
+}

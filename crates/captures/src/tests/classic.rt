@@ -1,0 +1,153 @@
+//! Classic captures. The files were written by scapy 2.5.0.
+ghost use Rattle.std.specs.Prelude.{◌+◌, ◌≤◌, length};
+
+use super::{LINES, lines_of};
+use crate::{CaptureError, RunError};
+use std::alloc::{AllocError, Global};
+use std::test::Fail;
+
+pub(super) const LITTLE_MICROSECONDS: &[u8; 148] = b"\
+    \xd4\xc3\xb2\xa1\x02\x00\x04\x00\x00\x00\x00\x00\x00\x00\x00\x00\xff\xff\x00\x00\
+    \x01\x00\x00\x00\x00\xf1\x53\x65\x90\xd0\x03\x00\x32\x00\x00\x00\x32\x00\x00\x00\
+    \x02\x00\x00\x00\x00\x02\x02\x00\x00\x00\x00\x01\x08\x00\x45\x00\x00\x24\x00\x01\
+    \x00\x00\x40\x11\x66\xc6\x0a\x00\x00\x01\x0a\x00\x00\x02\x00\x01\x00\x02\x00\x10\
+    \xdb\xb4\x01\x02\x03\x04\x05\x06\x07\x08\x01\xf1\x53\x65\x90\xd0\x03\x00\x2a\x00\
+    \x00\x00\x2a\x00\x00\x00\xff\xff\xff\xff\xff\xff\x02\x00\x00\x00\x00\x01\x08\x06\
+    \x00\x01\x08\x00\x06\x04\x00\x01\x02\x00\x00\x00\x00\x01\x0a\x00\x00\x01\x00\x00\
+    \x00\x00\x00\x00\x0a\x00\x00\x02\
+";
+
+pub(super) const BIG_MICROSECONDS: &[u8; 148] = b"\
+    \xa1\xb2\xc3\xd4\x00\x02\x00\x04\x00\x00\x00\x00\x00\x00\x00\x00\x00\x00\xff\xff\
+    \x00\x00\x00\x01\x65\x53\xf1\x00\x00\x03\xd0\x90\x00\x00\x00\x32\x00\x00\x00\x32\
+    \x02\x00\x00\x00\x00\x02\x02\x00\x00\x00\x00\x01\x08\x00\x45\x00\x00\x24\x00\x01\
+    \x00\x00\x40\x11\x66\xc6\x0a\x00\x00\x01\x0a\x00\x00\x02\x00\x01\x00\x02\x00\x10\
+    \xdb\xb4\x01\x02\x03\x04\x05\x06\x07\x08\x65\x53\xf1\x01\x00\x03\xd0\x90\x00\x00\
+    \x00\x2a\x00\x00\x00\x2a\xff\xff\xff\xff\xff\xff\x02\x00\x00\x00\x00\x01\x08\x06\
+    \x00\x01\x08\x00\x06\x04\x00\x01\x02\x00\x00\x00\x00\x01\x0a\x00\x00\x01\x00\x00\
+    \x00\x00\x00\x00\x0a\x00\x00\x02\
+";
+
+pub(super) const LITTLE_NANOSECONDS: &[u8; 148] = b"\
+    \x4d\x3c\xb2\xa1\x02\x00\x04\x00\x00\x00\x00\x00\x00\x00\x00\x00\xff\xff\x00\x00\
+    \x01\x00\x00\x00\x00\xf1\x53\x65\x80\xb2\xe6\x0e\x32\x00\x00\x00\x32\x00\x00\x00\
+    \x02\x00\x00\x00\x00\x02\x02\x00\x00\x00\x00\x01\x08\x00\x45\x00\x00\x24\x00\x01\
+    \x00\x00\x40\x11\x66\xc6\x0a\x00\x00\x01\x0a\x00\x00\x02\x00\x01\x00\x02\x00\x10\
+    \xdb\xb4\x01\x02\x03\x04\x05\x06\x07\x08\x01\xf1\x53\x65\x80\xb2\xe6\x0e\x2a\x00\
+    \x00\x00\x2a\x00\x00\x00\xff\xff\xff\xff\xff\xff\x02\x00\x00\x00\x00\x01\x08\x06\
+    \x00\x01\x08\x00\x06\x04\x00\x01\x02\x00\x00\x00\x00\x01\x0a\x00\x00\x01\x00\x00\
+    \x00\x00\x00\x00\x0a\x00\x00\x02\
+";
+
+pub(super) const BIG_NANOSECONDS: &[u8; 148] = b"\
+    \xa1\xb2\x3c\x4d\x00\x02\x00\x04\x00\x00\x00\x00\x00\x00\x00\x00\x00\x00\xff\xff\
+    \x00\x00\x00\x01\x65\x53\xf1\x00\x0e\xe6\xb2\x80\x00\x00\x00\x32\x00\x00\x00\x32\
+    \x02\x00\x00\x00\x00\x02\x02\x00\x00\x00\x00\x01\x08\x00\x45\x00\x00\x24\x00\x01\
+    \x00\x00\x40\x11\x66\xc6\x0a\x00\x00\x01\x0a\x00\x00\x02\x00\x01\x00\x02\x00\x10\
+    \xdb\xb4\x01\x02\x03\x04\x05\x06\x07\x08\x65\x53\xf1\x01\x0e\xe6\xb2\x80\x00\x00\
+    \x00\x2a\x00\x00\x00\x2a\xff\xff\xff\xff\xff\xff\x02\x00\x00\x00\x00\x01\x08\x06\
+    \x00\x01\x08\x00\x06\x04\x00\x01\x02\x00\x00\x00\x00\x01\x0a\x00\x00\x01\x00\x00\
+    \x00\x00\x00\x00\x0a\x00\x00\x02\
+";
+
+#[test]
+fn each_byte_order_and_time_unit(rt: HostRuntime) -> Result<(), Fail> {
+    let alloc = rt.alloc();
+    for file in [
+        LITTLE_MICROSECONDS.as_slice(),
+        BIG_MICROSECONDS.as_slice(),
+        LITTLE_NANOSECONDS.as_slice(),
+        BIG_NANOSECONDS.as_slice(),
+    ] {
+        let (result, lines) = lines_of(alloc, file)?;
+        assert_eq!(rt; result, Ok(()));
+        assert_eq!(rt; lines.as_slice(), LINES.as_slice());
+    }
+    Ok(())
+}
+
+// The file header has 24 bytes, the packet records 16 + 50 and 16 + 42; the lines 109 and 93.
+#[test]
+fn each_front(rt: HostRuntime) -> Result<(), Fail> {
+    for n in 0..=148 {
+        let (result, lines) = lines_of(rt.alloc(), &BIG_MICROSECONDS[..n])?;
+        let cut = Err(RunError::Capture(CaptureError::CutOff));
+        let (wanted, len) = match n {
+            0..=23 => (Err(RunError::Capture(CaptureError::NotCapture)), 0),
+            24 => (Ok(()), 0),
+            25..=89 => (cut, 0),
+            90 => (Ok(()), 109),
+            91..=147 => (cut, 109),
+            _ => (Ok(()), 202),
+        };
+        assert_eq!(rt; result, wanted);
+        assert_eq!(rt; lines.as_slice(), &LINES[..len]);
+    }
+    Ok(())
+}
+
+// The result and the lines with other bytes at a place.
+fn with_bytes(
+    alloc: Global,
+    at: usize,
+    bytes: &[u8],
+) -> Result<(Result<(), RunError>, Vec<u8>), AllocError>
+    requires { at + length bytes.now ≤ 148 }
+{
+    let mut file = *BIG_MICROSECONDS;
+    file[at..at + bytes.len()].copy_from_slice(bytes);
+    lines_of(alloc, &file)
+}
+
+#[test]
+fn each_refusal(rt: HostRuntime) -> Result<(), Fail> {
+    for (at, bytes, error, len) in [
+        // Another magic number.
+        (3, b"\xd5".as_slice(), CaptureError::NotCapture, 0),
+        // Version 2.3.
+        (7, b"\x03".as_slice(), CaptureError::NotCapture, 0),
+        // Version 1.4.
+        (5, b"\x01".as_slice(), CaptureError::NotCapture, 0),
+        // The link type of Linux cooked captures.
+        (23, b"\x71".as_slice(), CaptureError::LinkType(113), 0),
+        // 99,992 bytes of the second packet.
+        (
+            98,
+            b"\x00\x01\x86\x98".as_slice(),
+            CaptureError::FrameTooLong(99_992),
+            109,
+        ),
+        // 99,991 bytes, which aren't there.
+        (
+            98,
+            b"\x00\x01\x86\x97".as_slice(),
+            CaptureError::CutOff,
+            109,
+        ),
+    ] {
+        let (result, lines) = with_bytes(rt.alloc(), at, bytes)?;
+        assert_eq!(rt; result, Err(RunError::Capture(error)));
+        assert_eq!(rt; lines.len(), len);
+    }
+    Ok(())
+}
+
+// The upper half of the last number of a file header may tell of frame check sequences.
+#[test]
+fn frame_check_sequences_are_passed_over(rt: HostRuntime) -> Result<(), Fail> {
+    let (result, lines) = with_bytes(rt.alloc(), 20, b"\x24\x00")?;
+    assert_eq!(rt; result, Ok(()));
+    assert_eq!(rt; lines.as_slice(), LINES.as_slice());
+    Ok(())
+}
+
+// A packet of which no byte was captured stands between the header and nothing else.
+#[test]
+fn packet_of_no_bytes(rt: HostRuntime) -> Result<(), Fail> {
+    let mut file = Vec::from_slice(rt.alloc(), &LITTLE_MICROSECONDS[..24])?;
+    file.extend_from_slice(b"\0\0\0\0\0\0\0\0\0\0\0\0\x3c\0\0\0")?;
+    let (result, lines) = lines_of(rt.alloc(), file.as_slice())?;
+    assert_eq!(rt; result, Ok(()));
+    assert_eq!(rt; lines.len(), 0);
+    Ok(())
+}

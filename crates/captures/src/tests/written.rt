@@ -1,0 +1,32 @@
+//! Captures that are written.
+use super::classic::LITTLE_MICROSECONDS;
+use super::lines_of;
+use crate::Writer;
+use crate::device::ReaderWriter;
+use std::io;
+use std::test::Fail;
+
+// The frames and times of a file of scapy, whose snap length is 65,535.
+#[test]
+fn packets_are_those_of_scapy(rt: HostRuntime) -> Result<(), Fail> {
+    let wanted = LITTLE_MICROSECONDS.as_slice();
+    let (first, second) = (&wanted[40..90], &wanted[106..]);
+    let mut file = Vec::new(rt.alloc());
+    let mut nothing = io::empty();
+    let mut writer = Writer {
+        device: ReaderWriter {
+            reader: &mut nothing,
+            writer: &mut file,
+        },
+    };
+    assert_eq!(rt; writer.write_header(), Ok(()));
+    assert_eq!(rt; writer.write_packet(1_700_000_000, 250_000, first), Ok(()));
+    assert_eq!(rt; writer.write_packet(1_700_000_001, 250_000, second), Ok(()));
+    assert_eq!(rt; file.len(), 148);
+    assert_eq!(rt; &file.as_slice()[..16], &wanted[..16]);
+    assert_eq!(rt; &file.as_slice()[20..], &wanted[20..]);
+    let (result, lines) = lines_of(rt.alloc(), file.as_slice())?;
+    assert_eq!(rt; result, Ok(()));
+    assert_eq!(rt; lines.as_slice(), super::LINES.as_slice());
+    Ok(())
+}
