@@ -1,7 +1,6 @@
 //! The extension headers of IPv4.
 ghost use Rattle.std.specs.Prelude.{◌≡◌, ◌+◌, ◌≤◌, ◌<◌, ℕ, List, IfOk, IfErr, IsOkAnd, MatchOption, Err, Ok, None, Option, is_some, is_none, if◌then◌else◌, length, vec_len, vec_capacity};
-ghost use Rattle.ep_ext.specs.Auth.{auth_at};
-ghost use Rattle.ep_ext.specs.Ipv4Exts.{Ipv4Chain, ipv4_exts_of, number_behind, ipv4_exts_spelling, ipv4_linked, ipv4_walk_fault, NamesBehind, AppendsNamed};
+ghost use Rattle.ep_ext.specs.Ipv4Exts.{Ipv4Chain, auth_behind, ipv4_exts_of, number_behind, ipv4_exts_spelling, ipv4_linked, ipv4_walk_fault, NamesBehind, AppendsNamed};
 ghost use Rattle.ep_ext.specs.declared.err.ipv4_exts.header_write_error.HeaderWriteError.TheVariants.{Memory};
 
 use super::IpAuthHeader;
@@ -34,11 +33,11 @@ impl Ipv4Extensions {
         first: IpNumber,
         slice: &[u8],
     ) -> Result<(Ipv4Extensions, IpNumber, &[u8]), HeaderSliceError>
-        ensures found { IfOk result (λ r. (header : Option (List ℕ)) × Ipv4Chain first.0 slice.now header r.2.now
-            × (r.0 ≡ ipv4_exts_of header) × (r.1.0 ≡ number_behind first.0 header)) }
-        ensures only { (header : Option (List ℕ)) (rest : List ℕ) → Ipv4Chain first.0 slice.now header rest
-            → IsOkAnd result (λ r. (r.0 ≡ ipv4_exts_of header) × (r.1.0 ≡ number_behind first.0 header) × (r.2.now ≡ rest)) }
-        ensures err { IfErr result (λ e. (first.0 ≡ 51) × (auth_at slice.now ≡ Err e)) }
+        ensures found { IfOk result (λ r. (auth : Option (List ℕ)) × Ipv4Chain first.0 slice.now auth r.2.now
+            × (r.0 ≡ ipv4_exts_of auth) × (r.1.0 ≡ number_behind first.0 auth)) }
+        ensures only { (auth : Option (List ℕ)) (rest : List ℕ) → Ipv4Chain first.0 slice.now auth rest
+            → IsOkAnd result (λ r. (r.0 ≡ ipv4_exts_of auth) × (r.1.0 ≡ number_behind first.0 auth) × (r.2.now ≡ rest)) }
+        ensures err { IfErr result (λ e. auth_behind first.0 slice.now ≡ Err e) }
     {
         if first != IpNumber::AUTHENTICATION_HEADER {
             return Ok((Ipv4Extensions { auth: None }, first, slice));
@@ -59,12 +58,12 @@ impl Ipv4Extensions {
         slice: &[u8],
     ) -> (Ipv4Extensions, IpNumber, &[u8], Option<HeaderSliceError>)
         ensures found { MatchOption result.3
-            ((header : Option (List ℕ)) × Ipv4Chain first.0 slice.now header result.2.now
-                × (result.0 ≡ ipv4_exts_of header) × (result.1.0 ≡ number_behind first.0 header))
-            (λ e. (first.0 ≡ 51) × (auth_at slice.now ≡ Err e)
+            ((auth : Option (List ℕ)) × Ipv4Chain first.0 slice.now auth result.2.now
+                × (result.0 ≡ ipv4_exts_of auth) × (result.1.0 ≡ number_behind first.0 auth))
+            (λ e. (auth_behind first.0 slice.now ≡ Err e)
                 × (result.0 ≡ ipv4_exts_of None) × (result.1 ≡ first) × (result.2.now ≡ slice.now)) }
-        ensures only { (header : Option (List ℕ)) (rest : List ℕ) → Ipv4Chain first.0 slice.now header rest
-            → (result.0 ≡ ipv4_exts_of header) × (result.1.0 ≡ number_behind first.0 header)
+        ensures only { (auth : Option (List ℕ)) (rest : List ℕ) → Ipv4Chain first.0 slice.now auth rest
+            → (result.0 ≡ ipv4_exts_of auth) × (result.1.0 ≡ number_behind first.0 auth)
                 × (result.2.now ≡ rest) × (result.3 ≡ None) }
     {
         match Self::from_slice(first, slice) {
