@@ -59,12 +59,12 @@ impl Ipv4Extensions {
     ) -> (Ipv4Extensions, IpNumber, &[u8], Option<HeaderSliceError>)
         ensures found { MatchOption result.3
             ((auth : Option (List ℕ)) × Ipv4Chain first.0 slice.now auth result.2.now
-                × (result.0 ≡ ipv4_exts_of auth) × (result.1.0 ≡ number_behind first.0 auth))
+            × (result.0 ≡ ipv4_exts_of auth) × (result.1.0 ≡ number_behind first.0 auth))
             (λ e. (auth_behind first.0 slice.now ≡ Err e)
-                × (result.0 ≡ ipv4_exts_of None) × (result.1 ≡ first) × (result.2.now ≡ slice.now)) }
+            × (result.0 ≡ ipv4_exts_of None) × (result.1 ≡ first) × (result.2.now ≡ slice.now)) }
         ensures only { (auth : Option (List ℕ)) (rest : List ℕ) → Ipv4Chain first.0 slice.now auth rest
             → (result.0 ≡ ipv4_exts_of auth) × (result.1.0 ≡ number_behind first.0 auth)
-                × (result.2.now ≡ rest) × (result.3 ≡ None) }
+            × (result.2.now ≡ rest) × (result.3 ≡ None) }
     {
         match Self::from_slice(first, slice) {
             Ok((extensions, number, rest)) => (extensions, number, rest, None),
