@@ -1,0 +1,47 @@
+//! Laws of the headers of one value.
+ghost use Rattle.std.specs.Prelude.{◌≡◌, ℕ, List, ◌++◌, IsOkAnd, false, None, [], length};
+ghost use Rattle.ep_ext.specs.Follow.{Follows, has_place, walk_fault};
+ghost use Rattle.ep_ext.specs.Place.{place_of};
+ghost use Rattle.ep_ext.specs.Chain.{Row};
+ghost use Rattle.ep_ext.specs.Value.{Piece, bytes_of, value_of};
+
+use crate::Ipv6Extensions;
+use crate::err::ipv6_exts::{ExtsWalkError, HeaderSliceError};
+use ep_base::IpNumber;
+
+/// What `write` appends from a first number is read again from that number, whatever follows it,
+/// where the number behind it is of no header that has a place.
+pub fn written_chain_reads_back<'a>(
+    headers: &Ipv6Extensions,
+    first: IpNumber,
+    slice: &'a [u8],
+) -> Result<(Ipv6Extensions, IpNumber, &'a [u8]), HeaderSliceError>
+    ensures { (pieces : List Piece) (last : ℕ) (rest : List ℕ)
+        → Follows headers.now first.0 pieces last → walk_fault headers.now pieces last ≡ None
+        → has_place last ≡ false → slice.now ≡ bytes_of pieces ++ rest
+        → IsOkAnd result (λ r. (r.0 ≡ headers.now) × (r.1.0 ≡ last) × (r.2.now ≡ rest)) }
+{
+    headers.fit();
+    Ipv6Extensions::from_slice(first, slice)
+}
+
+/// Headers that all follow one another have the length of all together.
+pub fn written_chain_has_header_len(headers: &Ipv6Extensions) -> usize
+    ensures { (first : ℕ) (pieces : List Piece) (last : ℕ)
+        → Follows headers.now first pieces last → walk_fault headers.now pieces last ≡ None
+        → length (bytes_of pieces) ≡ result }
+{
+    headers.header_len()
+}
+
+/// A value that was read from headers in a row is followed along that row: the number behind it is
+/// the row's.
+pub fn read_chain_is_followed(
+    headers: &Ipv6Extensions,
+    first: IpNumber,
+) -> Result<IpNumber, ExtsWalkError>
+    ensures { (pieces : List Piece) (last : ℕ) → Row place_of [] first.0 pieces last
+        → headers.now ≡ value_of pieces → IsOkAnd result (λ number. number.0 ≡ last) }
+{
+    headers.next_header(first)
+}
