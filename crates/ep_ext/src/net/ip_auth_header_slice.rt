@@ -58,7 +58,7 @@ impl<'a> IpAuthHeaderSlice<'a> {
         if slice[1] == 0 {
             return Err(HeaderSliceError::Content(HeaderError::ZeroPayloadLen));
         }
-        let len = (usize::from(slice[1]) + 2) * 4;
+        let len = IpAuthHeader::len_by(slice[1]);
         if slice.len() < len {
             return Err(HeaderSliceError::Len(want(len, slice.len())));
         }

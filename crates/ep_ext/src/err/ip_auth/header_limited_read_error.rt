@@ -1,4 +1,8 @@
+ghost use Rattle.std.specs.Prelude.{◌≡◌};
+ghost use Rattle.ep_ext.specs.Reads.{auth_error};
+
 use super::HeaderError;
+use crate::err::io::LimitedReadError;
 use ep_base::err::LenError;
 use std::io;
 use thiserror::Error;
@@ -15,4 +19,15 @@ pub enum HeaderLimitedReadError {
     /// The bytes are there, and are no header.
     #[error("{0}")]
     Content(HeaderError),
+}
+
+impl From<LimitedReadError> for HeaderLimitedReadError {
+    ghost from_gives = { λ error r. r ≡ auth_error error };
+
+    fn from(error: LimitedReadError) -> Self {
+        match error {
+            LimitedReadError::Io(error) => HeaderLimitedReadError::Io(error),
+            LimitedReadError::Len(error) => HeaderLimitedReadError::Len(error),
+        }
+    }
 }
