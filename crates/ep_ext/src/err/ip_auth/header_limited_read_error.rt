@@ -1,0 +1,18 @@
+use super::HeaderError;
+use ep_base::err::LenError;
+use std::io;
+use thiserror::Error;
+
+/// Why no authentication header could be read from a reader with a limit.
+#[derive(Debug, Drop, Error)]
+pub enum HeaderLimitedReadError {
+    /// A read failed, or the reader ended within the header.
+    #[error("{0}")]
+    Io(io::Error),
+    /// The header goes beyond the limit.
+    #[error("{0}")]
+    Len(LenError),
+    /// The bytes are there, and are no header.
+    #[error("{0}")]
+    Content(HeaderError),
+}
