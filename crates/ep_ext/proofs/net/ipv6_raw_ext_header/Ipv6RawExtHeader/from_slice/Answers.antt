@@ -1,4 +1,4 @@
-use Rattle.std.proofs.Common.{ap, ◌∙◌}
+use Rattle.std.proofs.Common.{◌∙◌}
 use Rattle.ep_ext.proofs.Alone.{raw_read}
 use Rattle.ep_ext.proofs.net.ipv6_raw_ext_header.Ipv6RawExtHeader.from_slice.Goals as goal
 
