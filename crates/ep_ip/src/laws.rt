@@ -3,3 +3,4 @@
 
 pub mod ipv4;
 pub mod ipv6;
+pub mod traits;
