@@ -5,7 +5,7 @@ use Rattle.ep_ext.specs.contracts.net.ipv6_routing_extensions.Ipv6RoutingExtensi
 use Rattle.ep_ext.specs.contracts.net.ipv6_fragment_header.Ipv6FragmentHeaderPartialEq.TheImpl as fragment
 use Rattle.ep_ext.specs.contracts.net.ip_auth_header.IpAuthHeaderPartialEq.TheImpl as auth
 use Rattle.ep_ext.specs.declared.net.ipv6_extensions.Ipv6Extensions.{Ipv6Extensions}
-use Rattle.ep_ext.proofs.laws.extensions.ipv6_extensions_are_equal_as_fields.Goals as goal
+use Rattle.ep_ext.proofs.laws.traits.equals_are_same.Goals as goal
 
 abbrev Tests : {A : Type 0} → Bool → A → A → Type 0
 Tests test a b = (test ≡ true → a ≡ b) × (a ≡ b → test ≡ true)
@@ -36,14 +36,12 @@ all_five a b p q r s t result e u v w x y = (
       refl,
 )
 
-pub returns : goal.returns
-returns c =
-    let a = c.args.a.now in
-    let b = c.args.b.now in
+pub returns-clause-ipv6_extensions : goal.returns-clause-ipv6_extensions
+returns-clause-ipv6_extensions c = λ a b.
     all_five a b
     (option_eq raw.eq-value.it a.hop_by_hop_options b.hop_by_hop_options)
     (option_eq raw.eq-value.it a.destination_options b.destination_options)
     (option_eq routing.eq-value.it a.routing b.routing)
     (option_eq fragment.eq-value.it a.fragment b.fragment)
     (option_eq auth.eq-value.it a.auth b.auth)
-    c.eq.result c.eq.ensures (search rules) (search rules) (search rules) (search rules) (search rules)
+    _ refl (search rules) (search rules) (search rules) (search rules) (search rules)
