@@ -1,5 +1,7 @@
 //! The extension headers of IPv4.
-ghost use Rattle.std.specs.Prelude.{◌≡◌, ◌+◌, ◌≤◌, ◌<◌, ℕ, List, IfOk, IfErr, IsOkAnd, MatchOption, Err, Ok, None, Option, is_some, is_none, if◌then◌else◌, length, vec_len, vec_capacity};
+ghost use Rattle.std.specs.Prelude.{◌≡◌, ◌+◌, ◌≤◌, ◌<◌, ℕ, List, IfOk, IfErr, IsOkAnd, MatchOption, Err, Ok, None, Some, Option, is_some, is_none, if◌then◌else◌, length, vec_len, vec_capacity};
+ghost use Rattle.ep_ext.specs.Auth.{IsAuth, auth_of, auth_spelling};
+ghost use Rattle.ep_ext.specs.declared.net.ip_auth_header.IpAuthHeader.{IpAuthHeader};
 ghost use Rattle.ep_ext.specs.Ipv4Exts.{Ipv4Chain, auth_behind, ipv4_exts_of, number_behind, ipv4_exts_spelling, ipv4_linked, ipv4_walk_fault, NamesBehind, AppendsNamed};
 ghost use Rattle.ep_ext.specs.declared.err.ipv4_exts.header_write_error.HeaderWriteError.TheVariants.{Memory};
 
@@ -144,5 +146,15 @@ impl Ipv4Extensions {
         ensures { result ≡ is_none self.now.auth }
     {
         self.auth.is_none()
+    }
+
+    // A header that is held has whole bytes, which are read as that header.
+    pub(crate) fn has_whole_header(&self)
+        ensures { (header : IpAuthHeader) → self.now.auth ≡ Some header
+            → IsAuth (auth_spelling header) × (auth_of (auth_spelling header) ≡ header) }
+    {
+        if let Some(header) = &self.auth {
+            header.header_len();
+        }
     }
 }
