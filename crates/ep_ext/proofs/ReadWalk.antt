@@ -3,6 +3,8 @@ use Rattle.std.proofs.Common.{◌≡◌, ℕ, ◌+◌, ◌<◌, ◌≤◌, false
 use Rattle.std.proofs.KnownBytes.{Consumes-trans}
 use Rattle.std.proofs.lemmas.List.{length-append}
 use Rattle.std.specs.Io.KnownBytes.{Consumes}
+use Rattle.ep_ext.specs.Limited.{Limited, Takes, started}
+use Rattle.ep_ext.specs.ReadsExts.{TakesRow, read_layer}
 use Rattle.ep_ext.specs.Passed.{Shows, added, place_behind}
 use Rattle.ep_ext.specs.Place.{place_of}
 use Rattle.ep_ext.specs.Value.{Piece, places, bytes_of, value_of, put}
@@ -83,3 +85,9 @@ consumes_more old between new place header more pieces kept =
 pub consumes_none : (known : Option (List ℕ)) → Consumes known known []
 consumes_none None = tt
 consumes_none (Some bytes) = refl
+
+-- one more header that was taken within the limit
+pub takes_row_more : {T : Type 0} (remaining : T → Option (List ℕ)) (old between new : Limited T) (pieces : List Piece) (place : Ipv6ExtPlace) (header : List ℕ) →
+    TakesRow remaining old pieces between → Takes remaining (started between (read_layer place)) header new → TakesRow remaining old (pieces ++ (place, header) ∷ []) new
+takes_row_more {T = T} remaining old between new [] place header row more = (new, subst (λ (r : Limited T). Takes remaining (started r (read_layer place)) header new) row more, refl)
+takes_row_more remaining old between new (piece ∷ pieces) place header row more = (row.0, row.1, takes_row_more remaining row.0 between new pieces place header row.2 more)
