@@ -4,6 +4,7 @@ use Rattle.std.proofs.lemmas.Bool.{eqb-true}
 use Rattle.ep_base.specs.declared.net.ip_number.IpNumber.{IpNumber}
 use Rattle.ep_ext.specs.Auth.{IsAuth, auth_of, auth_spelling}
 use Rattle.ep_ext.specs.Ipv4Exts.{Ipv4Chain, NamesBehind, auth_number, ipv4_exts_of, ipv4_exts_spelling, number_behind}
+use Rattle.ep_ext.specs.ReadsIpv4Exts.{IsOfAuth}
 use Rattle.ep_ext.specs.declared.err.ip_auth.header_slice_error.HeaderSliceError.{HeaderSliceError}
 use Rattle.ep_ext.specs.declared.err.ipv4_exts.exts_walk_error.ExtsWalkError.{ExtsWalkError}
 use Rattle.ep_ext.specs.declared.net.ip_auth_header.IpAuthHeader.{IpAuthHeader}
@@ -71,3 +72,12 @@ pub ipv4_reads_back : (value : Ipv4Extensions) (first : ℕ) (bytes : List ℕ) 
     (number : IpNumber) (rest : List ℕ) → NamesBehind value first (Ok number) → (value.auth ≡ None → first ≡ auth_number → ⊥) →
     bytes ≡ ipv4_exts_spelling value ++ rest → IsOkAnd answer (λ r. (r.0 ≡ value) × (r.1.0 ≡ number.0) × (r.2.now ≡ rest))
 ipv4_reads_back value first bytes answer only whole number rest named unnamed cut = by_header value.auth first bytes answer only whole number rest named unnamed cut
+
+-- the answer for a header that was read
+pub answer_of : (first : ℕ) (bytes : List ℕ) (header : IpAuthHeader) (answer : Ipv4Extensions × IpNumber) → first ≡ auth_number → IsAuth bytes → header ≡ auth_of bytes →
+    ◌≡◌ {A = Ipv4Extensions × IpNumber} answer (record { auth = Some header }, header.next_header) → IsOfAuth first (Some bytes) answer
+answer_of first bytes header answer is whole read gives = record {
+  named = (is, whole);
+  value = ap (λ (x : Ipv4Extensions × IpNumber). x.0) gives ∙ ap (λ (h : IpAuthHeader). record { auth = Some h }) read;
+  number = ap (λ (x : Ipv4Extensions × IpNumber). x.1.0) gives ∙ ap (λ (h : IpAuthHeader). h.next_header.0) read;
+}

@@ -107,7 +107,7 @@ same_second header rest front behind same enough fits =
     sym (second front behind fits) ∙ ap (λ (xs : List ℕ). get_or xs 1 0) (sym same) ∙ second header rest enough
 
 -- 12 bytes of a length byte that is not 0 have no fault
-not_zero : (front : List ℕ) (e : HeaderError) (b : ℕ) → auth_at front ≡ Err (auth_slice.Content e) → length front ≡ 12 → get_or front 1 0 ≡ suc b → ⊥
+pub not_zero : (front : List ℕ) (e : HeaderError) (b : ℕ) → auth_at front ≡ Err (auth_slice.Content e) → length front ≡ 12 → get_or front 1 0 ≡ suc b → ⊥
 not_zero front e b fault whole is =
     auth_front (ltb (length front) (auth_len front)) (take (auth_len front) front) e (length front) (auth_len front)
     (sym (rw (le-ltb (length front) 12 (omega arith), ne_eqb (get_or front 1 0) 0 (omega arith)) refl) ∙ fault)
