@@ -1,10 +1,8 @@
 -- What is read from the bytes of an authentication header is spelled by them, reserved bytes aside.
-use Rattle.std.proofs.Common.{◌≡◌, ℕ, zero, suc, ◌+◌, ◌*◌, ◌/◌, ◌%◌, ◌^◌, ◌<◌, cond, eqb, List, [], ◌∷◌, ◌++◌, length, take, drop, get_or, arith, sym, refl, ap, ◌∙◌}
+use Rattle.std.proofs.Common.{◌≡◌, ℕ, ◌+◌, ◌*◌, ◌/◌, ◌%◌, ◌^◌, ◌<◌, List, length, drop, get_or, arith, refl}
 use Rattle.std.proofs.lemmas.List.{length-drop}
 use Rattle.ep_base.specs.Bytes.{IsBytes}
-use Rattle.ep_base.proofs.Cells.{cells, drop-cells, take-drop-cells}
-use Rattle.ep_ext.specs.Raw.{IsRawExt, raw_of, raw_spelling}
-use Rattle.ep_ext.specs.Fragment.{IsFragment, fragment_of, fragment_spelling, fragment_cleared}
+use Rattle.ep_base.proofs.Cells.{drop-cells, take-drop-cells}
 use Rattle.ep_ext.specs.Auth.{IsAuth, auth_of, auth_spelling, auth_cleared}
 
 digits_of : (a b c d : ℕ) → a < 256 → b < 256 → c < 256 → d < 256 → let n = 256 * (256 * (256 * a + b) + c) + d in

@@ -1,4 +1,4 @@
-use Rattle.std.proofs.Common.{◌≡◌, IsOkAnd, refl, subst}
+use Rattle.std.proofs.Common.{◌≡◌, IsOkAnd, subst}
 use Rattle.ep_ext.specs.Auth.{auth_of, auth_spelling}
 use Rattle.ep_ext.specs.declared.net.ip_auth_header.IpAuthHeader.{IpAuthHeader}
 use Rattle.ep_ext.proofs.laws.headers.auth_header_is_read_again.Goals as goal
