@@ -48,7 +48,7 @@ fault_by front behind e (suc b) fault is = absurd (not_zero front e b fault.faul
 
 module _ (first : ℕ) (pieces : List Piece) (last : ℕ) (rest : List ℕ) (whole : IsWholeRow first pieces last) where
   -- the headers behind which another was not read are all of them
-  alone : (old between : Option (List ℕ)) (ps : List Piece) (number : ℕ) → old ≡ Some (bytes_of pieces ++ rest) → Row place_of [] first ps number → Consumes old between (bytes_of ps) →
+  pub alone : (old between : Option (List ℕ)) (ps : List Piece) (number : ℕ) → old ≡ Some (bytes_of pieces ++ rest) → Row place_of [] first ps number → Consumes old between (bytes_of ps) →
       ((behind : List ℕ) → between ≡ Some behind → IsEnd place_of (places ps) number behind) → (ps ≡ pieces) × (number ≡ last)
   alone old between ps number known row consumed ended =
       let given = consumed_some old between (bytes_of pieces ++ rest) (bytes_of ps) known consumed in
@@ -56,7 +56,7 @@ module _ (first : ℕ) (pieces : List Piece) (last : ℕ) (rest : List ℕ) (who
       let same = chain_alone place_of first (bytes_of pieces ++ rest) ps pieces number last given.0 rest chain (whole_chain first pieces last rest whole) in
       (same.0, same.1)
 
-  auth_end : (old between new : Option (List ℕ)) (ps : List Piece) (number : ℕ) (front : List ℕ) (e : AuthFault) → place_of (places ps) number ≡ Some Authentication → HasContentFault front e →
+  pub auth_end : (old between new : Option (List ℕ)) (ps : List Piece) (number : ℕ) (front : List ℕ) (e : AuthFault) → place_of (places ps) number ≡ Some Authentication → HasContentFault front e →
       Consumes between new front → (behind : List ℕ) → between ≡ Some behind → IsEnd place_of (places ps) number behind
   auth_end old between new ps number front e free fault consumed behind is =
       let given = consumed_some between new behind front is consumed in

@@ -34,7 +34,23 @@ impl Ipv6Extensions {
     ) -> Result<(Ipv6Extensions, IpNumber), HeaderLimitedReadError>
         // The reader gave headers in a row within its limit, and they are read so.
         ensures found { IfOk result (ReadsRowWithin R.remaining first.0 reader.old reader.new) }
+        // Where headers in a row are next and within the limit, they are read, or a read failed.
+        ensures only { (pieces : List Piece) (last : ℕ) (rest : List ℕ) → IsWholeRow first.0 pieces last
+            → R.remaining reader.old.reader ≡ Some (bytes_of pieces ++ rest)
+            → length (bytes_of pieces) ≤ reader.old.max_len - reader.old.read_len
+            → MatchResult result (λ r. (r.0 ≡ value_of pieces) × (r.1.0 ≡ last)
+            × (R.remaining reader.new.reader ≡ Some rest)) IsExtsLimitedIo }
         // Else a read failed, the limit is too low, or the next is no header.
+        ensures err { IfErr result (λ e. RefusesRowWithin R.remaining first.0 reader.old e reader.new) }
+    {
+        Self::read_row_within(reader, first)
+    }
+
+    fn read_row_within<R: Read>(
+        reader: &mut LimitedReader<R>,
+        first: IpNumber,
+    ) -> Result<(Ipv6Extensions, IpNumber), HeaderLimitedReadError>
+        ensures found { IfOk result (ReadsRowWithin R.remaining first.0 reader.old reader.new) }
         ensures err { IfErr result (λ e. RefusesRowWithin R.remaining first.0 reader.old e reader.new) }
     {
         let mut extensions = Ipv6Extensions::default();
