@@ -5,7 +5,7 @@ use Rattle.std.proofs.lemmas.List.{length-append}
 use Rattle.std.specs.Io.KnownBytes.{Consumes}
 use Rattle.ep_ext.specs.Limited.{Limited, Takes, started}
 use Rattle.ep_ext.specs.ReadsExts.{TakesRow, read_layer}
-use Rattle.ep_ext.specs.Passed.{Shows, added, place_behind}
+use Rattle.ep_ext.specs.Passed.{Shows, with_place, place_behind}
 use Rattle.ep_ext.specs.Place.{place_of}
 use Rattle.ep_ext.specs.Value.{Piece, places, bytes_of, value_of, put}
 use Rattle.ep_ext.specs.Chain.{IsPiece, Row}
@@ -43,27 +43,27 @@ place_next : (P : List Piece → Type 0) (first : ℕ) (value : Ipv6Extensions) 
 place_next P first value passed number given place is = sym (place_shown passed (places given.pieces) number given.shown) ∙ is
 
 weigh_less : (P : List Piece → Type 0) (first : ℕ) (value : Ipv6Extensions) (passed : Passed) (number : ℕ) (given : Given P first value passed number) (place : Ipv6ExtPlace) →
-    place_behind passed number ≡ Some place → weigh (λ _. 1) (added passed place) + 1 ≡ weigh (λ _. 1) passed
+    place_behind passed number ≡ Some place → weigh (λ _. 1) (with_place passed place) + 1 ≡ weigh (λ _. 1) passed
 weigh_less P first value passed number given place free =
     let free_here = place_next P first value passed number given (Some place) free in
     weigh_added (λ _. 1) passed place (flag_shown passed (places given.pieces) given.shown place ∙ open_free (places given.pieces) place (place_open (places given.pieces) number place free_here))
 
 pub given_fewer : (P : List Piece → Type 0) (first : ℕ) (value : Ipv6Extensions) (passed : Passed) (number : ℕ) (place : Ipv6ExtPlace) →
-    Given P first value passed number → place_behind passed number ≡ Some place → weigh (λ _. 1) (added passed place) < weigh (λ _. 1) passed
+    Given P first value passed number → place_behind passed number ≡ Some place → weigh (λ _. 1) (with_place passed place) < weigh (λ _. 1) passed
 given_fewer P first value passed number place given free = omega (arith, weigh_less P first value passed number given place free)
 
 pub given_more : (P Q : List Piece → Type 0) (first : ℕ) (value : Ipv6Extensions) (passed : Passed) (number : ℕ) →
     (place : Ipv6ExtPlace) (header : List ℕ) (next : ℕ) (new : Ipv6Extensions) →
     Given P first value passed number → place_behind passed number ≡ Some place → IsPiece place header →
     next ≡ get_or header 0 0 → new ≡ put value place header → ((pieces : List Piece) → P pieces → Q (pieces ++ (place, header) ∷ [])) →
-    Given Q first new (added passed place) next
+    Given Q first new (with_place passed place) next
 given_more P Q first value passed number place header next new given free piece named put_is more =
     let free_here = place_next P first value passed number given (Some place) free in
     let final = row_behind [] first given.pieces number given.row (λ e. e) in
     record {
       pieces = given.pieces ++ (place, header) ∷ [];
       row = subst (Row place_of [] first (given.pieces ++ (place, header) ∷ [])) (sym named) (row_more place_of [] first given.pieces number place header given.row free_here piece);
-      shown = subst (Shows (added passed place)) (sym (places_more given.pieces place header)) (shows_more passed (places given.pieces) place given.shown);
+      shown = subst (Shows (with_place passed place)) (sym (places_more given.pieces place header)) (shows_more passed (places given.pieces) place given.shown);
       count = omega (arith, given.count, length-append given.pieces ((place, header) ∷ []), weigh_less P first value passed number given place free);
       value_is = put_is ∙ ap (λ (v : Ipv6Extensions). put v place header) given.value_is ∙ sym (value_more given.pieces place header (place_open (places given.pieces) number place free_here) final);
       kept = more given.pieces given.kept;

@@ -73,7 +73,7 @@ AppendsNamed value first old new (Err Memory) = (new ≡ old) × (ipv4_walk_faul
 AppendsNamed value first old new (Err (Content e)) = (new ≡ old) × (ipv4_walk_fault value first ≡ Some e)
 
 -- the value whose header names this number
-abbrev pub ipv4_linked : Ipv4Extensions → ℕ → Ipv4Extensions
-ipv4_linked value last = record {
+abbrev pub ipv4_with_link : Ipv4Extensions → ℕ → Ipv4Extensions
+ipv4_with_link value last = record {
   auth = option_map {T = IpAuthHeader} (λ h. record h { next_header = record { 0 = last } }) value.auth;
 }

@@ -23,7 +23,7 @@ pub fn written_chain_reads_back<'a>(
         → has_place last ≡ false → slice.now ≡ bytes_of pieces ++ rest
         → IsOkAnd result (λ r. (r.0 ≡ headers.now) × (r.1.0 ≡ last) × (r.2.now ≡ rest)) }
 {
-    headers.fit();
+    headers.has_whole_headers();
     Ipv6Extensions::from_slice(first, slice)
 }
 

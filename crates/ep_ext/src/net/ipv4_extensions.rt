@@ -2,7 +2,7 @@
 ghost use Rattle.std.specs.Prelude.{◌≡◌, ◌+◌, ◌≤◌, ◌<◌, ℕ, List, IfOk, IfErr, IsOkAnd, MatchOption, Err, Ok, None, Some, Option, is_some, is_none, if◌then◌else◌, length, vec_len, vec_capacity};
 ghost use Rattle.ep_ext.specs.Auth.{IsAuth, auth_of, auth_spelling};
 ghost use Rattle.ep_ext.specs.declared.net.ip_auth_header.IpAuthHeader.{IpAuthHeader};
-ghost use Rattle.ep_ext.specs.Ipv4Exts.{Ipv4Chain, auth_behind, ipv4_exts_of, number_behind, ipv4_exts_spelling, ipv4_linked, ipv4_walk_fault, NamesBehind, AppendsNamed};
+ghost use Rattle.ep_ext.specs.Ipv4Exts.{Ipv4Chain, auth_behind, ipv4_exts_of, number_behind, ipv4_exts_spelling, ipv4_with_link, ipv4_walk_fault, NamesBehind, AppendsNamed};
 ghost use Rattle.ep_ext.specs.declared.err.ipv4_exts.header_write_error.HeaderWriteError.TheVariants.{Memory};
 
 use super::IpAuthHeader;
@@ -128,7 +128,7 @@ impl Ipv4Extensions {
     /// Makes the header name `last`, and answers the number that names the header; `last` itself
     /// where there is no header.
     pub fn set_next_headers(&mut self, last: IpNumber) -> IpNumber
-        ensures linked { self.new ≡ ipv4_linked self.old last.0 }
+        ensures linked { self.new ≡ ipv4_with_link self.old last.0 }
         ensures first { result.0 ≡ (if is_some self.old.auth then 51 else last.0) }
         ensures chained { NamesBehind self.new result.0 (Ok last) }
     {
