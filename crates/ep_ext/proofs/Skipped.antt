@@ -1,0 +1,97 @@
+-- Headers in a row, as the walk that skips them sees them.
+use Rattle.std.proofs.Common.{◌≡◌, ℕ, true, false, eqb, List, [], ◌∷◌, ◌++◌, Some, Result, Ok, Err, Bor, IsOkAnd, length, arith, refl, sym, ap, ◌∙◌, subst, ⊎_elim}
+use Rattle.std.specs.Prelude.{IsTrue}
+use Rattle.std.specs.List.{concat}
+use Rattle.std.proofs.lemmas.Bool.{eqb-true}
+use Rattle.ep_base.specs.declared.err.len_error.LenError.{LenError}
+use Rattle.ep_base.specs.declared.net.ip_number.IpNumber.{IpNumber}
+use Rattle.ep_ip.specs.Skip.{IsWhole, Skips, Walk, Gives, is_skipped, outcome}
+use Rattle.ep_ext.specs.Place.{Order, KeepsNumbers, number_of, is_passed, once, in_front, place_of}
+use Rattle.ep_ext.specs.Value.{Piece, bytes_of}
+use Rattle.ep_ext.specs.Chain.{IsPiece, Row, Chain}
+use Rattle.ep_ext.specs.declared.net.ipv6_ext_place.Ipv6ExtPlace.{Ipv6ExtPlace}
+use Rattle.ep_ext.specs.declared.net.ipv6_ext_place.Ipv6ExtPlace.TheVariants.{HopByHop, Destination, Routing, Fragment, Authentication, FinalDestination}
+use Rattle.ep_ext.proofs.Fronts.{ok_same, ok_err}
+use Rattle.ep_ext.proofs.Rows.{some_same, none_some}
+use Rattle.ep_ext.proofs.Values.{one_of, once_open}
+
+abbrev headers_of : List Piece → List (List ℕ)
+headers_of [] = []
+headers_of (piece ∷ pieces) = piece.1 ∷ headers_of pieces
+
+concat_headers : (pieces : List Piece) → concat (headers_of pieces) ≡ bytes_of pieces
+concat_headers [] = refl
+concat_headers (piece ∷ pieces) = ap (λ (xs : List ℕ). piece.1 ++ xs) (concat_headers pieces)
+
+skipped : (place : Ipv6ExtPlace) → IsTrue (is_skipped (number_of place))
+skipped HopByHop = refl
+skipped Destination = refl
+skipped Routing = refl
+skipped Fragment = refl
+skipped Authentication = refl
+skipped FinalDestination = refl
+
+whole : (place : Ipv6ExtPlace) (header : List ℕ) → IsPiece place header → IsWhole (number_of place) header
+whole HopByHop header piece = record { begun = omega (arith, piece.least); whole = piece.whole }
+whole Destination header piece = record { begun = omega (arith, piece.least); whole = piece.whole }
+whole Routing header piece = record { begun = omega (arith, piece.least); whole = piece.whole }
+whole Fragment header piece = record { begun = omega (arith, piece.whole); whole = piece.whole }
+whole Authentication header piece = record { begun = omega (arith, piece.least); whole = piece.whole }
+whole FinalDestination header piece = record { begun = omega (arith, piece.least); whole = piece.whole }
+
+row_skips : (order : Order) (passed : List Ipv6ExtPlace) (number : ℕ) (pieces : List Piece) (last : ℕ) → KeepsNumbers order →
+    Row order passed number pieces last → Skips number (headers_of pieces) last
+row_skips order passed number [] last keeps row = row
+row_skips order passed number (piece ∷ pieces) last keeps row =
+    let is : number_of piece.0 ≡ number = keeps passed number piece.0 row.0 in (
+      subst (λ (n : ℕ). IsTrue (is_skipped n)) is (skipped piece.0),
+      subst (λ (n : ℕ). IsWhole n piece.1) is (whole piece.0 piece.1 row.1),
+      row_skips order (passed ++ piece.0 ∷ []) _ pieces last keeps row.2,
+    )
+
+given : (last : ℕ) (rest : List ℕ) (answer : Result (IpNumber × Bor (List ℕ)) LenError) → Gives (Ok (last, rest)) answer →
+    IsOkAnd answer (λ r. (r.0.0 ≡ last) × (r.1.now ≡ rest))
+given last rest (Ok r) gives =
+    let same : ◌≡◌ {A = ℕ × List ℕ} (last, rest) (r.0.0, r.1.now) = ok_same (last, rest) (r.0.0, r.1.now) gives in
+    (sym (ap (λ (x : ℕ × List ℕ). x.0) same), sym (ap (λ (x : ℕ × List ℕ). x.1) same))
+given last rest (Err e) gives = absurd (ok_err (last, rest) e gives)
+
+-- the walk gives the number and the rest of a chain
+pub chain_skips : (first : ℕ) (bytes : List ℕ) (answer : Result (IpNumber × Bor (List ℕ)) LenError) →
+    ((headers : List (List ℕ)) (last : ℕ) (rest : List ℕ) → Walk first bytes headers last rest → Gives (outcome (length (concat headers)) last rest) answer) →
+    (order : Order) (pieces : List Piece) (last : ℕ) (rest : List ℕ) → KeepsNumbers order → Chain order first bytes pieces last rest → is_skipped last ≡ false →
+    IsOkAnd answer (λ r. (r.0.0 ≡ last) × (r.1.now ≡ rest))
+chain_skips first bytes answer only order pieces last rest keeps chain behind =
+    let walk : Walk first bytes (headers_of pieces) last rest = record {
+      named = row_skips order [] first pieces last keeps chain.row;
+      cut = chain.cut ∙ ap (λ (xs : List ℕ). xs ++ rest) (sym (concat_headers pieces));
+      ended = λ is. absurd (true_false (sym is ∙ behind));
+    } in
+    given last rest answer (rw behind at (only (headers_of pieces) last rest walk))
+  where
+    true_false : true ≡ false → ⊥
+    true_false e = cc
+
+number_from : (passed : List Ipv6ExtPlace) (number : ℕ) (p place : Ipv6ExtPlace) → eqb number (number_of p) ≡ true → once passed p ≡ Some place → number_of place ≡ number
+number_from passed number p place is e = sym (ap number_of (once_open passed p place e).1) ∙ sym (eqb-true number (number_of p) is)
+
+front_number : (passed : List Ipv6ExtPlace) (place : Ipv6ExtPlace) → in_front passed ≡ Some place → number_of place ≡ 0
+front_number [] place e = sym (ap number_of (some_same HopByHop place e))
+front_number (p ∷ passed) place e = absurd (none_some place e)
+
+pub place_numbers : KeepsNumbers place_of
+place_numbers passed number place e =
+    ⊎_elim (λ hop. front_number passed place hop.1 ∙ sym (eqb-true number 0 hop.0))
+    (λ a. ⊎_elim (λ routing. number_from passed number Routing place routing.0 routing.1)
+    (λ b. ⊎_elim (λ fragment. number_from passed number Fragment place fragment.0 fragment.1)
+    (λ c. ⊎_elim (λ auth. number_from passed number Authentication place auth.0 auth.1)
+    (λ d. ⊎_elim (λ options. ⊎_elim
+    (λ final. number_from passed number FinalDestination place options.0 final.1)
+    (λ before. number_from passed number Destination place options.0 before.1)
+    (one_of (is_passed passed Routing) (once passed FinalDestination) (once passed Destination) (Some place) options.1))
+    (λ other. absurd (none_some place other.1))
+    (one_of (eqb number 60) _ _ (Some place) d.1))
+    (one_of (eqb number 51) _ _ (Some place) c.1))
+    (one_of (eqb number 44) _ _ (Some place) b.1))
+    (one_of (eqb number 43) _ _ (Some place) a.1))
+    (one_of (eqb number 0) _ _ (Some place) e)

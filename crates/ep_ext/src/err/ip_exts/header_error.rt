@@ -1,0 +1,13 @@
+use crate::err::{ip_auth, ipv6_exts};
+use thiserror::Error;
+
+/// What is wrong with the content of extension headers, of either version.
+#[derive(Clone, Copy, Debug, PartialEq, Eq, Hash, Error)]
+pub enum HeaderError {
+    /// The authentication header behind an IPv4 header is none.
+    #[error("{0}")]
+    Ipv4Ext(ip_auth::HeaderError),
+    /// The extension headers behind an IPv6 header are none.
+    #[error("{0}")]
+    Ipv6Ext(ipv6_exts::HeaderError),
+}

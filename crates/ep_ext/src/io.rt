@@ -1,0 +1,5 @@
+//! Readers.
+
+mod limited_reader;
+
+pub use limited_reader::LimitedReader;

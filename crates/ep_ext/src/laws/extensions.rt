@@ -1,0 +1,84 @@
+//! Laws of the extension headers that one value holds.
+ghost use Rattle.std.specs.Prelude.{◌≡◌, ◌≢◌, Ok, ℕ, List, ◌++◌, IsOkAnd, false, None, [], length};
+ghost use Rattle.ep_ext.specs.Follow.{Follows, has_place, walk_fault};
+ghost use Rattle.ep_ext.specs.Place.{place_of};
+ghost use Rattle.ep_ext.specs.Ipv4Exts.{NamesBehind, auth_number, ipv4_exts_of, ipv4_exts_spelling};
+ghost use Rattle.ep_ext.specs.Chain.{Row};
+ghost use Rattle.ep_ext.specs.Value.{Piece, bytes_of, value_of};
+
+use crate::err::ip_auth;
+use crate::err::ipv6_exts::{ExtsWalkError, HeaderSliceError};
+use crate::{Ipv4Extensions, Ipv6Extensions};
+use ep_base::IpNumber;
+
+/// What `write` appends from a first number is read again from that number, whatever follows it,
+/// where the number behind it is of no header that has a place.
+pub fn written_chain_reads_back<'a>(
+    headers: &Ipv6Extensions,
+    first: IpNumber,
+    slice: &'a [u8],
+) -> Result<(Ipv6Extensions, IpNumber, &'a [u8]), HeaderSliceError>
+    ensures { (pieces : List Piece) (last : ℕ) (rest : List ℕ)
+        → Follows headers.now first.0 pieces last → walk_fault headers.now pieces last ≡ None
+        → has_place last ≡ false → slice.now ≡ bytes_of pieces ++ rest
+        → IsOkAnd result (λ r. (r.0 ≡ headers.now) × (r.1.0 ≡ last) × (r.2.now ≡ rest)) }
+{
+    headers.has_whole_headers();
+    Ipv6Extensions::from_slice(first, slice)
+}
+
+/// Headers that all follow one another have the length of all together.
+pub fn written_chain_has_header_len(headers: &Ipv6Extensions) -> usize
+    ensures { (first : ℕ) (pieces : List Piece) (last : ℕ)
+        → Follows headers.now first pieces last → walk_fault headers.now pieces last ≡ None
+        → length (bytes_of pieces) ≡ result }
+{
+    headers.header_len()
+}
+
+/// A value that was read from headers in a row is followed along that row: the number behind it is
+/// the row's.
+pub fn read_chain_is_followed(
+    headers: &Ipv6Extensions,
+    first: IpNumber,
+) -> Result<IpNumber, ExtsWalkError>
+    ensures { (pieces : List Piece) (last : ℕ) → Row place_of [] first.0 pieces last
+        → headers.now ≡ value_of pieces → IsOkAnd result (λ number. number.0 ≡ last) }
+{
+    headers.next_header(first)
+}
+
+/// After `set_next_headers` the first number leads through every header that is held to the last
+/// number.
+pub fn set_next_headers_names_every_header(
+    headers: &mut Ipv6Extensions,
+    last: IpNumber,
+) -> Result<IpNumber, ExtsWalkError>
+    ensures { IsOkAnd result (λ number. number.0 ≡ last.0) }
+{
+    let first = headers.set_next_headers(last);
+    headers.next_header(first)
+}
+
+/// What `Ipv4Extensions::write` appends from a first number is read again from that number, whatever
+/// follows it. Where no header is held the first number must name none.
+pub fn written_ipv4_chain_reads_back<'a>(
+    headers: &Ipv4Extensions,
+    first: IpNumber,
+    slice: &'a [u8],
+) -> Result<(Ipv4Extensions, IpNumber, &'a [u8]), ip_auth::HeaderSliceError>
+    ensures { (number : IpNumber) (rest : List ℕ) → NamesBehind headers.now first.0 (Ok number)
+        → (headers.now.auth ≡ None → first.0 ≢ auth_number) → slice.now ≡ ipv4_exts_spelling headers.now ++ rest
+        → IsOkAnd result (λ r. (r.0 ≡ headers.now) × (r.1.0 ≡ number.0) × (r.2.now ≡ rest)) }
+{
+    headers.has_whole_header();
+    Ipv4Extensions::from_slice(first, slice)
+}
+
+/// No headers are the default, in both versions.
+pub fn default_holds_no_header() -> (Ipv4Extensions, Ipv6Extensions)
+    ensures ipv4 { result.0 ≡ ipv4_exts_of None }
+    ensures ipv6 { result.1 ≡ value_of [] }
+{
+    (Ipv4Extensions::default(), Ipv6Extensions::default())
+}

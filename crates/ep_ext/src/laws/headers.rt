@@ -1,0 +1,138 @@
+//! Laws of single extension headers, and of the reader with a limit.
+ghost use Rattle.std.specs.Prelude.{◌≡◌, ◌+◌, ℕ, true, false, List, [], ◌∷◌, ◌++◌, map, Some, None, IsOkAnd, Ok, Err};
+ghost use Rattle.ep_base.specs.Bytes.{IsBytes};
+ghost use Rattle.ep_ext.specs.Auth.{IsAuth, auth_of, auth_at, auth_spelling, auth_cleared, icv_fault};
+ghost use Rattle.ep_ext.specs.Fragment.{IsFragment, fragment_of, fragment_spelling, fragment_cleared, fragment_at};
+ghost use Rattle.ep_ext.specs.Raw.{IsRawExt, raw_of, raw_at, raw_spelling, is_raw_number, payload_fault};
+ghost use Rattle.ep_ext.specs.Want.{too_short};
+
+use crate::err::ip_auth::{HeaderError, HeaderSliceError, IcvLenError};
+use crate::err::ipv6_exts::ExtPayloadLenError;
+use crate::io::LimitedReader;
+use crate::{IpAuthHeader, Ipv6FragmentHeader, Ipv6RawExtHeader};
+use ep_base::err::{Layer, LenError};
+
+/// The lengths in bytes: of a raw extension header and its payload, the least and the greatest; of a
+/// fragment header; of an authentication header, and the greatest of its check value.
+pub fn header_lengths() -> [usize; 8]
+    ensures { result ≡ 8 ∷ 2048 ∷ 6 ∷ 2046 ∷ 8 ∷ 12 ∷ 1028 ∷ 1016 ∷ [] }
+{
+    [
+        Ipv6RawExtHeader::MIN_LEN,
+        Ipv6RawExtHeader::MAX_LEN,
+        Ipv6RawExtHeader::MIN_PAYLOAD_LEN,
+        Ipv6RawExtHeader::MAX_PAYLOAD_LEN,
+        Ipv6FragmentHeader::LEN,
+        IpAuthHeader::MIN_LEN,
+        IpAuthHeader::MAX_LEN,
+        IpAuthHeader::MAX_ICV_LEN,
+    ]
+}
+
+/// Raw extension headers and their bytes are each other's.
+pub fn raw_headers_are_their_bytes(header: &Ipv6RawExtHeader)
+    ensures header { IsRawExt (raw_spelling header.now) }
+    ensures fields { raw_of (raw_spelling header.now) ≡ header.now }
+    ensures again { (bytes : List ℕ) → IsRawExt bytes → raw_spelling (raw_of bytes) ≡ bytes }
+{
+    let _len = header.header_len();
+}
+
+/// Fragment headers and their bytes are each other's, reserved bits aside.
+pub fn fragment_headers_are_their_bytes(header: &Ipv6FragmentHeader)
+    ensures header { IsFragment (fragment_spelling header.now) }
+    ensures fields { fragment_of (fragment_spelling header.now) ≡ header.now }
+    ensures again { (bytes : List ℕ) → IsFragment bytes → IsBytes bytes
+        → fragment_spelling (fragment_of bytes) ≡ fragment_cleared bytes }
+{
+    let _len = header.header_len();
+}
+
+/// Authentication headers and their bytes are each other's, reserved bytes aside.
+pub fn auth_headers_are_their_bytes(header: &IpAuthHeader)
+    ensures header { IsAuth (auth_spelling header.now) }
+    ensures fields { auth_of (auth_spelling header.now) ≡ header.now }
+    ensures again { (bytes : List ℕ) → IsAuth bytes → IsBytes bytes
+        → auth_spelling (auth_of bytes) ≡ auth_cleared bytes }
+{
+    let _len = header.header_len();
+}
+
+/// What `to_bytes` gives of a raw extension header is read again, whatever follows it.
+pub fn raw_header_is_read_again<'a>(
+    header: &Ipv6RawExtHeader,
+    slice: &'a [u8],
+) -> Result<(Ipv6RawExtHeader, &'a [u8]), LenError>
+    ensures { (rest : List ℕ) → slice.now ≡ raw_spelling header.now ++ rest
+        → IsOkAnd result (λ r. (r.0 ≡ header.now) × (r.1.now ≡ rest)) }
+{
+    let _len = header.header_len();
+    Ipv6RawExtHeader::from_slice(slice)
+}
+
+/// What `to_bytes` gives of a fragment header is read again, whatever follows it.
+pub fn fragment_header_is_read_again<'a>(
+    header: &Ipv6FragmentHeader,
+    slice: &'a [u8],
+) -> Result<(Ipv6FragmentHeader, &'a [u8]), LenError>
+    ensures { (rest : List ℕ) → slice.now ≡ fragment_spelling header.now ++ rest
+        → IsOkAnd result (λ r. (r.0 ≡ header.now) × (r.1.now ≡ rest)) }
+{
+    let _len = header.header_len();
+    Ipv6FragmentHeader::from_slice(slice)
+}
+
+/// What `to_bytes` gives of an authentication header is read again, whatever follows it.
+pub fn auth_header_is_read_again<'a>(
+    header: &IpAuthHeader,
+    slice: &'a [u8],
+) -> Result<(IpAuthHeader, &'a [u8]), HeaderSliceError>
+    ensures { (rest : List ℕ) → slice.now ≡ auth_spelling header.now ++ rest
+        → IsOkAnd result (λ r. (r.0 ≡ header.now) × (r.1.now ≡ rest)) }
+{
+    let _len = header.header_len();
+    IpAuthHeader::from_slice(slice)
+}
+
+/// A layer that begins doesn't move the place at which a reader's limit lies.
+pub fn new_layer_keeps_the_end<T>(reader: &mut LimitedReader<T>, layer: Layer)
+    ensures { reader.new.layer_offset + reader.new.max_len ≡ reader.old.layer_offset + reader.old.max_len }
+{
+    let _within = reader.read_len();
+    reader.start_layer(layer);
+}
+
+/// Worked values: a routing header, a fragment header and an authentication header of some bytes, and
+/// what fewer bytes want (RFC 8200, sections 4.4 and 4.5; RFC 4302, section 2).
+pub fn worked_headers()
+    ensures raw { raw_of (17 ∷ 0 ∷ 1 ∷ 4 ∷ 2 ∷ 3 ∷ 5 ∷ 6 ∷ [])
+        ≡ record { next_header = record { 0 = 17 }; payload = 1 ∷ 4 ∷ 2 ∷ 3 ∷ 5 ∷ 6 ∷ [] } }
+    ensures raw_front { raw_at (17 ∷ 0 ∷ 1 ∷ 4 ∷ 2 ∷ 3 ∷ 5 ∷ 6 ∷ 170 ∷ [])
+        ≡ Ok (17 ∷ 0 ∷ 1 ∷ 4 ∷ 2 ∷ 3 ∷ 5 ∷ 6 ∷ []) }
+    ensures raw_want { raw_at (17 ∷ 1 ∷ 1 ∷ 4 ∷ 2 ∷ 3 ∷ 5 ∷ 6 ∷ [])
+        ≡ Err (too_short Layer.Ipv6ExtHeader 16 8) }
+    ensures fragment { fragment_of (58 ∷ 255 ∷ 171 ∷ 205 ∷ 18 ∷ 52 ∷ 86 ∷ 120 ∷ [])
+        ≡ record { next_header = record { 0 = 58 }; fragment_offset = 5497; more_fragments = true; identification = 305419896 } }
+    ensures fragment_spelled { fragment_cleared (58 ∷ 255 ∷ 171 ∷ 205 ∷ 18 ∷ 52 ∷ 86 ∷ 120 ∷ [])
+        ≡ 58 ∷ 0 ∷ 171 ∷ 201 ∷ 18 ∷ 52 ∷ 86 ∷ 120 ∷ [] }
+    ensures fragment_want { fragment_at (58 ∷ 0 ∷ []) ≡ Err (too_short Layer.Ipv6FragHeader 8 2) }
+    ensures auth { auth_of (6 ∷ 2 ∷ 255 ∷ 238 ∷ 1 ∷ 2 ∷ 3 ∷ 4 ∷ 5 ∷ 6 ∷ 7 ∷ 8 ∷ 9 ∷ 10 ∷ 11 ∷ 12 ∷ [])
+        ≡ record { next_header = record { 0 = 6 }; spi = 16909060; sequence_number = 84281096; icv = 9 ∷ 10 ∷ 11 ∷ 12 ∷ [] } }
+    ensures auth_spelled { auth_cleared (6 ∷ 1 ∷ 255 ∷ 238 ∷ 1 ∷ 2 ∷ 3 ∷ 4 ∷ 5 ∷ 6 ∷ 7 ∷ 8 ∷ [])
+        ≡ 6 ∷ 1 ∷ 0 ∷ 0 ∷ 1 ∷ 2 ∷ 3 ∷ 4 ∷ 5 ∷ 6 ∷ 7 ∷ 8 ∷ [] }
+    ensures auth_want { auth_at (6 ∷ 2 ∷ 0 ∷ 0 ∷ 1 ∷ 2 ∷ 3 ∷ 4 ∷ 5 ∷ 6 ∷ 7 ∷ 8 ∷ [])
+        ≡ Err (HeaderSliceError.Len (too_short Layer.IpAuthHeader 16 12)) }
+    ensures auth_zero { auth_at (6 ∷ 0 ∷ 0 ∷ 0 ∷ 1 ∷ 2 ∷ 3 ∷ 4 ∷ 5 ∷ 6 ∷ 7 ∷ 8 ∷ [])
+        ≡ Err (HeaderSliceError.Content HeaderError.ZeroPayloadLen) }
+{}
+
+/// Worked lengths: of payloads of raw extension headers and of check values, those taken and those
+/// beside them; and which numbers have the raw layout.
+pub fn worked_lengths()
+    ensures payloads { map payload_fault (5 ∷ 6 ∷ 7 ∷ 14 ∷ 2046 ∷ 2054 ∷ [])
+        ≡ Some (ExtPayloadLenError.TooSmall 5) ∷ None ∷ Some (ExtPayloadLenError.Unaligned 7) ∷ None ∷ None ∷ Some (ExtPayloadLenError.TooBig 2054) ∷ [] }
+    ensures check_values { map icv_fault (0 ∷ 3 ∷ 4 ∷ 1016 ∷ 1017 ∷ 1020 ∷ [])
+        ≡ None ∷ Some (IcvLenError.Unaligned 3) ∷ None ∷ None ∷ Some (IcvLenError.TooBig 1017) ∷ Some (IcvLenError.TooBig 1020) ∷ [] }
+    ensures numbers { map is_raw_number (0 ∷ 43 ∷ 44 ∷ 51 ∷ 60 ∷ 135 ∷ 139 ∷ 140 ∷ 17 ∷ [])
+        ≡ true ∷ true ∷ false ∷ false ∷ true ∷ true ∷ true ∷ true ∷ false ∷ [] }
+{}

@@ -1,0 +1,161 @@
+ghost use Rattle.std.specs.Prelude.{◌≡◌, ℕ, List, [], ◌++◌, IfOk, IfErr, MatchResult, Some};
+ghost use Rattle.std.specs.Io.KnownBytes.{Consumes};
+ghost use Rattle.ep_base.specs.Bytes.{num};
+ghost use Rattle.ep_ext.specs.Chain.{IsPiece};
+ghost use Rattle.ep_ext.specs.Raw.{IsRawExt, raw_of};
+ghost use Rattle.ep_ext.specs.ReadsExts.{IsExtsIo, IsWholeRow, ReadsRow, RefusesExt, RefusesRow};
+ghost use Rattle.ep_ext.specs.Value.{Piece, bytes_of, put, value_of};
+
+use super::passed::Passed;
+use super::{
+    IpAuthHeader, Ipv6ExtPlace, Ipv6Extensions, Ipv6FragmentHeader, Ipv6RawExtHeader,
+    Ipv6RoutingExtensions,
+};
+use crate::err::ip_auth;
+use crate::err::ipv6_exts::{HeaderError, HeaderReadError};
+use ep_base::IpNumber;
+use std::io::Read;
+
+impl Ipv6Extensions {
+    /// Reads the extension headers in a row of which the first has the number `first`, as
+    /// `from_slice` takes them from a slice, and leaves what is behind them. The answer has the
+    /// number behind the headers too.
+    ///
+    /// It refuses a number 0 behind a header with `HopByHopNotAtStart` before it reads further, and
+    /// an authentication header of a length field of 0 after its 12 bytes. `Io` stands where a read
+    /// fails or the reader ends within a header; then part of the header may have been read.
+    pub fn read<R: Read>(
+        reader: &mut R,
+        first: IpNumber,
+    ) -> Result<(Ipv6Extensions, IpNumber), HeaderReadError>
+        // The reader gave headers in a row, and they are read so.
+        ensures found { IfOk result (ReadsRow first.0 (R.remaining reader.old) (R.remaining reader.new)) }
+        // Where headers in a row are next, they are read, or a read failed.
+        ensures only { (pieces : List Piece) (last : ℕ) (rest : List ℕ) → IsWholeRow first.0 pieces last
+            → R.remaining reader.old ≡ Some (bytes_of pieces ++ rest)
+            → MatchResult result (λ r. (r.0 ≡ value_of pieces) × (r.1.0 ≡ last) × (R.remaining reader.new ≡ Some rest)) IsExtsIo }
+        // Else a read failed, or the next is no header.
+        ensures err { IfErr result (λ e. RefusesRow first.0 (R.remaining reader.old) e (R.remaining reader.new)) }
+    {
+        Self::read_row(reader, first)
+    }
+
+    fn read_row<R: Read>(
+        reader: &mut R,
+        first: IpNumber,
+    ) -> Result<(Ipv6Extensions, IpNumber), HeaderReadError>
+        ensures found { IfOk result (ReadsRow first.0 (R.remaining reader.old) (R.remaining reader.new)) }
+        ensures err { IfErr result (λ e. RefusesRow first.0 (R.remaining reader.old) e (R.remaining reader.new)) }
+    {
+        let mut extensions = Ipv6Extensions::default();
+        match extensions.fill_from(reader, first) {
+            Ok(number) => Ok((extensions, number)),
+            Err(error) => Err(error),
+        }
+    }
+
+    // Reads the headers in a row into their places.
+    fn fill_from<R: Read>(
+        &mut self,
+        reader: &mut R,
+        first: IpNumber,
+    ) -> Result<IpNumber, HeaderReadError>
+        requires { self.old ≡ value_of [] }
+        ensures found { IfOk result (λ n. ReadsRow first.0 (R.remaining reader.old) (R.remaining reader.new) (self.new, n)) }
+        ensures err { IfErr result (λ e. RefusesRow first.0 (R.remaining reader.old) e (R.remaining reader.new)) }
+    {
+        let mut passed = Passed::nothing();
+        let mut number = first;
+        'pieces: while let Some(place) = passed.place_of(number) {
+            match self.read_at(reader, place) {
+                Ok(next) => {
+                    number = next;
+                    passed = passed.with(place);
+                }
+                Err(error) => return Err(error),
+            }
+        }
+        if number == IpNumber::IPV6_HEADER_HOP_BY_HOP {
+            return Err(HeaderReadError::Content(HeaderError::HopByHopNotAtStart));
+        }
+        Ok(number)
+    }
+
+    // Reads a header into its place, and gives the number that it names.
+    fn read_at<R: Read>(
+        &mut self,
+        reader: &mut R,
+        place: Ipv6ExtPlace,
+    ) -> Result<IpNumber, HeaderReadError>
+        ensures found { IfOk result (λ n. (header : List ℕ) × IsPiece place header
+            × Consumes (R.remaining reader.old) (R.remaining reader.new) header
+            × (n.0 ≡ num header 0 1) × (self.new ≡ put self.old place header)) }
+        ensures err { IfErr result (λ e. (number : ℕ)
+            → RefusesExt (Some place) number (R.remaining reader.old) e (R.remaining reader.new)) }
+    {
+        match place {
+            Ipv6ExtPlace::HopByHop => read_raw(&mut self.hop_by_hop_options, reader),
+            Ipv6ExtPlace::Destination => read_raw(&mut self.destination_options, reader),
+            Ipv6ExtPlace::Routing => match Ipv6RawExtHeader::read(reader) {
+                Ok(routing) => {
+                    let next = routing.next_header;
+                    self.routing = Some(Ipv6RoutingExtensions {
+                        routing,
+                        final_destination_options: None,
+                    });
+                    Ok(next)
+                }
+                Err(error) => Err(HeaderReadError::Io(error)),
+            },
+            Ipv6ExtPlace::Fragment => match Ipv6FragmentHeader::read(reader) {
+                Ok(header) => {
+                    let next = header.next_header;
+                    self.fragment = Some(header);
+                    Ok(next)
+                }
+                Err(error) => Err(HeaderReadError::Io(error)),
+            },
+            Ipv6ExtPlace::Authentication => match IpAuthHeader::read(reader) {
+                Ok(header) => {
+                    let next = header.next_header;
+                    self.auth = Some(header);
+                    Ok(next)
+                }
+                Err(ip_auth::HeaderReadError::Io(error)) => Err(HeaderReadError::Io(error)),
+                Err(ip_auth::HeaderReadError::Content(error)) => Err(HeaderReadError::Content(
+                    HeaderError::IpAuth(error),
+                )),
+            },
+            Ipv6ExtPlace::FinalDestination => match Ipv6RawExtHeader::read(reader) {
+                Ok(header) => {
+                    let next = header.next_header;
+                    if let Some(routing) = &mut self.routing {
+                        routing.final_destination_options = Some(header);
+                    }
+                    Ok(next)
+                }
+                Err(error) => Err(HeaderReadError::Io(error)),
+            },
+        }
+    }
+}
+
+// Reads a header into the place.
+fn read_raw<R: Read>(
+    place: &mut Option<Ipv6RawExtHeader>,
+    reader: &mut R,
+) -> Result<IpNumber, HeaderReadError>
+    ensures found { IfOk result (λ n. (header : List ℕ) × IsRawExt header
+        × Consumes (R.remaining reader.old) (R.remaining reader.new) header
+        × (n.0 ≡ num header 0 1) × (place.new ≡ Some (raw_of header))) }
+    ensures err { IfErr result IsExtsIo }
+{
+    match Ipv6RawExtHeader::read(reader) {
+        Ok(header) => {
+            let next = header.next_header;
+            *place = Some(header);
+            Ok(next)
+        }
+        Err(error) => Err(HeaderReadError::Io(error)),
+    }
+}

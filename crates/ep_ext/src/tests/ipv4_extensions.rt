@@ -1,0 +1,96 @@
+//! The extension headers of IPv4.
+
+use super::ipv6_extensions::want;
+use crate::err::ip_auth::{HeaderError, HeaderSliceError};
+use crate::err::ipv4_exts::{ExtsWalkError, HeaderWriteError};
+use crate::{Ipv4Extensions, laws};
+use ep_base::IpNumber;
+use ep_base::err::Layer;
+use std::test::*;
+
+// An authentication header by RFC 4302, section 2, and a byte.
+pub const AUTH: [u8; 17] = [6, 2, 0, 0, 0, 0, 0, 1, 0, 0, 0, 2, 1, 2, 3, 4, 0xaa];
+
+#[test]
+fn no_header_behind_udp(rt: HostRuntime) -> Result<(), Fail> {
+    let (headers, number, rest, fault) = Ipv4Extensions::from_slice_lax(
+        IpNumber::UDP,
+        &[0, 1, 2, 3],
+    );
+    assert!(rt; headers.is_empty());
+    assert_eq!(rt; headers.header_len(), 0);
+    assert_eq!(rt; number, IpNumber::UDP);
+    assert_eq!(rt; rest, [0, 1, 2, 3].as_slice());
+    assert_eq!(rt; fault, None);
+    assert_eq!(rt; headers.next_header(IpNumber::UDP), Ok(IpNumber::UDP));
+    Ok(())
+}
+
+#[test]
+fn an_authentication_header(rt: HostRuntime) -> Result<(), Fail> {
+    let bytes = AUTH;
+    let Ok((headers, number, rest)) = Ipv4Extensions::from_slice(IpNumber(51), &bytes) else {
+        panic!(rt; "refused");
+    };
+    assert!(rt; !headers.is_empty());
+    assert_eq!(rt; headers.header_len(), 16);
+    assert_eq!(rt; number, IpNumber(6));
+    assert_eq!(rt; rest, [0xaa].as_slice());
+    assert_eq!(rt; headers.next_header(IpNumber(51)), Ok(IpNumber(6)));
+    let mut buffer = Vec::new(rt.alloc());
+    assert_eq!(rt; headers.write(&mut buffer, IpNumber(51)), Ok(()));
+    assert_eq!(rt; buffer.as_slice(), &bytes[..16]);
+    assert_eq!(rt;
+        laws::written_ipv4_chain_reads_back(&headers, IpNumber(51), &bytes).is_ok(),
+        true
+    );
+    assert_eq!(rt; headers.clone()?, headers);
+    Ok(())
+}
+
+#[test]
+fn a_header_that_is_not_named(rt: HostRuntime) -> Result<(), Fail> {
+    let bytes = AUTH;
+    let (mut headers, _, _, _) = Ipv4Extensions::from_slice_lax(IpNumber(51), &bytes);
+    let missing = ExtsWalkError::ExtNotReferenced {
+        missing_ext: IpNumber(51),
+    };
+    assert_eq!(rt; headers.next_header(IpNumber(6)), Err(missing));
+    let mut buffer = Vec::new(rt.alloc());
+    let refused = Err(HeaderWriteError::Content(missing));
+    assert_eq!(rt; headers.write(&mut buffer, IpNumber(6)), refused);
+    assert_eq!(rt; buffer.len(), 0);
+    assert_eq!(rt; headers.set_next_headers(IpNumber(17)), IpNumber(51));
+    assert_eq!(rt; headers.next_header(IpNumber(51)), Ok(IpNumber(17)));
+    assert_eq!(rt;
+        Ipv4Extensions::default().set_next_headers(IpNumber(17)),
+        IpNumber(17)
+    );
+    assert_eq!(rt; Ipv4Extensions::MAX_LEN, 1028);
+    Ok(())
+}
+
+#[test]
+fn every_front_of_an_authentication_header(rt: HostRuntime) -> Result<(), Fail> {
+    let bytes = AUTH;
+    for len in 0..16usize {
+        let required = if len < 12 { 12 } else { 16 };
+        let error = HeaderSliceError::Len(want(required, len, Layer::IpAuthHeader, 0));
+        match Ipv4Extensions::from_slice(IpNumber(51), &bytes[..len]) {
+            Ok(_) => panic!(rt; "taken"),
+            Err(found) => assert_eq!(rt; found, error),
+        }
+    }
+    Ok(())
+}
+
+#[test]
+fn a_fault_keeps_the_number_and_the_slice(rt: HostRuntime) -> Result<(), Fail> {
+    let (headers, number, rest, fault) = Ipv4Extensions::from_slice_lax(IpNumber(51), &[0u8; 12]);
+    assert!(rt; headers.is_empty());
+    assert_eq!(rt; number, IpNumber(51));
+    assert_eq!(rt; rest.len(), 12);
+    let zero = HeaderError::ZeroPayloadLen;
+    assert_eq!(rt; fault, Some(HeaderSliceError::Content(zero)));
+    Ok(())
+}

@@ -1,0 +1,216 @@
+//! IPv6 extension headers in a row, from slices.
+
+ghost use Rattle.std.specs.Prelude.{◌≡◌};
+
+use crate::err::ip_auth;
+use crate::err::ipv6_exts::{HeaderError, HeaderSliceError};
+use crate::{Ipv6Extensions, laws};
+use ep_base::err::{Layer, LenError};
+use ep_base::{IpNumber, LenSource};
+use ep_ip::Ipv6Header;
+use std::test::*;
+
+// A header of each place by RFC 8200, section 4, and RFC 4302, section 2, and two bytes: hop-by-hop
+// options, destination options, a routing header of 16 bytes, a fragment header, an authentication
+// header of 24 bytes and final destination options.
+pub const CHAIN: [u8; 74] = [
+    60, 0, 1, 4, 0, 0, 0, 0, // at 0
+    43, 0, 1, 4, 0, 0, 0, 0, // at 8
+    44, 1, 0, 0, 1, 2, 3, 4, 5, 6, 7, 8, 9, 10, 11, 12, // at 16
+    51, 0, 0, 9, 0, 0, 0, 7, // at 32
+    60, 4, 0, 0, 0, 0, 0, 1, 0, 0, 0, 2, 1, 2, 3, 4, 5, 6, 7, 8, 9, 10, 11, 12, // at 40
+    17, 0, 1, 4, 0, 0, 0, 0, // at 64
+    0xaa, 0xbb,
+];
+
+pub fn want(required_len: usize, len: usize, layer: Layer, layer_start_offset: usize) -> LenError
+    ensures { result.layer_start_offset ≡ layer_start_offset }
+{
+    LenError {
+        required_len,
+        len,
+        len_source: LenSource::Slice,
+        layer,
+        layer_start_offset,
+    }
+}
+
+// The header in which a front of so many bytes ends: its number, the layer beside the fault, and the
+// want of bytes.
+fn cut_at(len: usize) -> (IpNumber, Layer, LenError) {
+    if len < 8 {
+        let error = want(8, len, Layer::Ipv6ExtHeader, 0);
+        return (IpNumber(0), Layer::Ipv6HopByHopHeader, error);
+    }
+    if len < 16 {
+        let error = want(8, len - 8, Layer::Ipv6ExtHeader, 8);
+        return (IpNumber(60), Layer::Ipv6DestOptionsHeader, error);
+    }
+    if len < 32 {
+        let required = if len < 24 { 8 } else { 16 };
+        let error = want(required, len - 16, Layer::Ipv6ExtHeader, 16);
+        return (IpNumber(43), Layer::Ipv6RouteHeader, error);
+    }
+    if len < 40 {
+        let error = want(8, len - 32, Layer::Ipv6FragHeader, 32);
+        return (IpNumber(44), Layer::Ipv6FragHeader, error);
+    }
+    if len < 64 {
+        let required = if len < 52 { 12 } else { 24 };
+        let error = want(required, len - 40, Layer::IpAuthHeader, 40);
+        return (IpNumber(51), Layer::IpAuthHeader, error);
+    }
+    let error = want(8, len - 64, Layer::Ipv6ExtHeader, 64);
+    (IpNumber(60), Layer::Ipv6DestOptionsHeader, error)
+}
+
+#[test]
+fn every_front_of_a_chain_is_refused(rt: HostRuntime) -> Result<(), Fail> {
+    let bytes = CHAIN;
+    for len in 0..72usize {
+        let (_, _, error) = cut_at(len);
+        match Ipv6Extensions::from_slice(IpNumber(0), &bytes[..len]) {
+            Ok(_) => panic!(rt; "taken"),
+            Err(found) => assert_eq!(rt; found, HeaderSliceError::Len(error)),
+        }
+    }
+    Ok(())
+}
+
+#[test]
+fn every_front_of_a_chain_up_to_the_fault(rt: HostRuntime) -> Result<(), Fail> {
+    let bytes = CHAIN;
+    for len in 0..72usize {
+        let (number, layer, error) = cut_at(len);
+        let fault = Some((HeaderSliceError::Len(error), layer));
+        let (headers, last, rest, found) = Ipv6Extensions::from_slice_lax(
+            IpNumber(0),
+            &bytes[..len],
+        );
+        assert_eq!(rt; last, number);
+        assert_eq!(rt; rest.len(), error.len);
+        assert_eq!(rt; headers.header_len(), error.layer_start_offset);
+        assert_eq!(rt; found, fault);
+    }
+    Ok(())
+}
+
+#[test]
+fn all_six_headers(rt: HostRuntime) -> Result<(), Fail> {
+    let bytes = CHAIN;
+    let Ok((headers, number, rest)) = Ipv6Extensions::from_slice(IpNumber(0), &bytes) else {
+        panic!(rt; "refused");
+    };
+    assert_eq!(rt; number, IpNumber(17));
+    assert_eq!(rt; rest, [0xaa, 0xbb].as_slice());
+    assert_eq!(rt; headers.header_len(), 72);
+    assert!(rt; headers.is_fragmenting_payload());
+    assert!(rt; !headers.is_empty());
+    let Some(routing) = &headers.routing else {
+        panic!(rt; "no routing header");
+    };
+    assert_eq!(rt; routing.header_len(), 24);
+    assert_eq!(rt; routing.routing.payload(), &bytes[18..32]);
+    let skipped = Ipv6Header::skip_all_header_extensions_in_slice(&bytes, IpNumber(0));
+    assert_eq!(rt; skipped, Ok((IpNumber(17), [0xaa, 0xbb].as_slice())));
+    assert_eq!(rt; laws::skip_agrees_with_chain(IpNumber(0), &bytes), skipped);
+    Ok(())
+}
+
+#[test]
+fn each_header_at_its_place(rt: HostRuntime) -> Result<(), Fail> {
+    let bytes = CHAIN;
+    let (headers, _, _, fault) = Ipv6Extensions::from_slice_lax(IpNumber(0), &bytes);
+    assert_eq!(rt; fault, None);
+    let Some(hop_by_hop) = &headers.hop_by_hop_options else {
+        panic!(rt; "no hop-by-hop options");
+    };
+    assert_eq!(rt; hop_by_hop.next_header, IpNumber(60));
+    let Some(destination) = &headers.destination_options else {
+        panic!(rt; "no destination options");
+    };
+    assert_eq!(rt; destination.next_header, IpNumber(43));
+    let Some(fragment) = &headers.fragment else {
+        panic!(rt; "no fragment header");
+    };
+    assert_eq!(rt; fragment.identification, 7);
+    let Some(auth) = &headers.auth else {
+        panic!(rt; "no authentication header");
+    };
+    assert_eq!(rt; auth.raw_icv(), &bytes[52..64]);
+    Ok(())
+}
+
+#[test]
+fn a_second_fragment_header_ends_the_chain(rt: HostRuntime) -> Result<(), Fail> {
+    let bytes = [
+        0x2c, 0, 0, 1, 0, 0, 0, 7, 0x11, 0, 0, 0, 0, 0, 0, 7, 0xaa, 0xbb,
+    ];
+    let Ok((headers, number, rest)) = Ipv6Extensions::from_slice(IpNumber(44), &bytes) else {
+        panic!(rt; "refused");
+    };
+    assert_eq!(rt; number, IpNumber(44));
+    assert_eq!(rt; rest, &bytes[8..]);
+    assert_eq!(rt; headers.header_len(), 8);
+    Ok(())
+}
+
+#[test]
+fn hop_by_hop_options_behind_a_header_are_refused(rt: HostRuntime) -> Result<(), Fail> {
+    let bytes = [0, 0, 0, 0, 0, 0, 0, 0, 17, 0, 0, 0, 0, 0, 0, 0];
+    let fault = HeaderSliceError::Content(HeaderError::HopByHopNotAtStart);
+    match Ipv6Extensions::from_slice(IpNumber(60), &bytes) {
+        Ok(_) => panic!(rt; "taken"),
+        Err(error) => assert_eq!(rt; error, fault),
+    }
+    let (headers, number, rest, found) = Ipv6Extensions::from_slice_lax(IpNumber(60), &bytes);
+    assert_eq!(rt; number, IpNumber(0));
+    assert_eq!(rt; rest, &bytes[8..]);
+    assert!(rt; headers.destination_options.is_some());
+    assert_eq!(rt; found, Some((fault, Layer::Ipv6HopByHopHeader)));
+    Ok(())
+}
+
+#[test]
+fn an_authentication_header_of_length_zero_is_refused(rt: HostRuntime) -> Result<(), Fail> {
+    let zero = ip_auth::HeaderError::ZeroPayloadLen;
+    let fault = HeaderSliceError::Content(HeaderError::IpAuth(zero));
+    match Ipv6Extensions::from_slice(IpNumber(51), &[0u8; 12]) {
+        Ok(_) => panic!(rt; "taken"),
+        Err(error) => assert_eq!(rt; error, fault),
+    }
+    let (headers, number, rest, found) = Ipv6Extensions::from_slice_lax(IpNumber(51), &[0u8; 12]);
+    assert!(rt; headers.is_empty());
+    assert_eq!(rt; number, IpNumber(51));
+    assert_eq!(rt; rest.len(), 12);
+    assert_eq!(rt; found, Some((fault, Layer::IpAuthHeader)));
+    Ok(())
+}
+
+#[test]
+fn numbers_without_a_place_end_the_chain(rt: HostRuntime) -> Result<(), Fail> {
+    // Mobility, host identity and shim6 headers end it too.
+    for number in [6u8, 17, 50, 58, 59, 135, 139, 140, 253] {
+        match Ipv6Extensions::from_slice(IpNumber(number), &[1, 2, 3]) {
+            Ok((headers, last, rest)) => {
+                assert!(rt; headers.is_empty());
+                assert_eq!(rt; last, IpNumber(number));
+                assert_eq!(rt; rest, [1, 2, 3].as_slice());
+            }
+            Err(_) => panic!(rt; "refused"),
+        }
+    }
+    Ok(())
+}
+
+#[test]
+fn an_error_seen_from_further_in_front(rt: HostRuntime) {
+    let error = want(8, 7, Layer::Ipv6ExtHeader, 0);
+    let moved = want(8, 7, Layer::Ipv6ExtHeader, 40);
+    assert_eq!(rt;
+        HeaderSliceError::Len(error).add_slice_offset(40),
+        HeaderSliceError::Len(moved)
+    );
+    let fault = HeaderSliceError::Content(HeaderError::HopByHopNotAtStart);
+    assert_eq!(rt; fault.add_slice_offset(40), fault);
+}

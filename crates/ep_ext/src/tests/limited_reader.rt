@@ -1,0 +1,172 @@
+//! The reader with a limit, and the words of errors.
+
+use super::piece_reader::{failing_reader, reader_of};
+use crate::err::io::LimitedReadError;
+use crate::err::ip_auth::{
+    HeaderError, HeaderLimitedReadError, HeaderReadError, HeaderSliceError, IcvLenError,
+};
+use crate::err::ipv6_exts::ExtPayloadLenError;
+use crate::io::LimitedReader;
+use ep_base::LenSource;
+use ep_base::err::{Layer, LenError};
+use std::io::ErrorKind;
+use std::test::*;
+
+const BYTES: [u8; 6] = [1, 2, 3, 4, 5, 6];
+
+#[test]
+fn a_new_reader(rt: HostRuntime) -> Result<(), Fail> {
+    let source = LenSource::Ipv4HeaderTotalLen;
+    let reader = LimitedReader::new(reader_of(&BYTES, 1), 5, source, 20, Layer::Ipv4Packet);
+    assert_eq!(rt; reader.max_len(), 5);
+    assert_eq!(rt; reader.len_source(), source);
+    assert_eq!(rt; reader.layer(), Layer::Ipv4Packet);
+    assert_eq!(rt; reader.layer_offset(), 20);
+    assert_eq!(rt; reader.read_len(), 0);
+    assert_eq!(rt; reader.take_reader().rest, BYTES.as_slice());
+    Ok(())
+}
+
+#[test]
+fn reads_up_to_the_limit(rt: HostRuntime) -> Result<(), Fail> {
+    let source = LenSource::Ipv4HeaderTotalLen;
+    let mut reader = LimitedReader::new(reader_of(&BYTES, 1), 5, source, 20, Layer::Ipv4Packet);
+    let mut two = [0; 2];
+    assert!(rt; reader.read_exact(&mut two).is_ok());
+    assert_eq!(rt; two, [1, 2]);
+    assert_eq!(rt; reader.read_len(), 2);
+    // One byte above the limit: nothing is read.
+    let mut four = [9; 4];
+    match reader.read_exact(&mut four) {
+        Err(LimitedReadError::Len(error)) => {
+            let want = LenError {
+                required_len: 6,
+                len: 5,
+                len_source: source,
+                layer: Layer::Ipv4Packet,
+                layer_start_offset: 20,
+            };
+            assert_eq!(rt; error, want);
+        }
+        _ => panic!(rt; "no want of bytes"),
+    }
+    assert_eq!(rt; four, [9; 4]);
+    assert_eq!(rt; reader.read_len(), 2);
+    // At the limit, and nothing more.
+    let mut three = [0; 3];
+    assert!(rt; reader.read_exact(&mut three).is_ok());
+    assert_eq!(rt; three, [3, 4, 5]);
+    assert!(rt; reader.read_exact(&mut []).is_ok());
+    assert_eq!(rt; reader.read_len(), 5);
+    assert_eq!(rt; reader.take_reader().rest, [6].as_slice());
+    Ok(())
+}
+
+#[test]
+fn a_layer_begins(rt: HostRuntime) -> Result<(), Fail> {
+    let source = LenSource::Ipv4HeaderTotalLen;
+    let mut reader = LimitedReader::new(reader_of(&BYTES, 1), 5, source, 20, Layer::Ipv4Packet);
+    let mut two = [0; 2];
+    assert!(rt; reader.read_exact(&mut two).is_ok());
+    reader.start_layer(Layer::IpAuthHeader);
+    assert_eq!(rt; reader.max_len(), 3);
+    assert_eq!(rt; reader.layer(), Layer::IpAuthHeader);
+    assert_eq!(rt; reader.layer_offset(), 22);
+    assert_eq!(rt; reader.read_len(), 0);
+    Ok(())
+}
+
+#[test]
+fn a_failed_read_counts_for_nothing(rt: HostRuntime) -> Result<(), Fail> {
+    let inner = failing_reader(&BYTES, 1, 2, ErrorKind::PermissionDenied);
+    let mut reader = LimitedReader::new(inner, 5, LenSource::Slice, 0, Layer::Ipv4Packet);
+    let mut two = [0; 2];
+    assert!(rt; reader.read_exact(&mut two).is_ok());
+    match reader.read_exact(&mut two) {
+        Err(LimitedReadError::Io(error)) => {
+            assert_eq!(rt; error.kind(), ErrorKind::PermissionDenied);
+        }
+        _ => panic!(rt; "no fault"),
+    }
+    assert_eq!(rt; reader.read_len(), 2);
+    assert!(rt; reader.read_exact(&mut two).is_ok());
+    assert_eq!(rt; two, [3, 4]);
+    Ok(())
+}
+
+const WANT: LenError = LenError {
+    required_len: 12,
+    len: 11,
+    len_source: LenSource::Slice,
+    layer: Layer::IpAuthHeader,
+    layer_start_offset: 0,
+};
+
+#[test]
+fn words_of_lengths(rt: HostRuntime) -> Result<(), Fail> {
+    let alloc = rt.alloc();
+    for (error, words) in [
+        (
+            ExtPayloadLenError::TooSmall(5),
+            "raw extension header: a payload of 5 byte(s) is too small, it has at least 6",
+        ),
+        (
+            ExtPayloadLenError::TooBig(2047),
+            "raw extension header: a payload of 2047 bytes is too big, it has at most 2046",
+        ),
+        (
+            ExtPayloadLenError::Unaligned(7),
+            "raw extension header: a payload of 7 bytes, which is not 6 and a multiple of 8",
+        ),
+    ] {
+        assert_eq!(rt; format!(in alloc; "{error}")?.as_str(), words);
+    }
+    for (error, words) in [
+        (
+            IcvLenError::TooBig(1020),
+            "authentication header: a check value of 1020 bytes is too big, it has at most 1016",
+        ),
+        (
+            IcvLenError::Unaligned(5),
+            "authentication header: a check value of 5 byte(s), which is no multiple of 4",
+        ),
+    ] {
+        assert_eq!(rt; format!(in alloc; "{error}")?.as_str(), words);
+    }
+    Ok(())
+}
+
+#[test]
+fn words_of_faults(rt: HostRuntime) -> Result<(), Fail> {
+    let alloc = rt.alloc();
+    let zero = "authentication header: the payload length is 0";
+    let want = format!(in alloc; "{WANT}")?;
+    let fault = HeaderError::ZeroPayloadLen;
+    assert_eq!(rt; format!(in alloc; "{fault}")?.as_str(), zero);
+    let fault = HeaderSliceError::Content(HeaderError::ZeroPayloadLen);
+    assert_eq!(rt; format!(in alloc; "{fault}")?.as_str(), zero);
+    let fault = HeaderSliceError::Len(WANT);
+    assert_eq!(rt; format!(in alloc; "{fault}")?.as_str(), want.as_str());
+    let fault = HeaderReadError::Content(HeaderError::ZeroPayloadLen);
+    assert_eq!(rt; format!(in alloc; "{fault}")?.as_str(), zero);
+    let fault = HeaderLimitedReadError::Content(HeaderError::ZeroPayloadLen);
+    assert_eq!(rt; format!(in alloc; "{fault}")?.as_str(), zero);
+    let fault = HeaderLimitedReadError::Len(WANT);
+    assert_eq!(rt; format!(in alloc; "{fault}")?.as_str(), want.as_str());
+    let fault = LimitedReadError::Len(WANT);
+    assert_eq!(rt; format!(in alloc; "{fault}")?.as_str(), want.as_str());
+    Ok(())
+}
+
+#[test]
+fn words_of_failed_reads(rt: HostRuntime) -> Result<(), Fail> {
+    let alloc = rt.alloc();
+    let words = "permission denied";
+    let fault = LimitedReadError::Io(ErrorKind::PermissionDenied.into());
+    assert_eq!(rt; format!(in alloc; "{fault}")?.as_str(), words);
+    let fault = HeaderReadError::Io(ErrorKind::PermissionDenied.into());
+    assert_eq!(rt; format!(in alloc; "{fault}")?.as_str(), words);
+    let fault = HeaderLimitedReadError::Io(ErrorKind::PermissionDenied.into());
+    assert_eq!(rt; format!(in alloc; "{fault}")?.as_str(), words);
+    Ok(())
+}
