@@ -1,0 +1,4 @@
+pub mod Limit
+pub mod Udp
+pub mod UdpChecksum
+pub mod UdpFault
