@@ -3,5 +3,8 @@ pub mod Bytes
 pub mod IpDscpKnown
 pub mod IpEcn
 pub mod IpNumber
+pub mod LenSource
 pub mod MessageSum
+pub mod Moved
 pub mod Sum
+pub mod Traits
