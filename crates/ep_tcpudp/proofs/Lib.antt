@@ -1,3 +1,9 @@
+pub mod Flags
+pub mod OptionsBytes
+pub mod OptionsItems
 pub mod Sealed
+pub mod TcpFront
+pub mod TcpSpelling
+pub mod TcpSums
 pub mod UdpFront
 pub mod UdpSpelling

@@ -2,7 +2,11 @@
 //! checksums, and TCP's options.
 #![tactic(auto)]
 
+pub mod err;
 pub mod laws;
 mod transport;
 
-pub use transport::{UdpHeader, UdpHeaderSlice, UdpSlice};
+pub use transport::{
+    TcpHeader, TcpHeaderSlice, TcpOptionElement, TcpOptionReadError, TcpOptionWriteError,
+    TcpOptions, TcpOptionsIterator, TcpSlice, UdpHeader, UdpHeaderSlice, UdpSlice, tcp_option,
+};

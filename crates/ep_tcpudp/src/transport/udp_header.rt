@@ -8,6 +8,7 @@ ghost use Rattle.ep_tcpudp.specs.Udp.{IsUdpHeader, IsRead, Fits, header_of, spel
 ghost use Rattle.ep_tcpudp.specs.UdpChecksum.{right_checksum, checksum_v4, checksum_v6, sealed_v4, sealed_v6};
 ghost use Rattle.ep_tcpudp.specs.UdpFault.{header_at};
 
+use super::limit::at_most;
 use crate::UdpHeaderSlice;
 use ep_base::IpNumber;
 use ep_base::checksum::Sum16BitWords;
@@ -48,7 +49,7 @@ impl UdpHeader {
         ensures { result ≡ value_up_to ValueType.UdpPayloadLengthIpv4 65527 payload_length
             (unchecked_header source_port destination_port payload_length) }
     {
-        fits(
+        at_most(
             payload_length,
             u16::MAX as usize - UdpHeader::LEN,
             ValueType::UdpPayloadLengthIpv4,
@@ -73,7 +74,7 @@ impl UdpHeader {
         ensures { result ≡ value_up_to ValueType.UdpPayloadLengthIpv4 65527 (length payload.now)
             (sealed_v4 source_port destination_port ip_header.now.source ip_header.now.destination payload.now) }
     {
-        fits(
+        at_most(
             payload.len(),
             u16::MAX as usize - UdpHeader::LEN,
             ValueType::UdpPayloadLengthIpv4,
@@ -100,7 +101,7 @@ impl UdpHeader {
         ensures { result ≡ value_up_to ValueType.UdpPayloadLengthIpv6 65527 (length payload.now)
             (sealed_v6 source_port destination_port ip_header.now.source ip_header.now.destination payload.now) }
     {
-        fits(
+        at_most(
             payload.len(),
             u16::MAX as usize - UdpHeader::LEN,
             ValueType::UdpPayloadLengthIpv6,
@@ -142,7 +143,7 @@ impl UdpHeader {
         ensures { result ≡ value_up_to ValueType.UdpPayloadLengthIpv4 65527 (length payload.now)
             (checksum_v4 source destination self.now payload.now) }
     {
-        fits(
+        at_most(
             payload.len(),
             u16::MAX as usize - UdpHeader::LEN,
             ValueType::UdpPayloadLengthIpv4,
@@ -174,7 +175,7 @@ impl UdpHeader {
         ensures { result ≡ value_up_to ValueType.UdpPayloadLengthIpv6 4294967287 (length payload.now)
             (checksum_v6 source destination self.now payload.now) }
     {
-        fits(
+        at_most(
             payload.len(),
             u32::MAX as usize - UdpHeader::LEN,
             ValueType::UdpPayloadLengthIpv6,
@@ -312,22 +313,4 @@ impl Default for UdpHeader {
             checksum: 0,
         }
     }
-}
-
-// A payload of this length is no longer than a length field allows.
-fn fits(
-    len: usize,
-    max_allowed: usize,
-    value_type: ValueType,
-) -> Result<(), ValueTooBigError<usize>>
-    ensures { result ≡ value_up_to value_type max_allowed len tt }
-{
-    if len > max_allowed {
-        return Err(ValueTooBigError {
-            actual: len,
-            max_allowed,
-            value_type,
-        });
-    }
-    Ok(())
 }
