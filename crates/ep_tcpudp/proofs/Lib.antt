@@ -1,4 +1,5 @@
 pub mod Flags
+pub mod OptionsAgain
 pub mod OptionsBytes
 pub mod OptionsItems
 pub mod Sealed

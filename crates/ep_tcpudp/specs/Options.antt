@@ -1,7 +1,7 @@
 -- The list of options in a TCP header: which bytes spell which element. End, no-operation and maximum
 -- segment size: RFC 9293, section 3.2; window scale and timestamps: RFC 7323, sections 2.2 and 3.2;
 -- selective acknowledgement: RFC 2018, sections 2 and 3.
-use Rattle.std.specs.Prelude.{◌≡◌, ◌<◌, ℕ, zero, suc, ◌+◌, ◌-◌, ◌^◌, min, nat_lt, ◌==◌, ◌||◌, not, Bool, if◌then◌else◌, List, [], ◌∷◌, ◌++◌, length, drop, Option, Some, None, Result, Ok, Err}
+use Rattle.std.specs.Prelude.{◌≡◌, ◌<◌, ⊤, map, ℕ, zero, suc, ◌+◌, ◌-◌, ◌^◌, min, nat_lt, ◌==◌, ◌||◌, not, Bool, if◌then◌else◌, List, [], ◌∷◌, ◌++◌, length, drop, Option, Some, None, Result, Ok, Err}
 use Rattle.std.specs.List.{flat_map}
 use Rattle.std.specs.Int.{w16, w32, to_be_bytes}
 use Rattle.ep_base.specs.Bytes.{num}
@@ -128,3 +128,30 @@ items_within (suc n) bytes = if is_end bytes then [] else element_at bytes ∷ i
 -- (Each step but the last takes a byte.)
 abbrev pub items_of : List ℕ → List (Result TcpOptionElement TcpOptionReadError)
 items_of bytes = items_within (length bytes) bytes
+
+-- the numbers of a block fit their 4 bytes
+abbrev pub FitsBlock : Option (ℕ × ℕ) → Type 0
+FitsBlock None = ⊤
+FitsBlock (Some block) = (block.0 < 2 ^ 32) × (block.1 < 2 ^ 32)
+
+abbrev pub FitsBlocks : List (Option (ℕ × ℕ)) → Type 0
+FitsBlocks [] = ⊤
+FitsBlocks (block ∷ blocks) = FitsBlock block × FitsBlocks blocks
+
+-- the numbers of an element fit their bytes, and behind the first block stand three that may be there
+abbrev pub FitsElement : TcpOptionElement → Type 0
+FitsElement Noop = ⊤
+FitsElement (MaximumSegmentSize size) = size < 2 ^ 16
+FitsElement (WindowScale shift) = shift < 2 ^ 8
+FitsElement SelectiveAcknowledgementPermitted = ⊤
+FitsElement (SelectiveAcknowledgement first rest) = FitsBlock (Some first) × (length rest ≡ 3) × FitsBlocks rest
+FitsElement (Timestamp value reply) = (value < 2 ^ 32) × (reply < 2 ^ 32)
+
+abbrev pub FitsElements : List TcpOptionElement → Type 0
+FitsElements [] = ⊤
+FitsElements (element ∷ elements) = FitsElement element × FitsElements elements
+
+-- what elements were written as is read as these elements, blocks in front
+abbrev pub ElementsComeBack : Type 0
+ElementsComeBack = (elements : List TcpOptionElement) → FitsElements elements
+    → items_of (whole_options (elements_bytes elements)) ≡ map (λ element. Ok (packed_element element)) elements
