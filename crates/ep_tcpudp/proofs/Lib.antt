@@ -1,0 +1,10 @@
+pub mod Flags
+pub mod OptionsAgain
+pub mod OptionsBytes
+pub mod OptionsItems
+pub mod Sealed
+pub mod TcpFront
+pub mod TcpSpelling
+pub mod TcpSums
+pub mod UdpFront
+pub mod UdpSpelling

@@ -1,0 +1,8 @@
+use Rattle.std.proofs.Common.{arith, rules}
+use Rattle.ep_tcpudp.proofs.TcpSums.{parts_added}
+use Rattle.ep_tcpudp.proofs.transport.tcp_header.TcpHeader.sum_behind.Goals as goal
+
+pub returns : goal.returns
+returns c = λ front sums.
+    parts_added _ _ _ _ front c.fixed_bytes_with.result c.args.self.now.options c.args.payload.now _ sums (search rules) c.as_slice.ensures.options.words
+    c.fixed_bytes_with.ensures.bytes c.add_slice.ensures.text (rw c.as_slice.ensures.bytes at c.add_slice-2.ensures.text) c.add_slice-3.ensures.text

@@ -1,0 +1,10 @@
+pub mod Limit
+pub mod Options
+pub mod Tcp
+pub mod TcpChecksum
+pub mod TcpFault
+pub mod TcpLends
+pub mod TcpOptions
+pub mod Udp
+pub mod UdpChecksum
+pub mod UdpFault

@@ -1,0 +1,6 @@
+//! Laws of the headers that no single call's contract states: the contract of each function is the
+//! law.
+
+pub mod tcp;
+pub mod traits;
+pub mod udp;

@@ -1,0 +1,68 @@
+//! Laws of TCP (RFC 9293, section 3.1).
+
+ghost use Rattle.std.specs.Prelude.{◌≡◌, ℕ, List, ◌++◌, IsOkAnd, fold};
+ghost use Rattle.std.specs.Cmp.Lexicographic.{slice_cmp};
+ghost use Rattle.std.specs.Hash as fed;
+ghost use Rattle.std.specs.Ordering.{nat_cmp};
+ghost use Rattle.ep_base.specs.Bytes.{IsBytes};
+ghost use Rattle.ep_tcpudp.specs.Options.{ElementsComeBack};
+ghost use Rattle.ep_tcpudp.specs.Tcp.{IsTcpHeader, header_of, spelling, with_reserved_bits_zero};
+ghost use Rattle.ep_tcpudp.specs.TcpChecksum.{SealedTcpSumsToAllOnes, SealedSegmentSumsToAllOnes};
+
+use crate::err::tcp::HeaderSliceError;
+use crate::{TcpHeader, TcpOptions};
+use ep_base::laws::checksum_sums_to_all_ones;
+use std::cmp::Ordering;
+use std::hash::{Hash, Hasher};
+
+/// A receiver that sums a pseudo header, a header with the checksum that belongs to it and the
+/// payload finds all ones; so it does with the bytes of a segment, whatever its reserved bits.
+pub fn sealed_sums_to_all_ones()
+    ensures header { SealedTcpSumsToAllOnes }
+    ensures segment { SealedSegmentSumsToAllOnes }
+{
+    checksum_sums_to_all_ones();
+}
+
+/// The bytes of a header are one, and spell its fields; the bytes of fields that were read are those
+/// that they were read from, but for the reserved bits, which are 0.
+pub fn headers_are_their_bytes(header: &TcpHeader)
+    ensures spelled { IsTcpHeader (spelling header.now) }
+    ensures read { header_of (spelling header.now) ≡ header.now }
+    ensures spelled_again { (bytes : List ℕ) → IsTcpHeader bytes → IsBytes bytes
+        → spelling (header_of bytes) ≡ with_reserved_bits_zero bytes }
+{
+    let _bytes = header.to_bytes();
+}
+
+/// What `to_bytes` gives is read again, whatever follows it.
+pub fn header_is_read_again<'a>(
+    header: &TcpHeader,
+    slice: &'a [u8],
+) -> Result<(TcpHeader, &'a [u8]), HeaderSliceError>
+    ensures { (rest : List ℕ) → slice.now ≡ spelling header.now ++ rest
+        → IsOkAnd result (λ r. (r.0 ≡ header.now) × (r.1.now ≡ rest)) }
+{
+    let _bytes = header.to_bytes();
+    TcpHeader::from_slice(slice)
+}
+
+/// Options are ordered as their bytes.
+pub fn options_are_ordered_as_bytes(a: &TcpOptions, b: &TcpOptions) -> Ordering
+    ensures { result ≡ slice_cmp nat_cmp a.now b.now }
+{
+    a.cmp(b)
+}
+
+/// Options feed a hasher what the slice of their bytes does.
+pub fn options_hash_as_bytes<H: Hasher>(options: &TcpOptions, state: &mut H)
+    ensures { state.new ≡ fold H.write state.old (fed.slice fed.u8 options.now) }
+{
+    options.hash(state);
+}
+
+/// What elements were written as is read as these elements and nothing more; of a selective
+/// acknowledgement, the blocks that are there stand in front.
+pub fn elements_come_back()
+    ensures { ElementsComeBack }
+{}

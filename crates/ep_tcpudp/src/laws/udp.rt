@@ -1,0 +1,41 @@
+//! Laws of UDP (RFC 768).
+
+ghost use Rattle.std.specs.Prelude.{◌≡◌, ℕ, List, ◌++◌, IsOkAnd};
+ghost use Rattle.ep_base.specs.Bytes.{IsBytes};
+ghost use Rattle.ep_tcpudp.specs.Udp.{IsUdpHeader, header_of, spelling};
+ghost use Rattle.ep_tcpudp.specs.UdpChecksum.{SealedUdpSumsToAllOnes};
+
+use crate::UdpHeader;
+use ep_base::err::LenError;
+use ep_base::laws::checksum_sums_to_all_ones;
+
+/// A receiver that sums a pseudo header, a header with the checksum that belongs to it and the
+/// payload finds all ones.
+pub fn sealed_sums_to_all_ones()
+    ensures { SealedUdpSumsToAllOnes }
+{
+    checksum_sums_to_all_ones();
+}
+
+/// Headers and lists of 8 bytes are each other's: a header's bytes are such a list, which spells the
+/// header, and such a list spells a header whose bytes it is.
+pub fn headers_are_their_bytes(header: &UdpHeader)
+    ensures spelled { IsUdpHeader (spelling header.now) }
+    ensures read { header_of (spelling header.now) ≡ header.now }
+    ensures spelled_again { (bytes : List ℕ) → IsUdpHeader bytes → IsBytes bytes
+        → spelling (header_of bytes) ≡ bytes }
+{
+    let _bytes = header.to_bytes();
+}
+
+/// What `to_bytes` gives is read again, whatever follows it.
+pub fn header_is_read_again<'a>(
+    header: &UdpHeader,
+    slice: &'a [u8],
+) -> Result<(UdpHeader, &'a [u8]), LenError>
+    ensures { (rest : List ℕ) → slice.now ≡ spelling header.now ++ rest
+        → IsOkAnd result (λ r. (r.0 ≡ header.now) × (r.1.now ≡ rest)) }
+{
+    let _bytes = header.to_bytes();
+    UdpHeader::from_slice(slice)
+}

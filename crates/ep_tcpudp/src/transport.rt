@@ -1,0 +1,25 @@
+mod limit;
+mod tcp_header;
+mod tcp_header_slice;
+pub mod tcp_option;
+mod tcp_option_element;
+mod tcp_option_read_error;
+mod tcp_option_write_error;
+mod tcp_options;
+mod tcp_options_iterator;
+mod tcp_slice;
+mod udp_header;
+mod udp_header_slice;
+mod udp_slice;
+
+pub use tcp_header::TcpHeader;
+pub use tcp_header_slice::TcpHeaderSlice;
+pub use tcp_option_element::TcpOptionElement;
+pub use tcp_option_read_error::TcpOptionReadError;
+pub use tcp_option_write_error::TcpOptionWriteError;
+pub use tcp_options::TcpOptions;
+pub use tcp_options_iterator::TcpOptionsIterator;
+pub use tcp_slice::TcpSlice;
+pub use udp_header::UdpHeader;
+pub use udp_header_slice::UdpHeaderSlice;
+pub use udp_slice::UdpSlice;
