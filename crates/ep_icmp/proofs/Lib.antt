@@ -1,0 +1,2 @@
+pub mod Icmpv4Kinds
+pub mod Tests

@@ -1,0 +1,9 @@
+//! ICMP messages over IPv4 and IPv6: each kind as its type, code and bytes by position, read and
+//! written both ways, and the checksums.
+#![tactic(auto)]
+
+mod transport;
+
+pub use transport::{
+    IcmpEchoHeader, Icmpv4Header, Icmpv4Slice, Icmpv4Type, icmpv4,
+};
