@@ -2,9 +2,10 @@
 use Rattle.std.proofs.Common.{not, ◌&&◌, ◌==◌, ◌≡◌, Bool, true, false, ◌^◌, ◌⊎◌, ℕ, zero, suc, ◌+◌, ◌-◌, ◌*◌, ◌/◌, ◌%◌, ◌<◌, ◌≤◌, sym, ap, ◌∙◌, refl, arith, inl, inr}
 use Rattle.std.proofs.Math.Nat.{add-mul-mod_self_left}
 use Rattle.std.specs.Bool.{FalseIff}
+use Rattle.std.specs.Int.{swap_bytes, w16}
 use Rattle.std.proofs.lemmas.Bool.Decides.{nat_tests}
 use mir.Val.{bool_byte}
-use Rattle.ep_base.specs.Sum.{fold, turned, accumulated}
+use Rattle.ep_base.specs.Sum.{fold, accumulator_sum}
 
 pub fold_zero : fold 0 ≡ 0
 unfolding fold
@@ -44,7 +45,7 @@ zero_or_pos : (n : ℕ) → (n ≡ 0) ⊎ (0 < n)
 zero_or_pos zero = inl refl
 zero_or_pos (suc n) = inr (omega arith)
 
--- a sum may be folded on the way
+-- a sum may be to_word on the way
 pub fold_add : (m n : ℕ) → fold (fold m + n) ≡ fold (m + n)
 fold_add m n = elim (zero_or_pos m) [
   | inl z ↦ (rw z (rw fold_zero refl))
@@ -87,20 +88,20 @@ fold_times m = elim (zero_or_pos m) [
       sym (ap fold e ∙ fold_step (256 * fold m) (256 * r.0) (omega (arith, fold_pos m p)))
 ]
 
-fold_turned : (f : ℕ) → f ≤ 65535 → fold (256 * f) ≡ turned f
-fold_turned f h =
+fold_swap_bytes : (f : ℕ) → f ≤ 65535 → fold (256 * f) ≡ swap_bytes w16 f
+fold_swap_bytes f h =
     let e : 256 * f ≡ 256 * (f % 256) + 65536 * (f / 256) = omega arith in
-    let t : 256 * (f % 256) + f / 256 ≡ turned f = omega arith in
-    ap fold e ∙ fold_around_16 (256 * (f % 256)) (f / 256) ∙ ap fold t ∙ fold_id (turned f) (omega arith)
+    let t : 256 * (f % 256) + f / 256 ≡ swap_bytes w16 f = omega arith in
+    ap fold e ∙ fold_around_16 (256 * (f % 256)) (f / 256) ∙ ap fold t ∙ fold_id (swap_bytes w16 f) (omega arith)
 
--- to take a total 256 times is to turn the bytes of its fold
-pub fold_of_turned : (m : ℕ) → fold (256 * m) ≡ turned (fold m)
-fold_of_turned m = sym (fold_times m) ∙ fold_turned (fold m) (fold_le m)
+-- to take a total 256 times is to swap the bytes of its fold
+pub fold_of_swap_bytes : (m : ℕ) → fold (256 * m) ≡ swap_bytes w16 (fold m)
+fold_of_swap_bytes m = sym (fold_times m) ∙ fold_swap_bytes (fold m) (fold_le m)
 
-pub turned_twice : (f : ℕ) → f ≤ 65535 → turned (turned f) ≡ f
-turned_twice f h =
-    let high : turned f / 256 ≡ f % 256 = omega arith in
-    let low : turned f % 256 ≡ f / 256 = omega arith in
+pub swap_bytes_twice : (f : ℕ) → f ≤ 65535 → swap_bytes w16 (swap_bytes w16 f) ≡ f
+swap_bytes_twice f h =
+    let high : swap_bytes w16 f / 256 ≡ f % 256 = omega arith in
+    let low : swap_bytes w16 f % 256 ≡ f / 256 = omega arith in
     omega (arith, high, low)
 
 -- the wide sum less its carry out, and the carry
@@ -116,8 +117,8 @@ fold_carry_32 a b s true p q e wraps =
     sym (ap fold w ∙ fold_around_32 s 1)
 fold_carry_32 a b s false p q e fits = let w : s + 0 ≡ a + b = omega (arith, fits) in ap fold w
 
-pub complement_turned : (f : ℕ) → f ≤ 65535 → 65535 - turned f ≡ turned (65535 - f)
-complement_turned f h = omega arith
+pub complement_swap_bytes : (f : ℕ) → f ≤ 65535 → 65535 - swap_bytes w16 f ≡ swap_bytes w16 (65535 - f)
+complement_swap_bytes f h = omega arith
 
 -- the four words of a wide number, added, and the sum's two words added twice
 pub fold_words : (n : ℕ) → fold (n / 281474976710656 + n / 4294967296 % 65536 + n / 65536 % 65536 + n % 65536) ≡ fold n
@@ -153,40 +154,40 @@ fold_add_right m n =
 pub fold_plus_none : (m n : ℕ) → n ≡ 0 → fold (fold m + n) ≡ fold m
 fold_plus_none m n none = fold_add m n ∙ ap fold (let e : m + n ≡ m = omega (arith, none) in e)
 
-pub accumulated_cong : (m n : ℕ) → fold m ≡ fold n → accumulated m ≡ accumulated n
-accumulated_cong m n e = fold_of_turned m ∙ ap turned e ∙ sym (fold_of_turned n)
+pub accumulator_sum_cong : (m n : ℕ) → fold m ≡ fold n → accumulator_sum m ≡ accumulator_sum n
+accumulator_sum_cong m n e = fold_of_swap_bytes m ∙ ap (swap_bytes w16) e ∙ sym (fold_of_swap_bytes n)
 
-pub accumulated-add : (m n : ℕ) → accumulated (m + n) ≡ fold (accumulated m + accumulated n)
-accumulated-add m n =
+pub accumulator_sum-add : (m n : ℕ) → accumulator_sum (m + n) ≡ fold (accumulator_sum m + accumulator_sum n)
+accumulator_sum-add m n =
     let e : 256 * (m + n) ≡ 256 * m + 256 * n = omega arith in
     ap fold e ∙ sym (fold_add (256 * m) (256 * n)) ∙ sym (fold_add_right (fold (256 * m)) (256 * n))
 
-pub accumulated_carry_64 : (a b s : ℕ) (carry : Bool) → a < 2 ^ 64 → b < 2 ^ 64 → s ≡ (a + b) % 2 ^ 64 → FalseIff carry (a + b < 2 ^ 64)
-    → accumulated (s + bool_byte carry) ≡ fold (accumulated a + accumulated b)
-accumulated_carry_64 a b s carry p q e wraps =
-    accumulated_cong (s + bool_byte carry) (a + b) (fold_carry_64 a b s carry p q e wraps) ∙ accumulated-add a b
+pub accumulator_sum_carry_64 : (a b s : ℕ) (carry : Bool) → a < 2 ^ 64 → b < 2 ^ 64 → s ≡ (a + b) % 2 ^ 64 → FalseIff carry (a + b < 2 ^ 64)
+    → accumulator_sum (s + bool_byte carry) ≡ fold (accumulator_sum a + accumulator_sum b)
+accumulator_sum_carry_64 a b s carry p q e wraps =
+    accumulator_sum_cong (s + bool_byte carry) (a + b) (fold_carry_64 a b s carry p q e wraps) ∙ accumulator_sum-add a b
 
-pub accumulated_carry_32 : (a b s : ℕ) (carry : Bool) → a < 2 ^ 32 → b < 2 ^ 32 → s ≡ (a + b) % 2 ^ 32 → FalseIff carry (a + b < 2 ^ 32)
-    → accumulated (s + bool_byte carry) ≡ fold (accumulated a + accumulated b)
-accumulated_carry_32 a b s carry p q e wraps =
-    accumulated_cong (s + bool_byte carry) (a + b) (fold_carry_32 a b s carry p q e wraps) ∙ accumulated-add a b
+pub accumulator_sum_carry_32 : (a b s : ℕ) (carry : Bool) → a < 2 ^ 32 → b < 2 ^ 32 → s ≡ (a + b) % 2 ^ 32 → FalseIff carry (a + b < 2 ^ 32)
+    → accumulator_sum (s + bool_byte carry) ≡ fold (accumulator_sum a + accumulator_sum b)
+accumulator_sum_carry_32 a b s carry p q e wraps =
+    accumulator_sum_cong (s + bool_byte carry) (a + b) (fold_carry_32 a b s carry p q e wraps) ∙ accumulator_sum-add a b
 
 -- a wide number as its two halves
-pub accumulated_halves : (n : ℕ) → fold (accumulated (n % 4294967296) + accumulated (n / 4294967296)) ≡ accumulated n
-accumulated_halves n =
+pub accumulator_sum_halves : (n : ℕ) → fold (accumulator_sum (n % 4294967296) + accumulator_sum (n / 4294967296)) ≡ accumulator_sum n
+accumulator_sum_halves n =
     let whole : n ≡ n % 4294967296 + 4294967296 * (n / 4294967296) = omega arith in
-    sym (accumulated-add (n % 4294967296) (n / 4294967296))
-    ∙ accumulated_cong _ n (sym (ap fold whole ∙ fold_around_32 (n % 4294967296) (n / 4294967296)))
+    sym (accumulator_sum-add (n % 4294967296) (n / 4294967296))
+    ∙ accumulator_sum_cong _ n (sym (ap fold whole ∙ fold_around_32 (n % 4294967296) (n / 4294967296)))
 
--- the complement of a number's fold is that of its sum with the bytes turned
-pub complement_of_accumulated : (n : ℕ) → 65535 - fold n ≡ turned (65535 - accumulated n)
-complement_of_accumulated n =
+-- the complement of a number's fold is that of its sum with the bytes swapped
+pub complement_of_accumulator_sum : (n : ℕ) → 65535 - fold n ≡ swap_bytes w16 (65535 - accumulator_sum n)
+complement_of_accumulator_sum n =
     let small : fold n ≤ 65535 = fold_le n in
-    let inner : 65535 - accumulated n ≡ turned (65535 - fold n) = ap (λ f. 65535 - f) (fold_of_turned n) ∙ complement_turned (fold n) small in
-    sym (ap turned inner ∙ turned_twice (65535 - fold n) (omega arith))
+    let inner : 65535 - accumulator_sum n ≡ swap_bytes w16 (65535 - fold n) = ap (λ f. 65535 - f) (fold_of_swap_bytes n) ∙ complement_swap_bytes (fold n) small in
+    sym (ap (swap_bytes w16) inner ∙ swap_bytes_twice (65535 - fold n) (omega arith))
 
 -- the complement is 0 just where the words sum to all ones
-pub turned_complement_zero : (n answer : ℕ) → answer ≡ turned (65535 - fold n) → (answer == 0) ≡ (not (n == 0) && (n % 65535 == 0))
+pub swap_bytes_complement_zero : (n answer : ℕ) → answer ≡ swap_bytes w16 (65535 - fold n) → (answer == 0) ≡ (not (n == 0) && (n % 65535 == 0))
 unfolding fold
-turned_complement_zero zero answer is = grind (arith, nat_tests)
-turned_complement_zero (suc n) answer is = grind (arith, nat_tests)
+swap_bytes_complement_zero zero answer is = grind (arith, nat_tests)
+swap_bytes_complement_zero (suc n) answer is = grind (arith, nat_tests)

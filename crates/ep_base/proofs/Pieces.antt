@@ -1,13 +1,13 @@
--- Sums of pieces of a text, each padded to whole words.
+-- Sums of pieces of a text, each whole_words to whole words.
 use Rattle.std.proofs.Common.{append-nil, ◌≡◌, ℕ, ◌+◌, ◌%◌, ◌<◌, List, [], ◌∷◌, ◌++◌, length, take, get_or, replicate, sym, ap, ◌∙◌, refl, arith, length-append}
 use Rattle.std.specs.List.{sum_by, flat_map}
 use Rattle.std.proofs.lemmas.List.Concat.{flat_map-cons, concat_is}
 use Rattle.std.proofs.lemmas.List.Sorted.{sum_by-IsPermutation}
 use Rattle.std.proofs.lemmas.List.Sums.{sum_by-cons, sum_by_more}
 use Rattle.std.proofs.lemmas.Simd.{length-replicate}
-use Rattle.ep_base.specs.Sum.{fold, total, padded, IsCutAtWords, FoldOfPieces}
+use Rattle.ep_base.specs.Sum.{fold, total, whole_words, IsCutAtWords, FoldOfPieces}
 use Rattle.ep_base.proofs.Folds.{fold_add}
-use Rattle.ep_base.proofs.Totals.{total-append, total-padded}
+use Rattle.ep_base.proofs.Totals.{total-append, total-whole_words}
 
 -- one piece more, in a sum that is a fold
 pub piece_more : {X : Type 0} (f : X → ℕ) (sum next : ℕ) (xs : List X) (i : ℕ) (d : X) → i < length xs
@@ -15,17 +15,17 @@ pub piece_more : {X : Type 0} (f : X → ℕ) (sum next : ℕ) (xs : List X) (i 
 piece_more f sum next xs i d h so step =
     step ∙ ap (λ n. fold (n + f (get_or xs i d))) so ∙ fold_add (sum_by f (take i xs)) (f (get_or xs i d)) ∙ ap fold (sym (sum_by_more f xs i d h))
 
-total-padded_before : (piece rest : List ℕ) → total (padded piece ++ rest) ≡ total piece + total rest
-total-padded_before piece rest =
-    let even : length (padded piece) % 2 ≡ 0 = omega (arith, length-append piece (replicate (length piece % 2) 0), length-replicate {A = ℕ} (length piece % 2) 0) in
-    total-append (padded piece) rest even ∙ ap (λ n. n + total rest) (total-padded piece)
+total-whole_words_before : (piece rest : List ℕ) → total (whole_words piece ++ rest) ≡ total piece + total rest
+total-whole_words_before piece rest =
+    let even : length (whole_words piece) % 2 ≡ 0 = omega (arith, length-append piece (replicate (length piece % 2) 0), length-replicate {A = ℕ} (length piece % 2) 0) in
+    total-append (whole_words piece) rest even ∙ ap (λ n. n + total rest) (total-whole_words piece)
 
-pub total-pieces : {X : Type 0} (f : X → List ℕ) (xs : List X) → total (flat_map (λ x. padded (f x)) xs) ≡ sum_by (λ x. total (f x)) xs
+pub total-pieces : {X : Type 0} (f : X → List ℕ) (xs : List X) → total (flat_map (λ x. whole_words (f x)) xs) ≡ sum_by (λ x. total (f x)) xs
 unfolding total
 total-pieces f [] = refl
 total-pieces f (x ∷ xs) =
-    ap total (flat_map-cons (λ y. padded (f y)) x xs)
-    ∙ total-padded_before (f x) (flat_map (λ y. padded (f y)) xs)
+    ap total (flat_map-cons (λ y. whole_words (f y)) x xs)
+    ∙ total-whole_words_before (f x) (flat_map (λ y. whole_words (f y)) xs)
     ∙ ap (λ n. total (f x) + n) (total-pieces f xs)
     ∙ sym (sum_by-cons (λ y. total (f y)) x xs)
 

@@ -5,7 +5,7 @@ use Rattle.std.specs.Simd.{first_chunks}
 use Rattle.std.specs.List.{sum_by}
 use Rattle.std.proofs.lemmas.List.Sums.{sum_by-cons}
 use Rattle.std.proofs.lemmas.List.{take-append-drop, length-take-le, drop-drop, length-drop}
-use Rattle.ep_base.specs.Sum.{fold, total, accumulated, padded}
+use Rattle.ep_base.specs.Sum.{fold, total, accumulator_sum, whole_words}
 use Rattle.ep_base.proofs.Folds.{fold_add, fold_add_right, fold_around_16, fold_around_32}
 
 -- a front of even length ends at a word's end
@@ -17,13 +17,13 @@ total-append (a ∷ b ∷ xs) ys e = omega (arith, total-append xs ys (omega ari
 
 -- ---- a wide word read low byte first
 
-pub accumulated_2 : (t : List ℕ) → length t ≡ 2 → accumulated (from_le_bytes w16 t) ≡ fold (total t)
+pub accumulator_sum_2 : (t : List ℕ) → length t ≡ 2 → accumulator_sum (from_le_bytes w16 t) ≡ fold (total t)
 unfolding total
-accumulated_2 (a ∷ b ∷ []) e =
+accumulator_sum_2 (a ∷ b ∷ []) e =
     let bytes : 256 * from_le_bytes w16 (a ∷ b ∷ []) ≡ 256 * a + 65536 * b = omega arith in
     let words : 256 * a + b ≡ total (a ∷ b ∷ []) = omega arith in
     ap fold bytes ∙ fold_around_16 (256 * a) b ∙ ap fold words
-accumulated_2 t e = absurd (omega arith)
+accumulator_sum_2 t e = absurd (omega arith)
 
 -- the four bytes of a number, low byte first, as words
 fold_four : (a b c d : ℕ) → fold (256 * a + 65536 * (b + 256 * c + 65536 * d)) ≡ fold (256 * a + b + (256 * c + d))
@@ -32,24 +32,24 @@ fold_four a b c d =
     let words : (256 * a + b + 256 * c) + d ≡ 256 * a + b + (256 * c + d) = omega arith in
     fold_around_16 (256 * a) (b + 256 * c + 65536 * d) ∙ ap fold inner ∙ fold_around_16 (256 * a + b + 256 * c) d ∙ ap fold words
 
-pub accumulated_4 : (t : List ℕ) → length t ≡ 4 → accumulated (from_le_bytes w32 t) ≡ fold (total t)
+pub accumulator_sum_4 : (t : List ℕ) → length t ≡ 4 → accumulator_sum (from_le_bytes w32 t) ≡ fold (total t)
 unfolding total
-accumulated_4 (a ∷ b ∷ c ∷ d ∷ []) e =
+accumulator_sum_4 (a ∷ b ∷ c ∷ d ∷ []) e =
     let bytes : 256 * from_le_bytes w32 (a ∷ b ∷ c ∷ d ∷ []) ≡ 256 * a + 65536 * (b + 256 * c + 65536 * d) = omega arith in
     let words : 256 * a + b + (256 * c + d) ≡ total (a ∷ b ∷ c ∷ d ∷ []) = omega arith in
     ap fold bytes ∙ fold_four a b c d ∙ ap fold words
-accumulated_4 t e = absurd (omega arith)
+accumulator_sum_4 t e = absurd (omega arith)
 
-pub accumulated_8 : (t : List ℕ) → length t ≡ 8 → accumulated (from_le_bytes w64 t) ≡ fold (total t)
+pub accumulator_sum_8 : (t : List ℕ) → length t ≡ 8 → accumulator_sum (from_le_bytes w64 t) ≡ fold (total t)
 unfolding total
-accumulated_8 (a ∷ b ∷ c ∷ d ∷ e ∷ f ∷ g ∷ h ∷ []) long =
+accumulator_sum_8 (a ∷ b ∷ c ∷ d ∷ e ∷ f ∷ g ∷ h ∷ []) long =
     let low : ℕ = 256 * a + 65536 * (b + 256 * c + 65536 * d) in
     let high : ℕ = 256 * e + 65536 * (f + 256 * g + 65536 * h) in
     let bytes : 256 * from_le_bytes w64 (a ∷ b ∷ c ∷ d ∷ e ∷ f ∷ g ∷ h ∷ []) ≡ low + 4294967296 * high = omega arith in
     let both : low + high ≡ 256 * (a + e) + 65536 * ((b + f) + 256 * (c + g) + 65536 * (d + h)) = omega arith in
     let words : 256 * (a + e) + (b + f) + (256 * (c + g) + (d + h)) ≡ total (a ∷ b ∷ c ∷ d ∷ e ∷ f ∷ g ∷ h ∷ []) = omega arith in
     ap fold bytes ∙ fold_around_32 low high ∙ ap fold both ∙ fold_four (a + e) (b + f) (c + g) (d + h) ∙ ap fold words
-accumulated_8 t long = absurd (omega arith)
+accumulator_sum_8 t long = absurd (omega arith)
 
 -- a word that spells a text is added
 pub added : (sum word next : ℕ) (text : List ℕ) → next ≡ fold (sum + word) → word ≡ fold (total text) → next ≡ fold (sum + total text)
@@ -89,8 +89,8 @@ total-zeros_after (a ∷ []) zero = refl
 total-zeros_after (a ∷ []) (suc k) = omega (arith, total_zeros k)
 total-zeros_after (a ∷ b ∷ t) k = ap (λ n. 256 * a + b + n) (total-zeros_after t k)
 
-pub total-padded : (piece : List ℕ) → total (padded piece) ≡ total piece
-total-padded piece = total-zeros_after piece (length piece % 2)
+pub total-whole_words : (piece : List ℕ) → total (whole_words piece) ≡ total piece
+total-whole_words piece = total-zeros_after piece (length piece % 2)
 
 -- one piece more, behind a text of even length
 pub text_more : (sum next : ℕ) (text piece : List ℕ) → next ≡ fold (sum + total piece) → length text % 2 ≡ 0 → sum ≡ fold (total text)
@@ -98,7 +98,7 @@ pub text_more : (sum next : ℕ) (text piece : List ℕ) → next ≡ fold (sum 
 text_more sum next text piece step even so =
     step ∙ ap (λ s. fold (s + total piece)) so ∙ fold_add (total text) (total piece) ∙ ap fold (sym (total-append text piece even))
 
-pub padded_text_more : (sum next : ℕ) (text piece : List ℕ) → next ≡ fold (sum + total piece) → length text % 2 ≡ 0 → sum ≡ fold (total text)
-    → next ≡ fold (total (text ++ padded piece))
-padded_text_more sum next text piece step even so =
-    text_more sum next text (padded piece) (step ∙ ap (λ n. fold (sum + n)) (sym (total-padded piece))) even so
+pub whole_words_more : (sum next : ℕ) (text piece : List ℕ) → next ≡ fold (sum + total piece) → length text % 2 ≡ 0 → sum ≡ fold (total text)
+    → next ≡ fold (total (text ++ whole_words piece))
+whole_words_more sum next text piece step even so =
+    text_more sum next text (whole_words piece) (step ∙ ap (λ n. fold (sum + n)) (sym (total-whole_words piece))) even so

@@ -1,5 +1,5 @@
 -- The Internet checksum (RFC 1071, sections 1 and 2): a ones-complement sum of 16-bit words, and its complement.
-use Rattle.std.specs.Prelude.{◌≡◌, ◌≢◌, ◌<◌, IsPermutation, IsTrue, false, ℕ, zero, suc, ◌+◌, ◌-◌, ◌*◌, ◌/◌, ◌%◌, ◌==◌, ◌&&◌, not, Bool, List, [], ◌∷◌, ◌++◌, length, replicate}
+use Rattle.std.specs.Prelude.{◌≡◌, ◌≢◌, ◌<◌, IsPermutation, IsTrue, false, ℕ, zero, suc, ◌+◌, ◌-◌, ◌*◌, ◌%◌, ◌==◌, ◌&&◌, not, Bool, List, [], ◌∷◌, ◌++◌, length, replicate}
 use Rattle.std.specs.List.{flat_map, concat}
 
 -- the sum of a text's 16-bit words, high byte first; an odd last byte is followed by a zero byte
@@ -21,22 +21,22 @@ all_ones text = not (total text == 0) && (total text % 65535 == 0)
 abbrev pub checksum : List ℕ → ℕ
 checksum text = 65535 - fold (total text)
 
--- a 16-bit number with its two bytes turned
-abbrev pub turned : ℕ → ℕ
-turned n = n / 256 + 256 * (n % 256)
+-- a piece as whole words: a zero byte is behind it where its length is odd
+abbrev pub whole_words : List ℕ → List ℕ
+whole_words piece = piece ++ replicate (length piece % 2) 0
 
--- a piece as it is summed: with a zero byte after it where its length is odd
-abbrev pub padded : List ℕ → List ℕ
-padded piece = piece ++ replicate (length piece % 2) 0
+-- from the sum of any text of whole words to that of the text with this piece behind it
+abbrev pub AddsText : ℕ → List ℕ → ℕ → Type 0
+AddsText sum piece next = (text : List ℕ) → length text % 2 ≡ 0 → sum ≡ fold (total text) → next ≡ fold (total (text ++ piece))
 
 -- a checksum where 0 says that there is none (RFC 768)
 abbrev pub no_zero : ℕ → ℕ
 no_zero zero = 65535
 no_zero (suc n) = suc n
 
--- the sum that a number stands for into which words were added low byte first
-abbrev pub accumulated : ℕ → ℕ
-accumulated n = fold (256 * n)
+-- the sum of words that an accumulator stands for, to which they were added low byte first
+abbrev pub accumulator_sum : ℕ → ℕ
+accumulator_sum n = fold (256 * n)
 
 -- pieces of a text that is cut at the ends of words: all but the last have an even length
 abbrev pub IsCutAtWords : List (List ℕ) → Type 0
@@ -47,7 +47,7 @@ IsCutAtWords (piece ∷ next ∷ rest) = (length piece % 2 ≡ 0) × IsCutAtWord
 -- wherever a text is cut at the ends of words, and in whatever order its pieces are added, the fold is that of the text
 abbrev pub FoldOfPieces : Type 0
 FoldOfPieces = (text : List ℕ) (pieces order : List (List ℕ)) → concat pieces ≡ text → IsCutAtWords pieces → IsPermutation pieces order
-    → fold (total (flat_map padded order)) ≡ fold (total text)
+    → fold (total (flat_map whole_words order)) ≡ fold (total text)
 
 -- a text that sums to all ones doesn't with another value of one of its bytes
 abbrev pub OneChangedByte : Type 0

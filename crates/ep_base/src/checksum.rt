@@ -1,10 +1,11 @@
 //! The Internet checksum (RFC 1071).
 
-ghost use Rattle.std.specs.Prelude.{◌≡◌, ◌+◌, ◌-◌, ◌%◌, ◌++◌, ◌==◌, ℕ, List, [], length};
+ghost use Rattle.std.specs.Prelude.{◌≡◌, ◌+◌, ◌-◌, ◌==◌, ℕ, List, []};
+ghost use Rattle.std.specs.Int.{swap_bytes, w16};
 ghost use Rattle.std.proofs.Common.{rules};
 ghost use Rattle.std.specs.Cmp.Rules.{comparing};
 ghost use Rattle.std.specs.List.{flat_map};
-ghost use Rattle.ep_base.specs.Sum.{accumulated, all_ones, checksum, fold, no_zero, padded, total, turned};
+ghost use Rattle.ep_base.specs.Sum.{AddsText, accumulator_sum, all_ones, checksum, fold, no_zero, total, whole_words};
 
 pub mod u32_16bit_word;
 pub mod u64_16bit_word;
@@ -12,7 +13,7 @@ pub mod u64_16bit_word;
 use std::marker::Model;
 
 /// A ones-complement sum of 16-bit words. It reads words low byte first, so that a checksum field
-/// of a header is its answer with the two bytes turned.
+/// of a header is its answer with the two bytes swapped.
 ///
 /// In a contract it is the fold of the words added so far, high byte first: 0 where all are zero,
 /// else a number of 1 to 65535 with their residue by 65535. Two sums are equal where these are.
@@ -27,7 +28,7 @@ pub struct Sum16BitWords {
 impl Model for Sum16BitWords {
     ghost Value = { ℕ };
 
-    ghost view = { λ s. accumulated s.sum };
+    ghost view = { λ s. accumulator_sum s.sum };
 }
 
 impl Sum16BitWords {
@@ -43,8 +44,7 @@ impl Sum16BitWords {
     #[must_use]
     pub fn add_2bytes(&self, value: [u8; 2]) -> Self
         ensures sum { result ≡ fold (self.now + total value) }
-        ensures text { (text : List ℕ) → length text % 2 ≡ 0 → self.now ≡ fold (total text)
-            → result ≡ fold (total (text ++ value)) }
+        ensures text { AddsText self.now value result }
     {
         Sum16BitWords {
             sum: u64_16bit_word::add_2bytes(self.sum, value),
@@ -55,8 +55,7 @@ impl Sum16BitWords {
     #[must_use]
     pub fn add_4bytes(&self, value: [u8; 4]) -> Self
         ensures sum { result ≡ fold (self.now + total value) }
-        ensures text { (text : List ℕ) → length text % 2 ≡ 0 → self.now ≡ fold (total text)
-            → result ≡ fold (total (text ++ value)) }
+        ensures text { AddsText self.now value result }
     {
         Sum16BitWords {
             sum: u64_16bit_word::add_4bytes(self.sum, value),
@@ -67,8 +66,7 @@ impl Sum16BitWords {
     #[must_use]
     pub fn add_8bytes(&self, value: [u8; 8]) -> Self
         ensures sum { result ≡ fold (self.now + total value) }
-        ensures text { (text : List ℕ) → length text % 2 ≡ 0 → self.now ≡ fold (total text)
-            → result ≡ fold (total (text ++ value)) }
+        ensures text { AddsText self.now value result }
     {
         Sum16BitWords {
             sum: u64_16bit_word::add_8bytes(self.sum, value),
@@ -79,8 +77,7 @@ impl Sum16BitWords {
     #[must_use]
     pub fn add_16bytes(&self, value: [u8; 16]) -> Self
         ensures sum { result ≡ fold (self.now + total value) }
-        ensures text { (text : List ℕ) → length text % 2 ≡ 0 → self.now ≡ fold (total text)
-            → result ≡ fold (total (text ++ value)) }
+        ensures text { AddsText self.now value result }
     {
         Sum16BitWords {
             sum: u64_16bit_word::add_slice(self.sum, &value),
@@ -92,22 +89,20 @@ impl Sum16BitWords {
     #[must_use]
     pub fn add_slice(self, slice: &[u8]) -> Self
         ensures sum { result ≡ fold (self + total slice.now) }
-        ensures text { (text : List ℕ) → length text % 2 ≡ 0 → self ≡ fold (total text)
-            → result ≡ fold (total (text ++ slice.now)) }
-        ensures padded { (text : List ℕ) → length text % 2 ≡ 0 → self ≡ fold (total text)
-            → result ≡ fold (total (text ++ padded slice.now)) }
+        ensures text { AddsText self slice.now result }
+        ensures whole_words { AddsText self (whole_words slice.now) result }
     {
         Sum16BitWords {
             sum: u64_16bit_word::add_slice(self.sum, slice),
         }
     }
 
-    /// The complement of the sum, low byte first: the checksum with its two bytes turned. It is 0
+    /// The complement of the sum, low byte first: the checksum with its two bytes swapped. It is 0
     /// exactly where the words sum to all ones, as those of a text with a right checksum do.
     #[must_use]
     pub fn ones_complement(&self) -> u16
-        ensures value { result ≡ turned (65535 - self.now) }
-        ensures text { (text : List ℕ) → self.now ≡ fold (total text) → result ≡ turned (checksum text) }
+        ensures value { result ≡ swap_bytes w16 (65535 - self.now) }
+        ensures text { (text : List ℕ) → self.now ≡ fold (total text) → result ≡ swap_bytes w16 (checksum text) }
         ensures all_ones { (text : List ℕ) → self.now ≡ fold (total text) → (result == 0) ≡ all_ones text }
     {
         u64_16bit_word::ones_complement(self.sum)
@@ -117,8 +112,8 @@ impl Sum16BitWords {
     /// checksum.
     #[must_use]
     pub fn to_ones_complement_with_no_zero(&self) -> u16
-        ensures value { result ≡ turned (no_zero (65535 - self.now)) }
-        ensures text { (text : List ℕ) → self.now ≡ fold (total text) → result ≡ turned (no_zero (checksum text)) }
+        ensures value { result ≡ swap_bytes w16 (no_zero (65535 - self.now)) }
+        ensures text { (text : List ℕ) → self.now ≡ fold (total text) → result ≡ swap_bytes w16 (no_zero (checksum text)) }
     {
         u64_16bit_word::ones_complement_with_no_zero(self.sum)
     }
@@ -127,7 +122,7 @@ impl Sum16BitWords {
     fn word(&self) -> u16
         ensures { result ≡ self.now }
     {
-        u64_16bit_word::folded(self.sum).swap_bytes()
+        u64_16bit_word::to_word(self.sum).swap_bytes()
     }
 }
 
@@ -156,7 +151,7 @@ impl Default for Sum16BitWords {
 /// The complement of the sum of all pieces, each with a zero byte after it where its length is odd:
 /// what [`Sum16BitWords::ones_complement`] answers where they are added one by one.
 pub fn sum_pieces(pieces: &[&[u8]]) -> u16
-    ensures { result ≡ turned (checksum (flat_map (λ piece. padded piece.now) pieces.now)) }
+    ensures { result ≡ swap_bytes w16 (checksum (flat_map (λ piece. whole_words piece.now) pieces.now)) }
 {
     let mut sum = Sum16BitWords::new();
     for piece in pieces {

@@ -6,7 +6,7 @@ use Rattle.ep_base.specs.Bytes.{IsBytes}
 use Rattle.ep_base.specs.IpEcn.{ecn_of, ecn_number}
 use Rattle.ep_base.proofs.Cells.{drop-cells, take-drop-cells}
 use Rattle.ep_ip.specs.Ipv4.{IsIpv4Header}
-use Rattle.ep_ip.specs.Ipv4.{header_of, spelling, cleared, Fits}
+use Rattle.ep_ip.specs.Ipv4.{header_of, spelling, with_reserved_bit_zero, Fits}
 use Rattle.ep_ip.specs.declared.net.ipv4_header.Ipv4Header.{Ipv4Header}
 use Rattle.ep_ip.proofs.Ecn.{ecn_of-number, ecn_number_below, number-ecn_of}
 
@@ -29,7 +29,7 @@ low_of : (a b : ℕ) → b < 256 → (256 * a + b) % 256 ≡ b
 low_of a b h = omega arith
 
 -- what is read from the bytes of a header is spelled so, with the reserved bit as 0
-pub spelling-header_of : (bytes : List ℕ) → IsIpv4Header bytes → IsBytes bytes → spelling (header_of bytes) ≡ cleared bytes
+pub spelling-header_of : (bytes : List ℕ) → IsIpv4Header bytes → IsBytes bytes → spelling (header_of bytes) ≡ with_reserved_bit_zero bytes
 spelling-header_of bytes header fits =
     let least : 20 ≤ length bytes = omega (arith, header.minimum, header.whole) in
     let first : 64 + (5 + length (drop 20 bytes) / 4) ≡ get_or bytes 0 0 = omega (arith, length-drop 20 bytes, header.version, header.minimum, header.whole) in
@@ -132,13 +132,13 @@ fits-header_of bytes header fits =
     }
 
 -- the reserved bit is not read
-pub header_of-cleared : (bytes : List ℕ) → IsIpv4Header bytes → IsBytes bytes → header_of (cleared bytes) ≡ header_of bytes
+pub header_of-cleared : (bytes : List ℕ) → IsIpv4Header bytes → IsBytes bytes → header_of (with_reserved_bit_zero bytes) ≡ header_of bytes
 header_of-cleared bytes header fits =
     ap header_of (sym (spelling-header_of bytes header fits)) ∙ header_of-spelling (header_of bytes) (fits-header_of bytes header fits)
 
 -- equal fields are equal bytes but for the reserved bit, and the other way round
 pub same_fields : (a b : List ℕ) → IsIpv4Header a → IsBytes a → IsIpv4Header b → IsBytes b →
-    (header_of a ≡ header_of b) ↔ (cleared a ≡ cleared b)
+    (header_of a ≡ header_of b) ↔ (with_reserved_bit_zero a ≡ with_reserved_bit_zero b)
 same_fields a b ha fa hb fb = (
   (λ e. sym (spelling-header_of a ha fa) ∙ ap spelling e ∙ spelling-header_of b hb fb),
   (λ e. sym (header_of-cleared a ha fa) ∙ ap header_of e ∙ header_of-cleared b hb fb),

@@ -1,6 +1,6 @@
 -- The IPv4 header (RFC 791, section 3.1): its bytes, and each field by its place in them.
 use Rattle.std.specs.Prelude.{◌≡◌, ◌<◌, ℕ, ◌+◌, ◌*◌, ◌/◌, ◌%◌, ◌^◌, ◌≤◌, Bool, true, false, ◌==◌, ◌||◌, nat_lt, if◌then◌else◌, List, [], ◌∷◌, ◌++◌, replicate, length, slice_range, slice_index, slice_set, drop}
-use Rattle.std.specs.Int.{w16, to_be_bytes}
+use Rattle.std.specs.Int.{bit_at, w16, to_be_bytes}
 use Rattle.ep_base.specs.Bytes.{num}
 use Rattle.ep_base.specs.IpEcn.{ecn_number}
 use Rattle.ep_base.specs.IpEcn.{ecn_of as ecn_value}
@@ -37,16 +37,12 @@ total_len_of bytes = num bytes 2 2
 abbrev pub identification_of : List ℕ → ℕ
 identification_of bytes = num bytes 4 2
 
--- whether bit k of a number is set
-abbrev pub is_set : ℕ → ℕ → Bool
-is_set n k = n / 2 ^ k % 2 == 1
-
 -- the flags, below the reserved bit, which is the top one of byte 6
 abbrev pub dont_fragment_of : List ℕ → Bool
-dont_fragment_of bytes = is_set (num bytes 6 1) 6
+dont_fragment_of bytes = bit_at (num bytes 6 1) 6 == 1
 
 abbrev pub more_fragments_of : List ℕ → Bool
-more_fragments_of bytes = is_set (num bytes 6 1) 5
+more_fragments_of bytes = bit_at (num bytes 6 1) 5 == 1
 
 -- the place of the payload in the message, in units of 8 bytes
 abbrev pub fragment_offset_of : List ℕ → ℕ
@@ -126,8 +122,8 @@ spelling h =
     ++ h.source ++ h.destination ++ h.options)
 
 -- the bytes with the reserved bit, the top one of byte 6, as 0
-abbrev pub cleared : List ℕ → List ℕ
-cleared bytes = slice_set bytes 6 (slice_index bytes 6 % 2 ^ 7)
+abbrev pub with_reserved_bit_zero : List ℕ → List ℕ
+with_reserved_bit_zero bytes = slice_set bytes 6 (slice_index bytes 6 % 2 ^ 7)
 
 -- in front of the rest stood a header, with these fields; written again it is the same, but for
 -- the reserved bit
@@ -136,7 +132,7 @@ pub record IsRead (bytes : List ℕ) (h : Ipv4Header) (rest : List ℕ) : Type 0
   pub header : IsIpv4Header front
   pub place : bytes ≡ front ++ rest
   pub fields : h ≡ header_of front
-  pub again : spelling h ≡ cleared front
+  pub again : spelling h ≡ with_reserved_bit_zero front
 
 -- the ranges of the fields
 pub record Fits (h : Ipv4Header) : Type 0 where

@@ -1,6 +1,7 @@
 -- Why bytes do not begin with an IPv4 header (RFC 791, section 3.1), and why its total length
 -- leaves no payload.
-use Rattle.std.specs.Prelude.{◌≡◌, ◌<◌, ◌+◌, ℕ, ◌*◌, List, length, take, nat_lt, ◌==◌, not, if◌then◌else◌, Result, Ok, Err}
+use Rattle.std.specs.Prelude.{◌≡◌, ◌<◌, ◌+◌, ℕ, ◌*◌, ⊤, List, length, take, nat_lt, ◌==◌, not, if◌then◌else◌, Result, Ok, Err}
+use Rattle.ep_base.specs.Moved as len_error
 use Rattle.ep_base.specs.declared.err.layer.Layer.TheVariants.{Ipv4Header, Ipv4Packet}
 use Rattle.ep_base.specs.declared.err.len_error.LenError.{LenError}
 use Rattle.ep_base.specs.declared.len_source.LenSource.TheVariants.{Slice, Ipv4HeaderTotalLen}
@@ -21,6 +22,16 @@ header_at bytes =
     if nat_lt (ihl_of bytes) 5 then Err (Content (HeaderLengthSmallerThanHeader (ihl_of bytes))) else (
     if nat_lt (length bytes) (4 * ihl_of bytes) then Err (Len (too_short (4 * ihl_of bytes) (length bytes))) else
     Ok (take (4 * ihl_of bytes) bytes))))
+
+-- the place n bytes further on fits a `usize`
+abbrev pub CanMove : HeaderSliceError → ℕ → Type 0
+CanMove (Len e) n = len_error.CanMove e n
+CanMove (Content e) n = ⊤
+
+-- a want of bytes is n bytes further on, and a fault of the content is the same
+abbrev pub moved : HeaderSliceError → ℕ → HeaderSliceError
+moved (Len e) n = Len (len_error.moved e n)
+moved (Content e) n = Content e
 
 -- the total length is below the header's own
 abbrev pub no_payload : ℕ → ℕ → LenError

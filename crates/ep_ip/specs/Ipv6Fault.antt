@@ -1,5 +1,6 @@
 -- Why bytes do not begin with an IPv6 header (RFC 8200, section 3).
-use Rattle.std.specs.Prelude.{ℕ, ◌+◌, ◌<◌, ◌^◌, ⊤, List, length, take, nat_lt, ◌==◌, not, if◌then◌else◌, Result, Ok, Err}
+use Rattle.std.specs.Prelude.{ℕ, ⊤, List, length, take, nat_lt, ◌==◌, not, if◌then◌else◌, Result, Ok, Err}
+use Rattle.ep_base.specs.Moved as len_error
 use Rattle.ep_base.specs.declared.err.layer.Layer.TheVariants.{Ipv6Header}
 use Rattle.ep_base.specs.declared.len_source.LenSource.TheVariants.{Slice}
 use Rattle.ep_ip.specs.declared.err.ipv6.header_error.HeaderError.TheVariants.{UnexpectedVersion}
@@ -18,12 +19,12 @@ header_at bytes =
     if not (version_of bytes == 6) then Err (Content (UnexpectedVersion (version_of bytes))) else
     Ok (take 40 bytes))
 
--- the offset fits a `usize`
+-- the place n bytes further on fits a `usize`
 abbrev pub CanMove : HeaderSliceError → ℕ → Type 0
-CanMove (Len e) n = e.layer_start_offset + n < 2 ^ 64
+CanMove (Len e) n = len_error.CanMove e n
 CanMove (Content e) n = ⊤
 
--- a want of bytes is further on, and a fault of the content is the same
+-- a want of bytes is n bytes further on, and a fault of the content is the same
 abbrev pub moved : HeaderSliceError → ℕ → HeaderSliceError
-moved (Len e) n = Len (record e { layer_start_offset = e.layer_start_offset + n })
+moved (Len e) n = Len (len_error.moved e n)
 moved (Content e) n = Content e

@@ -1,13 +1,14 @@
 //! The sum of 16-bit words in a number of 64 bits, whose carry is added back.
 //!
-//! Such a number stands for the sum `accumulated`, high byte first, of its words, which are added
+//! Such a number stands for the sum `accumulator_sum`, high byte first, of its words, which are added
 //! to it low byte first. It may begin at any number.
 
 ghost use Rattle.std.specs.Prelude.{◌≡◌, ◌+◌, ◌-◌};
-ghost use Rattle.ep_base.specs.Sum.{accumulated, fold, no_zero, total, turned};
+ghost use Rattle.std.specs.Int.{swap_bytes, w16};
+ghost use Rattle.ep_base.specs.Sum.{accumulator_sum, fold, no_zero, total};
 
 fn add_carrying(start: u64, word: u64) -> u64
-    ensures { accumulated result ≡ fold (accumulated start + accumulated word) }
+    ensures { accumulator_sum result ≡ fold (accumulator_sum start + accumulator_sum word) }
 {
     let (sum, carry) = start.overflowing_add(word);
     sum + carry as u64
@@ -15,28 +16,28 @@ fn add_carrying(start: u64, word: u64) -> u64
 
 /// The number with a word of 2 bytes added.
 pub fn add_2bytes(start: u64, value: [u8; 2]) -> u64
-    ensures { accumulated result ≡ fold (accumulated start + total value) }
+    ensures { accumulator_sum result ≡ fold (accumulator_sum start + total value) }
 {
     add_carrying(start, u64::from(u16::from_le_bytes(value)))
 }
 
 /// The number with two words added.
 pub fn add_4bytes(start: u64, value: [u8; 4]) -> u64
-    ensures { accumulated result ≡ fold (accumulated start + total value) }
+    ensures { accumulator_sum result ≡ fold (accumulator_sum start + total value) }
 {
     add_carrying(start, u64::from(u32::from_le_bytes(value)))
 }
 
 /// The number with four words added.
 pub fn add_8bytes(start: u64, value: [u8; 8]) -> u64
-    ensures { accumulated result ≡ fold (accumulated start + total value) }
+    ensures { accumulator_sum result ≡ fold (accumulator_sum start + total value) }
 {
     add_carrying(start, u64::from_le_bytes(value))
 }
 
 // The number with the words of a short slice added, one by one.
 fn add_words(start: u64, slice: &[u8]) -> u64
-    ensures { accumulated result ≡ fold (accumulated start + total slice.now) }
+    ensures { accumulator_sum result ≡ fold (accumulator_sum start + total slice.now) }
 {
     let (words, rest) = slice.as_chunks::<2>();
     let mut sum = start;
@@ -51,7 +52,7 @@ fn add_words(start: u64, slice: &[u8]) -> u64
 
 /// The number with the words of a slice added. An odd last byte is followed by a zero byte.
 pub fn add_slice(start: u64, slice: &[u8]) -> u64
-    ensures { accumulated result ≡ fold (accumulated start + total slice.now) }
+    ensures { accumulator_sum result ≡ fold (accumulator_sum start + total slice.now) }
 {
     let (blocks, rest) = slice.as_chunks::<8>();
     let mut sum = start;
@@ -62,7 +63,7 @@ pub fn add_slice(start: u64, slice: &[u8]) -> u64
 }
 
 // The number's own fold, low byte first.
-pub(crate) fn folded(sum: u64) -> u16
+pub(crate) fn to_word(sum: u64) -> u16
     ensures { result ≡ fold sum }
 {
     let first = (sum >> 48) + (sum >> 32 & 0xffff) + (sum >> 16 & 0xffff) + (sum & 0xffff);
@@ -73,14 +74,14 @@ pub(crate) fn folded(sum: u64) -> u16
 
 /// The complement of the sum, low byte first.
 pub fn ones_complement(sum: u64) -> u16
-    ensures { result ≡ turned (65535 - accumulated sum) }
+    ensures { result ≡ swap_bytes w16 (65535 - accumulator_sum sum) }
 {
-    !folded(sum)
+    !to_word(sum)
 }
 
 /// The same with ffff in the place of 0.
 pub fn ones_complement_with_no_zero(sum: u64) -> u16
-    ensures { result ≡ turned (no_zero (65535 - accumulated sum)) }
+    ensures { result ≡ swap_bytes w16 (no_zero (65535 - accumulator_sum sum)) }
 {
     match ones_complement(sum) {
         0 => 0xffff,

@@ -12,7 +12,7 @@ use crate::{Ipv6Header, Ipv6HeaderSlice};
 use std::alloc::AllocError;
 
 /// The lengths of an IPv6 header in bytes.
-pub fn ipv6_header_lengths() -> [usize; 2]
+pub fn header_lengths() -> [usize; 2]
     ensures { result ≡ 40 ∷ 40 ∷ [] }
 {
     [Ipv6Header::LEN, Ipv6Header::SERIALIZED_SIZE]
@@ -20,17 +20,17 @@ pub fn ipv6_header_lengths() -> [usize; 2]
 
 /// Headers and lists of 40 bytes whose first half byte is 6 are each other's: a header's bytes are
 /// such a list, which spells the header, and such a list spells a header whose bytes it is.
-pub fn ipv6_headers_are_their_bytes(header: &Ipv6Header)
-    ensures spelled { IsIpv6Header (spelling header.now) }
-    ensures read { header_of (spelling header.now) ≡ header.now }
-    ensures spelled_again { (bytes : List ℕ) → IsIpv6Header bytes → IsBytes bytes
+pub fn headers_are_their_bytes(header: &Ipv6Header)
+    ensures header { IsIpv6Header (spelling header.now) }
+    ensures fields { header_of (spelling header.now) ≡ header.now }
+    ensures again { (bytes : List ℕ) → IsIpv6Header bytes → IsBytes bytes
         → spelling (header_of bytes) ≡ bytes }
 {
     let _bytes = header.to_bytes();
 }
 
 /// What `to_bytes` gives is read again, whatever follows it.
-pub fn ipv6_header_is_read_again<'a>(
+pub fn header_is_read_again<'a>(
     header: &Ipv6Header,
     slice: &'a [u8],
 ) -> Result<(Ipv6Header, &'a [u8]), HeaderSliceError>
@@ -64,21 +64,21 @@ pub fn skip_follows_every_walk()
 {}
 
 /// Headers are equal where their fields are.
-pub fn ipv6_headers_are_equal_as_fields(a: &Ipv6Header, b: &Ipv6Header) -> bool
+pub fn headers_are_equal_as_fields(a: &Ipv6Header, b: &Ipv6Header) -> bool
     ensures { IsTrue result ↔ (a.now ≡ b.now) }
 {
     a == b
 }
 
 /// Header slices are equal where their bytes are.
-pub fn ipv6_header_slices_are_equal_as_bytes(a: &Ipv6HeaderSlice, b: &Ipv6HeaderSlice) -> bool
+pub fn slices_are_equal_as_bytes(a: &Ipv6HeaderSlice, b: &Ipv6HeaderSlice) -> bool
     ensures { IsTrue result ↔ (a.now ≡ b.now) }
 {
     a == b
 }
 
 /// A copy of a header is the header.
-pub fn ipv6_header_is_copied(header: &Ipv6Header) -> Result<Ipv6Header, AllocError>
+pub fn header_is_copied(header: &Ipv6Header) -> Result<Ipv6Header, AllocError>
     ensures { IsOkAnd result (λ copy. copy ≡ header.now) }
 {
     header.clone()

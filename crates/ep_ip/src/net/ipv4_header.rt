@@ -142,11 +142,11 @@ impl Ipv4Header {
         // They sum to all ones exactly where the checksum is the right one.
         ensures checked { IsTrue (all_ones result.items) ↔ HasRightChecksum self.now }
     {
-        self.spelled_with(self.header_checksum)
+        self.bytes_with_checksum(self.header_checksum)
     }
 
     // The bytes of the header with this checksum.
-    fn spelled_with(&self, header_checksum: u16) -> ArrayVec<u8, 60>
+    fn bytes_with_checksum(&self, header_checksum: u16) -> ArrayVec<u8, 60>
         ensures bytes { result.items ≡ spelling (record self.now { header_checksum = header_checksum }) }
         ensures len { length result.items ≡ header_len self.now }
         ensures fits { Fits (record self.now { header_checksum = header_checksum }) }
@@ -197,7 +197,7 @@ impl Ipv4Header {
         ensures below { result < 65535 }
     {
         Sum16BitWords::new()
-            .add_slice(self.spelled_with(0).as_slice())
+            .add_slice(self.bytes_with_checksum(0).as_slice())
             .ones_complement()
             .swap_bytes()
     }
@@ -215,7 +215,7 @@ impl Ipv4Header {
         ensures succeeds { vec_len buffer.old + header_len self.now ≤ vec_capacity buffer.old → IsOk result }
         ensures capacity { vec_capacity buffer.old ≤ vec_capacity buffer.new }
     {
-        let bytes = self.spelled_with(self.calc_header_checksum());
+        let bytes = self.bytes_with_checksum(self.calc_header_checksum());
         buffer.extend_from_slice(bytes.as_slice())
     }
 

@@ -16,7 +16,7 @@ use std::marker::Model;
 /// The bytes of an IPv4 header (RFC 791, section 3.1), borrowed. A contract sees them as a list,
 /// which is a header: version, length field and length were tested when the value was made.
 ///
-/// Neither the header checksum nor the total length is tested.
+/// Neither the header checksum nor the total length is parse.
 #[derive(Clone, Debug, Drop)]
 pub struct Ipv4HeaderSlice<'a> {
     slice: &'a [u8],
@@ -45,10 +45,10 @@ impl<'a> Ipv4HeaderSlice<'a> {
         // Else it is the first fault.
         ensures exact { result ≡ header_at slice.now }
     {
-        Self::tested(slice)
+        Self::parse(slice)
     }
 
-    fn tested(slice: &'a [u8]) -> Result<Ipv4HeaderSlice<'a>, HeaderSliceError>
+    fn parse(slice: &'a [u8]) -> Result<Ipv4HeaderSlice<'a>, HeaderSliceError>
         ensures { result ≡ header_at slice.now }
     {
         if slice.len() < 20 {

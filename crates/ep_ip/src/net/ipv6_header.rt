@@ -90,7 +90,7 @@ impl Ipv6Header {
         ensures kept { ecn_in self.new.traffic_class ≡ ecn_in self.old.traffic_class }
         ensures others { self.new ≡ record self.old { traffic_class = self.new.traffic_class } }
     {
-        self.traffic_class = joined(dscp, self.ecn());
+        self.traffic_class = traffic_class_with(dscp, self.ecn());
     }
 
     /// Sets the lower 2 bits of the traffic class.
@@ -99,7 +99,7 @@ impl Ipv6Header {
         ensures kept { dscp_in self.new.traffic_class ≡ dscp_in self.old.traffic_class }
         ensures others { self.new ≡ record self.old { traffic_class = self.new.traffic_class } }
     {
-        self.traffic_class = joined(self.dscp(), ecn);
+        self.traffic_class = traffic_class_with(self.dscp(), ecn);
     }
 
     /// Sets the payload length, which has 16 bits. It is refused above 65535.
@@ -127,10 +127,10 @@ impl Ipv6Header {
         ensures header { IsIpv6Header result }
         ensures fields { header_of result ≡ self.now }
     {
-        self.spelled()
+        self.field_bytes()
     }
 
-    fn spelled(&self) -> [u8; 40]
+    fn field_bytes(&self) -> [u8; 40]
         ensures bytes { result ≡ spelling self.now }
         ensures fits { Fits self.now }
     {
@@ -161,7 +161,7 @@ impl Ipv6Header {
 }
 
 // The traffic class of both.
-fn joined(dscp: IpDscp, ecn: IpEcn) -> u8
+fn traffic_class_with(dscp: IpDscp, ecn: IpEcn) -> u8
     ensures dscp { dscp_in result ≡ dscp }
     ensures ecn { ecn_in result ≡ ecn }
 {

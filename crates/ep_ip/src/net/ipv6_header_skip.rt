@@ -81,10 +81,10 @@ impl Ipv6Header {
         ensures turns { result.1 ≡ length (walk.skipped_headers next_header.0 slice.now) + 1 }
         ensures bound { result.1 ≤ length slice.now / 8 + 1 }
     {
-        Self::walked(slice, next_header)
+        Self::walk(slice, next_header)
     }
 
-    fn walked(slice: &[u8], next_header: IpNumber) -> (Result<(IpNumber, &[u8]), LenError>, usize)
+    fn walk(slice: &[u8], next_header: IpNumber) -> (Result<(IpNumber, &[u8]), LenError>, usize)
         ensures { (headers : List (List ℕ)) × (last : ℕ) × (rest : List ℕ)
             × walk.Walk next_header.0 slice.now headers last rest
             × walk.Ends headers last rest result.0 result.1 }

@@ -40,10 +40,10 @@ impl<'a> Ipv6HeaderSlice<'a> {
         // Else it is the first fault.
         ensures exact { result ≡ header_at slice.now }
     {
-        Self::tested(slice)
+        Self::parse(slice)
     }
 
-    fn tested(slice: &'a [u8]) -> Result<Ipv6HeaderSlice<'a>, HeaderSliceError>
+    fn parse(slice: &'a [u8]) -> Result<Ipv6HeaderSlice<'a>, HeaderSliceError>
         ensures { result ≡ header_at slice.now }
     {
         if slice.len() < Ipv6Header::LEN {

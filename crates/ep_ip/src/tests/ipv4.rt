@@ -1,5 +1,6 @@
 use crate::err::ipv4::{BadOptionsLen, HeaderError, HeaderSliceError};
-use crate::{Ipv4Header, Ipv4HeaderSlice, Ipv4Options, laws};
+use crate::laws::ipv4 as laws;
+use crate::{Ipv4Header, Ipv4HeaderSlice, Ipv4Options};
 use ep_base::err::{Layer, LenError, ValueTooBigError, ValueType};
 use ep_base::{IpDscp, IpEcn, IpFragOffset, IpNumber, LenSource};
 use std::cmp::Ordering;

@@ -1,7 +1,7 @@
 ghost use Rattle.std.specs.Prelude.{◌≡◌};
 
 use crate::err::ipv6::{HeaderError, HeaderSliceError};
-use crate::laws::*;
+use crate::laws::ipv6 as laws;
 use crate::{Ipv6Header, Ipv6HeaderSlice};
 use ep_base::err::{Layer, LenError, ValueTooBigError, ValueType};
 use ep_base::{IpDscp, IpEcn, IpNumber, Ipv6FlowLabel, LenSource};
@@ -165,16 +165,16 @@ fn laws_at_two_headers(rt: HostRuntime) -> Result<(), Fail> {
     let view = Ipv6HeaderSlice::from_slice(&bytes)?;
     let header = view.to_header();
     let other = Ipv6Header::default();
-    assert_eq!(rt; ipv6_header_lengths(), [40, 40]);
-    ipv6_headers_are_their_bytes(&header);
-    assert!(rt; ipv6_header_is_read_again(&header, &bytes).is_ok());
-    traffic_class_has_two_parts();
-    skip_follows_every_walk();
-    skipped_numbers_are_ext_headers();
-    assert!(rt; ipv6_headers_are_equal_as_fields(&header, &header));
-    assert!(rt; !ipv6_headers_are_equal_as_fields(&header, &other));
-    assert!(rt; ipv6_header_slices_are_equal_as_bytes(&view, &view));
-    assert_eq!(rt; ipv6_header_is_copied(&header)?, header);
+    assert_eq!(rt; laws::header_lengths(), [40, 40]);
+    laws::headers_are_their_bytes(&header);
+    assert!(rt; laws::header_is_read_again(&header, &bytes).is_ok());
+    laws::traffic_class_has_two_parts();
+    laws::skip_follows_every_walk();
+    laws::skipped_numbers_are_ext_headers();
+    assert!(rt; laws::headers_are_equal_as_fields(&header, &header));
+    assert!(rt; !laws::headers_are_equal_as_fields(&header, &other));
+    assert!(rt; laws::slices_are_equal_as_bytes(&view, &view));
+    assert_eq!(rt; laws::header_is_copied(&header)?, header);
     Ok(())
 }
 

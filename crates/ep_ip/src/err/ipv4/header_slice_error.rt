@@ -1,6 +1,6 @@
 ghost use Rattle.std.specs.Prelude.{◌≡◌};
 ghost use Rattle.ep_ip.specs.declared.err.ipv4.header_slice_error.HeaderSliceError.TheVariants as fault;
-ghost use Rattle.ep_ip.specs.Ipv4Offset.{CanMove, moved};
+ghost use Rattle.ep_ip.specs.Ipv4Fault.{CanMove, moved};
 
 use super::HeaderError;
 use ep_base::err::LenError;

@@ -1,8 +1,8 @@
 use Rattle.std.proofs.Common.{ap, ◌∙◌, rules}
-use Rattle.ep_base.specs.Sum.{accumulated}
-use Rattle.ep_base.proofs.Totals.{accumulated_8, added}
+use Rattle.ep_base.specs.Sum.{accumulator_sum}
+use Rattle.ep_base.proofs.Totals.{accumulator_sum_8, added}
 use Rattle.ep_base.proofs.checksum.u64_16bit_word.add_8bytes.Goals as goal
 
 pub returns : goal.returns
 returns c =
-    added _ _ _ c.args.value c.add_carrying.ensures (ap accumulated c.from_le_bytes.ensures ∙ accumulated_8 c.args.value (search rules))
+    added _ _ _ c.args.value c.add_carrying.ensures (ap accumulator_sum c.from_le_bytes.ensures ∙ accumulator_sum_8 c.args.value (search rules))

@@ -1,5 +1,5 @@
 use Rattle.std.proofs.Common.{◌*◌, refl, sym, ◌∙◌, arith}
-use Rattle.ep_base.specs.Sum.{accumulated}
+use Rattle.ep_base.specs.Sum.{accumulator_sum}
 use Rattle.ep_base.proofs.Blocks.{block_more, blocks_all}
 use Rattle.ep_base.proofs.Folds.{fold_plus_none}
 use Rattle.ep_base.proofs.checksum.u64_16bit_word.add_slice.Goals as goal
@@ -14,5 +14,5 @@ pub returns : goal.returns
 returns c =
     let cut = c.as_chunks.ensures in
     c.add_words.ensures
-    ∙ blocks_all 8 (accumulated c.args.start) (accumulated c.loop-block.sum) c.args.slice.now c.as_chunks.result.0.now c.as_chunks.result.1.now c.loop-block.block-index
+    ∙ blocks_all 8 (accumulator_sum c.args.start) (accumulator_sum c.loop-block.sum) c.args.slice.now c.as_chunks.result.0.now c.as_chunks.result.1.now c.loop-block.block-index
     (omega arith) refl cut.front cut.back c.loop-block-test.false c.loop-block.invariant

@@ -1,7 +1,7 @@
 use Rattle.std.proofs.Common.{◌≡◌, ℕ, ◌+◌, List, ◌++◌, length}
 use Rattle.std.specs.List.{concat}
 use Rattle.ep_ip.specs.Skip.{Skips}
-use Rattle.ep_ip.proofs.net.ipv6_header.Ipv6Header.walked.Given as goal
+use Rattle.ep_ip.proofs.net.ipv6_header.Ipv6Header.walk.Given as goal
 
 -- headers in a row are skipped, and the rest is left
 abbrev pub invariant-headers : goal.invariant-headers

@@ -1,7 +1,7 @@
 use Rattle.std.proofs.Common.{◌+◌, ◌/◌, ◌%◌, ◌≡◌, ℕ, bit_and, ◌∙◌, arith}
 use Rattle.std.proofs.lemmas.Nat.{and_mask}
 use Rattle.ep_base.proofs.Folds.{fold_words, fold_twice}
-use Rattle.ep_base.proofs.checksum.u64_16bit_word.folded.Goals as goal
+use Rattle.ep_base.proofs.checksum.u64_16bit_word.to_word.Goals as goal
 
 pub returns : goal.returns
 returns c =

@@ -1,7 +1,7 @@
 use Rattle.std.proofs.Common.{arith, rules}
 use Rattle.ep_ip.proofs.Ipv6Bits.{or-first_word}
 use Rattle.ep_ip.proofs.Ipv6Spelling.{put_addresses}
-use Rattle.ep_ip.proofs.net.ipv6_header.Ipv6Header.spelled.Goals as goal
+use Rattle.ep_ip.proofs.net.ipv6_header.Ipv6Header.field_bytes.Goals as goal
 
 pub returns-clause-bytes : goal.returns-clause-bytes
 returns-clause-bytes c =

@@ -1,6 +1,6 @@
 use Rattle.std.proofs.Common.{◌++◌, ◌∷◌, [], arith, sym, ◌∙◌}
 use Rattle.ep_ip.proofs.SkipWalk.{turns_le, walk_on}
-use Rattle.ep_ip.proofs.net.ipv6_header.Ipv6Header.walked.Goals as goal
+use Rattle.ep_ip.proofs.net.ipv6_header.Ipv6Header.walk.Goals as goal
 
 pub overflow_add-turns : goal.overflow_add-turns
 overflow_add-turns c =

@@ -1,4 +1,4 @@
-use Rattle.ep_ip.proofs.laws.ipv6.ipv6_header_is_read_again.Goals as goal
+use Rattle.ep_ip.proofs.laws.ipv6.header_is_read_again.Goals as goal
 
 pub returns : goal.returns
 returns c = λ rest front_is.

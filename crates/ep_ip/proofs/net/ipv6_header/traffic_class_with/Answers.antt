@@ -1,5 +1,5 @@
 use Rattle.ep_ip.proofs.Ipv6Bits.{dscp_in-joined, ecn_in-joined}
-use Rattle.ep_ip.proofs.net.ipv6_header.joined.Goals as goal
+use Rattle.ep_ip.proofs.net.ipv6_header.traffic_class_with.Goals as goal
 
 pub returns-clause-dscp : goal.returns-clause-dscp
 returns-clause-dscp c =
