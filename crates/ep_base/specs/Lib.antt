@@ -4,6 +4,7 @@ pub mod IpDscpKnown
 pub mod IpEcn
 pub mod IpNumber
 pub mod LenSource
+pub mod MessageSum
 pub mod Moved
 pub mod Sum
 pub mod Traits

@@ -7,9 +7,11 @@ ghost use Rattle.std.specs.Cmp.Rules.{comparing};
 ghost use Rattle.std.specs.List.{flat_map};
 ghost use Rattle.ep_base.specs.Sum.{AddsText, accumulator_sum, all_ones, checksum, fold, no_zero, total, whole_words};
 
+mod message;
 pub mod u32_16bit_word;
 pub mod u64_16bit_word;
 
+pub use message::message_sum;
 use std::marker::Model;
 
 /// A ones-complement sum of 16-bit words. It reads words low byte first, so that a checksum field

@@ -2,6 +2,7 @@
 //! over IPv6 extension headers.
 #![tactic(auto)]
 
+pub mod checksum;
 pub mod err;
 pub mod laws;
 mod net;

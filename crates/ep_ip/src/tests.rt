@@ -1,3 +1,4 @@
 //! Tests of what no contract says.
+mod checksum;
 mod ipv4;
 mod ipv6;

@@ -1,9 +1,13 @@
 //! Each law is called once.
 use crate::IpEcn;
-use crate::laws::{constants, ecn_round_trip, fold_of_pieces, known_round_trip, one_changed_byte};
+use crate::laws::{
+    checksum_sums_to_all_ones, constants, ecn_round_trip, fold_of_pieces, known_round_trip,
+    one_changed_byte,
+};
 
 #[test]
 fn laws_are_called(rt: HostRuntime) {
+    checksum_sums_to_all_ones();
     fold_of_pieces();
     one_changed_byte();
     ecn_round_trip(IpEcn::Ect0);

@@ -1,6 +1,6 @@
 //! The Internet checksum against values from outside.
 
-use crate::checksum::{Sum16BitWords, sum_pieces, u32_16bit_word, u64_16bit_word};
+use crate::checksum::{Sum16BitWords, message_sum, sum_pieces, u32_16bit_word, u64_16bit_word};
 
 // The eight bytes of RFC 1071, section 3, whose words sum to ddf2.
 const RFC_1071: [u8; 8] = [0x00, 0x01, 0xf2, 0x03, 0xf4, 0xf5, 0xf6, 0xf7];
@@ -88,4 +88,20 @@ fn both_widths_agree(rt: HostRuntime) {
         u64_16bit_word::ones_complement(u64_16bit_word::add_8bytes(0, RFC_1071)),
         0x0d22
     );
+}
+
+// The UDP datagram of ports 1 and 2 with the payload 1 to 8, from 10.0.0.1 to 10.0.0.2: its checksum
+// is dbb4.
+#[test]
+fn sum_of_a_message(rt: HostRuntime) {
+    let pseudo = Sum16BitWords::new()
+        .add_4bytes([10, 0, 0, 1])
+        .add_4bytes([10, 0, 0, 2])
+        .add_4bytes([0, 17, 0, 16]);
+    let sum = message_sum(
+        pseudo,
+        &[0, 1, 0, 2, 0, 16, 0, 0],
+        &[1, 2, 3, 4, 5, 6, 7, 8],
+    );
+    assert_eq!(rt; sum.ones_complement().swap_bytes(), 0xdbb4);
 }

@@ -1,0 +1,44 @@
+-- Sums of pseudo headers, built up piece by piece.
+use Rattle.std.proofs.Common.{◌≡◌, subst, refl, ℕ, ◌%◌, List, [], ◌∷◌, ◌++◌, length, append_assoc, length-append, arith}
+use Rattle.std.specs.Int.{w16, w32, to_be_bytes}
+use Rattle.ep_base.specs.Sum.{fold, total}
+use Rattle.ep_base.specs.MessageSum.{SumsWords}
+use Rattle.ep_ip.specs.Pseudo.{pseudo_v4, pseudo_v6}
+
+-- what a sum promises of a piece that is added
+abbrev pub Adds : ℕ → List ℕ → ℕ → Type 0
+Adds sum piece next = (text : List ℕ) → length text % 2 ≡ 0 → sum ≡ fold (total text) → next ≡ fold (total (text ++ piece))
+
+more_words : (sum next : ℕ) (text piece : List ℕ) → SumsWords sum text → length piece % 2 ≡ 0 → Adds sum piece next
+    → SumsWords next (text ++ piece)
+more_words sum next text piece sums even adds = record {
+  whole = let both = length-append text piece in omega (arith, sums.whole);
+  folded = adds text sums.whole sums.folded;
+}
+
+even_4 : (piece : List ℕ) → length piece ≡ 4 → length piece % 2 ≡ 0
+even_4 piece len = omega arith
+
+even_16 : (piece : List ℕ) → length piece ≡ 16 → length piece % 2 ≡ 0
+even_16 piece len = omega arith
+
+pub pseudo_v4_sums : (source destination : List ℕ) (number len a b c d e : ℕ) → length source ≡ 4 → length destination ≡ 4
+    → a ≡ fold (total []) → Adds a source b → Adds b destination c → Adds c (0 ∷ number ∷ []) d → Adds d (to_be_bytes w16 len) e
+    → SumsWords e (pseudo_v4 source destination number len)
+pseudo_v4_sums source destination number len a b c d e p q none s t u v =
+    let begun : SumsWords a [] = record { whole = refl; folded = none } in
+    let first = more_words a b [] source begun (even_4 source p) s in
+    let second = more_words b c source destination first (even_4 destination q) t in
+    let third = more_words c d (source ++ destination) (0 ∷ number ∷ []) second refl u in
+    let all = more_words d e (source ++ destination ++ 0 ∷ number ∷ []) (to_be_bytes w16 len) third refl v in
+    subst (λ (text : List ℕ). SumsWords e text) (append_assoc (source ++ destination) (0 ∷ number ∷ []) (to_be_bytes w16 len)) all
+
+pub pseudo_v6_sums : (source destination : List ℕ) (number len a b c d e : ℕ) → length source ≡ 16 → length destination ≡ 16
+    → a ≡ fold (total []) → Adds a source b → Adds b destination c → Adds c (to_be_bytes w32 len) d → Adds d (0 ∷ 0 ∷ 0 ∷ number ∷ []) e
+    → SumsWords e (pseudo_v6 source destination number len)
+pseudo_v6_sums source destination number len a b c d e p q none s t u v =
+    let begun : SumsWords a [] = record { whole = refl; folded = none } in
+    let first = more_words a b [] source begun (even_16 source p) s in
+    let second = more_words b c source destination first (even_16 destination q) t in
+    let third = more_words c d (source ++ destination) (to_be_bytes w32 len) second refl u in
+    more_words d e (source ++ destination ++ to_be_bytes w32 len) (0 ∷ 0 ∷ 0 ∷ number ∷ []) third refl v
