@@ -1,2 +1,5 @@
+pub mod Icmpv4Behind
 pub mod Icmpv4Kinds
+pub mod Layouts
+pub mod Sums
 pub mod Tests

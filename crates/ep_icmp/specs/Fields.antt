@@ -1,5 +1,5 @@
 -- Fields that kinds of ICMP messages share, in bytes and as numbers, high byte first.
-use Rattle.std.specs.Prelude.{ℕ, ◌+◌, List, ◌++◌}
+use Rattle.std.specs.Prelude.{ℕ, ◌+◌, ◌^◌, ◌<◌, List, ◌++◌}
 use Rattle.std.specs.Int.{w16, w32, to_be_bytes}
 use Rattle.ep_base.specs.Bytes.{num}
 use Rattle.ep_icmp.specs.declared.transport.icmp_echo_header.IcmpEchoHeader.{IcmpEchoHeader}
@@ -27,3 +27,15 @@ timestamp_in bytes p = record {
   receive_timestamp = num bytes (p + 8) 4;
   transmit_timestamp = num bytes (p + 12) 4;
 }
+
+-- the ranges of the fields
+pub record EchoFits (echo : IcmpEchoHeader) : Type 0 where
+  pub id : echo.id < 2 ^ 16
+  pub seq : echo.seq < 2 ^ 16
+
+pub record TimestampFits (m : TimestampMessage) : Type 0 where
+  pub id : m.id < 2 ^ 16
+  pub seq : m.seq < 2 ^ 16
+  pub originate_timestamp : m.originate_timestamp < 2 ^ 32
+  pub receive_timestamp : m.receive_timestamp < 2 ^ 32
+  pub transmit_timestamp : m.transmit_timestamp < 2 ^ 32

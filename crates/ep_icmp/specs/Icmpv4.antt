@@ -1,9 +1,10 @@
 -- ICMPv4 messages (RFC 792): the table of their kinds, and the header that bytes spell.
-use Rattle.std.specs.Prelude.{◌≡◌, ℕ, ◌+◌, ◌^◌, ◌<◌, ◌≤◌, ◌==◌, ◌&&◌, ◌||◌, not, Bool, IsTrue, Option, unwrap_or, List, [], ◌∷◌, ◌++◌, find, length, replicate, slice_range, take}
+use Rattle.std.specs.Prelude.{◌≡◌, ℕ, ◌+◌, ◌^◌, ◌<◌, ◌≤◌, ◌==◌, ◌&&◌, ◌||◌, not, Bool, IsTrue, Option, Some, None, unwrap_or, List, [], ◌∷◌, ◌++◌, find, length, replicate, slice_range, drop}
 use Rattle.std.specs.Int.{w16, to_be_bytes}
 use Rattle.std.specs.List.{list_any}
 use Rattle.ep_base.specs.Bytes.{num}
-use Rattle.ep_icmp.specs.Fields.{echo_bytes, echo_in, timestamp_bytes, timestamp_in}
+use Rattle.ep_base.specs.Sum.{checksum}
+use Rattle.ep_icmp.specs.Fields.{EchoFits, TimestampFits, echo_bytes, echo_in, timestamp_bytes, timestamp_in}
 use Rattle.ep_icmp.specs.Layout.{Layout, Fields, all, layout, nothing, spelled}
 use Rattle.ep_icmp.specs.declared.transport.icmpv4.dest_unreachable_header.DestUnreachableHeader.{DestUnreachableHeader}
 use Rattle.ep_icmp.specs.declared.transport.icmpv4.dest_unreachable_header.DestUnreachableHeader.TheVariants.{Network, Host, Protocol, Port, FragmentationNeeded, SourceRouteFailed, NetworkUnknown, HostUnknown, Isolated, NetworkProhibited, HostProhibited, TosNetwork, TosHost, FilterProhibited, HostPrecedenceViolation, PrecedenceCutoff}
@@ -13,6 +14,7 @@ use Rattle.ep_icmp.specs.declared.transport.icmpv4.redirect_code.RedirectCode.{R
 use Rattle.ep_icmp.specs.declared.transport.icmpv4.redirect_code.RedirectCode.TheVariants.{RedirectForNetwork, RedirectForHost, RedirectForTypeOfServiceAndNetwork, RedirectForTypeOfServiceAndHost}
 use Rattle.ep_icmp.specs.declared.transport.icmpv4.time_exceeded_code.TimeExceededCode.{TimeExceededCode}
 use Rattle.ep_icmp.specs.declared.transport.icmpv4.time_exceeded_code.TimeExceededCode.TheVariants.{TtlExceededInTransit, FragmentReassemblyTimeExceeded}
+use Rattle.ep_icmp.specs.declared.transport.icmpv4.timestamp_message.TimestampMessage.{TimestampMessage}
 use Rattle.ep_icmp.specs.declared.transport.icmpv4_header.Icmpv4Header.{Icmpv4Header}
 use Rattle.ep_icmp.specs.declared.transport.icmpv4_type.Icmpv4Type.{Icmpv4Type}
 use Rattle.ep_icmp.specs.declared.transport.icmpv4_type.Icmpv4Type.TheVariants.{Unknown, EchoReply, DestinationUnreachable, Redirect, EchoRequest, TimeExceeded, ParameterProblem, TimestampRequest, TimestampReply}
@@ -81,6 +83,18 @@ abbrev pub header_len : Icmpv4Type → ℕ
 header_len (TimestampRequest message) = 20
 header_len (TimestampReply message) = 20
 header_len _ = 8
+
+-- the timestamp message of a kind that has one
+abbrev pub timestamp_of : Icmpv4Type → Option TimestampMessage
+timestamp_of (TimestampRequest message) = Some message
+timestamp_of (TimestampReply message) = Some message
+timestamp_of _ = None
+
+-- the length of what follows, where the kind fixes it: a timestamp message is its header alone
+abbrev pub fixed_payload_size : Icmpv4Type → Option ℕ
+fixed_payload_size (TimestampRequest message) = Some 0
+fixed_payload_size (TimestampReply message) = Some 0
+fixed_payload_size _ = None
 
 -- the kinds that the table names, each with the fields that stand in a header's bytes
 abbrev pub kinds : List ℕ → List Icmpv4Type
@@ -152,6 +166,15 @@ HasPointer _ n = Unit {0}
 abbrev pub header_of : List ℕ → Icmpv4Header
 header_of bytes = record { icmp_type = type_of bytes; checksum = num bytes 2 2 }
 
+-- the bytes of a header
+abbrev pub spelling : Icmpv4Header → List ℕ
+spelling h = spelled (layout_of h.icmp_type) h.checksum
+
+-- the checksum of the message of this kind with this payload: over the header with its checksum as
+-- 0, and the payload (RFC 792; there is no pseudo header)
+abbrev pub right_checksum : Icmpv4Type → List ℕ → ℕ
+right_checksum kind payload = checksum (spelled (layout_of kind) 0 ++ payload)
+
 -- the type and code are those of a timestamp request, and those of its reply
 abbrev pub is_timestamp_request : List ℕ → Bool
 is_timestamp_request bytes = has_numbers (num bytes 0 1) (num bytes 1 1) (TimestampRequest (timestamp_in bytes 4))
@@ -166,3 +189,38 @@ is_timestamp bytes = is_timestamp_request bytes || is_timestamp_reply bytes
 pub record ReadableIcmpv4 (bytes : List ℕ) : Type 0 where
   pub least : 8 ≤ length bytes
   pub timestamp : IsTrue (is_timestamp bytes) → length bytes ≡ 20
+
+-- the ranges of the fields
+abbrev pub UnreachableFits : DestUnreachableHeader → Type 0
+UnreachableFits (FragmentationNeeded next_hop_mtu) = next_hop_mtu < 2 ^ 16
+UnreachableFits _ = Unit {0}
+
+abbrev pub ProblemFits : ParameterProblemHeader → Type 0
+ProblemFits (PointerIndicatesError pointer) = pointer < 2 ^ 8
+ProblemFits _ = Unit {0}
+
+abbrev pub FieldsFit : Icmpv4Type → Type 0
+FieldsFit (EchoReply echo) = EchoFits echo
+FieldsFit (DestinationUnreachable header) = UnreachableFits header
+FieldsFit (Redirect header) = length header.gateway_internet_address ≡ 4
+FieldsFit (EchoRequest echo) = EchoFits echo
+FieldsFit (TimeExceeded code) = Unit {0}
+FieldsFit (ParameterProblem header) = ProblemFits header
+FieldsFit (TimestampRequest message) = TimestampFits message
+FieldsFit (TimestampReply message) = TimestampFits message
+FieldsFit (Unknown type_u8 code_u8 bytes5to8) = length bytes5to8 ≡ 4
+
+pub record Fits (kind : Icmpv4Type) : Type 0 where
+  pub type_u8 : (layout_of kind).type_u8 < 2 ^ 8
+  pub code_u8 : (layout_of kind).code_u8 < 2 ^ 8
+  pub fields : FieldsFit kind
+
+-- a message is read: its header's fields, and what stands behind the header
+pub record IsRead (bytes : List ℕ) (h : Icmpv4Header) (rest : List ℕ) : Type 0 where
+  pub message : ReadableIcmpv4 bytes
+  pub fields : h ≡ header_of bytes
+  pub behind : rest ≡ drop (header_len h.icmp_type) bytes
+
+-- the header of this kind with the checksum that belongs to this payload
+abbrev pub checked : Icmpv4Type → List ℕ → Icmpv4Header
+checked kind payload = record { icmp_type = kind; checksum = right_checksum kind payload }

@@ -30,11 +30,13 @@ pub record Layout : Type 0 where
 abbrev pub layout : ℕ → ℕ → Fields → Layout
 layout type_u8 code_u8 fields = record { type_u8 = type_u8; code_u8 = code_u8; fields = fields }
 
--- the bytes with this checksum, unused ones as 0
+-- the bytes of the fields, unused ones as 0
+abbrev pub written : Fields → List ℕ
+written fields = replicate fields.before 0 ++ fields.field ++ replicate fields.behind 0
+
+-- the header with this checksum
 abbrev pub spelled : Layout → ℕ → List ℕ
-spelled l checksum =
-    l.type_u8 ∷ l.code_u8 ∷ to_be_bytes w16 checksum
-    ++ (replicate l.fields.before 0 ++ l.fields.field ++ replicate l.fields.behind 0)
+spelled l checksum = l.type_u8 ∷ l.code_u8 ∷ to_be_bytes w16 checksum ++ written l.fields
 
 -- a layer wants so many bytes, and others are there
 abbrev pub want_of_bytes : ℕ → ℕ → Layer → LenError

@@ -1,5 +1,5 @@
 //! What an echo request and its reply carry in front of the data.
-ghost use Rattle.ep_icmp.specs.Fields.{echo_bytes, echo_in};
+ghost use Rattle.ep_icmp.specs.Fields.{EchoFits, echo_bytes, echo_in};
 ghost use Rattle.std.specs.Prelude.{◌≡◌};
 
 /// Bytes 5 to 8 of an echo request and of its reply (RFC 792, "Echo or Echo Reply Message"; RFC
@@ -18,10 +18,12 @@ impl IcmpEchoHeader {
 
     /// The bytes: the identifier and the sequence number, each high byte first.
     pub fn to_bytes(&self) -> [u8; 4]
-        ensures { result ≡ echo_bytes self.now }
+        ensures bytes { result ≡ echo_bytes self.now }
+        ensures fits { EchoFits self.now }
     {
-        let [i0, i1] = self.id.to_be_bytes();
-        let [s0, s1] = self.seq.to_be_bytes();
+        let IcmpEchoHeader { id, seq } = *self;
+        let [i0, i1] = id.to_be_bytes();
+        let [s0, s1] = seq.to_be_bytes();
         [i0, i1, s0, s1]
     }
 

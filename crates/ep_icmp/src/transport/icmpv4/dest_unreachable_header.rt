@@ -1,6 +1,7 @@
 //! Why a destination can't be reached over IPv4.
 ghost use Rattle.std.specs.Prelude.{◌≡◌, ◌≢◌, MatchOption};
-ghost use Rattle.ep_icmp.specs.Icmpv4.{unreachable_code, HasNextHopMtu};
+ghost use Rattle.ep_icmp.specs.Icmpv4.{HasNextHopMtu, UnreachableFits, unreachable_code, unreachable_fields};
+ghost use Rattle.ep_icmp.specs.Layout.{written};
 ghost use Rattle.ep_icmp.specs.declared.transport.icmpv4.dest_unreachable_header.DestUnreachableHeader.{DestUnreachableHeader};
 
 /// The code of a destination unreachable message and what goes with it (RFC 792, "Destination
@@ -95,6 +96,20 @@ impl DestUnreachableHeader {
             FilterProhibited => 13,
             HostPrecedenceViolation => 14,
             PrecedenceCutoff => 15,
+        }
+    }
+
+    // What stands behind the checksum.
+    pub(crate) fn bytes5to8(&self) -> [u8; 4]
+        ensures bytes { result ≡ written (unreachable_fields self.now) }
+        ensures fits { UnreachableFits self.now }
+    {
+        match self {
+            DestUnreachableHeader::FragmentationNeeded { next_hop_mtu } => {
+                let [m0, m1] = next_hop_mtu.to_be_bytes();
+                [0, 0, m0, m1]
+            }
+            _ => [0; 4],
         }
     }
 }

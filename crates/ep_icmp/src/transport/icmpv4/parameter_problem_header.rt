@@ -1,6 +1,7 @@
 //! What is wrong with an IPv4 header.
 ghost use Rattle.std.specs.Prelude.{◌≡◌, ◌≢◌, MatchOption};
-ghost use Rattle.ep_icmp.specs.Icmpv4.{problem_code, HasPointer};
+ghost use Rattle.ep_icmp.specs.Icmpv4.{HasPointer, ProblemFits, problem_code, problem_fields};
+ghost use Rattle.ep_icmp.specs.Layout.{written};
 ghost use Rattle.ep_icmp.specs.declared.transport.icmpv4.parameter_problem_header.ParameterProblemHeader.{ParameterProblemHeader};
 
 /// The code of a parameter problem message and what goes with it (RFC 792, "Parameter Problem
@@ -36,6 +37,17 @@ impl ParameterProblemHeader {
             ParameterProblemHeader::PointerIndicatesError(_) => 0,
             ParameterProblemHeader::MissingRequiredOption => 1,
             ParameterProblemHeader::BadLength => 2,
+        }
+    }
+
+    // What stands behind the checksum.
+    pub(crate) fn bytes5to8(&self) -> [u8; 4]
+        ensures bytes { result ≡ written (problem_fields self.now) }
+        ensures fits { ProblemFits self.now }
+    {
+        match self {
+            ParameterProblemHeader::PointerIndicatesError(pointer) => [*pointer, 0, 0, 0],
+            _ => [0; 4],
         }
     }
 }

@@ -1,6 +1,6 @@
 //! What a timestamp request and its reply carry.
 ghost use Rattle.std.specs.Prelude.{◌≡◌};
-ghost use Rattle.ep_icmp.specs.Fields.{timestamp_bytes, timestamp_in};
+ghost use Rattle.ep_icmp.specs.Fields.{TimestampFits, timestamp_bytes, timestamp_in};
 
 /// What stands behind the checksum of a timestamp request and of its reply, which carry no data
 /// (RFC 792, "Timestamp or Timestamp Reply Message"). Times are milliseconds since midnight UT.
@@ -33,5 +33,27 @@ impl TimestampMessage {
             receive_timestamp: u32::from_be_bytes([bytes[8], bytes[9], bytes[10], bytes[11]]),
             transmit_timestamp: u32::from_be_bytes([bytes[12], bytes[13], bytes[14], bytes[15]]),
         }
+    }
+
+    // What stands behind the checksum.
+    pub(crate) fn to_bytes(&self) -> [u8; 16]
+        ensures bytes { result ≡ timestamp_bytes self.now }
+        ensures fits { TimestampFits self.now }
+    {
+        let TimestampMessage {
+            id,
+            seq,
+            originate_timestamp,
+            receive_timestamp,
+            transmit_timestamp,
+        } = *self;
+        let [i0, i1] = id.to_be_bytes();
+        let [s0, s1] = seq.to_be_bytes();
+        let [o0, o1, o2, o3] = originate_timestamp.to_be_bytes();
+        let [r0, r1, r2, r3] = receive_timestamp.to_be_bytes();
+        let [t0, t1, t2, t3] = transmit_timestamp.to_be_bytes();
+        [
+            i0, i1, s0, s1, o0, o1, o2, o3, r0, r1, r2, r3, t0, t1, t2, t3,
+        ]
     }
 }
