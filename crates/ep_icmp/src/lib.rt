@@ -5,5 +5,6 @@
 mod transport;
 
 pub use transport::{
-    IcmpEchoHeader, Icmpv4Header, Icmpv4Slice, Icmpv4Type, icmpv4,
+    IcmpEchoHeader, Icmpv4Header, Icmpv4Slice, Icmpv4Type, Icmpv6Header, Icmpv6Slice, Icmpv6Type,
+    icmpv4, icmpv6,
 };
