@@ -1,6 +1,6 @@
 -- The bytes of fields.
-use Rattle.std.proofs.Common.{◌≡◌, ◌∙◌, ap, sym, refl, ℕ, List, [], ◌∷◌, ◌++◌, length, take, drop, arith}
-use Rattle.std.proofs.lemmas.List.{append-nil, take-append-drop, take_all}
+use Rattle.std.proofs.Common.{◌≡◌, ◌∙◌, ap, sym, ℕ, ◌+◌, List, [], ◌∷◌, ◌++◌, length, take, drop, arith}
+use Rattle.std.proofs.lemmas.List.{append-nil, drop_at, length-append, take-append-drop, take_all}
 use Rattle.ep_base.proofs.Cells.{cells, take-drop-cells}
 use Rattle.ep_icmp.specs.Layout.{Fields, all, written}
 
@@ -20,3 +20,8 @@ four_written fields bytes is none four =
 pub written_four : (fields : Fields) → drop 4 (written fields) ≡ [] → written fields ≡ take 4 (written fields)
 written_four fields none =
     sym (take-append-drop 4 (written fields)) ∙ ap (λ (xs : List ℕ). take 4 (written fields) ++ xs) none ∙ append-nil (take 4 (written fields))
+
+-- a front of n bytes and what stands behind it
+pub front_of : (n : ℕ) (slice front rest : List ℕ) → slice ≡ front ++ rest → length front ≡ n → (length slice ≡ n + length rest) × (drop n slice ≡ rest)
+front_of n slice front rest place len =
+    (ap length place ∙ length-append front rest ∙ ap (λ k. k + length rest) len, ap (drop n) place ∙ drop_at front rest n len)

@@ -1,5 +1,8 @@
+pub mod Again
+pub mod Icmpv4Again
 pub mod Icmpv4Behind
 pub mod Icmpv4Kinds
+pub mod Icmpv6Again
 pub mod Icmpv6Kinds
 pub mod Layouts
 pub mod Sums

@@ -1,5 +1,5 @@
--- Tests that passed.
-use Rattle.std.proofs.Common.{◌≡◌, Bool, true, false, ◌&&◌, ◌||◌, refl}
+-- Tests that passed, and answers that are `Ok`.
+use Rattle.std.proofs.Common.{◌≡◌, Bool, true, false, not, IsTrue, ◌&&◌, ◌||◌, Result, Ok, Err, IsOk, IfOk, IsOkAnd, refl}
 
 pub and_both : (a b : Bool) → (a && b) ≡ true → (a ≡ true) × (b ≡ true)
 and_both true true e = (refl, refl)
@@ -9,3 +9,15 @@ and_both false b e = cc
 pub either : (a : Bool) → (a || false) ≡ true → a ≡ true
 either true e = refl
 either false e = e
+
+pub not_true : (b : Bool) → IsTrue (not b) → b ≡ false
+not_true true e = cc
+not_true false e = refl
+
+pub neither : (a b : Bool) → (a || b) ≡ false → (a ≡ false) × (b ≡ false)
+neither true b e = cc
+neither false b e = (refl, e)
+
+pub ok_and : {A E : Type 0} (r : Result A E) (P Q : A → Type 0) → IsOk r → IfOk r Q → ((a : A) → Q a → P a) → IsOkAnd r P
+ok_and (Ok a) P Q ok found step = step a found
+ok_and (Err e) P Q ok found step = cc

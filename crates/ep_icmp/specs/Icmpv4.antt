@@ -96,6 +96,10 @@ fixed_payload_size (TimestampRequest message) = Some 0
 fixed_payload_size (TimestampReply message) = Some 0
 fixed_payload_size _ = None
 
+-- bytes that may follow a header of this kind
+abbrev pub IsPayload : Icmpv4Type → List ℕ → Type 0
+IsPayload kind bytes = (n : ℕ) → fixed_payload_size kind ≡ Some n → length bytes ≡ n
+
 -- the kinds that the table names, each with the fields that stand in a header's bytes
 abbrev pub kinds : List ℕ → List Icmpv4Type
 kinds bytes =
@@ -224,3 +228,7 @@ pub record IsRead (bytes : List ℕ) (h : Icmpv4Header) (rest : List ℕ) : Type
 -- the header of this kind with the checksum that belongs to this payload
 abbrev pub checked : Icmpv4Type → List ℕ → Icmpv4Header
 checked kind payload = record { icmp_type = kind; checksum = right_checksum kind payload }
+
+pub record HeaderFits (h : Icmpv4Header) : Type 0 where
+  pub kind : Fits h.icmp_type
+  pub checksum : h.checksum < 2 ^ 16

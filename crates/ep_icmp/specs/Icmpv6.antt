@@ -153,3 +153,7 @@ pub record Fits (kind : Icmpv6Type) : Type 0 where
   pub type_u8 : (layout_of kind).type_u8 < 2 ^ 8
   pub code_u8 : (layout_of kind).code_u8 < 2 ^ 8
   pub fields : FieldsFit kind
+
+pub record HeaderFits (h : Icmpv6Header) : Type 0 where
+  pub kind : Fits h.icmp_type
+  pub checksum : h.checksum < 2 ^ 16

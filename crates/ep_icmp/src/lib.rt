@@ -2,6 +2,7 @@
 //! written both ways, and the checksums.
 #![tactic(auto)]
 
+pub mod laws;
 mod transport;
 
 pub use transport::{

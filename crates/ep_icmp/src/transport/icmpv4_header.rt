@@ -1,6 +1,6 @@
 //! The header of an ICMPv4 message.
 ghost use Rattle.std.specs.Prelude.{◌≡◌, ◌+◌, ◌≤◌, ◌++◌, length, IfOk, IfErr, IsOk, OnOk, OnErr, Err, vec_len, vec_capacity};
-ghost use Rattle.ep_icmp.specs.Icmpv4.{Fits, IsRead, IsSpelledOut, ReadableIcmpv4, checked, fixed_payload_size, header_len, header_of, right_checksum, spelling};
+ghost use Rattle.ep_icmp.specs.Icmpv4.{HeaderFits, IsRead, IsSpelledOut, ReadableIcmpv4, checked, fixed_payload_size, header_len, header_of, right_checksum, spelling};
 ghost use Rattle.ep_icmp.specs.Icmpv4Fault.{message_at};
 
 use super::{Icmpv4Slice, Icmpv4Type};
@@ -90,7 +90,7 @@ impl Icmpv4Header {
     pub fn to_bytes(&self) -> ArrayVec<u8, 20>
         ensures bytes { result.items ≡ spelling self.now }
         ensures len { length result.items ≡ header_len self.now.icmp_type }
-        ensures fits { Fits self.now.icmp_type }
+        ensures fits { HeaderFits self.now }
     {
         self.icmp_type.spelled_with(self.checksum)
     }

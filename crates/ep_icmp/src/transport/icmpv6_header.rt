@@ -1,7 +1,7 @@
 //! The header of an ICMPv6 message.
 ghost use Rattle.std.specs.Prelude.{◌≡◌, ◌+◌, ◌≤◌, ◌++◌, ◌<◌, length, IfOk, IfErr, IsOk, MatchResult, None, OnOk, OnErr, Err, vec_len, vec_capacity};
 ghost use Rattle.ep_base.specs.Bounded.{too_big};
-ghost use Rattle.ep_icmp.specs.Icmpv6.{Fits, IsRead, ReadableIcmpv6, checked, spelling};
+ghost use Rattle.ep_icmp.specs.Icmpv6.{HeaderFits, IsRead, ReadableIcmpv6, checked, spelling};
 ghost use Rattle.ep_icmp.specs.Icmpv6Fault.{message_at};
 ghost use Rattle.ep_icmp.specs.Limit.{IsWithin, greatest_payload};
 
@@ -106,7 +106,7 @@ impl Icmpv6Header {
     pub fn to_bytes(&self) -> ArrayVec<u8, 40>
         ensures bytes { result.items ≡ spelling self.now }
         ensures len { length result.items ≡ 8 }
-        ensures fits { Fits self.now.icmp_type }
+        ensures fits { HeaderFits self.now }
     {
         let [c0, c1] = self.checksum.to_be_bytes();
         let [b0, b1, b2, b3] = self.icmp_type.bytes5to8();

@@ -1,0 +1,5 @@
+//! Laws of ICMP messages that no single call's contract states.
+
+pub mod icmpv4;
+pub mod icmpv6;
+pub mod traits;
