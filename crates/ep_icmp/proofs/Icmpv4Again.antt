@@ -5,7 +5,7 @@ use Rattle.ep_icmp.specs.Icmpv4.{FieldsFit, HasNextHopMtu, HeaderFits, HasPointe
 use Rattle.ep_icmp.specs.Layout.{spelled, written}
 use Rattle.ep_icmp.specs.declared.transport.icmpv4_header.Icmpv4Header.{Icmpv4Header}
 use Rattle.ep_icmp.proofs.Again.{bytes_again, echo_again, none_passes, timestamp_again, two_again}
-use Rattle.ep_icmp.proofs.Tests.{not_true}
+use Rattle.ep_icmp.proofs.Outcomes.{not_true}
 use Rattle.ep_icmp.proofs.Icmpv4Kinds.{echo_reply_at, echo_request_at, header_len_at, problem_at, redirect_at, time_exceeded_at, timestamp_reply_at, timestamp_request_at, unreachable_at}
 use Rattle.ep_icmp.specs.declared.transport.icmpv4.dest_unreachable_header.DestUnreachableHeader.{DestUnreachableHeader}
 use Rattle.ep_icmp.specs.declared.transport.icmpv4.dest_unreachable_header.DestUnreachableHeader.TheVariants.{Network, Host, Protocol, Port, FragmentationNeeded, SourceRouteFailed, NetworkUnknown, HostUnknown, Isolated, NetworkProhibited, HostProhibited, TosNetwork, TosHost, FilterProhibited, HostPrecedenceViolation, PrecedenceCutoff}

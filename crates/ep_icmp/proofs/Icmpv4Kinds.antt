@@ -2,7 +2,7 @@
 use Rattle.std.proofs.Common.{◌≡◌, ◌≢◌, ℕ, Bool, true, false, not, ◌&&◌, ◌||◌, ◌==◌, cond, if◌then◌else◌, Option, Some, unwrap_or, List, [], ◌∷◌, find, slice_range, refl, ap, ◌∙◌, sym}
 use Rattle.std.specs.List.{list_all}
 use Rattle.std.proofs.lemmas.Bool.{eqb-true, ne_eqb}
-use Rattle.ep_icmp.proofs.Tests.{and_both, either}
+use Rattle.ep_icmp.proofs.Outcomes.{and_both, either, numbers_are}
 use Rattle.ep_base.specs.Bytes.{num}
 use Rattle.ep_icmp.specs.Fields.{echo_in, timestamp_in}
 use Rattle.ep_icmp.specs.Icmpv4.{HasNextHopMtu, HasPointer, has_numbers, header_len, is_timestamp, kind_at, kinds, type_of, problem_code, redirect_code, time_exceeded_code, unreachable_code}
@@ -160,12 +160,6 @@ other_at m t c is = rw (
   ne_eqb 13 t is.timestamp_request,
   ne_eqb 14 t is.timestamp_reply,
 ) refl
-
--- a test of both that passes
-pub numbers_are : (a b t c : ℕ) → (a == t && (b == c)) ≡ true → (t ≡ a) × (c ≡ b)
-numbers_are a b t c e =
-    let both = and_both (a == t) (b == c) e in
-    (sym (eqb-true a t both.0), sym (eqb-true b c both.1))
 
 -- a kind has a header of 8 bytes, or doesn't pass a test
 abbrev fits : (Icmpv4Type → Bool) → Icmpv4Type → Bool

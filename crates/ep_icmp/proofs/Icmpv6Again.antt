@@ -5,7 +5,7 @@ use Rattle.ep_icmp.specs.Layout.{spelled}
 use Rattle.ep_icmp.specs.declared.transport.icmpv6_header.Icmpv6Header.{Icmpv6Header}
 use Rattle.ep_icmp.proofs.Again.{bytes_again, echo_again, four_again, none_passes, two_again}
 use Rattle.ep_icmp.proofs.Icmpv6Kinds.{echo_reply_at, echo_request_at, packet_too_big_at, problem_at, time_exceeded_at, unreachable_at}
-use Rattle.ep_icmp.proofs.Tests.{not_true}
+use Rattle.ep_icmp.proofs.Outcomes.{not_true}
 use Rattle.ep_icmp.specs.declared.transport.icmpv6.dest_unreachable_code.DestUnreachableCode.{DestUnreachableCode}
 use Rattle.ep_icmp.specs.declared.transport.icmpv6.dest_unreachable_code.DestUnreachableCode.TheVariants.{NoRoute, Prohibited, BeyondScope, Address, Port, SourceAddressFailedPolicy, RejectRoute}
 use Rattle.ep_icmp.specs.declared.transport.icmpv6.parameter_problem_code.ParameterProblemCode.{ParameterProblemCode}

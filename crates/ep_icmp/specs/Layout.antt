@@ -1,8 +1,7 @@
 -- How an ICMP message stands in bytes (RFC 792; RFC 4443, section 2.1): a type, a code and a
 -- checksum of 2 bytes, high byte first, and behind them what the type and code say.
-use Rattle.std.specs.Prelude.{◌≡◌, ℕ, ◌+◌, List, [], ◌∷◌, ◌++◌, length, replicate, slice_range}
+use Rattle.std.specs.Prelude.{ℕ, ◌+◌, List, [], ◌∷◌, ◌++◌, length, replicate, slice_range, take}
 use Rattle.std.specs.Int.{w16, to_be_bytes}
-use Rattle.ep_base.specs.Bytes.{num}
 use Rattle.ep_base.specs.declared.err.layer.Layer.{Layer}
 use Rattle.ep_base.specs.declared.err.len_error.LenError.{LenError}
 use Rattle.ep_base.specs.declared.len_source.LenSource.TheVariants.{Slice}
@@ -37,6 +36,13 @@ written fields = replicate fields.before 0 ++ fields.field ++ replicate fields.b
 -- the header with this checksum
 abbrev pub spelled : Layout → ℕ → List ℕ
 spelled l checksum = l.type_u8 ∷ l.code_u8 ∷ to_be_bytes w16 checksum ++ written l.fields
+
+-- the bytes of a header of this layout, unused ones as 0
+abbrev pub cleared : Layout → List ℕ → List ℕ
+cleared l bytes =
+    take 4 bytes ++ (replicate l.fields.before 0
+    ++ slice_range bytes (4 + l.fields.before) (4 + l.fields.before + length l.fields.field)
+    ++ replicate l.fields.behind 0)
 
 -- a layer wants so many bytes, and others are there
 abbrev pub want_of_bytes : ℕ → ℕ → Layer → LenError

@@ -1,7 +1,9 @@
 //! Laws of ICMPv4 messages (RFC 792).
 ghost use Rattle.std.specs.Prelude.{◌≡◌, ℕ, List, [], ◌∷◌, ◌++◌, IsOkAnd, IsTrue};
+ghost use Rattle.ep_base.specs.Bytes.{IsBytes};
 ghost use Rattle.ep_base.specs.Sum.{all_ones};
-ghost use Rattle.ep_icmp.specs.Icmpv4.{IsPayload, IsSpelledOut, checked, spelling};
+ghost use Rattle.ep_icmp.specs.Icmpv4.{IsPayload, IsSpelledOut, ReadableIcmpv4, checked, header_of, layout_of, spelling, type_of};
+ghost use Rattle.ep_icmp.specs.Layout.{cleared};
 ghost use Rattle.ep_icmp.specs.declared.transport.icmpv4_type.Icmpv4Type.{Icmpv4Type};
 
 use crate::icmpv4::TimestampMessage;
@@ -33,6 +35,13 @@ pub fn header_is_read_again<'a>(
     let _bytes = header.to_bytes();
     Icmpv4Header::from_slice(slice)
 }
+
+/// What is read from a message and written again are the bytes of its header, with those that its
+/// kind leaves unused as 0.
+pub fn header_is_written_back()
+    ensures { (bytes : List ℕ) → ReadableIcmpv4 bytes → IsBytes bytes
+        → spelling (header_of bytes) ≡ cleared (layout_of (type_of bytes)) bytes }
+{}
 
 /// A header with the checksum that belongs to a payload, and that payload, sum to all ones.
 pub fn checksums_sum_to_all_ones()

@@ -1,7 +1,9 @@
 //! Laws of ICMPv6 messages (RFC 4443).
 ghost use Rattle.std.specs.Prelude.{◌≡◌, ◌+◌, ℕ, List, [], ◌∷◌, ◌++◌, IsOkAnd, IsTrue, length};
+ghost use Rattle.ep_base.specs.Bytes.{IsBytes};
 ghost use Rattle.ep_base.specs.Sum.{all_ones};
-ghost use Rattle.ep_icmp.specs.Icmpv6.{IsSpelledOut, checked, pseudo, spelling};
+ghost use Rattle.ep_icmp.specs.Icmpv6.{IsSpelledOut, ReadableIcmpv6, checked, header_of, layout_of, pseudo, spelling, type_of};
+ghost use Rattle.ep_icmp.specs.Layout.{cleared};
 ghost use Rattle.ep_icmp.specs.declared.transport.icmpv6_type.Icmpv6Type.{Icmpv6Type};
 
 use crate::Icmpv6Header;
@@ -26,6 +28,13 @@ pub fn header_is_read_again<'a>(
     let _bytes = header.to_bytes();
     Icmpv6Header::from_slice(slice)
 }
+
+/// What is read from a message and written again are the bytes of its header, with those that its
+/// kind leaves unused as 0.
+pub fn header_is_written_back()
+    ensures { (bytes : List ℕ) → ReadableIcmpv6 bytes → IsBytes bytes
+        → spelling (header_of bytes) ≡ cleared (layout_of (type_of bytes)) bytes }
+{}
 
 /// A pseudo header, a header with the checksum that belongs to these addresses and a payload, and
 /// that payload sum to all ones: so `is_checksum_valid` answers true.

@@ -2,7 +2,7 @@ use Rattle.std.proofs.Common.{◌∙◌, ap, sym, length, drop}
 use Rattle.ep_icmp.specs.Icmpv4.{header_len, header_of, spelling}
 use Rattle.ep_icmp.proofs.Icmpv4Again.{header_again, message_again}
 use Rattle.ep_icmp.proofs.Layouts.{front_of}
-use Rattle.ep_icmp.proofs.Tests.{ok_and}
+use Rattle.ep_icmp.proofs.Outcomes.{ok_and}
 use Rattle.ep_icmp.proofs.laws.icmpv4.header_is_read_again.Goals as goal
 
 pub returns : goal.returns

@@ -2,7 +2,7 @@ use Rattle.std.proofs.Common.{◌∙◌, ap, arith, sym, length}
 use Rattle.ep_icmp.specs.Icmpv6.{header_of, spelling}
 use Rattle.ep_icmp.proofs.Icmpv6Again.{header_again}
 use Rattle.ep_icmp.proofs.Layouts.{front_of}
-use Rattle.ep_icmp.proofs.Tests.{ok_and}
+use Rattle.ep_icmp.proofs.Outcomes.{ok_and}
 use Rattle.ep_icmp.proofs.laws.icmpv6.header_is_read_again.Goals as goal
 
 pub returns : goal.returns

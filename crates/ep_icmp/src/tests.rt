@@ -1,0 +1,5 @@
+mod icmpv4;
+mod icmpv4_messages;
+mod icmpv6;
+mod icmpv6_messages;
+mod laws;
