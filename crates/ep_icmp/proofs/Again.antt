@@ -1,9 +1,7 @@
 -- Fields that are read again from the bytes that spell them.
-use Rattle.std.proofs.Common.{◌≡◌, ◌∙◌, ap, refl, ℕ, ◌+◌, ◌*◌, ◌/◌, ◌%◌, ◌^◌, ◌<◌, Bool, false, Option, None, List, [], ◌∷◌, ◌++◌, find, length, take, drop, slice_range, arith}
+use Rattle.std.proofs.Common.{◌≡◌, refl, ℕ, ◌+◌, ◌*◌, ◌/◌, ◌%◌, ◌^◌, ◌<◌, Bool, false, None, List, [], ◌∷◌, ◌++◌, find, length, slice_range, arith}
 use Rattle.std.proofs.lemmas.List.{append-nil, take_at}
-use Rattle.std.specs.Int.{w16, w32, to_be_bytes}
 use Rattle.std.specs.List.{list_any}
-use Rattle.ep_base.specs.Bytes.{num}
 use Rattle.ep_icmp.specs.Fields.{EchoFits, TimestampFits, echo_bytes, echo_in, timestamp_bytes, timestamp_in}
 use Rattle.ep_icmp.proofs.Outcomes.{neither}
 use Rattle.ep_icmp.specs.Layout.{all, written}

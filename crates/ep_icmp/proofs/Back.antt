@@ -1,10 +1,10 @@
 -- Fields that were read from bytes are spelled by them.
-use Rattle.std.proofs.Common.{◌≡◌, ◌∙◌, ap, sym, refl, ℕ, ◌+◌, ◌*◌, ◌/◌, ◌%◌, ◌^◌, ◌<◌, ◌≤◌, List, [], ◌∷◌, ◌++◌, length, get_or, replicate, slice_range, take, drop, arith}
+use Rattle.std.proofs.Common.{◌≡◌, ◌∙◌, ap, sym, refl, ℕ, ◌+◌, ◌*◌, ◌/◌, ◌%◌, ◌^◌, ◌<◌, ◌≤◌, List, [], ◌∷◌, ◌++◌, length, get_or, replicate, slice_range, take, arith}
 use Rattle.std.specs.Int.{w16, w32, to_be_bytes}
 use Rattle.ep_base.specs.Bytes.{IsBytes, num}
 use Rattle.ep_base.proofs.Cells.{cells, length-cells, take-drop-cells}
 use Rattle.ep_icmp.specs.Fields.{echo_bytes, echo_in, timestamp_bytes, timestamp_in}
-use Rattle.ep_icmp.specs.Layout.{Layout, cleared, spelled, written}
+use Rattle.ep_icmp.specs.Layout.{Layout, cleared, spelled}
 
 high_of : (a b : ℕ) → a < 256 → b < 256 → (256 * a + b) / 256 % 256 ≡ a
 high_of a b h k = omega arith

@@ -1,20 +1,16 @@
 -- A kind of ICMPv4 message is read again from the bytes that spell it.
-use Rattle.std.proofs.Common.{◌≡◌, ◌∙◌, ap, sym, refl, ℕ, ◌+◌, ◌/◌, ◌%◌, ◌<◌, ◌≤◌, ◌^◌, false, List, ◌∷◌, ◌++◌, length, slice_range, arith, Some}
+use Rattle.std.proofs.Common.{◌≡◌, ◌∙◌, ap, sym, refl, ℕ, ◌+◌, ◌/◌, ◌%◌, ◌≤◌, false, List, ◌∷◌, ◌++◌, length, slice_range, arith, Some}
 use Rattle.ep_base.specs.Bytes.{num}
-use Rattle.ep_icmp.specs.Icmpv4.{FieldsFit, HasNextHopMtu, HeaderFits, HasPointer, IsPayload, IsRead, IsSpelledOut, ReadableIcmpv4, UnreachableFits, fixed_payload_size, header_len, has_numbers, header_of, is_timestamp, is_listed, kind_at, kinds, layout_of, problem_code, problem_fields, redirect_code, spelling, type_of, unreachable_code, unreachable_fields}
+use Rattle.ep_icmp.specs.Icmpv4.{FieldsFit, HasNextHopMtu, HeaderFits, HasPointer, IsPayload, IsSpelledOut, ReadableIcmpv4, UnreachableFits, fixed_payload_size, header_len, has_numbers, header_of, is_listed, kind_at, kinds, layout_of, problem_code, problem_fields, redirect_code, spelling, type_of, unreachable_code, unreachable_fields}
 use Rattle.ep_icmp.specs.Layout.{spelled, written}
 use Rattle.ep_icmp.specs.declared.transport.icmpv4_header.Icmpv4Header.{Icmpv4Header}
 use Rattle.ep_icmp.proofs.Again.{bytes_again, echo_again, none_passes, timestamp_again, two_again}
 use Rattle.ep_icmp.proofs.Outcomes.{not_true}
 use Rattle.ep_icmp.proofs.Icmpv4Kinds.{echo_reply_at, echo_request_at, header_len_at, problem_at, redirect_at, time_exceeded_at, timestamp_reply_at, timestamp_request_at, unreachable_at}
 use Rattle.ep_icmp.specs.declared.transport.icmpv4.dest_unreachable_header.DestUnreachableHeader.{DestUnreachableHeader}
-use Rattle.ep_icmp.specs.declared.transport.icmpv4.dest_unreachable_header.DestUnreachableHeader.TheVariants.{Network, Host, Protocol, Port, FragmentationNeeded, SourceRouteFailed, NetworkUnknown, HostUnknown, Isolated, NetworkProhibited, HostProhibited, TosNetwork, TosHost, FilterProhibited, HostPrecedenceViolation, PrecedenceCutoff}
+use Rattle.ep_icmp.specs.declared.transport.icmpv4.dest_unreachable_header.DestUnreachableHeader.TheVariants.{FragmentationNeeded}
 use Rattle.ep_icmp.specs.declared.transport.icmpv4.parameter_problem_header.ParameterProblemHeader.{ParameterProblemHeader}
-use Rattle.ep_icmp.specs.declared.transport.icmpv4.parameter_problem_header.ParameterProblemHeader.TheVariants.{PointerIndicatesError, MissingRequiredOption, BadLength}
-use Rattle.ep_icmp.specs.declared.transport.icmpv4.redirect_code.RedirectCode.{RedirectCode}
-use Rattle.ep_icmp.specs.declared.transport.icmpv4.redirect_code.RedirectCode.TheVariants.{RedirectForNetwork, RedirectForHost, RedirectForTypeOfServiceAndNetwork, RedirectForTypeOfServiceAndHost}
-use Rattle.ep_icmp.specs.declared.transport.icmpv4.time_exceeded_code.TimeExceededCode.{TimeExceededCode}
-use Rattle.ep_icmp.specs.declared.transport.icmpv4.time_exceeded_code.TimeExceededCode.TheVariants.{TtlExceededInTransit, FragmentReassemblyTimeExceeded}
+use Rattle.ep_icmp.specs.declared.transport.icmpv4.parameter_problem_header.ParameterProblemHeader.TheVariants.{PointerIndicatesError}
 use Rattle.ep_icmp.specs.declared.transport.icmpv4_type.Icmpv4Type.{Icmpv4Type}
 use Rattle.ep_icmp.specs.declared.transport.icmpv4_type.Icmpv4Type.TheVariants.{Unknown, EchoReply, DestinationUnreachable, Redirect, EchoRequest, TimeExceeded, ParameterProblem, TimestampRequest, TimestampReply}
 
@@ -78,6 +74,6 @@ message_again h slice rest place len fits out payload =
     record {
       least = omega (arith, least_len h.icmp_type);
       timestamp = λ timestamp.
-        let twenty : header_len h.icmp_type ≡ 20 = sym (ap header_len same) ∙ header_len_at slice ∙ rw timestamp refl in
-        omega (arith, payload 0 (fixed_at h.icmp_type twenty));
+          let twenty : header_len h.icmp_type ≡ 20 = sym (ap header_len same) ∙ header_len_at slice ∙ rw timestamp refl in
+          omega (arith, payload 0 (fixed_at h.icmp_type twenty));
     }

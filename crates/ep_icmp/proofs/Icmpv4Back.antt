@@ -1,9 +1,8 @@
 -- The header of an ICMPv4 message is written back.
-use Rattle.std.proofs.Common.{◌≡◌, sym, refl, ℕ, ◌+◌, ◌≤◌, Bool, true, false, if◌then◌else◌, List, length, slice_range, arith}
+use Rattle.std.proofs.Common.{◌≡◌, sym, refl, ℕ, ◌≤◌, Bool, true, false, if◌then◌else◌, List, length, slice_range, arith}
 use Rattle.ep_base.specs.Bytes.{IsBytes, num}
 use Rattle.ep_icmp.specs.Icmpv4.{ReadableIcmpv4, has_numbers, header_len, header_of, is_timestamp, kind_at, kinds, layout_of, spelling, type_of}
 use Rattle.ep_icmp.specs.Layout.{cleared}
-use Rattle.ep_icmp.specs.declared.transport.icmpv4_type.Icmpv4Type.{Icmpv4Type}
 use Rattle.ep_icmp.specs.declared.transport.icmpv4_type.Icmpv4Type.TheVariants.{Unknown}
 use Rattle.ep_icmp.proofs.Back.{IsFieldIn, echo_back, mtu_back, pointer_back, range_back, timestamp_back, written_back}
 use Rattle.ep_icmp.proofs.Found.{found_among, found_passes}
@@ -16,8 +15,8 @@ unfolding kind_at
 numbers_at t c m =
     found_passes (has_numbers t c) (λ kind. ((layout_of kind).type_u8 ≡ t) × ((layout_of kind).code_u8 ≡ c)) (kinds m) (Unknown t c (slice_range m 4 8))
     (λ kind passes.
-      let numbers = numbers_are (layout_of kind).type_u8 (layout_of kind).code_u8 t c passes in
-      (sym numbers.0, sym numbers.1))
+    let numbers = numbers_are (layout_of kind).type_u8 (layout_of kind).code_u8 t c passes in
+    (sym numbers.0, sym numbers.1))
     (refl, refl)
 
 -- and its field stands in the bytes

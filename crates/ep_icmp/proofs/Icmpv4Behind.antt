@@ -1,5 +1,5 @@
 -- What stands behind byte 8 of an ICMPv4 header.
-use Rattle.std.proofs.Common.{◌≡◌, ℕ, List, [], length, drop, refl, ap, sym, ◌∙◌, arith, Option, Some, None}
+use Rattle.std.proofs.Common.{◌≡◌, ℕ, List, [], length, drop, refl, ap, ◌∙◌, arith, Some, None}
 use Rattle.std.proofs.lemmas.List.{drop_all}
 use Rattle.ep_icmp.proofs.Layouts.{written-all}
 use Rattle.ep_icmp.specs.Fields.{timestamp_bytes}
@@ -10,10 +10,6 @@ use Rattle.ep_icmp.specs.declared.transport.icmpv4.dest_unreachable_header.DestU
 use Rattle.ep_icmp.specs.declared.transport.icmpv4.dest_unreachable_header.DestUnreachableHeader.TheVariants.{Network, Host, Protocol, Port, FragmentationNeeded, SourceRouteFailed, NetworkUnknown, HostUnknown, Isolated, NetworkProhibited, HostProhibited, TosNetwork, TosHost, FilterProhibited, HostPrecedenceViolation, PrecedenceCutoff}
 use Rattle.ep_icmp.specs.declared.transport.icmpv4.parameter_problem_header.ParameterProblemHeader.{ParameterProblemHeader}
 use Rattle.ep_icmp.specs.declared.transport.icmpv4.parameter_problem_header.ParameterProblemHeader.TheVariants.{PointerIndicatesError, MissingRequiredOption, BadLength}
-use Rattle.ep_icmp.specs.declared.transport.icmpv4.redirect_code.RedirectCode.{RedirectCode}
-use Rattle.ep_icmp.specs.declared.transport.icmpv4.redirect_code.RedirectCode.TheVariants.{RedirectForNetwork, RedirectForHost, RedirectForTypeOfServiceAndNetwork, RedirectForTypeOfServiceAndHost}
-use Rattle.ep_icmp.specs.declared.transport.icmpv4.time_exceeded_code.TimeExceededCode.{TimeExceededCode}
-use Rattle.ep_icmp.specs.declared.transport.icmpv4.time_exceeded_code.TimeExceededCode.TheVariants.{TtlExceededInTransit, FragmentReassemblyTimeExceeded}
 use Rattle.ep_icmp.specs.declared.transport.icmpv4_type.Icmpv4Type.{Icmpv4Type}
 use Rattle.ep_icmp.specs.declared.transport.icmpv4_type.Icmpv4Type.TheVariants.{Unknown, EchoReply, DestinationUnreachable, Redirect, EchoRequest, TimeExceeded, ParameterProblem, TimestampRequest, TimestampReply}
 

@@ -1,5 +1,5 @@
 -- The kind that the table of ICMPv4 kinds gives a type and a code.
-use Rattle.std.proofs.Common.{◌≡◌, ◌≢◌, ℕ, Bool, true, false, not, ◌&&◌, ◌||◌, ◌==◌, cond, if◌then◌else◌, Option, Some, unwrap_or, List, [], ◌∷◌, find, slice_range, refl, ap, ◌∙◌, sym}
+use Rattle.std.proofs.Common.{◌≡◌, ◌≢◌, ℕ, Bool, true, false, not, ◌||◌, ◌==◌, cond, if◌then◌else◌, Option, Some, unwrap_or, List, [], ◌∷◌, find, slice_range, refl, ap, ◌∙◌, sym}
 use Rattle.std.specs.List.{list_all}
 use Rattle.std.proofs.lemmas.Bool.{eqb-true, ne_eqb}
 use Rattle.ep_icmp.proofs.Outcomes.{and_both, either, numbers_are}

@@ -14,8 +14,8 @@ unfolding kind_at
 numbers_at t c m =
     found_passes (has_numbers t c) (λ kind. ((layout_of kind).type_u8 ≡ t) × ((layout_of kind).code_u8 ≡ c)) (kinds m) (Unknown t c (slice_range m 4 8))
     (λ kind passes.
-      let numbers = numbers_are (layout_of kind).type_u8 (layout_of kind).code_u8 t c passes in
-      (sym numbers.0, sym numbers.1))
+    let numbers = numbers_are (layout_of kind).type_u8 (layout_of kind).code_u8 t c passes in
+    (sym numbers.0, sym numbers.1))
     (refl, refl)
 
 -- and its field stands in the bytes

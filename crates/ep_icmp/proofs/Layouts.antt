@@ -1,5 +1,5 @@
 -- The bytes of fields.
-use Rattle.std.proofs.Common.{◌≡◌, ◌∙◌, ap, sym, ℕ, ◌+◌, List, [], ◌∷◌, ◌++◌, length, take, drop, arith}
+use Rattle.std.proofs.Common.{◌≡◌, ◌∙◌, ap, sym, ℕ, ◌+◌, List, [], ◌++◌, length, take, drop, arith}
 use Rattle.std.proofs.lemmas.List.{append-nil, drop_at, length-append, take-append-drop, take_all}
 use Rattle.ep_base.proofs.Cells.{cells, take-drop-cells}
 use Rattle.ep_icmp.specs.Layout.{Fields, all, written}

@@ -1,6 +1,6 @@
 -- Sums of messages, built up piece by piece.
 use Rattle.std.proofs.Common.{◌≡◌, ◌∙◌, sym, refl, subst, ℕ, ◌%◌, List, [], ◌∷◌, ◌++◌, length, length-append, append_assoc, take, arith}
-use Rattle.ep_base.specs.Sum.{AddsText, fold, total}
+use Rattle.ep_base.specs.Sum.{AddsText}
 use Rattle.std.specs.Int.{w16, to_be_bytes}
 use Rattle.ep_base.specs.MessageSum.{SumsWords, with_word}
 use Rattle.ep_icmp.specs.Icmpv6.{pseudo}

@@ -1,5 +1,5 @@
 -- ICMPv4 messages (RFC 792): the table of their kinds, and the header that bytes spell.
-use Rattle.std.specs.Prelude.{◌≡◌, ℕ, ◌+◌, ◌^◌, ◌<◌, ◌≤◌, ◌==◌, ◌&&◌, ◌||◌, not, Bool, IsTrue, Option, Some, None, unwrap_or, List, [], ◌∷◌, ◌++◌, find, length, replicate, slice_range, drop}
+use Rattle.std.specs.Prelude.{◌≡◌, ℕ, ◌^◌, ◌<◌, ◌≤◌, ◌==◌, ◌&&◌, ◌||◌, not, Bool, IsTrue, Option, Some, None, unwrap_or, List, [], ◌∷◌, ◌++◌, find, length, slice_range, drop}
 use Rattle.std.specs.Int.{w16, to_be_bytes}
 use Rattle.std.specs.List.{list_any}
 use Rattle.ep_base.specs.Bytes.{num}

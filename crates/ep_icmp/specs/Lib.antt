@@ -1,3 +1,4 @@
+pub mod Examples
 pub mod Fields
 pub mod Icmpv4
 pub mod Icmpv4Fault

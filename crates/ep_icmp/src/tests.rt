@@ -1,3 +1,5 @@
+//! Tests of what no clause says, by values from the standards.
+
 mod icmpv4;
 mod icmpv4_messages;
 mod icmpv6;

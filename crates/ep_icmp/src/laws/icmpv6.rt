@@ -37,7 +37,7 @@ pub fn header_is_written_back()
 {}
 
 /// A pseudo header, a header with the checksum that belongs to these addresses and a payload, and
-/// that payload sum to all ones: so `is_checksum_valid` answers true.
+/// that payload sum to all ones, which is what `is_checksum_valid` tests.
 pub fn checksums_sum_to_all_ones()
     ensures { (kind : Icmpv6Type) (source destination payload : List ℕ) → length source ≡ 16 → length destination ≡ 16
         → IsTrue (all_ones (pseudo source destination (8 + length payload)

@@ -34,11 +34,7 @@ fn is_unknown(rt: &impl Abort, type_u8: u8, code_u8: u8) -> Result<(), Fail> {
     is_kind(rt, [type_u8, code_u8], bytes5to8, kind)
 }
 
-fn is_unreachable(
-    rt: &impl Abort,
-    code_u8: u8,
-    header: DestUnreachableHeader,
-) -> Result<(), Fail> {
+fn is_unreachable(rt: &impl Abort, code_u8: u8, header: DestUnreachableHeader) -> Result<(), Fail> {
     is_kind(
         rt,
         [3, code_u8],
@@ -141,7 +137,12 @@ fn codes_of_parameter_problem(rt: HostRuntime) -> Result<(), Fail> {
     is_kind(&rt, [12, 0], [20, 0, 0, 0], pointer)?;
     let option = Icmpv4Type::ParameterProblem(MissingRequiredOption);
     is_kind(&rt, [12, 1], [0; 4], option)?;
-    is_kind(&rt, [12, 2], [0; 4], Icmpv4Type::ParameterProblem(BadLength))?;
+    is_kind(
+        &rt,
+        [12, 2],
+        [0; 4],
+        Icmpv4Type::ParameterProblem(BadLength),
+    )?;
     is_unknown(&rt, 12, 3)
 }
 

@@ -152,9 +152,7 @@ fn fields_and_their_bytes(rt: HostRuntime) {
     };
     assert!(rt; echo.to_bytes() == [1, 2, 3, 4]);
     assert!(rt; IcmpEchoHeader::from_bytes([1, 2, 3, 4]) == echo);
-    let bytes = [
-        0x12, 0x34, 0, 1, 1, 2, 3, 4, 5, 6, 7, 8, 9, 10, 11, 12,
-    ];
+    let bytes = [0x12, 0x34, 0, 1, 1, 2, 3, 4, 5, 6, 7, 8, 9, 10, 11, 12];
     assert!(rt; TimestampMessage::from_bytes(bytes) == timestamp_message());
 }
 
@@ -199,26 +197,10 @@ fn is_written_as(rt: &impl Abort, bytes: [u8; 8], canonical: [u8; 8]) -> Result<
 
 #[test]
 fn unused_bytes(rt: HostRuntime) -> Result<(), Fail> {
-    is_written_as(
-        &rt,
-        [3, 1, 5, 6, 1, 2, 3, 4],
-        [3, 1, 5, 6, 0, 0, 0, 0],
-    )?;
-    is_written_as(
-        &rt,
-        [3, 4, 5, 6, 1, 2, 3, 4],
-        [3, 4, 5, 6, 0, 0, 3, 4],
-    )?;
-    is_written_as(
-        &rt,
-        [12, 0, 5, 6, 1, 2, 3, 4],
-        [12, 0, 5, 6, 1, 0, 0, 0],
-    )?;
-    is_written_as(
-        &rt,
-        [11, 1, 5, 6, 1, 2, 3, 4],
-        [11, 1, 5, 6, 0, 0, 0, 0],
-    )
+    is_written_as(&rt, [3, 1, 5, 6, 1, 2, 3, 4], [3, 1, 5, 6, 0, 0, 0, 0])?;
+    is_written_as(&rt, [3, 4, 5, 6, 1, 2, 3, 4], [3, 4, 5, 6, 0, 0, 3, 4])?;
+    is_written_as(&rt, [12, 0, 5, 6, 1, 2, 3, 4], [12, 0, 5, 6, 1, 0, 0, 0])?;
+    is_written_as(&rt, [11, 1, 5, 6, 1, 2, 3, 4], [11, 1, 5, 6, 0, 0, 0, 0])
 }
 
 #[test]

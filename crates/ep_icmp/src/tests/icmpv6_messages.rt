@@ -7,6 +7,7 @@ use std::process::Abort;
 use std::test::Fail;
 
 const SOURCE: [u8; 16] = [0xfe, 0x80, 0, 0, 0, 0, 0, 0, 0, 0, 0, 0, 0, 0, 0, 1];
+
 const DESTINATION: [u8; 16] = [0xff, 2, 0, 0, 0, 0, 0, 0, 0, 0, 0, 0, 0, 0, 0, 1];
 
 // An echo request between these addresses.

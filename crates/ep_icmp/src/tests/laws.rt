@@ -1,4 +1,5 @@
-use crate::laws::{icmpv4, icmpv6, traits};
+//! Each law is called once.
+use crate::laws::{examples, icmpv4, icmpv6, traits};
 use crate::{IcmpEchoHeader, Icmpv4Header, Icmpv4Type, Icmpv6Header, Icmpv6Type};
 
 #[test]
@@ -22,4 +23,14 @@ fn headers_are_read_again(rt: HostRuntime) {
     assert!(rt; icmpv4::header_is_read_again(&header, &slice).is_ok());
     let header = Icmpv6Header::new(Icmpv6Type::EchoReply(echo));
     assert!(rt; icmpv6::header_is_read_again(&header, &slice).is_ok());
+}
+
+#[test]
+fn each_example_is_called() {
+    examples::icmpv4_headers();
+    examples::icmpv4_numbers();
+    examples::icmpv4_lengths();
+    examples::icmpv4_checksums();
+    examples::icmpv6_headers();
+    examples::icmpv6_checksums();
 }

@@ -123,11 +123,7 @@ impl<'a> Icmpv4Slice<'a> {
     fn echo(&self) -> IcmpEchoHeader
         ensures { result ≡ echo_in self.now 4 }
     {
-        let [i0, i1, s0, s1] = self.bytes5to8();
-        IcmpEchoHeader {
-            id: u16::from_be_bytes([i0, i1]),
-            seq: u16::from_be_bytes([s0, s1]),
-        }
+        IcmpEchoHeader::from_bytes(self.bytes5to8())
     }
 
     fn destination_unreachable(&self) -> Icmpv4Type

@@ -5,11 +5,11 @@ ghost use Rattle.ep_base.specs.MessageSum.{SumsWords};
 ghost use Rattle.ep_icmp.specs.Icmpv4.{FieldsFit, Fits, fixed_payload_size, header_len, layout_of, right_checksum, timestamp_of};
 ghost use Rattle.ep_icmp.specs.Layout.{spelled, written};
 
-use super::{IcmpEchoHeader, Icmpv4Header};
 use super::icmpv4::{
     DestUnreachableHeader, ParameterProblemHeader, RedirectHeader, TimeExceededCode,
     TimestampMessage,
 };
+use super::{IcmpEchoHeader, Icmpv4Header};
 use arrayvec::ArrayVec;
 use ep_base::checksum::Sum16BitWords;
 
@@ -50,7 +50,8 @@ impl Icmpv4Type {
         ensures { result ≡ header_len self.now }
     {
         match self {
-            Icmpv4Type::TimestampRequest(_) | Icmpv4Type::TimestampReply(_) => TimestampMessage::LEN,
+            Icmpv4Type::TimestampRequest(_) | Icmpv4Type::TimestampReply(_) =>
+                TimestampMessage::LEN,
             _ => Icmpv4Header::MIN_LEN,
         }
     }
@@ -103,7 +104,9 @@ impl Icmpv4Type {
         let mut bytes = ArrayVec::new();
         bytes.try_extend_from_slice(&front).unwrap();
         if let Some(message) = self.timestamp() {
-            bytes.try_extend_from_slice(&message.to_bytes()[4..]).unwrap();
+            bytes
+                .try_extend_from_slice(&message.to_bytes()[4..])
+                .unwrap();
         }
         bytes
     }
@@ -112,8 +115,9 @@ impl Icmpv4Type {
         ensures { option_copied result ≡ timestamp_of self.now }
     {
         match self {
-            Icmpv4Type::TimestampRequest(message) | Icmpv4Type::TimestampReply(message) =>
-                Some(message),
+            Icmpv4Type::TimestampRequest(message) | Icmpv4Type::TimestampReply(message) => Some(
+                message,
+            ),
             _ => None,
         }
     }

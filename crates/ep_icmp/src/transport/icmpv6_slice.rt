@@ -53,11 +53,7 @@ impl<'a> Icmpv6Slice<'a> {
         ensures { result ≡ message_at slice.now }
     {
         if slice.len() < Icmpv6Header::MIN_LEN {
-            return Err(want_of_bytes(
-                Icmpv6Header::MIN_LEN,
-                slice.len(),
-                Layer::Icmpv6,
-            ));
+            return Err(want_of_bytes(Icmpv6Header::MIN_LEN, slice.len(), Layer::Icmpv6));
         }
         Ok(Icmpv6Slice { slice })
     }
@@ -137,11 +133,7 @@ impl<'a> Icmpv6Slice<'a> {
     fn echo(&self) -> IcmpEchoHeader
         ensures { result ≡ echo_in self.now 4 }
     {
-        let [i0, i1, s0, s1] = self.bytes5to8();
-        IcmpEchoHeader {
-            id: u16::from_be_bytes([i0, i1]),
-            seq: u16::from_be_bytes([s0, s1]),
-        }
+        IcmpEchoHeader::from_bytes(self.bytes5to8())
     }
 
     fn destination_unreachable(&self) -> Icmpv6Type

@@ -13,5 +13,5 @@ returns c = λ rest place out payload.
     let message = message_again h c.args.slice.now rest place front.0 bytes.fits out payload in
     ok_and c.from_slice.result _ _ (c.from_slice.ensures.only message) c.from_slice.ensures.found
     (λ r read.
-      let same = read.fields ∙ ap header_of place ∙ header_again h rest bytes.fits out in
-      (same, read.behind ∙ ap (λ other. drop (header_len other.icmp_type) c.args.slice.now) same ∙ front.1))
+    let same = read.fields ∙ ap header_of place ∙ header_again h rest bytes.fits out in
+    (same, read.behind ∙ ap (λ other. drop (header_len other.icmp_type) c.args.slice.now) same ∙ front.1))

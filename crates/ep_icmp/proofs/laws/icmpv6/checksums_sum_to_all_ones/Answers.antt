@@ -1,4 +1,4 @@
-use Rattle.std.proofs.Common.{refl, ◌++◌, ◌+◌, ◌∷◌, [], length}
+use Rattle.std.proofs.Common.{◌++◌, ◌+◌, ◌∷◌, [], length}
 use Rattle.ep_icmp.specs.Icmpv6.{layout_of, pseudo}
 use Rattle.ep_icmp.specs.Layout.{written}
 use Rattle.ep_icmp.proofs.Sums.{even_pseudo, joined}

@@ -1,7 +1,6 @@
-use Rattle.std.proofs.Common.{◌≡◌, refl, rules, sym, ◌++◌, ◌∷◌, [], take, drop}
+use Rattle.std.proofs.Common.{refl, rules, sym, []}
 use Rattle.ep_base.specs.MessageSum.{SumsWords}
 use Rattle.ep_icmp.specs.Icmpv4.{layout_of}
-use Rattle.ep_icmp.specs.Layout.{written}
 use Rattle.ep_icmp.proofs.Icmpv4Behind.{behind_none, behind_some}
 use Rattle.ep_icmp.proofs.Layouts.{written_four}
 use Rattle.ep_icmp.proofs.Sums.{header_words, more_words}
