@@ -1,0 +1,13 @@
+pub mod Again
+pub mod Back
+pub mod Found
+pub mod Icmpv4Again
+pub mod Icmpv4Back
+pub mod Icmpv4Behind
+pub mod Icmpv4Kinds
+pub mod Icmpv6Again
+pub mod Icmpv6Back
+pub mod Icmpv6Kinds
+pub mod Layouts
+pub mod Outcomes
+pub mod Sums

@@ -1,0 +1,5 @@
+use Rattle.ep_icmp.proofs.Icmpv6Back.{header_back}
+use Rattle.ep_icmp.proofs.laws.icmpv6.header_is_written_back.Goals as goal
+
+pub returns : goal.returns
+returns c = header_back

@@ -1,0 +1,13 @@
+//! The better gateway and the traffic that it is for.
+
+use super::RedirectCode;
+
+/// What a redirect message carries in front of the packet's first bytes (RFC 792, "Redirect
+/// Message").
+#[derive(Clone, Copy, Debug, PartialEq, Eq)]
+pub struct RedirectHeader {
+    /// For which traffic.
+    pub code: RedirectCode,
+    /// The address of the gateway to which that traffic should be sent, bytes 5 to 8.
+    pub gateway_internet_address: [u8; 4],
+}

@@ -1,0 +1,219 @@
+//! An ICMPv6 message, borrowed.
+ghost use Rattle.std.specs.Prelude.{◌≡◌, ℕ, List, ◌++◌, length, drop, slice_range, IfOk, Ok, nat_eq};
+ghost use Rattle.std.specs.Cmp.Lexicographic.{pointwise};
+ghost use Rattle.std.specs.Cmp.Rules.{comparing};
+ghost use Rattle.std.proofs.Common.{rules};
+ghost use Rattle.ep_base.specs.Bytes.{num};
+ghost use Rattle.ep_base.specs.Sum.{all_ones};
+ghost use Rattle.ep_icmp.specs.Fields.{echo_in};
+ghost use Rattle.ep_icmp.specs.Icmpv6.{ReadableIcmpv6, header_of, pseudo, type_of};
+ghost use Rattle.ep_icmp.specs.Icmpv6Fault.{message_at};
+ghost use Rattle.ep_icmp.specs.declared.transport.icmpv6_type.Icmpv6Type.TheVariants as kind;
+
+use super::icmpv6::{
+    DestUnreachableCode, ParameterProblemCode, ParameterProblemHeader, TimeExceededCode,
+};
+use super::len_errors::want_of_bytes;
+use super::{IcmpEchoHeader, Icmpv6Header, Icmpv6Type};
+use ep_base::err::{Layer, LenError};
+use ep_base::ip_number;
+use ep_ip::checksum::pseudo_sum_v6;
+use std::marker::Model;
+
+/// An ICMPv6 message (RFC 4443, section 2.1): a header of 8 bytes and what follows it, borrowed. Its
+/// length was tested when the value was made, so that getters test nothing. A contract sees the
+/// value as those bytes.
+#[derive(Clone, Debug, Drop)]
+pub struct Icmpv6Slice<'a> {
+    slice: &'a [u8],
+}
+
+impl<'a> Model for Icmpv6Slice<'a> {
+    ghost Value = { List ℕ };
+
+    ghost view = { λ message. message.slice.now };
+
+    ghost invariant = { λ message. ReadableIcmpv6 message.slice.now };
+}
+
+impl<'a> Icmpv6Slice<'a> {
+    /// The message that is this slice. A slice of fewer than 8 bytes is refused (layer `Icmpv6`).
+    pub fn from_slice(slice: &'a [u8]) -> Result<Icmpv6Slice<'a>, LenError>
+        // What is taken is a message, and all of the slice.
+        ensures found { IfOk result (λ message. ReadableIcmpv6 message × (message ≡ slice.now)) }
+        // A message is taken.
+        ensures only { ReadableIcmpv6 slice.now → result ≡ Ok slice.now }
+        // Else bytes are missing.
+        ensures exact { result ≡ message_at slice.now }
+    {
+        Self::tested(slice)
+    }
+
+    fn tested(slice: &'a [u8]) -> Result<Icmpv6Slice<'a>, LenError>
+        ensures { result ≡ message_at slice.now }
+    {
+        if slice.len() < Icmpv6Header::MIN_LEN {
+            return Err(want_of_bytes(Icmpv6Header::MIN_LEN, slice.len(), Layer::Icmpv6));
+        }
+        Ok(Icmpv6Slice { slice })
+    }
+
+    /// The message's bytes.
+    pub fn slice(&self) -> &'a [u8]
+        ensures bytes { result.now ≡ self.now }
+        ensures message { ReadableIcmpv6 self.now }
+    {
+        self.slice
+    }
+
+    /// The type, byte 1.
+    pub fn type_u8(&self) -> u8
+        ensures { result ≡ num self.now 0 1 }
+    {
+        self.slice[0]
+    }
+
+    /// The code, byte 2.
+    pub fn code_u8(&self) -> u8
+        ensures { result ≡ num self.now 1 1 }
+    {
+        self.slice[1]
+    }
+
+    /// The checksum, bytes 3 and 4.
+    pub fn checksum(&self) -> u16
+        ensures { result ≡ num self.now 2 2 }
+    {
+        u16::from_be_bytes([self.slice[2], self.slice[3]])
+    }
+
+    /// Whether the message between these addresses has a right checksum: pseudo header and message
+    /// sum to all ones (RFC 4443, section 2.3; RFC 1071, section 1). The length in the pseudo header
+    /// is the message's modulo 2 to the 32.
+    pub fn is_checksum_valid(&self, source: [u8; 16], destination: [u8; 16]) -> bool
+        ensures { result ≡ all_ones (pseudo source destination (length self.now) ++ self.now) }
+    {
+        let len = (self.slice.len() % (1 << 32)) as u32;
+        pseudo_sum_v6(source, destination, ip_number::IPV6_ICMP, len)
+            .add_slice(self.slice)
+            .ones_complement()
+            == 0
+    }
+
+    /// Bytes 5 to 8, whatever the type says of them.
+    pub fn bytes5to8(&self) -> [u8; 4]
+        ensures { result ≡ slice_range self.now 4 8 }
+    {
+        self.slice[4..8].try_into().unwrap()
+    }
+
+    /// The kind: the type, the code and what goes with them. What the table of kinds has no line
+    /// for is `Unknown`.
+    pub fn icmp_type(&self) -> Icmpv6Type
+        ensures { result ≡ type_of self.now }
+    {
+        match (self.type_u8(), self.code_u8()) {
+            (1, _) => self.destination_unreachable(),
+            (2, 0) => Icmpv6Type::PacketTooBig { mtu: self.number() },
+            (3, _) => self.time_exceeded(),
+            (4, _) => self.parameter_problem(),
+            (128, 0) => Icmpv6Type::EchoRequest(self.echo()),
+            (129, 0) => Icmpv6Type::EchoReply(self.echo()),
+            _ => self.unknown(),
+        }
+    }
+
+    // Bytes 5 to 8 as a number.
+    fn number(&self) -> u32
+        ensures { result ≡ num self.now 4 4 }
+    {
+        u32::from_be_bytes(self.bytes5to8())
+    }
+
+    fn echo(&self) -> IcmpEchoHeader
+        ensures { result ≡ echo_in self.now 4 }
+    {
+        IcmpEchoHeader::from_bytes(self.bytes5to8())
+    }
+
+    fn destination_unreachable(&self) -> Icmpv6Type
+        requires { num self.now 0 1 ≡ 1 }
+        ensures { result ≡ type_of self.now }
+    {
+        match DestUnreachableCode::from_u8(self.code_u8()) {
+            Some(code) => Icmpv6Type::DestinationUnreachable(code),
+            None => self.unknown(),
+        }
+    }
+
+    fn time_exceeded(&self) -> Icmpv6Type
+        requires { num self.now 0 1 ≡ 3 }
+        ensures { result ≡ type_of self.now }
+    {
+        match TimeExceededCode::from_u8(self.code_u8()) {
+            Some(code) => Icmpv6Type::TimeExceeded(code),
+            None => self.unknown(),
+        }
+    }
+
+    fn parameter_problem(&self) -> Icmpv6Type
+        requires { num self.now 0 1 ≡ 4 }
+        ensures { result ≡ type_of self.now }
+    {
+        match ParameterProblemCode::from_u8(self.code_u8()) {
+            Some(code) => Icmpv6Type::ParameterProblem(ParameterProblemHeader {
+                code,
+                pointer: self.number(),
+            }),
+            None => self.unknown(),
+        }
+    }
+
+    fn unknown(&self) -> Icmpv6Type
+        ensures { result ≡ kind.Unknown (num self.now 0 1) (num self.now 1 1) (slice_range self.now 4 8) }
+    {
+        Icmpv6Type::Unknown {
+            type_u8: self.type_u8(),
+            code_u8: self.code_u8(),
+            bytes5to8: self.bytes5to8(),
+        }
+    }
+
+    /// The length of the header in bytes, 8 for each kind.
+    pub fn header_len(&self) -> usize
+        ensures { result ≡ 8 }
+    {
+        Icmpv6Header::MIN_LEN
+    }
+
+    /// What follows the header.
+    pub fn payload(&self) -> &'a [u8]
+        ensures { result.now ≡ drop 8 self.now }
+    {
+        &self.slice[Icmpv6Header::MIN_LEN..]
+    }
+
+    /// The kind and the checksum.
+    pub fn header(&self) -> Icmpv6Header
+        ensures { result ≡ header_of self.now }
+    {
+        Icmpv6Header {
+            icmp_type: self.icmp_type(),
+            checksum: self.checksum(),
+        }
+    }
+}
+
+impl<'a> PartialEq for Icmpv6Slice<'a> {
+    ghost eq = { pointwise nat_eq };
+
+    ghost laws = { Prim.search (comparing, rules) };
+
+    fn eq(&self, other: &Self) -> bool {
+        self.slice == other.slice
+    }
+}
+
+impl<'a> Eq for Icmpv6Slice<'a> {
+    ghost laws = { Prim.search (comparing, rules) };
+}
