@@ -3,5 +3,7 @@ pub mod Bytes
 pub mod IpDscpKnown
 pub mod IpEcn
 pub mod IpNumber
+pub mod LenSource
 pub mod Moved
 pub mod Sum
+pub mod Traits

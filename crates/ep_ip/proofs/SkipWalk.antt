@@ -182,8 +182,3 @@ pub gives_skip : (number : ℕ) (bytes : List ℕ) (headers : List (List ℕ)) (
     Walk number bytes headers last rest → Gives (outcome (length (concat headers)) last rest) answer → Gives (skip number bytes) answer
 gives_skip number bytes headers last rest answer walk gives =
     subst (λ (wanted : Result (ℕ × List ℕ) LenError). Gives wanted answer) (sym (walk_skips number bytes headers last rest walk)) gives
-
-pub turns_are : (number : ℕ) (bytes : List ℕ) (headers : List (List ℕ)) (last : ℕ) (rest : List ℕ) (turns : ℕ) →
-    Walk number bytes headers last rest → turns ≡ length headers + 1 → turns ≡ length (skipped_headers number bytes) + 1
-turns_are number bytes headers last rest turns walk counted =
-    counted ∙ ap (λ (hs : List (List ℕ)). length hs + 1) (sym (walk_headers number bytes headers last rest walk))

@@ -1,6 +1,6 @@
 -- The IPv6 header (RFC 8200, section 3): its bytes, and each field by its place in them. The
--- traffic class is the code point of differentiated services, 6 bits, and the notification of
--- congestion, 2 bits (RFC 2474, section 3; RFC 3168, section 5).
+-- traffic class is the differentiated services code point, 6 bits (RFC 2474, section 3), and explicit
+-- congestion notification, 2 bits (RFC 3168, section 5).
 use Rattle.std.specs.Prelude.{◌≡◌, ℕ, ◌+◌, ◌*◌, ◌/◌, ◌%◌, ◌^◌, ◌<◌, List, [], ◌∷◌, ◌++◌, length, slice_range}
 use Rattle.std.specs.Int.{w16, w32, to_be_bytes}
 use Rattle.ep_base.specs.Bytes.{num}
@@ -66,7 +66,7 @@ pub record IsRead (bytes : List ℕ) (h : Ipv6Header) (rest : List ℕ) : Type 0
   pub fields : h ≡ header_of front
   pub again : spelling h ≡ front
 
--- the code point and the notification in a traffic class
+-- the differentiated services code point and explicit congestion notification in a traffic class
 abbrev pub dscp_in : ℕ → ℕ
 dscp_in traffic_class = traffic_class / 4
 

@@ -1,3 +1,4 @@
+pub mod Examples
 pub mod Ipv4
 pub mod Ipv4Checksum
 pub mod Ipv4Fault

@@ -4,7 +4,6 @@ mod ipv4_header;
 mod ipv4_header_slice;
 mod ipv4_options;
 mod ipv6_header;
-mod ipv6_header_skip;
 mod ipv6_header_slice;
 mod payload_len;
 

@@ -1,3 +1,5 @@
+//! A want of room in a slice that is written to.
+
 use super::Layer;
 use std::{error, fmt};
 

@@ -1,3 +1,5 @@
+//! Ether types.
+
 ghost use Rattle.std.specs.Prelude.{◌≡◌};
 
 /// An ether type, as the registry of IEEE assigns them: what stands behind an Ethernet II header or a

@@ -1,3 +1,5 @@
+//! The refusal of a code point without a name.
+
 use thiserror::Error;
 
 /// A differentiated services code point has no name.

@@ -1,3 +1,5 @@
+//! The flow label of IPv6 headers.
+
 ghost use Rattle.std.specs.Prelude.{◌≡◌, ℕ, ◌≤◌, Some};
 ghost use Rattle.std.specs.Fmt.{decimal};
 ghost use Rattle.ep_base.specs.Bounded.{IsBounded};

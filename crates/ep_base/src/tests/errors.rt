@@ -26,6 +26,21 @@ fn texts_of_len_errors(rt: HostRuntime) -> Result<(), Fail> {
     Ok(())
 }
 
+// From byte 14 to the greatest place that a `usize` names.
+#[test]
+fn greatest_offset(rt: HostRuntime) {
+    let error = LenError {
+        required_len: 20,
+        len: 19,
+        len_source: LenSource::Slice,
+        layer: Layer::Ipv4Header,
+        layer_start_offset: 14,
+    };
+    let last = error.add_offset(0xffff_ffff_ffff_fff1);
+    assert_eq!(rt; last.layer_start_offset, 0xffff_ffff_ffff_ffff);
+    assert_eq!(rt; last.required_len, 20);
+}
+
 #[test]
 fn texts_of_errors(rt: HostRuntime) -> Result<(), Fail> {
     let too_big = ValueTooBigError {

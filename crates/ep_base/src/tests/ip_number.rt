@@ -161,6 +161,20 @@ fn ip_number_constants(rt: HostRuntime) {
     assert_eq!(rt; IpNumber::EXPERIMENTAL_AND_TESTING_1.0, 254);
 }
 
+// All numbers against the registry's list of IPv6 extension header types.
+#[test]
+fn ext_header_numbers(rt: HostRuntime) {
+    let registered = [0, 43, 44, 50, 51, 60, 135, 139, 140, 253, 254];
+    let mut found = 0;
+    for number in 0..=255u8 {
+        if IpNumber(number).is_ipv6_ext_header_value() {
+            assert!(rt; registered.contains(&number), "{number}");
+            found += 1;
+        }
+    }
+    assert_eq!(rt; found, registered.len());
+}
+
 #[test]
 fn ip_number_calls(rt: HostRuntime) -> Result<(), Fail> {
     assert!(rt; IpNumber::MOBILITY_HEADER.is_ipv6_ext_header_value());

@@ -1,6 +1,8 @@
 //! Each law is called once.
 use crate::IpEcn;
-use crate::laws::{constants, ecn_round_trip, fold_of_pieces, known_round_trip, one_changed_byte};
+use crate::laws::{
+    constants, ecn_round_trip, examples, fold_of_pieces, known_round_trip, one_changed_byte, traits,
+};
 
 #[test]
 fn laws_are_called(rt: HostRuntime) {
@@ -16,4 +18,25 @@ fn laws_are_called(rt: HostRuntime) {
     constants::ip_number_module();
     constants::ether_type_constants();
     constants::ether_type_module();
+}
+
+#[test]
+fn examples_and_traits_are_called(rt: HostRuntime) {
+    examples::numbers_by_place();
+    examples::bounded_numbers();
+    examples::places_further_on();
+    examples::sums_of_words();
+    examples::folds();
+    examples::texts_of_all_ones();
+    examples::checksums_with_no_zero();
+    examples::pieces_of_words();
+    examples::odd_last_piece_comes_first();
+    examples::bytes_changed_to_the_other_end();
+    traits::copies_are_values();
+    traits::copies_never_fail();
+    traits::equals_are_same();
+    traits::value_too_big_errors::<u8>();
+    traits::value_too_big_errors::<usize>();
+    traits::orders_are_of_numbers();
+    traits::len_errors_hash_all_fields();
 }

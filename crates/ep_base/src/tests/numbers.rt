@@ -3,7 +3,7 @@
 use crate::err::{ValueTooBigError, ValueType};
 use crate::{
     EtherType, IpDscp, IpDscpKnown, IpDscpUnknownValueError, IpEcn, IpFragOffset, Ipv4Dscp,
-    Ipv4Ecn, Ipv6FlowLabel, ether_type,
+    Ipv4Ecn, Ipv6FlowLabel, LenSource, ether_type,
 };
 use std::test::Fail;
 
@@ -61,14 +61,34 @@ fn accepted_numbers(rt: HostRuntime) -> Result<(), Fail> {
     assert_eq!(rt; Ipv6FlowLabel::default(), Ipv6FlowLabel::ZERO);
     assert_eq!(rt; IpEcn::default(), IpEcn::ZERO);
     assert!(rt; IpDscp::CS1 < IpDscp::AF11);
-    let text = format!(in rt.alloc();
-        "{} {} {} {}",
-        IpDscp::EF,
-        IpEcn::TRHEE,
-        IpFragOffset::ZERO,
-        Ipv6FlowLabel::try_new(305)?
-    )?;
-    assert_eq!(rt; text.as_str(), "46 3 0 305");
+    Ok(())
+}
+
+#[test]
+fn middle_values(rt: HostRuntime) -> Result<(), Fail> {
+    let offset = IpFragOffset::try_new(1234)?;
+    let label = Ipv6FlowLabel::try_new(0xabcde)?;
+    assert_eq!(rt; u16::from(offset), 1234);
+    assert_eq!(rt; offset.byte_offset(), 9872);
+    assert_eq!(rt; u32::from(label), 703710);
+    assert_eq!(rt; u8::from(IpDscp::EF), 46);
+    assert_eq!(rt; u8::from(IpEcn::Ect1), 1);
+    assert_eq!(rt; u16::from(EtherType(0x1234)), 4660);
+    let text = format!(in rt.alloc(); "{} {} {offset} {label}", IpDscp::EF, IpEcn::Ect0)?;
+    assert_eq!(rt; text.as_str(), "46 2 1234 703710");
+    Ok(())
+}
+
+#[test]
+fn orders_and_copies(rt: HostRuntime) -> Result<(), Fail> {
+    assert!(rt; IpFragOffset::try_new(7)? < IpFragOffset::try_new(8)?);
+    assert!(rt; Ipv6FlowLabel::try_new(256)? > Ipv6FlowLabel::try_new(255)?);
+    assert!(rt; EtherType::IPV4 < EtherType::ARP);
+    assert!(rt; IpEcn::Ect1 < IpEcn::Ect0);
+    assert!(rt; LenSource::Slice < LenSource::MacsecShortLength);
+    assert!(rt; LenSource::UdpHeaderLen < LenSource::TcpHeaderLen);
+    assert_eq!(rt; IpDscp::EF.clone()?, IpDscp::EF);
+    assert_eq!(rt; LenSource::UdpHeaderLen.clone()?, LenSource::UdpHeaderLen);
     Ok(())
 }
 

@@ -47,6 +47,48 @@ fn sum_of_sixteen_bytes(rt: HostRuntime) {
     );
 }
 
+// The header's checksum stays where it is not 0.
+#[test]
+fn checksums_that_are_not_zero(rt: HostRuntime) {
+    let addresses = [0xc0, 0xa8, 0x00, 0x01, 0xc0, 0xa8, 0x00, 0xc7];
+    let sum = Sum16BitWords::new()
+        .add_8bytes([0x45, 0x00, 0x00, 0x73, 0x00, 0x00, 0x40, 0x00])
+        .add_4bytes([0x40, 0x11, 0x00, 0x00])
+        .add_8bytes(addresses);
+    assert_eq!(rt; sum.to_ones_complement_with_no_zero().swap_bytes(), 0xb861);
+}
+
+// A start of 1234 and of words in the upper halves, read low byte first, and what they sum to by hand.
+#[test]
+fn sums_from_another_start(rt: HostRuntime) {
+    let narrow = u32_16bit_word::add_2bytes(0x3412, [0, 1]);
+    assert_eq!(rt;
+        u32_16bit_word::ones_complement(narrow).swap_bytes(),
+        0xedca
+    );
+    let narrow = u32_16bit_word::add_4bytes(0x0001_3412, [0, 1, 0, 2]);
+    assert_eq!(rt;
+        u32_16bit_word::ones_complement(narrow).swap_bytes(),
+        0xecc8
+    );
+    let narrow = u32_16bit_word::add_slice(0x3412, &RFC_1071);
+    assert_eq!(rt;
+        u32_16bit_word::ones_complement_with_no_zero(narrow).swap_bytes(),
+        0x0fd9
+    );
+    let wide = u64_16bit_word::add_2bytes(0x3412, [0, 1]);
+    assert_eq!(rt; u64_16bit_word::ones_complement(wide).swap_bytes(), 0xedca);
+    let wide = u64_16bit_word::add_4bytes(0x0001_0000_0000_3412, [0, 1, 0, 2]);
+    assert_eq!(rt; u64_16bit_word::ones_complement(wide).swap_bytes(), 0xecc8);
+    let wide = u64_16bit_word::add_8bytes(0x3412, RFC_1071);
+    assert_eq!(rt; u64_16bit_word::ones_complement(wide).swap_bytes(), 0x0fd9);
+    let wide = u64_16bit_word::add_slice(0x3412, &RFC_1071);
+    assert_eq!(rt;
+        u64_16bit_word::ones_complement_with_no_zero(wide).swap_bytes(),
+        0x0fd9
+    );
+}
+
 #[test]
 fn both_widths_agree(rt: HostRuntime) {
     let bytes = [

@@ -1,5 +1,5 @@
 //! Laws of IPv4 headers (RFC 791, section 3.1).
-ghost use Rattle.std.specs.Prelude.{◌≡◌, ℕ, ◌*◌, List, ◌++◌, ◌↔◌, IsTrue, IsOkAnd, fold};
+ghost use Rattle.std.specs.Prelude.{◌≡◌, ℕ, ◌*◌, List, [], ◌∷◌, ◌++◌, ◌↔◌, IsTrue, IsOkAnd, fold};
 ghost use Rattle.std.specs.Hash as fed;
 ghost use Rattle.std.specs.Ordering.{nat_cmp};
 ghost use Rattle.std.specs.Cmp.Lexicographic.{slice_cmp};
@@ -13,6 +13,19 @@ use ep_base::err::LenError;
 use std::alloc::AllocError;
 use std::cmp::Ordering;
 use std::hash::{Hash, Hasher};
+
+/// The lengths of an IPv4 header and of its options in bytes.
+pub fn header_lengths() -> [usize; 3]
+    ensures lengths { result ≡ 20 ∷ 60 ∷ 20 ∷ [] }
+    ensures least { Ipv4Header.MIN_LEN_U16 ≡ 20 }
+    ensures options { Ipv4Options.MAX_LEN ≡ 40 }
+{
+    [
+        Ipv4Header::MIN_LEN,
+        Ipv4Header::MAX_LEN,
+        Ipv4Header::SERIALIZED_SIZE,
+    ]
+}
 
 /// What `to_bytes` gives is read again, whatever follows it.
 pub fn header_is_read_again<'a>(

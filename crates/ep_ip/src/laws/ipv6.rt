@@ -41,7 +41,7 @@ pub fn header_is_read_again<'a>(
     Ipv6Header::from_slice(slice)
 }
 
-/// A traffic class is its code point and its notification of congestion.
+/// A traffic class is its differentiated services code point and its explicit congestion notification.
 pub fn traffic_class_has_two_parts()
     ensures { (class : ℕ) → 4 * dscp_in class + ecn_number (ecn_in class) ≡ class }
 {}

@@ -1,3 +1,5 @@
+//! IPv4 headers as values.
+
 ghost use Rattle.std.specs.Prelude.{◌≡◌, ℕ, ◌+◌, ◌-◌, ◌^◌, ◌<◌, ◌≤◌, ◌↔◌, List, ◌++◌, length, IfOk, IfErr, IsOkAnd, OnOk, OnErr, IsOk, IsTrue, Ok, Err, vec_len, vec_capacity};
 ghost use Rattle.ep_ip.specs.Ipv4.{IsIpv4Header, IsRead, default_header, header_of, header_len, ihl, flags_and_offset, spelling, Fits, is_fragmenting};
 ghost use Rattle.ep_base.specs.Bounded.{too_big};
@@ -22,9 +24,9 @@ use std::alloc::AllocError;
 /// the other fields.
 #[derive(Clone, Debug, PartialEq, Eq, Drop)]
 pub struct Ipv4Header {
-    /// The differentiated services code point.
+    /// The differentiated services code point (RFC 2474, section 3).
     pub dscp: IpDscp,
-    /// Explicit congestion notification.
+    /// Explicit congestion notification (RFC 3168, section 5).
     pub ecn: IpEcn,
     /// The length of header and payload in bytes.
     pub total_len: u16,
@@ -139,7 +141,7 @@ impl Ipv4Header {
         // They are a header, with these fields.
         ensures header { IsIpv4Header result.items }
         ensures fields { header_of result.items ≡ self.now }
-        // They sum to all ones exactly where the checksum is the right one.
+        // They sum to all ones exactly where the checksum is the right one, or ffff where that is 0.
         ensures checked { IsTrue (all_ones result.items) ↔ HasRightChecksum self.now }
     {
         self.bytes_with_checksum(self.header_checksum)

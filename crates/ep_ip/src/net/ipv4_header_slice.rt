@@ -1,3 +1,5 @@
+//! IPv4 headers as borrowed bytes.
+
 ghost use Rattle.std.specs.Prelude.{◌≡◌, ℕ, ◌+◌, ◌*◌, List, ◌++◌, length, IfOk, Ok, nat_eq};
 ghost use Rattle.std.specs.Cmp.Lexicographic.{pointwise};
 ghost use Rattle.std.specs.Cmp.Rules.{comparing};
@@ -48,6 +50,7 @@ impl<'a> Ipv4HeaderSlice<'a> {
         Self::parse(slice)
     }
 
+    // Apart from `from_slice`, whose other clauses follow from this one.
     fn parse(slice: &'a [u8]) -> Result<Ipv4HeaderSlice<'a>, HeaderSliceError>
         ensures { result ≡ header_at slice.now }
     {
@@ -95,14 +98,16 @@ impl<'a> Ipv4HeaderSlice<'a> {
         self.slice[0] & 0xf
     }
 
-    /// The differentiated services code point.
+    /// The differentiated services code point, the upper 6 bits of the type of service (RFC 2474,
+    /// section 3).
     pub fn dcp(&self) -> IpDscp
         ensures { result ≡ dscp_of self.now }
     {
         IpDscp::try_new(self.slice[1] >> 2).unwrap()
     }
 
-    /// Explicit congestion notification.
+    /// Explicit congestion notification, the lower 2 bits of the type of service (RFC 3168,
+    /// section 5).
     pub fn ecn(&self) -> IpEcn
         ensures { result ≡ ecn_of self.now }
     {
@@ -222,6 +227,7 @@ impl<'a> Ipv4HeaderSlice<'a> {
         ensures ihl { ihl result ≡ ihl_of self.now }
         ensures len { header_len result ≡ length self.now }
     {
+        // For the proof alone: that the bytes are a header.
         let _header = &self.slice;
         let options = Ipv4Options::from_words(self.options());
         Ipv4Header {

@@ -1,3 +1,5 @@
+//! The options of IPv4 headers.
+
 ghost use Rattle.std.specs.Prelude.{◌≡◌, ℕ, List, [], length, ◌==◌};
 ghost use Rattle.std.specs.Borrow.{sem};
 ghost use Rattle.ep_ip.specs.Ipv4Options.{IsIpv4Options, IsIpv4OptionsOf};

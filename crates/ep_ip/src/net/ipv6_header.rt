@@ -1,19 +1,24 @@
-ghost use Rattle.std.specs.Prelude.{◌≡◌, ℕ, ◌+◌, ◌<◌, ◌≤◌, List, ◌++◌, length, IfOk, IfErr, IsOkAnd, OnOk, OnErr, IsOk, MatchResult, Err, vec_len, vec_capacity};
+//! IPv6 headers as values, and the walk over the extension headers behind them.
+
+ghost use Rattle.std.specs.Prelude.{◌≡◌, ℕ, ◌+◌, ◌*◌, ◌^◌, ◌/◌, ◌<◌, ◌≤◌, List, ◌++◌, length, IfOk, IfErr, IsOkAnd, OnOk, OnErr, IsOk, MatchResult, Err, vec_len, vec_capacity};
+ghost use Rattle.std.specs.List.{concat};
 ghost use Rattle.ep_base.specs.Bounded.{too_big};
+ghost use Rattle.ep_base.specs.Bytes.{num};
 ghost use Rattle.ep_ip.specs.Ipv6Fault.{header_at};
 ghost use Rattle.ep_ip.specs.Ipv6.{IsIpv6Header, IsRead, header_of, spelling, Fits, dscp_in, ecn_in};
+ghost use Rattle.ep_ip.specs.Skip as walk;
 
 use crate::Ipv6HeaderSlice;
 use crate::err::ipv6::HeaderSliceError;
-use ep_base::err::{ValueTooBigError, ValueType};
-use ep_base::{IpDscp, IpEcn, IpNumber, Ipv6FlowLabel};
+use ep_base::err::{Layer, LenError, ValueTooBigError, ValueType};
+use ep_base::{IpDscp, IpEcn, IpNumber, Ipv6FlowLabel, LenSource};
 use std::alloc::AllocError;
 
 /// An IPv6 header (RFC 8200, section 3). In its 40 bytes numbers stand high byte first.
 #[derive(Clone, Debug, PartialEq, Eq, Drop)]
 pub struct Ipv6Header {
-    /// The code point of differentiated services in the upper 6 bits, the notification of
-    /// congestion in the lower 2.
+    /// The differentiated services code point in the upper 6 bits (RFC 2474, section 3), explicit
+    /// congestion notification in the lower 2 (RFC 3168, section 5).
     pub traffic_class: u8,
     /// The flow label, 20 bits.
     pub flow_label: Ipv6FlowLabel,
@@ -69,7 +74,7 @@ impl Ipv6Header {
         Ipv6Header::LEN
     }
 
-    /// The code point of differentiated services, the upper 6 bits of the traffic class (RFC 2474,
+    /// The differentiated services code point, the upper 6 bits of the traffic class (RFC 2474,
     /// section 3).
     pub fn dscp(&self) -> IpDscp
         ensures { result ≡ dscp_in self.now.traffic_class }
@@ -77,7 +82,7 @@ impl Ipv6Header {
         IpDscp::try_new(self.traffic_class >> 2).unwrap()
     }
 
-    /// The notification of congestion, the lower 2 bits of the traffic class (RFC 3168, section 5).
+    /// Explicit congestion notification, the lower 2 bits of the traffic class (RFC 3168, section 5).
     pub fn ecn(&self) -> IpEcn
         ensures { result ≡ ecn_in self.now.traffic_class }
     {
@@ -130,21 +135,30 @@ impl Ipv6Header {
         self.field_bytes()
     }
 
+    // Apart from `to_bytes`, whose other clauses follow from these.
     fn field_bytes(&self) -> [u8; 40]
         ensures bytes { result ≡ spelling self.now }
         ensures fits { Fits self.now }
     {
         let payload_length = self.payload_length.to_be_bytes();
-        let class = u32::from(self.traffic_class) << 20;
-        let first_word = (6 << 28) | class | self.flow_label.value();
         let mut bytes = [0; 40];
-        bytes[..4].copy_from_slice(&first_word.to_be_bytes());
+        bytes[..4].copy_from_slice(&self.first_word().to_be_bytes());
         bytes[4..6].copy_from_slice(&payload_length);
         bytes[6] = self.next_header.0;
         bytes[7] = self.hop_limit;
         bytes[8..24].copy_from_slice(&self.source);
         bytes[24..].copy_from_slice(&self.destination);
         bytes
+    }
+
+    // Version, traffic class and flow label, as the first 4 bytes spell them.
+    fn first_word(&self) -> u32
+        ensures value { result ≡ 6 * 2 ^ 28 + self.now.traffic_class * 2 ^ 20 + self.now.flow_label }
+        ensures class { self.now.traffic_class < 2 ^ 8 }
+        ensures label { self.now.flow_label < 2 ^ 20 }
+    {
+        let class = u32::from(self.traffic_class) << 20;
+        (6 << 28) | class | self.flow_label.value()
     }
 
     /// Appends the bytes of the header.
@@ -157,6 +171,137 @@ impl Ipv6Header {
         ensures capacity { vec_capacity buffer.old ≤ vec_capacity buffer.new }
     {
         buffer.extend_from_slice(&self.to_bytes())
+    }
+
+    /// Skips one IPv6 extension header at the front of the slice, whatever its number, and answers
+    /// the number that its first byte names and the bytes behind it. The length goes by the number:
+    /// 8 bytes for a fragment header (44), for an authentication header (51) four times its second
+    /// byte and 8 more, for every other number eight times its second byte and 8 more (RFC 8200,
+    /// section 4; RFC 4302, section 2.2; RFC 6564, section 4).
+    pub fn skip_header_extension_in_slice(
+        slice: &[u8],
+        next_header: IpNumber,
+    ) -> Result<(IpNumber, &[u8]), LenError>
+        // What is skipped is a whole header.
+        ensures found { IfOk result (λ r. (header : List ℕ) × walk.IsWhole next_header.0 header
+            × (slice.now ≡ header ++ r.1.now) × (r.0.0 ≡ num header 0 1)) }
+        // A whole header is skipped.
+        ensures only { (header rest : List ℕ) → walk.IsWhole next_header.0 header
+            → slice.now ≡ header ++ rest
+            → IsOkAnd result (λ r. (r.0.0 ≡ num header 0 1) × (r.1.now ≡ rest)) }
+        // Else so many bytes are missing.
+        ensures refused { IfErr result (λ e.
+            (length slice.now < walk.required_len next_header.0 slice.now)
+            × (e ≡ walk.not_whole 0 next_header.0 slice.now)) }
+    {
+        let required_len = required_len(slice, next_header);
+        if slice.len() < required_len {
+            return Err(LenError {
+                required_len,
+                len: slice.len(),
+                len_source: LenSource::Slice,
+                layer: Layer::Ipv6ExtHeader,
+                layer_start_offset: 0,
+            });
+        }
+        Ok((IpNumber(slice[0]), &slice[required_len..]))
+    }
+
+    /// Skips the IPv6 extension headers in a row at the front of the slice, of which the first has
+    /// the given number, and answers the first number that is none of 0, 43, 44, 51, 60, 135, 139
+    /// and 140, and the bytes behind the headers. A header of one of these numbers that is not
+    /// whole is refused, with its place in the slice.
+    pub fn skip_all_header_extensions_in_slice(
+        slice: &[u8],
+        next_header: IpNumber,
+    ) -> Result<(IpNumber, &[u8]), LenError>
+        // The slice is headers in a row and what the answer gives.
+        ensures found { (headers : List (List ℕ)) × (last : ℕ) × (rest : List ℕ)
+            × walk.Walk next_header.0 slice.now headers last rest
+            × walk.Gives (walk.outcome (length (concat headers)) last rest) result }
+        // However the slice is headers in a row and a rest, the answer gives that.
+        ensures only { (headers : List (List ℕ)) (last : ℕ) (rest : List ℕ)
+            → walk.Walk next_header.0 slice.now headers last rest
+            → walk.Gives (walk.outcome (length (concat headers)) last rest) result }
+        ensures exact { walk.Gives (walk.skip next_header.0 slice.now) result }
+    {
+        Self::skip_counted(slice, next_header).0
+    }
+
+    /// The same as `skip_all_header_extensions_in_slice`, and how many numbers it looked at: one
+    /// for each header that it skipped, and one for the number at which it ended.
+    pub fn skip_counted(
+        slice: &[u8],
+        next_header: IpNumber,
+    ) -> (Result<(IpNumber, &[u8]), LenError>, usize)
+        // The slice is headers in a row and what the answer gives.
+        ensures found { (headers : List (List ℕ)) × (last : ℕ) × (rest : List ℕ)
+            × walk.Walk next_header.0 slice.now headers last rest
+            × walk.Ends headers last rest result.0 result.1 }
+        // However the slice is headers in a row and a rest, the answer gives that.
+        ensures only { (headers : List (List ℕ)) (last : ℕ) (rest : List ℕ)
+            → walk.Walk next_header.0 slice.now headers last rest
+            → walk.Ends headers last rest result.0 result.1 }
+        ensures bound { result.1 ≤ length slice.now / 8 + 1 }
+    {
+        Self::walk(slice, next_header)
+    }
+
+    // Apart from `skip_counted`, whose other clauses follow from this one.
+    fn walk(slice: &[u8], next_header: IpNumber) -> (Result<(IpNumber, &[u8]), LenError>, usize)
+        ensures { (headers : List (List ℕ)) × (last : ℕ) × (rest : List ℕ)
+            × walk.Walk next_header.0 slice.now headers last rest
+            × walk.Ends headers last rest result.0 result.1 }
+    {
+        let mut number = next_header;
+        let mut rest = slice;
+        let mut turns = 1;
+        'headers: while is_skipped(number) {
+            match Self::skip_header_extension_in_slice(rest, number) {
+                Ok((next, behind)) => {
+                    number = next;
+                    rest = behind;
+                }
+                Err(error) => {
+                    let offset = slice.len() - rest.len();
+                    return (Err(error.add_offset(offset)), turns);
+                }
+            }
+            turns += 1;
+        }
+        (Ok((number, rest)), turns)
+    }
+}
+
+fn is_skipped(number: IpNumber) -> bool
+    ensures { result ≡ walk.is_skipped number.0 }
+{
+    matches!(
+        number,
+        IpNumber::IPV6_HEADER_HOP_BY_HOP
+            | IpNumber::IPV6_ROUTE_HEADER
+            | IpNumber::IPV6_FRAGMENTATION_HEADER
+            | IpNumber::AUTHENTICATION_HEADER
+            | IpNumber::IPV6_DESTINATION_OPTIONS
+            | IpNumber::MOBILITY_HEADER
+            | IpNumber::HIP
+            | IpNumber::SHIM6
+    )
+}
+
+fn required_len(slice: &[u8], number: IpNumber) -> usize
+    ensures value { result ≡ walk.required_len number.0 slice.now }
+    ensures least { 2 ≤ result }
+    ensures eight { 2 ≤ length slice.now → 8 ≤ result }
+{
+    if slice.len() < 2 {
+        return 2;
+    }
+    let words = usize::from(slice[1]);
+    match number {
+        IpNumber::IPV6_FRAGMENTATION_HEADER => 8,
+        IpNumber::AUTHENTICATION_HEADER => (words + 2) * 4,
+        _ => (words + 1) * 8,
     }
 }
 

@@ -1,3 +1,5 @@
+//! IPv6 headers as borrowed bytes.
+
 ghost use Rattle.std.specs.Prelude.{◌≡◌, ℕ, List, ◌++◌, length, IfOk, Ok, nat_eq};
 ghost use Rattle.std.specs.Cmp.Lexicographic.{pointwise};
 ghost use Rattle.std.specs.Cmp.Rules.{comparing};
@@ -43,6 +45,7 @@ impl<'a> Ipv6HeaderSlice<'a> {
         Self::parse(slice)
     }
 
+    // Apart from `from_slice`, whose other clauses follow from this one.
     fn parse(slice: &'a [u8]) -> Result<Ipv6HeaderSlice<'a>, HeaderSliceError>
         ensures { result ≡ header_at slice.now }
     {
@@ -96,7 +99,7 @@ impl<'a> Ipv6HeaderSlice<'a> {
         (self.slice[0] << 4) | (self.slice[1] >> 4)
     }
 
-    /// The code point of differentiated services, the upper 6 bits of the traffic class (RFC 2474,
+    /// The differentiated services code point, the upper 6 bits of the traffic class (RFC 2474,
     /// section 3).
     pub fn dscp(&self) -> IpDscp
         ensures { result ≡ dscp_in (traffic_class_of self.now) }
@@ -104,7 +107,7 @@ impl<'a> Ipv6HeaderSlice<'a> {
         IpDscp::try_new(self.traffic_class() >> 2).unwrap()
     }
 
-    /// The notification of congestion, the lower 2 bits of the traffic class (RFC 3168, section 5).
+    /// Explicit congestion notification, the lower 2 bits of the traffic class (RFC 3168, section 5).
     pub fn ecn(&self) -> IpEcn
         ensures { result ≡ ecn_in (traffic_class_of self.now) }
     {

@@ -1,3 +1,5 @@
+//! What a total length leaves for the payload.
+
 ghost use Rattle.std.specs.Prelude.{◌≡◌, ℕ, ◌+◌, Ok};
 ghost use Rattle.ep_ip.specs.Ipv4Fault.{IsPayloadLen};
 

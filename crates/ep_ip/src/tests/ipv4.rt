@@ -1,3 +1,5 @@
+//! IPv4 headers and their options against values from outside.
+
 use crate::err::ipv4::{BadOptionsLen, HeaderError, HeaderSliceError};
 use crate::laws::ipv4 as laws;
 use crate::{Ipv4Header, Ipv4HeaderSlice, Ipv4Options};
@@ -154,6 +156,50 @@ fn error_in_a_later_place(rt: HostRuntime) {
     );
     let content = HeaderSliceError::Content(HeaderError::UnexpectedVersion { version_number: 6 });
     assert_eq!(rt; content.add_slice_offset(4), content);
+}
+
+// From byte 14 to the greatest place that a `usize` names.
+#[test]
+fn error_in_the_greatest_place(rt: HostRuntime) {
+    let error = LenError {
+        required_len: 20,
+        len: 19,
+        len_source: LenSource::Slice,
+        layer: Layer::Ipv4Header,
+        layer_start_offset: 14,
+    };
+    let last = LenError {
+        layer_start_offset: 0xffff_ffff_ffff_ffff,
+        ..error
+    };
+    assert_eq!(rt;
+        HeaderSliceError::Len(error).add_slice_offset(0xffff_ffff_ffff_fff1),
+        HeaderSliceError::Len(last)
+    );
+    let content = HeaderSliceError::Content(HeaderError::UnexpectedVersion { version_number: 6 });
+    assert_eq!(rt; content.add_slice_offset(0xffff_ffff_ffff_ffff), content);
+}
+
+// More fragments and an offset, each set or not.
+#[test]
+fn fragments(rt: HostRuntime) -> Result<(), Fail> {
+    for (more_fragments, offset, is_fragment) in [
+        (false, 0, false),
+        (false, 1, true),
+        (true, 0, true),
+        (true, 8191, true),
+    ] {
+        let header = Ipv4Header {
+            more_fragments,
+            fragment_offset: IpFragOffset::try_new(offset)?,
+            ..Ipv4Header::default()
+        };
+        assert_eq!(rt; header.is_fragmenting_payload(), is_fragment);
+        let bytes = header.to_bytes();
+        let slice = Ipv4HeaderSlice::from_slice(bytes.as_slice())?;
+        assert_eq!(rt; slice.is_fragmenting_payload(), is_fragment);
+    }
+    Ok(())
 }
 
 #[test]
@@ -347,5 +393,6 @@ fn laws_are_called(rt: HostRuntime) -> Result<(), Fail> {
         Ordering::Greater
     );
     laws::options_hash_as_bytes(&header.options, &mut FoldHasher::default());
+    assert_eq!(rt; laws::header_lengths(), [20, 60, 20]);
     Ok(())
 }

@@ -1,3 +1,5 @@
+//! IPv6 headers and the walk against values from outside.
+
 ghost use Rattle.std.specs.Prelude.{◌≡◌};
 
 use crate::err::ipv6::{HeaderError, HeaderSliceError};
@@ -114,6 +116,18 @@ fn errors_further_on(rt: HostRuntime) {
     );
     let content = HeaderSliceError::Content(HeaderError::UnexpectedVersion { version_number: 4 });
     assert_eq!(rt; content.add_slice_offset(14), content);
+}
+
+// From byte 5 to the greatest place that a `usize` names.
+#[test]
+fn error_in_the_greatest_place(rt: HostRuntime) {
+    let short = HeaderSliceError::Len(len_error(40, 3, Layer::Ipv6Header, 5));
+    assert_eq!(rt;
+        short.add_slice_offset(0xffff_ffff_ffff_fffa),
+        HeaderSliceError::Len(len_error(40, 3, Layer::Ipv6Header, 0xffff_ffff_ffff_ffff))
+    );
+    let content = HeaderSliceError::Content(HeaderError::UnexpectedVersion { version_number: 4 });
+    assert_eq!(rt; content.add_slice_offset(0xffff_ffff_ffff_ffff), content);
 }
 
 #[test]

@@ -1,3 +1,5 @@
+//! The refusal of options by their length.
+
 use thiserror::Error;
 
 /// The length of the options is no multiple of 4 up to 40.

@@ -1,3 +1,5 @@
+//! Faults in the bytes of an IPv4 header.
+
 use thiserror::Error;
 
 /// What is wrong with the content of an IPv4 header.

@@ -1,3 +1,5 @@
+//! Why a slice begins with no IPv4 header.
+
 ghost use Rattle.std.specs.Prelude.{◌≡◌};
 ghost use Rattle.ep_ip.specs.declared.err.ipv4.header_slice_error.HeaderSliceError.TheVariants as fault;
 ghost use Rattle.ep_ip.specs.Ipv4Fault.{CanMove, moved};

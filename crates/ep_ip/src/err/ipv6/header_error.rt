@@ -1,3 +1,5 @@
+//! Faults in the bytes of an IPv6 header.
+
 use thiserror::Error;
 
 /// What is wrong with the bytes of an IPv6 header.

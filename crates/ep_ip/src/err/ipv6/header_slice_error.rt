@@ -1,3 +1,5 @@
+//! Why a slice begins with no IPv6 header.
+
 ghost use Rattle.std.specs.Prelude.{◌≡◌};
 ghost use Rattle.ep_ip.specs.declared.err.ipv6.header_slice_error.HeaderSliceError.TheVariants as fault;
 ghost use Rattle.ep_ip.specs.Ipv6Fault.{CanMove, moved};

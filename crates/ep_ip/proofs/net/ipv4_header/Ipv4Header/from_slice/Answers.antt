@@ -1,4 +1,4 @@
-use Rattle.std.proofs.Common.{arith}
+use Rattle.std.proofs.Common.{◌++◌, arith, ap, sym, ◌∙◌}
 use Rattle.ep_ip.proofs.Front.{ok_same, front_fits}
 use Rattle.ep_ip.proofs.Ipv4Front.{rest_of}
 use Rattle.ep_ip.proofs.Ipv4Spelling.{spelling-header_of}
@@ -12,7 +12,7 @@ returns-clause-found c =
     record {
       front = c.in_ok-header.header;
       header = found.0;
-      place = rw rest_is found.1.1;
+      place = found.1.1 ∙ ap (λ behind. c.in_ok-header.header ++ behind) (sym rest_is);
       fields = c.to_header.ensures.fields;
       again = rw c.to_header.ensures.fields (spelling-header_of c.in_ok-header.header found.0 fits);
     }

@@ -1,4 +1,4 @@
-use Rattle.std.proofs.Common.{arith, ap, ◌∙◌}
+use Rattle.std.proofs.Common.{◌++◌, arith, ap, sym, ◌∙◌}
 use Rattle.ep_ip.specs.Ipv6.{header_of, spelling}
 use Rattle.ep_ip.proofs.Front.{ok_same, front_fits}
 use Rattle.ep_ip.proofs.Ipv6Front.{rest_of}
@@ -13,7 +13,7 @@ returns-clause-found c =
     record {
       front = c.in_ok-header.header;
       header = found.0;
-      place = rw rest_is found.1.1;
+      place = found.1.1 ∙ ap (λ behind. c.in_ok-header.header ++ behind) (sym rest_is);
       fields = c.to_header.ensures;
       again = ap spelling c.to_header.ensures ∙ spelling-header_of c.in_ok-header.header found.0 fits;
     }

@@ -1,20 +1,10 @@
-use Rattle.ep_ip.proofs.SkipWalk.{ends_same, gives_skip, turns_are, turns_bound}
+use Rattle.ep_ip.proofs.SkipWalk.{ends_same, turns_bound}
 use Rattle.ep_ip.proofs.net.ipv6_header.Ipv6Header.skip_counted.Goals as goal
 
 pub returns-clause-only : goal.returns-clause-only
 returns-clause-only c = λ headers last rest walk.
     let found = c.walk.ensures in
     ends_same c.args.next_header.0 c.args.slice.now found.0 headers found.1 last found.2 rest c.walk.result.0 c.walk.result.1 found.3 walk found.4
-
-pub returns-clause-exact : goal.returns-clause-exact
-returns-clause-exact c =
-    let found = c.walk.ensures in
-    gives_skip c.args.next_header.0 c.args.slice.now found.0 found.1 found.2 c.walk.result.0 found.3 found.4.gives
-
-pub returns-clause-turns : goal.returns-clause-turns
-returns-clause-turns c =
-    let found = c.walk.ensures in
-    turns_are c.args.next_header.0 c.args.slice.now found.0 found.1 found.2 c.walk.result.1 found.3 found.4.counted
 
 pub returns-clause-bound : goal.returns-clause-bound
 returns-clause-bound c =

@@ -1,0 +1,113 @@
+//! The definitions and laws at values from outside: each clause is what a standard or a hand gives, so
+//! that a definition can't change with the code.
+
+ghost use Rattle.std.specs.Prelude.{◌≡◌, [], ◌∷◌, true, false, Ok, Err};
+ghost use Rattle.std.specs.List.{flat_map};
+ghost use Rattle.ep_base.specs.Bounded.{IsBounded};
+ghost use Rattle.ep_base.specs.Bytes.{num, IsBytes};
+ghost use Rattle.ep_base.specs.declared.err.layer.Layer.TheVariants as layer;
+ghost use Rattle.ep_base.specs.declared.err.value_type.ValueType.TheVariants as kind;
+ghost use Rattle.ep_base.specs.declared.len_source.LenSource.TheVariants as source;
+ghost use Rattle.ep_base.specs.declared.net.ip_dscp_known.IpDscpKnown.TheVariants as name;
+ghost use Rattle.ep_base.specs.declared.net.ip_ecn.IpEcn.TheVariants as notification;
+ghost use Rattle.ep_base.specs.IpDscpKnown.{IsKnown};
+ghost use Rattle.ep_base.specs.IpEcn.{IsEcn};
+ghost use Rattle.ep_base.specs.Moved.{CanMove, moved};
+ghost use Rattle.ep_base.specs.Sum.{IsCutAtWords, accumulator_sum, all_ones, checksum, fold, no_zero, total, whole_words};
+
+use super::{fold_of_pieces, one_changed_byte};
+
+/// Numbers are spelled high byte first, and past the end stands 0. Bytes are 0 to 255.
+pub fn numbers_by_place()
+    ensures one { num (1 ∷ 2 ∷ 3 ∷ 4 ∷ []) 3 1 ≡ 4 }
+    ensures two { num (1 ∷ 2 ∷ 3 ∷ 4 ∷ []) 1 2 ≡ 515 }
+    ensures four { num (1 ∷ 2 ∷ 3 ∷ 4 ∷ []) 0 4 ≡ 16909060 }
+    ensures past { num (1 ∷ 2 ∷ []) 1 2 ≡ 512 }
+    ensures bytes { IsBytes (0 ∷ 255 ∷ []) }
+    ensures no_bytes { ¬ (IsBytes (256 ∷ [])) }
+{}
+
+/// A number is taken up to the greatest one, and refused above it with all three fields.
+pub fn bounded_numbers()
+    ensures greatest { IsBounded kind.IpDscp 63 63 (Ok 63) }
+    ensures refused { IsBounded kind.IpDscp 63 64 (Err (record { actual = 64; max_allowed = 63; value_type = kind.IpDscp })) }
+    ensures not_refused { ¬ (IsBounded kind.IpDscp 63 63 (Err (record { actual = 63; max_allowed = 63; value_type = kind.IpDscp }))) }
+    ensures ecn { IsEcn 3 (Ok notification.CongestionExperienced) }
+    ensures ect_0 { IsEcn 2 (Ok notification.Ect0) }
+    ensures ecn_refused { IsEcn 4 (Err (record { actual = 4; max_allowed = 3; value_type = kind.IpEcn })) }
+    ensures known { IsKnown 44 (Ok name.VoiceAdmit) }
+{}
+
+/// A want of bytes further on: from byte 14 as far as to the last place that a `usize` names.
+pub fn places_further_on()
+    ensures moved { moved (record { required_len = 20; len = 19; len_source = source.Slice; layer = layer.Ipv4Header; layer_start_offset = 14 }) 4
+        ≡ record { required_len = 20; len = 19; len_source = source.Slice; layer = layer.Ipv4Header; layer_start_offset = 18 } }
+    ensures greatest { CanMove (record { required_len = 20; len = 19; len_source = source.Slice; layer = layer.Ipv4Header; layer_start_offset = 14 }) 18446744073709551601 }
+    ensures too_great { ¬ (CanMove (record { required_len = 20; len = 19; len_source = source.Slice; layer = layer.Ipv4Header; layer_start_offset = 14 }) 18446744073709551602) }
+{}
+
+/// The eight bytes of RFC 1071, section 3, sum to 2ddf0, and so to ddf2. An odd last byte is the high
+/// one of its word. An IPv4 header without its checksum has the checksum b861.
+#[tactic(auto, unfolding(crate::specs::Sum::total, crate::specs::Sum::fold))]
+pub fn sums_of_words()
+    ensures rfc_1071 { total (0 ∷ 1 ∷ 242 ∷ 3 ∷ 244 ∷ 245 ∷ 246 ∷ 247 ∷ []) ≡ 187888 }
+    ensures rfc_1071_checksum { checksum (0 ∷ 1 ∷ 242 ∷ 3 ∷ 244 ∷ 245 ∷ 246 ∷ 247 ∷ []) ≡ 8717 }
+    ensures odd { total (1 ∷ 2 ∷ 3 ∷ []) ≡ 1026 }
+    ensures header { checksum (69 ∷ 0 ∷ 0 ∷ 115 ∷ 0 ∷ 0 ∷ 64 ∷ 0 ∷ 64 ∷ 17 ∷ 0 ∷ 0 ∷ 192 ∷ 168 ∷ 0 ∷ 1 ∷ 192 ∷ 168 ∷ 0 ∷ 199 ∷ []) ≡ 47201 }
+    ensures none { checksum [] ≡ 65535 }
+    ensures all { checksum (255 ∷ 255 ∷ []) ≡ 0 }
+{}
+
+/// What a ones-complement sum keeps of a total: 0 only of 0, else 1 to 65535.
+#[tactic(auto, unfolding(crate::specs::Sum::fold))]
+pub fn folds()
+    ensures zero { fold 0 ≡ 0 }
+    ensures small { fold 65534 ≡ 65534 }
+    ensures all_ones { fold 65535 ≡ 65535 }
+    ensures around { fold 65536 ≡ 1 }
+    ensures twice { fold 131070 ≡ 65535 }
+    // The bytes 00 01 and f2 03, read low byte first.
+    ensures low_byte_first { accumulator_sum 256 ≡ 1 }
+    ensures word { accumulator_sum 1010 ≡ 61955 }
+{}
+
+/// A text sums to all ones with the right checksum in it, and a text of zeros doesn't.
+#[tactic(auto, unfolding(crate::specs::Sum::total))]
+pub fn texts_of_all_ones()
+    ensures right { all_ones (69 ∷ 0 ∷ 0 ∷ 115 ∷ 0 ∷ 0 ∷ 64 ∷ 0 ∷ 64 ∷ 17 ∷ 184 ∷ 97 ∷ 192 ∷ 168 ∷ 0 ∷ 1 ∷ 192 ∷ 168 ∷ 0 ∷ 199 ∷ []) ≡ true }
+    ensures wrong { all_ones (69 ∷ 0 ∷ 0 ∷ 115 ∷ 0 ∷ 0 ∷ 64 ∷ 0 ∷ 64 ∷ 17 ∷ 184 ∷ 96 ∷ 192 ∷ 168 ∷ 0 ∷ 1 ∷ 192 ∷ 168 ∷ 0 ∷ 199 ∷ []) ≡ false }
+    ensures zeros { all_ones (0 ∷ 0 ∷ []) ≡ false }
+    ensures none { all_ones [] ≡ false }
+{}
+
+/// 0 becomes ffff, and every other checksum stays (RFC 768).
+pub fn checksums_with_no_zero()
+    ensures zero { no_zero 0 ≡ 65535 }
+    ensures one { no_zero 1 ≡ 1 }
+    ensures middle { no_zero 47201 ≡ 47201 }
+    ensures greatest { no_zero 65535 ≡ 65535 }
+{}
+
+/// A zero byte makes an odd piece whole words, and a text may be cut between words alone.
+pub fn pieces_of_words()
+    ensures odd { whole_words (1 ∷ 2 ∷ 3 ∷ []) ≡ 1 ∷ 2 ∷ 3 ∷ 0 ∷ [] }
+    ensures even { whole_words (1 ∷ 2 ∷ []) ≡ 1 ∷ 2 ∷ [] }
+    ensures cut { IsCutAtWords ((1 ∷ 2 ∷ []) ∷ (3 ∷ 4 ∷ 5 ∷ []) ∷ []) }
+    ensures no_cut { ¬ (IsCutAtWords ((1 ∷ []) ∷ (2 ∷ []) ∷ [])) }
+{}
+
+/// [`fold_of_pieces`] where the last piece is odd and comes first.
+pub fn odd_last_piece_comes_first()
+    ensures { fold (total (flat_map whole_words ((3 ∷ 4 ∷ 5 ∷ []) ∷ (1 ∷ 2 ∷ []) ∷ []))) ≡ fold (total (1 ∷ 2 ∷ 3 ∷ 4 ∷ 5 ∷ [])) }
+{
+    fold_of_pieces();
+}
+
+/// [`one_changed_byte`] where 00 becomes ff, and ff 00.
+#[tactic(auto, unfolding(crate::specs::Sum::total))]
+pub fn bytes_changed_to_the_other_end()
+    ensures up { all_ones (69 ∷ 255 ∷ 0 ∷ 115 ∷ 0 ∷ 0 ∷ 64 ∷ 0 ∷ 64 ∷ 17 ∷ 184 ∷ 97 ∷ 192 ∷ 168 ∷ 0 ∷ 1 ∷ 192 ∷ 168 ∷ 0 ∷ 199 ∷ []) ≡ false }
+    ensures down { all_ones (255 ∷ 0 ∷ []) ≡ false }
+{
+    one_changed_byte();
+}
