@@ -3,6 +3,7 @@
 #![tactic(auto)]
 
 pub mod err;
+pub mod laws;
 mod link;
 
 pub use link::{
@@ -11,3 +12,6 @@ pub use link::{
     SingleVlanHeader, SingleVlanHeaderSlice, SingleVlanSlice, VlanHeader, VlanId, VlanPcp,
     VlanSlice,
 };
+
+#[cfg(test)]
+mod tests;

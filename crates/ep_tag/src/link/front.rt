@@ -5,7 +5,7 @@ use ep_base::LenSource;
 use ep_base::err::{Layer, LenError};
 
 // A layer at the front of a slice needs so many bytes, and fewer are there.
-pub(crate) fn too_short(layer: Layer, required_len: usize, len: usize) -> LenError
+pub(super) fn too_short(layer: Layer, required_len: usize, len: usize) -> LenError
     ensures { result ≡ too_short layer required_len len }
 {
     LenError {
