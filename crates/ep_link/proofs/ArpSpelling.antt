@@ -1,9 +1,9 @@
 -- The bytes of an ARP packet against its fields.
-use Rattle.std.proofs.Common.{◌≡◌, ℕ, ◌+◌, ◌*◌, ◌-◌, ◌/◌, ◌%◌, ◌<◌, ◌≤◌, List, [], ◌∷◌, ◌++◌, length, take, drop, get_or, arith, sym, refl, ap, ◌∙◌}
+use Rattle.std.proofs.Common.{◌≡◌, ℕ, ◌+◌, ◌*◌, List, ◌++◌, length, take, drop, get_or, arith, sym, refl, ap, ◌∙◌}
 use Rattle.std.proofs.lemmas.List.{length-append, length-drop, length-take-le, take-append-drop, take_all, take_at, drop_at}
 use Rattle.ep_base.specs.Bytes.{IsBytes}
-use Rattle.ep_base.proofs.Cells.{cells, drop-cells}
-use Rattle.ep_link.specs.Arp.{ArpFields, IsArp, IsArpPacket, Fits, addresses_of, behind_sender, behind_sender_hw, behind_target_hw, fields_of, hw_len_of, packet_len_of, proto_len_of, sender_hw_of, sender_proto_of, spelling, target_hw_of, target_proto_of}
+use Rattle.ep_base.proofs.Cells.{drop-cells}
+use Rattle.ep_link.specs.Arp.{ArpFields, IsArp, IsArpPacket, Fits, addresses_of, behind_sender, behind_sender_hw, behind_target_hw, fields_of, hw_len_of, proto_len_of, sender_hw_of, sender_proto_of, spelling, target_hw_of, target_proto_of}
 use Rattle.ep_tag.proofs.Numbers.{high_of, joined, low_of}
 
 -- how many bytes of the addresses are left behind each

@@ -1,5 +1,5 @@
 -- The header of a Linux cooked capture at the front of bytes.
-use Rattle.std.proofs.Common.{◌≡◌, ℕ, ◌-◌, ◌≤◌, ◌<◌, List, ◌++◌, length, take, drop, get_or, Result, Ok, Err, IfOk, arith, sym, refl, ap, ◌∙◌}
+use Rattle.std.proofs.Common.{◌≡◌, ℕ, ◌≤◌, List, ◌++◌, length, take, drop, get_or, Result, Ok, Err, IfOk, arith, sym, refl, ap, ◌∙◌}
 use Rattle.std.proofs.lemmas.Bool.{le-ltb, ltb-false}
 use Rattle.std.proofs.lemmas.List.{get_or-take, get_or_append_left, length-take-le, length-append, take-append-drop, take_at}
 use Rattle.ep_link.specs.declared.err.linux_sll.header_slice_error.HeaderSliceError.{HeaderSliceError}

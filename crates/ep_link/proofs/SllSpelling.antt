@@ -1,12 +1,11 @@
 -- The bytes of the header of a Linux cooked capture against its fields.
-use Rattle.std.proofs.Common.{◌≡◌, ℕ, ◌+◌, ◌*◌, ◌/◌, ◌%◌, ◌<◌, ◌≤◌, Bool, true, false, cond, List, [], ◌∷◌, ◌++◌, length, take, drop, get_or, arith, sym, refl, ap, ◌∙◌, ltb, leb, eqb, ◌||◌}
+use Rattle.std.proofs.Common.{◌≡◌, ℕ, ◌+◌, ◌*◌, ◌/◌, ◌%◌, Bool, true, false, cond, List, [], ◌∷◌, ◌++◌, length, get_or, arith, sym, refl, ap, ◌∙◌, leb, eqb, ◌||◌}
 use Rattle.std.proofs.lemmas.List.{length-append, take_at}
 use Rattle.ep_base.specs.Bytes.{IsBytes}
-use Rattle.ep_base.proofs.Cells.{cells, take-drop-cells}
+use Rattle.ep_base.proofs.Cells.{take-drop-cells}
 use Rattle.ep_link.specs.Sll.{IsSllHeader, NamesProtocol, Fits, header_of, number_of, protocol_of, spelling}
 use Rattle.ep_link.specs.declared.link.arp_hardware_id.ArpHardwareId.{ArpHardwareId}
 use Rattle.ep_link.specs.declared.link.linux_sll_header.LinuxSllHeader.{LinuxSllHeader}
-use Rattle.ep_link.specs.declared.link.linux_sll_protocol_type.LinuxSllProtocolType.{LinuxSllProtocolType}
 use Rattle.ep_link.specs.declared.link.linux_sll_protocol_type.LinuxSllProtocolType.TheVariants as protocol
 use Rattle.ep_link.proofs.EthernetSpelling.{at_behind}
 use Rattle.ep_tag.proofs.Numbers.{as_cells, high_of, joined, low_of}

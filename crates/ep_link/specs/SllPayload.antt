@@ -1,5 +1,5 @@
 -- What follows the header of a Linux cooked capture.
-use Rattle.std.specs.Prelude.{◌≡◌, ℕ, ◌∷◌, List, drop, Result, Ok, Err}
+use Rattle.std.specs.Prelude.{ℕ, ◌∷◌, List, drop, Result, Ok, Err}
 use Rattle.ep_base.specs.Bytes.{num}
 use Rattle.ep_base.specs.declared.len_source.LenSource.TheVariants.{Slice}
 use Rattle.ep_link.specs.declared.link.linux_sll_protocol_type.LinuxSllProtocolType.{LinuxSllProtocolType}
