@@ -22,8 +22,8 @@ mod reply_buffer;
 mod run_error;
 mod run_lines;
 mod udp_message;
-mod vlan_id;
 
+pub use ep_tag::VlanId;
 pub use in_memory::answers;
 pub use ip_frag_version_spec_id::IpFragVersionSpecId;
 pub use letter::Letter;
@@ -32,7 +32,6 @@ pub use post_error::PostError;
 pub use post_message::post;
 pub use run_error::RunError;
 pub use run_lines::{run, run_over};
-pub use vlan_id::VlanId;
 
 #[cfg(test)]
 mod tests;

@@ -1,0 +1,134 @@
+-- An ARP packet (RFC 826): its bytes, and each field by its place in them.
+use Rattle.std.specs.Prelude.{◌≡◌, ℕ, ◌+◌, ◌*◌, ◌^◌, ◌<◌, ◌≤◌, nat_lt, if◌then◌else◌, List, ◌∷◌, ◌++◌, length, take, drop, Result, Ok, Err}
+use Rattle.std.specs.Int.{w16, to_be_bytes}
+use Rattle.ep_base.specs.Bytes.{num}
+use Rattle.ep_base.specs.declared.err.layer.Layer.TheVariants as layer
+use Rattle.ep_base.specs.declared.err.len_error.LenError.{LenError}
+use Rattle.ep_base.specs.declared.len_source.LenSource.TheVariants.{ArpAddrLengths}
+use Rattle.ep_base.specs.declared.link.ether_type.EtherType.{EtherType}
+use Rattle.ep_link.specs.declared.link.arp_hardware_id.ArpHardwareId.{ArpHardwareId}
+use Rattle.ep_link.specs.declared.link.arp_operation.ArpOperation.{ArpOperation}
+use Rattle.ep_tag.specs.Ether.{ether_type_at}
+use Rattle.ep_tag.specs.Front.{too_short}
+
+-- the fields of an ARP packet
+pub record ArpFields : Type 0 where
+  pub hw_addr_type : ArpHardwareId
+  pub proto_addr_type : EtherType
+  pub operation : ArpOperation
+  pub sender_hw_addr : List ℕ
+  pub sender_protocol_addr : List ℕ
+  pub target_hw_addr : List ℕ
+  pub target_protocol_addr : List ℕ
+
+-- the lengths of a hardware and of a protocol address
+abbrev pub hw_len_of : List ℕ → ℕ
+hw_len_of bytes = num bytes 4 1
+
+abbrev pub proto_len_of : List ℕ → ℕ
+proto_len_of bytes = num bytes 5 1
+
+-- the length of the packet, as its length fields say
+abbrev pub packet_len_of : List ℕ → ℕ
+packet_len_of bytes = 8 + 2 * hw_len_of bytes + 2 * proto_len_of bytes
+
+-- as many bytes as the length fields say
+pub record IsArpPacket (bytes : List ℕ) : Type 0 where
+  pub least : 8 ≤ length bytes
+  pub whole : length bytes ≡ packet_len_of bytes
+
+abbrev pub hw_type_of : List ℕ → ArpHardwareId
+hw_type_of bytes = record { 0 = num bytes 0 2 }
+
+abbrev pub proto_type_of : List ℕ → EtherType
+proto_type_of bytes = ether_type_at bytes 2
+
+abbrev pub operation_of : List ℕ → ArpOperation
+operation_of bytes = record { 0 = num bytes 6 2 }
+
+-- the four addresses, one behind the other
+abbrev pub addresses_of : List ℕ → List ℕ
+addresses_of bytes = drop 8 bytes
+
+abbrev pub behind_sender_hw : List ℕ → List ℕ
+behind_sender_hw bytes = drop (hw_len_of bytes) (addresses_of bytes)
+
+abbrev pub behind_sender : List ℕ → List ℕ
+behind_sender bytes = drop (proto_len_of bytes) (behind_sender_hw bytes)
+
+abbrev pub behind_target_hw : List ℕ → List ℕ
+behind_target_hw bytes = drop (hw_len_of bytes) (behind_sender bytes)
+
+abbrev pub sender_hw_of : List ℕ → List ℕ
+sender_hw_of bytes = take (hw_len_of bytes) (addresses_of bytes)
+
+abbrev pub sender_proto_of : List ℕ → List ℕ
+sender_proto_of bytes = take (proto_len_of bytes) (behind_sender_hw bytes)
+
+abbrev pub target_hw_of : List ℕ → List ℕ
+target_hw_of bytes = take (hw_len_of bytes) (behind_sender bytes)
+
+abbrev pub target_proto_of : List ℕ → List ℕ
+target_proto_of bytes = take (proto_len_of bytes) (behind_target_hw bytes)
+
+-- the fields that a packet's bytes spell
+abbrev pub fields_of : List ℕ → ArpFields
+fields_of bytes = record {
+  hw_addr_type = hw_type_of bytes;
+  proto_addr_type = proto_type_of bytes;
+  operation = operation_of bytes;
+  sender_hw_addr = sender_hw_of bytes;
+  sender_protocol_addr = sender_proto_of bytes;
+  target_hw_addr = target_hw_of bytes;
+  target_protocol_addr = target_proto_of bytes;
+}
+
+-- the part in front of the addresses
+abbrev pub fixed_spelling : ArpFields → List ℕ
+fixed_spelling a =
+    to_be_bytes w16 a.hw_addr_type.0 ++ to_be_bytes w16 a.proto_addr_type.0
+    ++ length a.sender_hw_addr ∷ length a.sender_protocol_addr ∷ to_be_bytes w16 a.operation.0
+
+-- the bytes of a packet
+abbrev pub spelling : ArpFields → List ℕ
+spelling a = fixed_spelling a ++ (a.sender_hw_addr ++ (a.sender_protocol_addr ++ (a.target_hw_addr ++ a.target_protocol_addr)))
+
+-- both addresses of a kind have one length, which fits a byte
+pub record AreAddresses (sender target : List ℕ) : Type 0 where
+  pub same : length sender ≡ length target
+  pub small : length sender ≤ 255
+
+-- the addresses pair up
+pub record IsArp (a : ArpFields) : Type 0 where
+  pub hw : AreAddresses a.sender_hw_addr a.target_hw_addr
+  pub proto : AreAddresses a.sender_protocol_addr a.target_protocol_addr
+
+-- the address lengths want so many bytes, and fewer are there
+abbrev pub addresses_cut : ℕ → ℕ → LenError
+addresses_cut required found = record (too_short layer.Arp required found) { len_source = ArpAddrLengths }
+
+-- the packet at the front of the bytes, or the first want: 8 bytes, the addresses
+abbrev pub packet_at : List ℕ → Result (List ℕ) LenError
+packet_at bytes =
+    if nat_lt (length bytes) 8 then Err (too_short layer.Arp 8 (length bytes)) else (
+    if nat_lt (length bytes) (packet_len_of bytes) then Err (addresses_cut (packet_len_of bytes) (length bytes)) else
+    Ok (take (packet_len_of bytes) bytes))
+
+-- the ranges of the numbers
+pub record Fits (a : ArpFields) : Type 0 where
+  pub hw_addr_type : a.hw_addr_type.0 < 2 ^ 16
+  pub proto_addr_type : a.proto_addr_type.0 < 2 ^ 16
+  pub operation : a.operation.0 < 2 ^ 16
+
+-- the length of a packet with these fields
+abbrev pub packet_len_in : ArpFields → ℕ
+packet_len_in a = 8 + 2 * length a.sender_hw_addr + 2 * length a.sender_protocol_addr
+
+-- at the front of the bytes stands a packet with these fields, which spell it again
+pub record IsRead (bytes : List ℕ) (a : ArpFields) : Type 0 where
+  pub front : List ℕ
+  pub rest : List ℕ
+  pub packet : IsArpPacket front
+  pub place : bytes ≡ front ++ rest
+  pub fields : a ≡ fields_of front
+  pub again : spelling a ≡ front

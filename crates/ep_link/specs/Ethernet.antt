@@ -1,0 +1,55 @@
+-- The Ethernet II header (RFC 894; IEEE 802.3, clause 3): its bytes, and each field by its place in
+-- them.
+use Rattle.std.specs.Prelude.{◌≡◌, ℕ, ◌^◌, ◌<◌, List, ◌++◌, length, drop, replicate, slice_range}
+use Rattle.std.specs.Int.{w16, to_be_bytes}
+use Rattle.ep_base.specs.declared.len_source.LenSource.TheVariants.{Slice}
+use Rattle.ep_base.specs.declared.link.ether_type.EtherType.{EtherType}
+use Rattle.ep_tag.specs.Ether.{EtherPayload, ether_type_at}
+use Rattle.ep_link.specs.declared.link.ethernet2_header.Ethernet2Header.{Ethernet2Header}
+
+abbrev pub ethernet_len : ℕ
+ethernet_len = 14
+
+abbrev pub destination_of : List ℕ → List ℕ
+destination_of frame = slice_range frame 0 6
+
+abbrev pub source_of : List ℕ → List ℕ
+source_of frame = slice_range frame 6 12
+
+-- the ether type of what follows the header
+abbrev pub next_type_of : List ℕ → EtherType
+next_type_of frame = ether_type_at frame 12
+
+-- the fields that the first 14 bytes spell
+abbrev pub header_of : List ℕ → Ethernet2Header
+header_of frame = record {
+  source = source_of frame;
+  destination = destination_of frame;
+  ether_type = next_type_of frame;
+}
+
+-- 0 in every field
+abbrev pub default_header : Ethernet2Header
+default_header = record { source = replicate 6 0; destination = replicate 6 0; ether_type = record { 0 = 0 } }
+
+-- the bytes of a header
+abbrev pub spelling : Ethernet2Header → List ℕ
+spelling h = h.destination ++ h.source ++ to_be_bytes w16 h.ether_type.0
+
+-- what follows the header, under its ether type
+abbrev pub payload_of : List ℕ → EtherPayload
+payload_of frame = record { ether_type = next_type_of frame; len_source = Slice; payload = drop ethernet_len frame }
+
+-- in front of the rest stands a header with these fields, which spell it again
+pub record IsRead (bytes : List ℕ) (h : Ethernet2Header) (rest : List ℕ) : Type 0 where
+  pub front : List ℕ
+  pub whole : length front ≡ ethernet_len
+  pub place : bytes ≡ front ++ rest
+  pub fields : h ≡ header_of front
+  pub again : spelling h ≡ front
+
+-- the ranges of the fields
+pub record Fits (h : Ethernet2Header) : Type 0 where
+  pub source : length h.source ≡ 6
+  pub destination : length h.destination ≡ 6
+  pub ether_type : h.ether_type.0 < 2 ^ 16

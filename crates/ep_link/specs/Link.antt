@@ -1,0 +1,35 @@
+-- A link header: Ethernet II, or that of a Linux cooked capture.
+use Rattle.std.specs.Prelude.{ℕ, List, Option, Some, None}
+use Rattle.ep_link.specs.declared.link.ethernet2_header.Ethernet2Header.{Ethernet2Header}
+use Rattle.ep_link.specs.declared.link.link_header.LinkHeader.{LinkHeader}
+use Rattle.ep_link.specs.declared.link.link_header.LinkHeader.TheVariants as header
+use Rattle.ep_link.specs.declared.link.link_slice.LinkSlice.{LinkSlice}
+use Rattle.ep_link.specs.declared.link.link_slice.LinkSlice.TheVariants as slice
+use Rattle.ep_link.specs.declared.link.linux_sll_header.LinuxSllHeader.{LinuxSllHeader}
+use Rattle.ep_link.specs.Ethernet as ethernet
+use Rattle.ep_link.specs.Sll as sll
+
+abbrev pub ethernet2_in : LinkHeader → Option Ethernet2Header
+ethernet2_in (header.Ethernet2 h) = Some h
+ethernet2_in (header.LinuxSll h) = None
+
+abbrev pub linux_sll_in : LinkHeader → Option LinuxSllHeader
+linux_sll_in (header.Ethernet2 h) = None
+linux_sll_in (header.LinuxSll h) = Some h
+
+-- the bytes of a link header
+abbrev pub link_spelling : LinkHeader → List ℕ
+link_spelling (header.Ethernet2 h) = ethernet.spelling h
+link_spelling (header.LinuxSll h) = sll.spelling h
+
+-- the length of a link header
+abbrev pub link_len : LinkHeader → ℕ
+link_len (header.Ethernet2 h) = ethernet.ethernet_len
+link_len (header.LinuxSll h) = sll.sll_len
+
+-- the fields of a link header, where there is one
+abbrev pub fields_of : LinkSlice → Option LinkHeader
+fields_of (slice.Ethernet2 frame) = Some (header.Ethernet2 (ethernet.header_of frame))
+fields_of (slice.LinuxSll bytes) = Some (header.LinuxSll (sll.header_of bytes))
+fields_of (slice.EtherPayload p) = None
+fields_of (slice.LinuxSllPayload p) = None

@@ -1,0 +1,39 @@
+-- What follows the header of a Linux cooked capture.
+use Rattle.std.specs.Prelude.{ℕ, ◌∷◌, List, drop, Result, Ok, Err}
+use Rattle.ep_base.specs.Bytes.{num}
+use Rattle.ep_base.specs.declared.len_source.LenSource.TheVariants.{Slice}
+use Rattle.ep_link.specs.declared.link.linux_sll_protocol_type.LinuxSllProtocolType.{LinuxSllProtocolType}
+use Rattle.ep_link.specs.declared.link.linux_sll_protocol_type.LinuxSllProtocolType.TheVariants as protocol
+use Rattle.ep_link.specs.Sll.{hardware_type_of, number_of, protocol_of, sll_len}
+use Rattle.ep_tag.specs.Ether.{EtherPayload}
+
+-- the protocol, and the bytes behind the header
+pub record SllPayload : Type 0 where
+  pub protocol_type : LinuxSllProtocolType
+  pub payload : List ℕ
+
+abbrev pub payload_of : List ℕ → SllPayload
+payload_of bytes = record { protocol_type = protocol_of (hardware_type_of bytes) (num bytes 14 2); payload = drop sll_len bytes }
+
+-- the place of a kind of protocol among the variants
+abbrev pub kind_place : LinuxSllProtocolType → ℕ
+kind_place (protocol.Ignored n) = 0
+kind_place (protocol.NetlinkProtocolType n) = 1
+kind_place (protocol.GenericRoutingEncapsulationProtocolType n) = 2
+kind_place (protocol.EtherType t) = 3
+kind_place (protocol.LinuxNonstandardEtherType n) = 4
+
+-- all of a payload in one list, which tells payloads apart
+abbrev pub compared_as : SllPayload → List ℕ
+compared_as p = kind_place p.protocol_type ∷ number_of p.protocol_type ∷ p.payload
+
+abbrev pub ether_payload_of : LinuxSllProtocolType → List ℕ → Result EtherPayload (Unit {0})
+ether_payload_of (protocol.Ignored n) bytes = Err tt
+ether_payload_of (protocol.NetlinkProtocolType n) bytes = Err tt
+ether_payload_of (protocol.GenericRoutingEncapsulationProtocolType n) bytes = Err tt
+ether_payload_of (protocol.EtherType t) bytes = Ok (record { ether_type = t; len_source = Slice; payload = bytes })
+ether_payload_of (protocol.LinuxNonstandardEtherType n) bytes = Err tt
+
+-- the same bytes behind an ether type, where the protocol is one
+abbrev pub as_ether_payload : SllPayload → Result EtherPayload (Unit {0})
+as_ether_payload p = ether_payload_of p.protocol_type p.payload

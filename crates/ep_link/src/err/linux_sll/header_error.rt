@@ -1,0 +1,14 @@
+use crate::ArpHardwareId;
+use thiserror::Error;
+
+/// What is wrong with the bytes of the header of a Linux cooked capture.
+#[derive(Clone, Copy, Debug, PartialEq, Eq, Hash, Error)]
+pub enum HeaderError {
+    /// The packet type, the first two bytes, is above 4.
+    #[error("Linux cooked capture header error: unsupported packet type {packet_type}")]
+    UnsupportedPacketTypeField { packet_type: u16 },
+    /// The protocol number has no meaning under the hardware type. Never given: each hardware type
+    /// gives the number a meaning.
+    #[error("Linux cooked capture header error: unsupported hardware type {arp_hardware_type}")]
+    UnsupportedArpHardwareId { arp_hardware_type: ArpHardwareId },
+}

@@ -1,0 +1,15 @@
+//! Link headers: Ethernet II (RFC 894) and those of Linux cooked captures, and ARP packets (RFC 826).
+#![tactic(auto)]
+
+pub mod err;
+pub mod laws;
+mod link;
+
+pub use link::{
+    ArpHardwareId, ArpOperation, ArpPacket, ArpPacketSlice, Ethernet2Header, Ethernet2HeaderSlice,
+    Ethernet2Slice, LinkHeader, LinkSlice, LinuxSllHeader, LinuxSllHeaderSlice, LinuxSllPacketType,
+    LinuxSllPayloadSlice, LinuxSllProtocolType, LinuxSllSlice,
+};
+
+#[cfg(test)]
+mod tests;

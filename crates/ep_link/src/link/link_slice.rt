@@ -1,0 +1,32 @@
+ghost use Rattle.std.specs.Prelude.{◌≡◌};
+ghost use Rattle.ep_link.specs.Link.{fields_of};
+
+use super::{Ethernet2Slice, LinkHeader, LinuxSllPayloadSlice, LinuxSllSlice};
+use ep_tag::EtherPayloadSlice;
+
+/// A link header with what follows it, or what stands in its place where there is none, borrowed.
+#[derive(Clone, Debug, PartialEq, Eq, Drop)]
+pub enum LinkSlice<'a> {
+    /// An Ethernet II frame.
+    Ethernet2(Ethernet2Slice<'a>),
+    /// A packet of a Linux cooked capture.
+    LinuxSll(LinuxSllSlice<'a>),
+    /// No link header: the bytes behind an ether type.
+    EtherPayload(EtherPayloadSlice<'a>),
+    /// No link header: the bytes behind the header of a Linux cooked capture.
+    LinuxSllPayload(LinuxSllPayloadSlice<'a>),
+}
+
+impl<'a> LinkSlice<'a> {
+    /// The fields of the link header, where there is one.
+    pub fn to_header(&self) -> Option<LinkHeader>
+        ensures { result ≡ fields_of self.now }
+    {
+        match self {
+            LinkSlice::Ethernet2(frame) => Some(LinkHeader::Ethernet2(frame.to_header())),
+            LinkSlice::LinuxSll(packet) => Some(LinkHeader::LinuxSll(packet.to_header())),
+            LinkSlice::EtherPayload(_) => None,
+            LinkSlice::LinuxSllPayload(_) => None,
+        }
+    }
+}

@@ -1,0 +1,128 @@
+//! Ethernet II headers (RFC 894).
+use crate::laws::ethernet::*;
+use crate::laws::traits::*;
+use crate::{Ethernet2Header, Ethernet2HeaderSlice, Ethernet2Slice};
+use ep_base::err::{Layer, LenError, SliceWriteSpaceError};
+use ep_base::{EtherType, LenSource};
+use std::test::Fail;
+
+// Destination 1 to 6, source 7 to 12, IPv4; and what stands behind it.
+const BYTES: [u8; 16] = [1, 2, 3, 4, 5, 6, 7, 8, 9, 10, 11, 12, 8, 0, 21, 22];
+
+fn header() -> Ethernet2Header {
+    Ethernet2Header {
+        source: [7, 8, 9, 10, 11, 12],
+        destination: [1, 2, 3, 4, 5, 6],
+        ether_type: EtherType::IPV4,
+    }
+}
+
+#[test]
+fn a_header_both_ways(rt: HostRuntime) {
+    let bytes = BYTES;
+    let Ok((read, rest)) = Ethernet2Header::from_slice(&bytes) else {
+        panic!(rt; "no header");
+    };
+    assert_eq!(rt; read, header());
+    assert_eq!(rt; rest, [21, 22].as_slice());
+    let front = [1, 2, 3, 4, 5, 6, 7, 8, 9, 10, 11, 12, 8, 0];
+    assert_eq!(rt; Ethernet2Header::from_bytes(front), header());
+    assert_eq!(rt; header().to_bytes(), front);
+    assert_eq!(rt; header().header_len(), 14);
+    assert_eq!(rt; Ethernet2Header::default().to_bytes(), [0; 14]);
+}
+
+#[test]
+fn fields_of_a_header_slice(rt: HostRuntime) -> Result<(), Fail> {
+    let bytes = BYTES;
+    let slice = Ethernet2HeaderSlice::from_slice(&bytes)?;
+    assert_eq!(rt; slice.slice(), &BYTES[..14]);
+    assert_eq!(rt; slice.destination(), [1, 2, 3, 4, 5, 6]);
+    assert_eq!(rt; slice.source(), [7, 8, 9, 10, 11, 12]);
+    assert_eq!(rt; slice.ether_type(), EtherType::IPV4);
+    assert_eq!(rt; slice.to_header(), header());
+    Ok(())
+}
+
+#[test]
+fn fields_of_a_frame(rt: HostRuntime) -> Result<(), Fail> {
+    let bytes = BYTES;
+    let frame = Ethernet2Slice::from_slice_without_fcs(&bytes)?;
+    assert_eq!(rt; frame.slice(), bytes.as_slice());
+    assert_eq!(rt; frame.header_slice(), &BYTES[..14]);
+    assert_eq!(rt; frame.header_len(), 14);
+    assert_eq!(rt; frame.destination(), [1, 2, 3, 4, 5, 6]);
+    assert_eq!(rt; frame.source(), [7, 8, 9, 10, 11, 12]);
+    assert_eq!(rt; frame.payload().ether_type, EtherType::IPV4);
+    assert_eq!(rt; frame.payload().len_source, LenSource::Slice);
+    assert_eq!(rt; frame.payload_slice(), [21, 22].as_slice());
+    assert_eq!(rt; frame.to_header(), header());
+    Ok(())
+}
+
+#[test]
+fn every_front_of_a_header(rt: HostRuntime) {
+    let bytes = BYTES;
+    for len in 0..14 {
+        let error = LenError {
+            required_len: 14,
+            len,
+            len_source: LenSource::Slice,
+            layer: Layer::Ethernet2Header,
+            layer_start_offset: 0,
+        };
+        assert_eq!(rt; Ethernet2Header::from_slice(&bytes[..len]), Err(error));
+        assert_eq!(rt;
+            Ethernet2HeaderSlice::from_slice(&bytes[..len]).err(),
+            Some(error)
+        );
+        assert_eq!(rt;
+            Ethernet2Slice::from_slice_without_fcs(&bytes[..len]).err(),
+            Some(error)
+        );
+    }
+    assert!(rt; Ethernet2Slice::from_slice_without_fcs(&bytes[..14]).is_ok());
+}
+
+#[test]
+fn a_header_written_over_a_slice(rt: HostRuntime) {
+    let mut bytes = [9; 16];
+    assert_eq!(rt; header().write_to_slice(&mut bytes), Ok(()));
+    assert_eq!(rt; &bytes[..14], &BYTES[..14]);
+    assert_eq!(rt; &bytes[14..], [9, 9].as_slice());
+    let mut few = [9; 13];
+    assert_eq!(rt;
+        header().write_to_slice(&mut few),
+        Err(SliceWriteSpaceError {
+            required_len: 14,
+            len: 13,
+            layer: Layer::Ethernet2Header,
+            layer_start_offset: 0,
+        })
+    );
+    assert_eq!(rt; few, [9; 13]);
+}
+
+#[test]
+fn a_header_behind_a_byte_that_is_there(rt: HostRuntime) -> Result<(), Fail> {
+    let mut buffer = Vec::new(rt.alloc());
+    buffer.push(9)?;
+    header().write(&mut buffer)?;
+    assert_eq!(rt; buffer.len(), 15);
+    assert_eq!(rt; buffer[0], 9);
+    assert_eq!(rt; &buffer[1..], &BYTES[..14]);
+    Ok(())
+}
+
+#[test]
+fn laws(rt: HostRuntime) {
+    let bytes = BYTES;
+    assert_eq!(rt; header_lengths(), [14]);
+    headers_are_their_bytes(&header());
+    assert!(rt; header_is_read_again(&header(), &bytes).is_ok());
+    fields_by_hand();
+    copies_are_values();
+    copies_never_fail();
+    equals_are_same();
+    orders_are_of_numbers();
+}

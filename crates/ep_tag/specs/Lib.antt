@@ -1,0 +1,12 @@
+pub mod Ether
+pub mod EtherHash
+pub mod EtherOrder
+pub mod Front
+pub mod LinkExt
+pub mod Macsec
+pub mod MacsecFault
+pub mod MacsecOrder
+pub mod MacsecPayload
+pub mod MacsecView
+pub mod Vlan
+pub mod VlanForms

@@ -1,0 +1,36 @@
+-- A tag: a VLAN tag or a MACsec header, and what stands behind it.
+use Rattle.std.specs.Prelude.{ℕ, List, length, Option, Some}
+use Rattle.ep_base.specs.declared.link.ether_type.EtherType.{EtherType}
+use Rattle.ep_tag.specs.declared.link.link_ext_header.LinkExtHeader.{LinkExtHeader}
+use Rattle.ep_tag.specs.declared.link.link_ext_header.LinkExtHeader.TheVariants as header
+use Rattle.ep_tag.specs.declared.link.link_ext_slice.LinkExtSlice.{LinkExtSlice}
+use Rattle.ep_tag.specs.declared.link.link_ext_slice.LinkExtSlice.TheVariants as tag
+use Rattle.ep_tag.specs.Ether.{EtherPayload}
+use Rattle.ep_tag.specs.Macsec as macsec
+use Rattle.ep_tag.specs.MacsecPayload.{named_payload}
+use Rattle.ep_tag.specs.Vlan as vlan
+
+-- the bytes of the tag itself
+abbrev pub tag_len : LinkExtSlice → ℕ
+tag_len (tag.Vlan bytes) = vlan.vlan_len
+tag_len (tag.Macsec m) = length m.header
+
+-- the fields of the tag
+abbrev pub fields_of : LinkExtSlice → LinkExtHeader
+fields_of (tag.Vlan bytes) = header.Vlan (vlan.header_of bytes)
+fields_of (tag.Macsec m) = header.Macsec (macsec.header_of m.header)
+
+-- what the tag's own ether type names, where it has one
+abbrev pub payload_behind : LinkExtSlice → Option EtherPayload
+payload_behind (tag.Vlan bytes) = Some (vlan.payload_of bytes)
+payload_behind (tag.Macsec m) = named_payload m.payload
+
+-- the bytes of a tag with these fields
+abbrev pub tag_spelling : LinkExtHeader → List ℕ
+tag_spelling (header.Vlan h) = vlan.spelling h
+tag_spelling (header.Macsec h) = macsec.spelling h
+
+-- the ether type of what stands behind a tag with these fields, where it has one
+abbrev pub next_type_in : LinkExtHeader → Option EtherType
+next_type_in (header.Vlan h) = Some h.ether_type
+next_type_in (header.Macsec h) = macsec.next_type_in h.ptype

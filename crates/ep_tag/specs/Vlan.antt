@@ -1,0 +1,70 @@
+-- The VLAN tag behind the ether type that names it (IEEE 802.1Q, section 9.6): its bytes, and each
+-- field by its place in them.
+use Rattle.std.specs.Prelude.{◌≡◌, ℕ, ◌+◌, ◌*◌, ◌/◌, ◌%◌, ◌^◌, ◌<◌, ◌≤◌, ◌==◌, Bool, false, if◌then◌else◌, List, ◌++◌, length, drop}
+use Rattle.std.specs.Int.{w16, bit_at, to_be_bytes}
+use Rattle.ep_base.specs.Bytes.{num}
+use Rattle.ep_base.specs.declared.len_source.LenSource.TheVariants.{Slice}
+use Rattle.ep_base.specs.declared.link.ether_type.EtherType.{EtherType}
+use Rattle.ep_tag.specs.Ether.{EtherPayload, ether_type_at}
+use Rattle.ep_tag.specs.declared.link.single_vlan_header.SingleVlanHeader.{SingleVlanHeader}
+use Rattle.ep_tag.specs.declared.link.double_vlan_header.DoubleVlanHeader.{DoubleVlanHeader}
+
+abbrev pub vlan_len : ℕ
+vlan_len = 4
+
+-- the priority code point, the upper 3 bits of the first byte
+abbrev pub pcp_of : List ℕ → ℕ
+pcp_of tag = num tag 0 1 / 2 ^ 5
+
+-- whether the frame may be dropped first, the bit behind the priority
+abbrev pub drop_eligible_of : List ℕ → Bool
+drop_eligible_of tag = bit_at (num tag 0 1) 4 == 1
+
+-- the identifier, the lower 12 bits of the first two bytes
+abbrev pub vlan_id_of : List ℕ → ℕ
+vlan_id_of tag = num tag 0 2 % 2 ^ 12
+
+-- the ether type of what follows the tag
+abbrev pub next_type_of : List ℕ → EtherType
+next_type_of tag = ether_type_at tag 2
+
+-- the fields that the first four bytes spell
+abbrev pub header_of : List ℕ → SingleVlanHeader
+header_of tag = record {
+  pcp = pcp_of tag;
+  drop_eligible_indicator = drop_eligible_of tag;
+  vlan_id = vlan_id_of tag;
+  ether_type = next_type_of tag;
+}
+
+-- 0 in every field
+abbrev pub default_header : SingleVlanHeader
+default_header = record { pcp = 0; drop_eligible_indicator = false; vlan_id = 0; ether_type = record { 0 = 0 } }
+
+-- the bytes of a header
+abbrev pub spelling : SingleVlanHeader → List ℕ
+spelling h =
+    to_be_bytes w16 (h.pcp * 2 ^ 13 + (if h.drop_eligible_indicator then 2 ^ 12 else 0) + h.vlan_id)
+    ++ to_be_bytes w16 h.ether_type.0
+
+-- what stands behind a tag, under the tag's ether type
+abbrev pub payload_of : List ℕ → EtherPayload
+payload_of tag = record { ether_type = next_type_of tag; len_source = Slice; payload = drop vlan_len tag }
+
+-- in front of the rest stands a tag with these fields, which spell it again
+pub record IsRead (bytes : List ℕ) (h : SingleVlanHeader) (rest : List ℕ) : Type 0 where
+  pub front : List ℕ
+  pub whole : length front ≡ vlan_len
+  pub place : bytes ≡ front ++ rest
+  pub fields : h ≡ header_of front
+  pub again : spelling h ≡ front
+
+-- two tags, the outer one first
+abbrev pub double_spelling : DoubleVlanHeader → List ℕ
+double_spelling h = spelling h.outer ++ spelling h.inner
+
+-- the ranges of the fields
+pub record Fits (h : SingleVlanHeader) : Type 0 where
+  pub pcp : h.pcp ≤ 7
+  pub vlan_id : h.vlan_id ≤ 4095
+  pub ether_type : h.ether_type.0 < 2 ^ 16

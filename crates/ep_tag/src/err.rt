@@ -1,0 +1,3 @@
+//! Why bytes are no tag.
+
+pub mod macsec;

@@ -1,0 +1,81 @@
+//! Laws of MACsec headers (IEEE 802.1AE, clause 9).
+ghost use Rattle.std.specs.Prelude.{◌≡◌, ℕ, List, [], ◌∷◌, ◌++◌, true, false, Ok, Err, Some, None, IsOkAnd};
+ghost use Rattle.ep_base.specs.Bytes.{IsBytes};
+ghost use Rattle.ep_base.specs.declared.err.layer.Layer.TheVariants as layer;
+ghost use Rattle.ep_base.specs.declared.len_source.LenSource.TheVariants as source;
+ghost use Rattle.ep_tag.specs.declared.err.macsec.header_error.HeaderError.TheVariants.{UnexpectedVersion, InvalidUnmodifiedShortLen};
+ghost use Rattle.ep_tag.specs.declared.err.macsec.header_slice_error.HeaderSliceError.TheVariants.{Len, Content};
+ghost use Rattle.ep_tag.specs.declared.link.macsec_p_type.MacsecPType.TheVariants as ptype;
+ghost use Rattle.ep_tag.specs.Front.{too_short};
+ghost use Rattle.ep_tag.specs.Macsec.{IsMacsecHeader, HasRoom, header_of, spelling, with_unused_bits_zero};
+ghost use Rattle.ep_tag.specs.MacsecPayload.{macsec_at, Unmodified, Modified};
+
+use crate::MacsecHeader;
+use crate::err::macsec::HeaderSliceError;
+
+/// The least and the greatest length of a header in bytes.
+pub fn header_lengths() -> [usize; 2]
+    ensures { result ≡ 6 ∷ 16 ∷ [] }
+{
+    [MacsecHeader::MIN_LEN, MacsecHeader::MAX_LEN]
+}
+
+/// A header's bytes spell its fields, and are a header where the short length has room for the ether
+/// type; the bytes of a header spell fields that spell it again, but for the two unused bits.
+pub fn headers_are_their_bytes(header: &MacsecHeader)
+    ensures header { HasRoom header.now → IsMacsecHeader (spelling header.now) }
+    ensures fields { header_of (spelling header.now) ≡ header.now }
+    ensures again { (bytes : List ℕ) → IsMacsecHeader bytes → IsBytes bytes
+        → spelling (header_of bytes) ≡ with_unused_bits_zero bytes }
+{
+    let _bytes = header.to_bytes();
+}
+
+/// What `to_bytes` gives is read again, whatever follows it, where the short length has room for the
+/// ether type.
+pub fn header_is_read_again<'a>(
+    header: &MacsecHeader,
+    slice: &'a [u8],
+) -> Result<(MacsecHeader, &'a [u8]), HeaderSliceError>
+    ensures { (rest : List ℕ) → HasRoom header.now → slice.now ≡ spelling header.now ++ rest
+        → IsOkAnd result (λ r. (r.0 ≡ header.now) × (r.1.now ≡ rest)) }
+{
+    let _bytes = header.to_bytes();
+    MacsecHeader::from_slice(slice)
+}
+
+/// All flags but the version set, association 2, short length 3 with both unused bits set, packet
+/// number 01020304 and a secure channel identifier.
+pub fn fields_by_hand()
+    ensures { header_of (0x7e ∷ 0xc3 ∷ 1 ∷ 2 ∷ 3 ∷ 4 ∷ 0xa ∷ 0xb ∷ 0xc ∷ 0xd ∷ 0xe ∷ 0xf ∷ 0x10 ∷ 0x11 ∷ [])
+        ≡ record {
+          ptype = ptype.Encrypted;
+          endstation_id = true;
+          scb = true;
+          an = 2;
+          short_len = 3;
+          packet_nr = 0x01020304;
+          sci = Some 0x0a0b0c0d0e0f1011;
+        } }
+{}
+
+/// What a header makes of the bytes behind it: an ether type and the payload that the short length
+/// leaves behind it, all bytes where the short length is 0, changed bytes; and each refusal.
+pub fn payloads_by_hand()
+    ensures cut { macsec_at (0 ∷ 4 ∷ 0 ∷ 0 ∷ 0 ∷ 1 ∷ 0x81 ∷ 0 ∷ 7 ∷ 8 ∷ 9 ∷ []) ≡ Ok (record {
+      header = 0 ∷ 4 ∷ 0 ∷ 0 ∷ 0 ∷ 1 ∷ 0x81 ∷ 0 ∷ [];
+      payload = Unmodified (record { ether_type = record { 0 = 0x8100 }; len_source = source.MacsecShortLength; payload = 7 ∷ 8 ∷ [] });
+    }) }
+    ensures uncut { macsec_at (0 ∷ 0 ∷ 0 ∷ 0 ∷ 0 ∷ 1 ∷ 8 ∷ 6 ∷ 7 ∷ 8 ∷ []) ≡ Ok (record {
+      header = 0 ∷ 0 ∷ 0 ∷ 0 ∷ 0 ∷ 1 ∷ 8 ∷ 6 ∷ [];
+      payload = Unmodified (record { ether_type = record { 0 = 0x0806 }; len_source = source.Slice; payload = 7 ∷ 8 ∷ [] });
+    }) }
+    ensures changed { macsec_at (4 ∷ 1 ∷ 0 ∷ 0 ∷ 0 ∷ 1 ∷ 7 ∷ 8 ∷ []) ≡ Ok (record {
+      header = 4 ∷ 1 ∷ 0 ∷ 0 ∷ 0 ∷ 1 ∷ [];
+      payload = Modified (7 ∷ []);
+    }) }
+    ensures version { macsec_at (0x80 ∷ 1 ∷ 0 ∷ 0 ∷ 0 ∷ 1 ∷ []) ≡ Err (Content UnexpectedVersion) }
+    ensures no_room { macsec_at (0 ∷ 1 ∷ 0 ∷ 0 ∷ 0 ∷ 1 ∷ []) ≡ Err (Content InvalidUnmodifiedShortLen) }
+    ensures header { macsec_at (0x20 ∷ 0 ∷ 0 ∷ 0 ∷ 0 ∷ 1 ∷ 7 ∷ []) ≡ Err (Len (too_short layer.MacsecHeader 16 7)) }
+    ensures payload { macsec_at (0xc ∷ 3 ∷ 0 ∷ 0 ∷ 0 ∷ 1 ∷ 7 ∷ 8 ∷ []) ≡ Err (Len (too_short layer.MacsecPacket 9 8)) }
+{}

@@ -1,0 +1,17 @@
+//! The tags between a link header and the packet: VLAN tags (IEEE 802.1Q) and MACsec headers
+//! (IEEE 802.1AE), and what their ether types name.
+#![tactic(auto)]
+
+pub mod err;
+pub mod laws;
+mod link;
+
+pub use link::{
+    DoubleVlanHeader, DoubleVlanSlice, EtherPayloadSlice, LinkExtHeader, LinkExtSlice, MacsecAn,
+    MacsecHeader, MacsecHeaderSlice, MacsecPType, MacsecPayloadSlice, MacsecShortLen, MacsecSlice,
+    SingleVlanHeader, SingleVlanHeaderSlice, SingleVlanSlice, VlanHeader, VlanId, VlanPcp,
+    VlanSlice,
+};
+
+#[cfg(test)]
+mod tests;

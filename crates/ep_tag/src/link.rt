@@ -1,0 +1,42 @@
+//! Tags, and what stands behind them.
+
+mod double_vlan_header;
+mod double_vlan_slice;
+mod ether_payload_slice;
+mod front;
+mod link_ext_header;
+mod link_ext_slice;
+mod macsec_an;
+mod macsec_header;
+mod macsec_header_slice;
+mod macsec_p_type;
+mod macsec_payload_slice;
+mod macsec_short_len;
+mod macsec_slice;
+mod single_vlan_header;
+mod single_vlan_header_slice;
+mod single_vlan_slice;
+mod vlan_header;
+mod vlan_id;
+mod vlan_pcp;
+mod vlan_slice;
+
+pub use double_vlan_header::DoubleVlanHeader;
+pub use double_vlan_slice::DoubleVlanSlice;
+pub use ether_payload_slice::EtherPayloadSlice;
+pub use link_ext_header::LinkExtHeader;
+pub use link_ext_slice::LinkExtSlice;
+pub use macsec_an::MacsecAn;
+pub use macsec_header::MacsecHeader;
+pub use macsec_header_slice::MacsecHeaderSlice;
+pub use macsec_p_type::MacsecPType;
+pub use macsec_payload_slice::MacsecPayloadSlice;
+pub use macsec_short_len::MacsecShortLen;
+pub use macsec_slice::MacsecSlice;
+pub use single_vlan_header::SingleVlanHeader;
+pub use single_vlan_header_slice::SingleVlanHeaderSlice;
+pub use single_vlan_slice::SingleVlanSlice;
+pub use vlan_header::VlanHeader;
+pub use vlan_id::VlanId;
+pub use vlan_pcp::VlanPcp;
+pub use vlan_slice::VlanSlice;

@@ -1,0 +1,49 @@
+ghost use Rattle.std.specs.Prelude.{◌≡◌, ◌+◌, ◌≤◌, ◌++◌, OnOk, OnErr, IsOk, vec_len, vec_capacity};
+ghost use Rattle.ep_tag.specs.Vlan.{double_spelling};
+
+use super::SingleVlanHeader;
+use std::alloc::AllocError;
+
+/// Two VLAN tags, one behind the other (IEEE 802.1Q, section 9.6; the outer one is the provider's).
+#[derive(Clone, Debug, PartialEq, Eq, Drop)]
+pub struct DoubleVlanHeader {
+    /// The tag that stands first.
+    pub outer: SingleVlanHeader,
+    /// The tag behind it.
+    pub inner: SingleVlanHeader,
+}
+
+impl DoubleVlanHeader {
+    /// The length of two VLAN tags in bytes.
+    pub const LEN: usize = 8;
+
+    /// The length of two VLAN tags in bytes.
+    pub fn header_len(&self) -> usize
+        ensures { result ≡ 8 }
+    {
+        DoubleVlanHeader::LEN
+    }
+
+    /// The bytes of both tags, the outer one first.
+    pub fn to_bytes(&self) -> [u8; 8]
+        ensures { result ≡ double_spelling self.now }
+    {
+        let outer = self.outer.to_bytes();
+        let inner = self.inner.to_bytes();
+        [
+            outer[0], outer[1], outer[2], outer[3], inner[0], inner[1], inner[2], inner[3],
+        ]
+    }
+
+    /// Appends the bytes of both tags, the outer one first.
+    pub fn write(&self, buffer: &mut Vec<u8>) -> Result<(), AllocError>
+        ensures ok { OnOk result (buffer.new.items ≡ buffer.old.items ++ double_spelling self.now) }
+        ensures len { OnOk result (vec_len buffer.new ≡ vec_len buffer.old + 8) }
+        ensures err { OnErr result (buffer.new.items ≡ buffer.old.items) }
+        // It fails only where room was missing, and room never shrinks.
+        ensures succeeds { vec_len buffer.old + 8 ≤ vec_capacity buffer.old → IsOk result }
+        ensures capacity { vec_capacity buffer.old ≤ vec_capacity buffer.new }
+    {
+        buffer.extend_from_slice(&self.to_bytes())
+    }
+}

@@ -1,0 +1,181 @@
+ghost use Rattle.std.specs.Prelude.{◌≡◌, ◌==◌, ◌&&◌, ℕ, ◌+◌, ◌≤◌, List, [], ◌∷◌, ◌++◌, length, Bool, true, false, if◌then◌else◌, is_some, Some, None, Err, OnOk, OnErr, IsOk, IfOk, IfErr, IsOkAnd, vec_len, vec_capacity};
+ghost use Rattle.std.specs.Int.{w32, to_be_bytes};
+ghost use Rattle.arrayvec.specs.ArrayVec.{array_vec_len};
+ghost use Rattle.ep_tag.specs.Macsec.{IsMacsecHeader, IsRead, HasRoom, Fits, SciFits, TypeFits, header_of, spelling, first_byte, ptype_bits, ptype_spelling, sci_spelling, worth, next_type_in, payload_len_in};
+ghost use Rattle.ep_tag.specs.MacsecFault.{header_at};
+
+use super::{MacsecAn, MacsecHeaderSlice, MacsecPType, MacsecShortLen};
+use crate::err::macsec::HeaderSliceError;
+use arrayvec::ArrayVec;
+use ep_base::EtherType;
+use std::alloc::AllocError;
+
+/// A MACsec header (IEEE 802.1AE, clause 9). In its 6 to 16 bytes numbers stand high byte first.
+#[derive(Clone, Debug, PartialEq, Eq, Drop)]
+pub struct MacsecHeader {
+    /// What stands behind the header.
+    pub ptype: MacsecPType,
+    /// Whether the sender is an end station, which its own address identifies (bit ES).
+    pub endstation_id: bool,
+    /// Whether the channel is a single copy broadcast (bit SCB).
+    pub scb: bool,
+    /// The association number.
+    pub an: MacsecAn,
+    /// How many bytes the header protects, the ether type of an unmodified payload among them; 0
+    /// where it doesn't say.
+    pub short_len: MacsecShortLen,
+    /// The packet number.
+    pub packet_nr: u32,
+    /// The secure channel identifier, where it is there.
+    pub sci: Option<u64>,
+}
+
+impl MacsecHeader {
+    /// The length in bytes of the part that each header has.
+    pub const MIN_LEN: usize = 6;
+
+    /// The length in bytes of a header with a secure channel identifier and an ether type.
+    pub const MAX_LEN: usize = 16;
+
+    /// The header at the front of the slice, and the bytes behind it, which aren't cut. Refused are,
+    /// in this order, a slice of fewer than 6 bytes, version 1, a short length of 1 where an ether
+    /// type is to stand in it, and a slice shorter than the header.
+    pub fn from_slice(slice: &[u8]) -> Result<(MacsecHeader, &[u8]), HeaderSliceError>
+        // The front of the slice is a header, and is read so.
+        ensures found { IfOk result (λ r. IsRead slice.now r.0 r.1.now) }
+        // A front that is a header is read.
+        ensures only { (front rest : List ℕ) → IsMacsecHeader front → slice.now ≡ front ++ rest
+            → IsOkAnd result (λ r. (r.0 ≡ header_of front) × (r.1.now ≡ rest)) }
+        // Else it is the first fault.
+        ensures err { IfErr result (λ e. header_at slice.now ≡ Err e) }
+    {
+        let header = MacsecHeaderSlice::from_slice(slice)?;
+        let rest = &slice[header.slice().len()..];
+        Ok((header.to_header(), rest))
+    }
+
+    /// The header's length in bytes: 6, 8, 14 or 16.
+    pub fn header_len(&self) -> usize
+        ensures { result ≡ length (spelling self.now) }
+    {
+        let sci_len = match self.sci {
+            Some(_) => 8,
+            None => 0,
+        };
+        let type_len = match self.ptype {
+            MacsecPType::Unmodified(_) => 2,
+            _ => 0,
+        };
+        MacsecHeader::MIN_LEN + sci_len + type_len
+    }
+
+    /// The ether type of what stands behind the header, where the payload is unmodified.
+    pub fn next_ether_type(&self) -> Option<EtherType>
+        ensures { result ≡ next_type_in self.now.ptype }
+    {
+        match self.ptype {
+            MacsecPType::Unmodified(ether_type) => Some(ether_type),
+            _ => None,
+        }
+    }
+
+    /// How many bytes the short length leaves for the payload, where it isn't 0. A short length
+    /// of 1 before an unmodified payload, which has no room for the ether type, leaves none.
+    pub fn expected_payload_len(&self) -> Option<usize>
+        ensures { result ≡ (if self.now.short_len == 0 then None else payload_len_in self.now.ptype self.now.short_len) }
+    {
+        let short_len = usize::from(self.short_len.value());
+        match (short_len, self.ptype) {
+            (0, _) => None,
+            (1, MacsecPType::Unmodified(_)) => None,
+            (_, MacsecPType::Unmodified(_)) => Some(short_len - 2),
+            _ => Some(short_len),
+        }
+    }
+
+    /// The bytes of the header.
+    pub fn to_bytes(&self) -> ArrayVec<u8, 16>
+        ensures bytes { result.items ≡ spelling self.now }
+        // Where the short length has room for the ether type they are a header, with these fields.
+        ensures header { HasRoom self.now → IsMacsecHeader result.items }
+        ensures fields { header_of result.items ≡ self.now }
+    {
+        self.spelled()
+    }
+
+    fn spelled(&self) -> ArrayVec<u8, 16>
+        ensures bytes { result.items ≡ spelling self.now }
+        ensures fits { Fits self.now }
+    {
+        let packet_nr = self.packet_nr.to_be_bytes();
+        let fixed_part = [
+            self.first_byte(),
+            self.short_len.value(),
+            packet_nr[0],
+            packet_nr[1],
+            packet_nr[2],
+            packet_nr[3],
+        ];
+        let mut bytes = ArrayVec::new();
+        bytes.try_extend_from_slice(&fixed_part).unwrap();
+        push_sci(&mut bytes, self.sci);
+        push_ether_type(&mut bytes, self.ptype);
+        bytes
+    }
+
+    fn first_byte(&self) -> u8
+        ensures value { result ≡ first_byte self.now }
+        ensures small { self.now.an ≤ 3 }
+    {
+        let stations = worth(self.endstation_id, 0x40) + worth(self.sci.is_some(), 0x20);
+        let channel = worth(self.scb, 0x10) + self.an.value();
+        let payload = match self.ptype {
+            MacsecPType::Unmodified(_) => 0,
+            MacsecPType::Modified => 0x4,
+            MacsecPType::Encrypted => 0xc,
+            MacsecPType::EncryptedUnmodified => 0x8,
+        };
+        stations + channel + payload
+    }
+
+    /// Appends the bytes of the header.
+    pub fn write(&self, buffer: &mut Vec<u8>) -> Result<(), AllocError>
+        ensures ok { OnOk result (buffer.new.items ≡ buffer.old.items ++ spelling self.now) }
+        ensures len { OnOk result (vec_len buffer.new ≡ vec_len buffer.old + length (spelling self.now)) }
+        ensures err { OnErr result (buffer.new.items ≡ buffer.old.items) }
+        // It fails only where room was missing, and room never shrinks.
+        ensures succeeds { vec_len buffer.old + length (spelling self.now) ≤ vec_capacity buffer.old → IsOk result }
+        ensures capacity { vec_capacity buffer.old ≤ vec_capacity buffer.new }
+    {
+        buffer.extend_from_slice(self.to_bytes().as_slice())
+    }
+}
+
+fn worth(is_set: bool, value: u8) -> u8
+    ensures { result ≡ worth is_set value }
+{
+    if is_set { value } else { 0 }
+}
+
+fn push_sci(bytes: &mut ArrayVec<u8, 16>, sci: Option<u64>)
+    requires { array_vec_len bytes.old ≤ 8 }
+    ensures bytes { bytes.new.items ≡ bytes.old.items ++ sci_spelling sci }
+    ensures len { array_vec_len bytes.new ≤ array_vec_len bytes.old + 8 }
+    ensures fits { SciFits sci }
+{
+    if let Some(sci) = sci {
+        bytes.try_extend_from_slice(&sci.to_be_bytes()).unwrap();
+    }
+}
+
+fn push_ether_type(bytes: &mut ArrayVec<u8, 16>, ptype: MacsecPType)
+    requires { array_vec_len bytes.old ≤ 14 }
+    ensures bytes { bytes.new.items ≡ bytes.old.items ++ ptype_spelling ptype }
+    ensures fits { TypeFits ptype }
+{
+    if let MacsecPType::Unmodified(ether_type) = ptype {
+        bytes
+            .try_extend_from_slice(&ether_type.0.to_be_bytes())
+            .unwrap();
+    }
+}

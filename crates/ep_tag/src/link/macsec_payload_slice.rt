@@ -1,0 +1,10 @@
+use super::EtherPayloadSlice;
+
+/// What stands behind a MACsec header, borrowed.
+#[derive(Clone, Debug, PartialEq, Eq, Drop)]
+pub enum MacsecPayloadSlice<'a> {
+    /// Bytes that the header's ether type names.
+    Unmodified(EtherPayloadSlice<'a>),
+    /// Bytes that were encrypted or changed.
+    Modified(&'a [u8]),
+}

@@ -1,0 +1,125 @@
+ghost use Rattle.std.specs.Prelude.{◌≡◌, ◌&&◌, ℕ, List, length, nat_eq, IfOk, Ok, option_map};
+ghost use Rattle.std.specs.Cmp.Lexicographic.{pointwise};
+ghost use Rattle.std.specs.Cmp.Rules.{comparing};
+ghost use Rattle.std.specs.Ordering.{on};
+ghost use Rattle.std.proofs.Common.{rules};
+ghost use Rattle.ep_tag.specs.Macsec.{header_of};
+ghost use Rattle.ep_tag.specs.MacsecOrder.{compared_as};
+ghost use Rattle.ep_tag.specs.MacsecPayload.{Macsec, IsMacsec, macsec_at, named_payload};
+ghost use Rattle.ep_tag.specs.MacsecView.{payload_told};
+
+use super::front::too_short;
+use super::{EtherPayloadSlice, MacsecHeader, MacsecHeaderSlice, MacsecPayloadSlice};
+use crate::err::macsec::HeaderSliceError;
+use ep_base::err::Layer;
+use ep_base::{EtherType, LenSource};
+use std::marker::Model;
+
+/// A MACsec header (IEEE 802.1AE, clause 9) and its payload, borrowed.
+#[derive(Clone, Debug, Drop)]
+pub struct MacsecSlice<'a> {
+    /// The header.
+    pub header: MacsecHeaderSlice<'a>,
+    /// What stands behind it, as many bytes as a short length above 0 leaves, else all.
+    pub payload: MacsecPayloadSlice<'a>,
+}
+
+impl<'a> Model for MacsecSlice<'a> {
+    ghost Value = { Macsec };
+
+    ghost view = { λ slice. record { header = slice.header; payload = payload_told slice.payload } };
+}
+
+impl<'a> MacsecSlice<'a> {
+    /// Header and payload at the front of the slice. Refused are, in this order, a slice of fewer
+    /// than 6 bytes, version 1, a short length of 1 where an ether type is to stand in it, a slice
+    /// shorter than the header, and one shorter than header and payload, where the short length
+    /// states the payload's length.
+    pub fn from_slice(slice: &'a [u8]) -> Result<MacsecSlice<'a>, HeaderSliceError>
+        // What is taken stands at the front of the slice.
+        ensures found { IfOk result (λ macsec. IsMacsec slice.now macsec) }
+        // A header and payload that stand there are taken.
+        ensures only { (macsec : Macsec) → IsMacsec slice.now macsec → result ≡ Ok macsec }
+        // Else it is the first fault.
+        ensures exact { result ≡ macsec_at slice.now }
+    {
+        Self::tested(slice)
+    }
+
+    fn tested(slice: &'a [u8]) -> Result<MacsecSlice<'a>, HeaderSliceError>
+        ensures { result ≡ macsec_at slice.now }
+    {
+        let header = MacsecHeaderSlice::from_slice(slice)?;
+        let header_len = header.slice().len();
+        let (_, rest) = slice.split_at(header_len);
+        let payload_len = header.payload_len();
+        if rest.len() < payload_len {
+            return Err(HeaderSliceError::Len(too_short(
+                Layer::MacsecPacket,
+                header_len + payload_len,
+                slice.len(),
+            )));
+        }
+        let (len_source, bytes) = match header.short_len().value() {
+            0 => (LenSource::Slice, rest),
+            _ => (LenSource::MacsecShortLength, &rest[..payload_len]),
+        };
+        let payload = match header.next_ether_type() {
+            Some(ether_type) => MacsecPayloadSlice::Unmodified(EtherPayloadSlice {
+                ether_type,
+                len_source,
+                payload: bytes,
+            }),
+            None => MacsecPayloadSlice::Modified(bytes),
+        };
+        Ok(MacsecSlice { header, payload })
+    }
+
+    /// The length of the header in bytes.
+    pub fn header_len(&self) -> usize
+        ensures { result ≡ length self.now.header }
+    {
+        self.header.header_len()
+    }
+
+    /// The fields of the header.
+    pub fn to_header(&self) -> MacsecHeader
+        ensures { result ≡ header_of self.now.header }
+    {
+        self.header.to_header()
+    }
+
+    /// The ether type of the payload, where it is unmodified.
+    pub fn next_ether_type(&self) -> Option<EtherType>
+        ensures { result ≡ option_map (λ p. p.ether_type) (named_payload self.now.payload) }
+    {
+        match &self.payload {
+            MacsecPayloadSlice::Unmodified(payload) => Some(payload.ether_type),
+            MacsecPayloadSlice::Modified(_) => None,
+        }
+    }
+
+    /// The payload and its ether type, where it is unmodified.
+    pub fn ether_payload(&self) -> Option<EtherPayloadSlice<'a>>
+        ensures { result ≡ named_payload self.now.payload }
+    {
+        match &self.payload {
+            MacsecPayloadSlice::Unmodified(payload) => Some(payload.again()),
+            MacsecPayloadSlice::Modified(_) => None,
+        }
+    }
+}
+
+impl<'a> PartialEq for MacsecSlice<'a> {
+    ghost eq = { λ a b. on (λ m. m.header) (pointwise nat_eq) a b && on (λ m. compared_as m.payload) (pointwise nat_eq) a b };
+
+    ghost laws = { Prim.search (comparing, rules) depth 9 };
+
+    fn eq(&self, other: &Self) -> bool {
+        self.header == other.header && self.payload == other.payload
+    }
+}
+
+impl<'a> Eq for MacsecSlice<'a> {
+    ghost laws = { Prim.search (comparing, rules) depth 9 };
+}

@@ -1,0 +1,113 @@
+ghost use Rattle.std.specs.Prelude.{◌≡◌, ◌+◌, ◌^◌, ◌≤◌, List, ℕ, if◌then◌else◌, ◌++◌, length, OnOk, OnErr, IsOk, IfOk, IfErr, IsOkAnd, Err, Bool, false, vec_len, vec_capacity};
+ghost use Rattle.ep_base.specs.declared.err.layer.Layer.TheVariants as layer;
+ghost use Rattle.ep_tag.specs.Front.{front_at};
+ghost use Rattle.ep_tag.specs.Vlan.{vlan_len, default_header, header_of, spelling, IsRead, Fits};
+
+use super::{SingleVlanHeaderSlice, VlanId, VlanPcp};
+use ep_base::EtherType;
+use ep_base::err::LenError;
+use std::alloc::AllocError;
+
+/// A VLAN tag (IEEE 802.1Q, section 9.6). In its 4 bytes numbers stand high byte first.
+#[derive(Clone, Debug, PartialEq, Eq, Drop)]
+pub struct SingleVlanHeader {
+    /// The priority code point.
+    pub pcp: VlanPcp,
+    /// Whether the frame may be dropped first.
+    pub drop_eligible_indicator: bool,
+    /// The identifier of the VLAN.
+    pub vlan_id: VlanId,
+    /// The ether type of what follows the tag.
+    pub ether_type: EtherType,
+}
+
+impl SingleVlanHeader {
+    /// The length of a VLAN tag in bytes.
+    pub const LEN: usize = 4;
+
+    /// The tag at the front of the slice, and the bytes behind it. A slice of fewer than 4 bytes is
+    /// refused.
+    pub fn from_slice(slice: &[u8]) -> Result<(SingleVlanHeader, &[u8]), LenError>
+        // The front of the slice is a tag, and is read so.
+        ensures found { IfOk result (λ r. IsRead slice.now r.0 r.1.now) }
+        // Any four bytes are read.
+        ensures only { (front rest : List ℕ) → length front ≡ vlan_len → slice.now ≡ front ++ rest
+            → IsOkAnd result (λ r. (r.0 ≡ header_of front) × (r.1.now ≡ rest)) }
+        ensures err { IfErr result (λ e. front_at layer.VlanHeader vlan_len slice.now ≡ Err e) }
+    {
+        let header = SingleVlanHeaderSlice::from_slice(slice)?;
+        let rest = &slice[SingleVlanHeader::LEN..];
+        Ok((header.to_header(), rest))
+    }
+
+    /// The fields that four bytes spell.
+    pub fn from_bytes(bytes: [u8; 4]) -> SingleVlanHeader
+        ensures { result ≡ header_of bytes }
+    {
+        SingleVlanHeaderSlice::of_bytes(&bytes).to_header()
+    }
+
+    /// The length of a VLAN tag in bytes.
+    pub fn header_len(&self) -> usize
+        ensures { result ≡ 4 }
+    {
+        SingleVlanHeader::LEN
+    }
+
+    /// The bytes of the tag.
+    pub fn to_bytes(&self) -> [u8; 4]
+        ensures bytes { result ≡ spelling self.now }
+        // They spell these fields.
+        ensures fields { header_of result ≡ self.now }
+    {
+        self.spelled()
+    }
+
+    fn spelled(&self) -> [u8; 4]
+        ensures bytes { result ≡ spelling self.now }
+        ensures fits { Fits self.now }
+    {
+        let priority = u16::from(self.pcp.value()) << 13;
+        let tag_control = (priority
+            | self.drop_eligible_bit()
+            | self.vlan_id.value()).to_be_bytes();
+        let ether_type = self.ether_type.0.to_be_bytes();
+        [tag_control[0], tag_control[1], ether_type[0], ether_type[1]]
+    }
+
+    fn drop_eligible_bit(&self) -> u16
+        ensures { result ≡ (if self.now.drop_eligible_indicator then 2 ^ 12 else 0) }
+    {
+        if self.drop_eligible_indicator {
+            1 << 12
+        } else {
+            0
+        }
+    }
+
+    /// Appends the bytes of the tag.
+    pub fn write(&self, buffer: &mut Vec<u8>) -> Result<(), AllocError>
+        ensures ok { OnOk result (buffer.new.items ≡ buffer.old.items ++ spelling self.now) }
+        ensures len { OnOk result (vec_len buffer.new ≡ vec_len buffer.old + vlan_len) }
+        ensures err { OnErr result (buffer.new.items ≡ buffer.old.items) }
+        // It fails only where room was missing, and room never shrinks.
+        ensures succeeds { vec_len buffer.old + vlan_len ≤ vec_capacity buffer.old → IsOk result }
+        ensures capacity { vec_capacity buffer.old ≤ vec_capacity buffer.new }
+    {
+        buffer.extend_from_slice(&self.to_bytes())
+    }
+}
+
+impl Default for SingleVlanHeader {
+    ghost is_default = { λ header. header ≡ default_header };
+
+    /// 0 in every field.
+    fn default() -> Self {
+        SingleVlanHeader {
+            pcp: VlanPcp::ZERO,
+            drop_eligible_indicator: false,
+            vlan_id: VlanId::ZERO,
+            ether_type: EtherType(0),
+        }
+    }
+}

@@ -1,0 +1,5 @@
+//! Tests of what no contract says.
+mod link_ext;
+mod macsec;
+mod numbers;
+mod vlan;

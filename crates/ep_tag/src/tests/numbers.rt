@@ -1,0 +1,81 @@
+//! Bounded numbers.
+use crate::laws::numbers::*;
+use crate::laws::traits::*;
+use crate::{MacsecAn, MacsecShortLen, VlanId, VlanPcp};
+use ep_base::err::{ValueTooBigError, ValueType};
+use std::test::Fail;
+
+#[test]
+fn greatest_numbers(rt: HostRuntime) -> Result<(), Fail> {
+    assert_eq!(rt; VlanId::try_new(4095)?.value(), VlanId::MAX_U16);
+    assert_eq!(rt; u16::from(VlanId::try_from(5)?), 5);
+    assert_eq!(rt; VlanPcp::try_new(7)?.value(), VlanPcp::MAX_U8);
+    assert_eq!(rt; u8::from(VlanPcp::try_from(5)?), 5);
+    assert_eq!(rt; MacsecAn::try_new(3)?.value(), MacsecAn::MAX_U8);
+    assert_eq!(rt; u8::from(MacsecAn::try_from(2)?), 2);
+    assert_eq!(rt;
+        MacsecShortLen::try_new(63)?.value(),
+        MacsecShortLen::MAX_U8
+    );
+    assert_eq!(rt; u8::from(MacsecShortLen::try_from(47)?), 47);
+    Ok(())
+}
+
+fn too_big(actual: u8, max_allowed: u8, value_type: ValueType) -> ValueTooBigError<u8> {
+    ValueTooBigError {
+        actual,
+        max_allowed,
+        value_type,
+    }
+}
+
+#[test]
+fn refused_numbers(rt: HostRuntime) {
+    assert_eq!(rt;
+        VlanId::try_new(4096),
+        Err(ValueTooBigError {
+            actual: 4096,
+            max_allowed: 4095,
+            value_type: ValueType::VlanId,
+        })
+    );
+    assert_eq!(rt; VlanPcp::try_new(8), Err(too_big(8, 7, ValueType::VlanPcp)));
+    assert_eq!(rt;
+        MacsecAn::try_from(4),
+        Err(too_big(4, 3, ValueType::MacsecAn))
+    );
+    assert_eq!(rt;
+        MacsecShortLen::try_new(64),
+        Err(too_big(64, 63, ValueType::MacsecShortLen))
+    );
+}
+
+#[test]
+fn zeros_and_texts(rt: HostRuntime) -> Result<(), Fail> {
+    assert_eq!(rt; VlanId::default(), VlanId::ZERO);
+    assert_eq!(rt; VlanPcp::default(), VlanPcp::ZERO);
+    assert_eq!(rt; MacsecAn::default(), MacsecAn::ZERO);
+    assert_eq!(rt; MacsecShortLen::default(), MacsecShortLen::ZERO);
+    let text = format!(in rt.alloc();
+        "{} {} {} {}",
+        VlanId::try_new(4095)?,
+        VlanPcp::try_new(6)?,
+        MacsecAn::try_new(1)?,
+        MacsecShortLen::try_new(10)?
+    )?;
+    assert_eq!(rt; text.as_str(), "4095 6 1 10");
+    Ok(())
+}
+
+#[test]
+fn laws(rt: HostRuntime) {
+    assert_eq!(rt; vlan_id_constants(), [VlanId::ZERO]);
+    assert_eq!(rt; vlan_pcp_constants(), [VlanPcp::ZERO]);
+    assert_eq!(rt; macsec_an_constants(), [MacsecAn::ZERO]);
+    assert_eq!(rt; macsec_short_len_constants(), [MacsecShortLen::ZERO]);
+    copies_are_values();
+    copies_never_fail();
+    equals_are_same();
+    orders_are_of_numbers();
+    ether_payloads_by_all_fields();
+}
