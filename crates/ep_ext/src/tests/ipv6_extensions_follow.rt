@@ -24,9 +24,9 @@ fn a_chain_is_followed_and_written(rt: HostRuntime) -> Result<(), Fail> {
     let mut buffer = Vec::new(rt.alloc());
     buffer.push(9)?;
     assert_eq!(rt; headers.write(&mut buffer, IpNumber(0)), Ok(()));
-    assert_eq!(rt; buffer.len(), 73);
-    assert_eq!(rt; buffer[0], 9);
-    assert_eq!(rt; &buffer[1..], &CHAIN[..72]);
+    let mut written = [9; 73];
+    written[1..].copy_from_slice(&CHAIN[..72]);
+    assert_eq!(rt; buffer.as_slice(), written.as_slice());
     Ok(())
 }
 
@@ -151,8 +151,8 @@ fn all_headers_made_to_name_one_another(rt: HostRuntime) -> Result<(), Fail> {
     assert_eq!(rt; headers.next_header(IpNumber(0)), Ok(IpNumber(6)));
     let mut buffer = Vec::new(rt.alloc());
     assert_eq!(rt; headers.write(&mut buffer, IpNumber(0)), Ok(()));
-    assert_eq!(rt; buffer.len(), 72);
-    assert_eq!(rt; &buffer[..64], &CHAIN[..64]);
-    assert_eq!(rt; buffer[64], 6);
+    let mut written = CHAIN;
+    written[64] = 6;
+    assert_eq!(rt; buffer.as_slice(), &written[..72]);
     Ok(())
 }
