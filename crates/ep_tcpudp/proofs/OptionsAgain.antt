@@ -1,10 +1,9 @@
 -- Elements that were written are read again.
-use Rattle.std.proofs.Common.{◌≡◌, ℕ, zero, suc, ◌+◌, ◌-◌, ◌*◌, ◌/◌, ◌%◌, ◌^◌, ◌<◌, ◌≤◌, List, [], ◌∷◌, ◌++◌, length, drop, map, replicate, Option, Some, None, Result, Ok, Err, arith, sym, refl, ap, ◌∙◌, append_assoc, false, eqb}
+use Rattle.std.proofs.Common.{◌≡◌, ℕ, zero, suc, ◌+◌, ◌-◌, ◌*◌, ◌/◌, ◌%◌, ◌^◌, ◌<◌, List, [], ◌∷◌, ◌++◌, length, drop, map, replicate, Option, Some, None, Result, Ok, arith, refl, ap, ◌∙◌, append_assoc, false, eqb}
 use Rattle.std.proofs.lemmas.Bool.{le-ltb, ne_eqb}
 use Rattle.std.proofs.lemmas.List.{drop_at}
 use Rattle.std.proofs.lemmas.List.Concat.{flat_map-cons}
-use Rattle.ep_tcpudp.specs.TcpOptions.{whole_options}
-use Rattle.ep_tcpudp.specs.Options.{element_bytes, elements_bytes, packed_element, packed_blocks, element_at, size_at, is_end, behind, items_of, FitsBlock, FitsElement, FitsElements, ElementsComeBack}
+use Rattle.ep_tcpudp.specs.Options.{element_bytes, elements_bytes, packed_element, element_at, size_at, is_end, behind, items_of, FitsBlock, FitsElement, FitsElements, ElementsComeBack}
 use Rattle.ep_tcpudp.specs.declared.transport.tcp_option_element.TcpOptionElement.{TcpOptionElement}
 use Rattle.ep_tcpudp.specs.declared.transport.tcp_option_element.TcpOptionElement.TheVariants.{Noop, MaximumSegmentSize, WindowScale, SelectiveAcknowledgementPermitted, SelectiveAcknowledgement, Timestamp}
 use Rattle.ep_tcpudp.specs.declared.transport.tcp_option_read_error.TcpOptionReadError.{TcpOptionReadError}

@@ -1,8 +1,8 @@
 -- The items of options, step by step.
-use Rattle.std.proofs.Common.{◌≡◌, ◌⊎◌, ⊎_elim, ℕ, zero, suc, ◌+◌, ◌-◌, ◌<◌, ◌≤◌, Bool, true, false, cond, eqb, not, List, [], ◌∷◌, length, take, drop, Result, Ok, Err, Option, Some, None, arith, sym, refl, ap, ◌∙◌, rules}
+use Rattle.std.proofs.Common.{◌≡◌, ⊎_elim, ℕ, zero, suc, ◌-◌, ◌<◌, ◌≤◌, Bool, true, false, cond, eqb, List, [], ◌∷◌, length, take, drop, Result, Ok, Err, Some, arith, sym, refl, ap, ◌∙◌}
 use Rattle.std.specs.Prelude.{⊤}
 use Rattle.std.specs.Iterator.{item_count, MakesProgress}
-use Rattle.std.proofs.lemmas.Bool.{cases_Bool, eqb-true, ltb-false, or_cases}
+use Rattle.std.proofs.lemmas.Bool.{cases_Bool, eqb-true}
 use Rattle.std.proofs.lemmas.List.{drop_all, length-drop, take_rest}
 use Rattle.ep_base.specs.Bytes.{num}
 use Rattle.ep_ip.proofs.Front.{guard_ok, not_false}

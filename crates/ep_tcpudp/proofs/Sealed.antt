@@ -1,8 +1,7 @@
 -- Headers with their checksums in them.
-use Rattle.std.proofs.Common.{◌≡◌, ◌≤◌, ℕ, ◌+◌, ◌*◌, ◌%◌, List, ◌∷◌, ◌++◌, length, take, drop, IsTrue, length-append, append_assoc, arith}
+use Rattle.std.proofs.Common.{◌≡◌, ◌≤◌, ℕ, ◌+◌, ◌*◌, ◌%◌, List, ◌∷◌, ◌++◌, length, take, drop, length-append, append_assoc, arith}
 use Rattle.std.specs.Int.{w16, w32, to_be_bytes}
 use Rattle.std.proofs.lemmas.List.{length-take-le}
-use Rattle.ep_base.specs.Sum.{all_ones, checksum, no_zero}
 use Rattle.ep_base.specs.MessageSum.{ChecksumSumsToAllOnes, NoZeroSumsToAllOnes}
 use Rattle.ep_tcpudp.specs.Tcp as tcp
 use Rattle.ep_tcpudp.specs.Tcp.{data_offset, flag, flags}

@@ -1,6 +1,5 @@
 -- The bytes of a TCP header against its fields.
-use Rattle.std.proofs.Common.{◌≡◌, ℕ, zero, suc, ◌+◌, ◌*◌, ◌/◌, ◌%◌, ◌^◌, ◌<◌, ◌≤◌, Bool, true, false, cond, eqb, List, ◌∷◌, ◌++◌, length, take, drop, get_or, set, arith, sym, refl, ap, ◌∙◌}
-use Rattle.std.proofs.lemmas.List.{length-drop}
+use Rattle.std.proofs.Common.{◌≡◌, ℕ, zero, suc, ◌+◌, ◌*◌, ◌/◌, ◌%◌, ◌^◌, ◌<◌, ◌≤◌, Bool, true, false, eqb, List, ◌∷◌, length, drop, get_or, set, arith, sym, refl, ap, ◌∙◌}
 use Rattle.ep_base.specs.Bytes.{IsBytes}
 use Rattle.ep_base.proofs.Cells.{drop-cells}
 use Rattle.ep_tcpudp.specs.Tcp.{IsTcpHeader, header_of, spelling, with_reserved_bits_zero, flag, flags, data_offset, data_offset_of, options_of, Fits}

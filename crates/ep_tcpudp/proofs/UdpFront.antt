@@ -1,11 +1,10 @@
 -- The UDP header, and the datagram, at the front of bytes.
-use Rattle.std.proofs.Common.{◌≡◌, ◌⊎◌, inl, inr, ⊎_elim, ℕ, ◌-◌, ◌<◌, ◌≤◌, ◌↔◌, Bool, true, false, cond, eqb, List, ◌++◌, length, take, drop, Result, Ok, Err, IfOk, IsOk, arith, sym, refl, ap, subst, ◌∙◌}
-use Rattle.std.proofs.lemmas.Bool.{le-ltb, lt-ltb, eq-eqb, ne_eqb, ltb-false, eqb-true, cases_eq, true≢false}
-use Rattle.std.proofs.lemmas.List.{get_or-take, length-take-le, take-append-drop, take_at, take_rest, drop_at, length-append}
-use Rattle.ep_base.specs.Bytes.{num}
+use Rattle.std.proofs.Common.{◌≡◌, ◌⊎◌, inl, inr, ⊎_elim, ℕ, ◌-◌, ◌≤◌, ◌↔◌, List, ◌++◌, length, take, drop, Result, Ok, Err, IfOk, IsOk, arith, sym, refl, ap, ◌∙◌}
+use Rattle.std.proofs.lemmas.Bool.{le-ltb, eq-eqb, ne_eqb, ltb-false, cases_eq, true≢false}
+use Rattle.std.proofs.lemmas.List.{length-take-le, take-append-drop, take_at, take_rest, drop_at, length-append}
 use Rattle.ep_base.specs.declared.err.len_error.LenError.{LenError}
 use Rattle.ep_ip.proofs.Front.{guard_ok, ok_same}
-use Rattle.ep_tcpudp.specs.Udp.{IsUdpHeader, IsUdp, ReadableUdp, summed_udp, length_of}
+use Rattle.ep_tcpudp.specs.Udp.{IsUdpHeader, ReadableUdp, summed_udp, length_of}
 use Rattle.ep_tcpudp.specs.UdpFault.{header_at, udp_at}
 
 header_at-ok : (bytes : List ℕ) → 8 ≤ length bytes → header_at bytes ≡ Ok (take 8 bytes)

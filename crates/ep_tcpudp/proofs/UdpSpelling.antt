@@ -1,5 +1,5 @@
 -- The bytes of a UDP header against its fields.
-use Rattle.std.proofs.Common.{◌≡◌, ℕ, ◌+◌, ◌*◌, ◌/◌, ◌%◌, ◌^◌, ◌<◌, List, ◌++◌, length, get_or, arith, sym, refl, ap, ◌∙◌}
+use Rattle.std.proofs.Common.{◌≡◌, ℕ, ◌+◌, ◌*◌, ◌/◌, ◌%◌, ◌^◌, ◌<◌, List, ◌++◌, get_or, arith, sym, refl, ap, ◌∙◌}
 use Rattle.ep_base.specs.Bytes.{IsBytes}
 use Rattle.ep_base.proofs.Cells.{cells, drop-cells}
 use Rattle.ep_tcpudp.specs.Udp.{IsUdpHeader, header_of, spelling, Fits}

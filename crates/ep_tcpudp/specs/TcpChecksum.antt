@@ -1,5 +1,5 @@
 -- The checksum of TCP (RFC 9293, section 3.1; RFC 8200, section 8.1).
-use Rattle.std.specs.Prelude.{◌≡◌, ◌≤◌, ℕ, ◌+◌, ◌%◌, List, ◌∷◌, ◌++◌, length, take, drop, IsTrue}
+use Rattle.std.specs.Prelude.{◌≡◌, ◌≤◌, ℕ, ◌+◌, ◌%◌, List, ◌++◌, length, take, drop, IsTrue}
 use Rattle.std.specs.Int.{w16, to_be_bytes}
 use Rattle.ep_base.specs.Sum.{all_ones, checksum}
 use Rattle.ep_ip.specs.Pseudo.{pseudo_v4, pseudo_v6}

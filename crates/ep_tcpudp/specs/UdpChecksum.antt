@@ -1,5 +1,5 @@
 -- The checksum of UDP (RFC 768; RFC 8200, section 8.1).
-use Rattle.std.specs.Prelude.{◌≡◌, ℕ, ◌+◌, ◌%◌, List, ◌++◌, length, IsTrue}
+use Rattle.std.specs.Prelude.{◌≡◌, ℕ, ◌%◌, List, ◌++◌, length, IsTrue}
 use Rattle.ep_base.specs.Sum.{all_ones, checksum, no_zero}
 use Rattle.ep_ip.specs.Pseudo.{pseudo_v4, pseudo_v6}
 use Rattle.ep_tcpudp.specs.Udp.{spelling, unchecked_header}

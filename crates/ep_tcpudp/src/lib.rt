@@ -10,3 +10,6 @@ pub use transport::{
     TcpHeader, TcpHeaderSlice, TcpOptionElement, TcpOptionReadError, TcpOptionWriteError,
     TcpOptions, TcpOptionsIterator, TcpSlice, UdpHeader, UdpHeaderSlice, UdpSlice, tcp_option,
 };
+
+#[cfg(test)]
+mod tests;

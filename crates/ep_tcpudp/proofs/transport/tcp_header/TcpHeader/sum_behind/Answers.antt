@@ -1,4 +1,4 @@
-use Rattle.std.proofs.Common.{arith, rules}
+use Rattle.std.proofs.Common.{rules}
 use Rattle.ep_tcpudp.proofs.TcpSums.{parts_added}
 use Rattle.ep_tcpudp.proofs.transport.tcp_header.TcpHeader.sum_behind.Goals as goal
 

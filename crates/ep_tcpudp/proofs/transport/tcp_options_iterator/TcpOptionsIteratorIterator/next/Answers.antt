@@ -1,5 +1,5 @@
 use Rattle.std.proofs.Common.{ap, sym, ◌∙◌}
-use Rattle.ep_tcpudp.specs.Options.{is_end, items_of}
+use Rattle.ep_tcpudp.specs.Options.{items_of}
 use Rattle.ep_tcpudp.proofs.OptionsItems.{items-end, none_behind, step_ok, step_err, rest_ok, progress}
 use Rattle.ep_tcpudp.proofs.transport.tcp_options_iterator.TcpOptionsIteratorIterator.next.Goals as goal
 

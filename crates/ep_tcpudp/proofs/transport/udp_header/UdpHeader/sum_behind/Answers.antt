@@ -1,5 +1,4 @@
-use Rattle.std.proofs.Common.{arith, length-append, ap, ◌∙◌, ◌++◌}
-use Rattle.ep_base.specs.Sum.{fold, total}
+use Rattle.std.proofs.Common.{arith, length-append, ◌++◌}
 use Rattle.ep_tcpudp.proofs.transport.udp_header.UdpHeader.sum_behind.Goals as goal
 
 pub returns : goal.returns

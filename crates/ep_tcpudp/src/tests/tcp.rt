@@ -1,0 +1,236 @@
+use crate::err::tcp::{HeaderError, HeaderSliceError};
+use crate::{TcpHeader, TcpHeaderSlice, TcpOptionWriteError, TcpOptions, TcpSlice, laws};
+use ep_base::LenSource;
+use ep_base::err::{Layer, LenError};
+use std::cmp::Ordering;
+use std::hash::FoldHasher;
+use std::test::*;
+
+// A header with four bytes of options, made by hand after RFC 9293, with all reserved bits set, and two
+// bytes of payload.
+const BYTES: [u8; 26] = [
+    0, 1, 0, 2, 0, 0, 0, 3, 0, 0, 0, 4, 0x6f, 0x91, 0, 5, 0, 6, 0, 7, 1, 1, 1, 0, 0xaa, 0xbb,
+];
+
+fn fields() -> TcpHeader {
+    TcpHeader {
+        source_port: 1,
+        destination_port: 2,
+        sequence_number: 3,
+        acknowledgment_number: 4,
+        ns: true,
+        fin: true,
+        syn: false,
+        rst: false,
+        psh: false,
+        ack: true,
+        urg: false,
+        ece: false,
+        cwr: true,
+        window_size: 5,
+        checksum: 6,
+        urgent_pointer: 7,
+        options: TcpOptions::from([1, 1, 1, 0]),
+    }
+}
+
+fn too_short(required_len: usize, len: usize) -> HeaderSliceError {
+    HeaderSliceError::Len(LenError {
+        required_len,
+        len,
+        len_source: LenSource::Slice,
+        layer: Layer::TcpHeader,
+        layer_start_offset: 0,
+    })
+}
+
+#[test]
+fn header_by_position(rt: HostRuntime) -> Result<(), Fail> {
+    let (header, rest) = TcpHeader::from_slice(&BYTES)?;
+    assert_eq!(rt; header, fields());
+    assert_eq!(rt; rest, [0xaa, 0xbb].as_slice());
+    assert_eq!(rt; header.data_offset(), 6);
+    assert_eq!(rt; header.header_len(), 24);
+    assert_eq!(rt; header.options(), [1, 1, 1, 0].as_slice());
+    // The reserved bits are 0.
+    assert_eq!(rt; header.to_bytes()[12], 0x61);
+    assert_eq!(rt; &header.to_bytes()[13..], &BYTES[13..24]);
+    Ok(())
+}
+
+#[test]
+fn header_appended(rt: HostRuntime) -> Result<(), Fail> {
+    let mut buffer = vec![in rt.alloc(); 9]?;
+    TcpHeader::new(1, 2, 3, 4).write(&mut buffer)?;
+    let bytes = [
+        9, 0, 1, 0, 2, 0, 0, 0, 3, 0, 0, 0, 0, 0x50, 0, 0, 4, 0, 0, 0, 0,
+    ];
+    assert_eq!(rt; buffer.as_slice(), bytes.as_slice());
+    assert_eq!(rt; TcpHeader::default(), TcpHeader::new(0, 0, 0, 0));
+    Ok(())
+}
+
+fn flags_of(header: &TcpHeaderSlice<'_>) -> [bool; 9] {
+    [
+        header.ns(),
+        header.cwr(),
+        header.ece(),
+        header.urg(),
+        header.ack(),
+        header.psh(),
+        header.rst(),
+        header.syn(),
+        header.fin(),
+    ]
+}
+
+// Each flag stands at its own bit (RFC 9293, section 3.1; RFC 3540; RFC 3168).
+#[test]
+fn flags_at_their_bits(rt: HostRuntime) -> Result<(), Fail> {
+    for place in 0..9usize {
+        let mut bytes = BYTES;
+        let bits = 1u16 << (8 - place);
+        bytes[12] = 0x60 | (bits >> 8) as u8;
+        bytes[13] = (bits & 0xff) as u8;
+        let mut wanted = [false; 9];
+        wanted[place] = true;
+        assert_eq!(rt; flags_of(&TcpHeaderSlice::from_slice(&bytes)?), wanted);
+        let (header, _) = TcpHeader::from_slice(&bytes)?;
+        assert_eq!(rt; header.to_bytes().as_slice(), &bytes[..24]);
+    }
+    Ok(())
+}
+
+#[test]
+fn getters_of_the_header_slice(rt: HostRuntime) -> Result<(), Fail> {
+    let header = TcpHeaderSlice::from_slice(&BYTES)?;
+    assert_eq!(rt; header.slice(), &BYTES[..24]);
+    assert_eq!(rt; header.source_port(), 1);
+    assert_eq!(rt; header.destination_port(), 2);
+    assert_eq!(rt; header.sequence_number(), 3);
+    assert_eq!(rt; header.acknowledgment_number(), 4);
+    assert_eq!(rt; header.data_offset(), 6);
+    assert_eq!(rt; header.window_size(), 5);
+    assert_eq!(rt; header.checksum(), 6);
+    assert_eq!(rt; header.urgent_pointer(), 7);
+    assert_eq!(rt; header.options(), [1, 1, 1, 0].as_slice());
+    assert_eq!(rt; header.options_iterator().rest().len(), 4);
+    assert_eq!(rt; header.to_header(), fields());
+    Ok(())
+}
+
+#[test]
+fn getters_of_the_segment(rt: HostRuntime) -> Result<(), Fail> {
+    let segment = TcpSlice::from_slice(&BYTES)?;
+    assert_eq!(rt; segment.slice(), BYTES.as_slice());
+    assert_eq!(rt; segment.header_slice(), &BYTES[..24]);
+    assert_eq!(rt; segment.payload(), [0xaa, 0xbb].as_slice());
+    assert_eq!(rt; segment.header_len(), 24);
+    assert_eq!(rt; segment.data_offset(), 6);
+    assert_eq!(rt; segment.options(), [1, 1, 1, 0].as_slice());
+    assert_eq!(rt; segment.options_iterator().rest().len(), 4);
+    assert_eq!(rt; segment.to_header(), fields());
+    Ok(())
+}
+
+#[test]
+fn numbers_and_flags_of_the_segment(rt: HostRuntime) -> Result<(), Fail> {
+    let segment = TcpSlice::from_slice(&BYTES)?;
+    assert_eq!(rt; (segment.source_port(), segment.destination_port()), (1, 2));
+    assert_eq!(rt;
+        (segment.sequence_number(), segment.acknowledgment_number()),
+        (3, 4)
+    );
+    assert_eq!(rt; (segment.window_size(), segment.checksum()), (5, 6));
+    assert_eq!(rt; segment.urgent_pointer(), 7);
+    assert_eq!(rt;
+        (segment.ns(), segment.cwr(), segment.ece()),
+        (true, true, false)
+    );
+    assert_eq!(rt;
+        (segment.urg(), segment.ack(), segment.psh()),
+        (false, true, false)
+    );
+    assert_eq!(rt;
+        (segment.rst(), segment.syn(), segment.fin()),
+        (false, false, true)
+    );
+    Ok(())
+}
+
+#[test]
+fn faults_in_order(rt: HostRuntime) {
+    assert_eq!(rt;
+        TcpSlice::from_slice(&BYTES[..19]).err(),
+        Some(too_short(20, 19))
+    );
+    assert_eq!(rt;
+        TcpSlice::from_slice(&BYTES[..23]).err(),
+        Some(too_short(24, 23))
+    );
+    assert_eq!(rt;
+        TcpHeaderSlice::from_slice(&BYTES[..19]).err(),
+        Some(too_short(20, 19))
+    );
+    assert_eq!(rt;
+        TcpHeader::from_slice(&BYTES[..23]).err(),
+        Some(too_short(24, 23))
+    );
+    let mut bytes = BYTES;
+    bytes[12] = 0x4f;
+    let small = HeaderSliceError::Content(HeaderError::DataOffsetTooSmall { data_offset: 4 });
+    assert_eq!(rt; TcpSlice::from_slice(&bytes).err(), Some(small));
+    assert_eq!(rt; TcpHeaderSlice::from_slice(&bytes).err(), Some(small));
+}
+
+#[test]
+fn errors_as_text(rt: HostRuntime) -> Result<(), Fail> {
+    let alloc = rt.alloc();
+    let content = HeaderSliceError::from(HeaderError::DataOffsetTooSmall { data_offset: 4 });
+    let text = format!(in alloc; "{content}")?;
+    assert_eq!(rt;
+        text.as_str(),
+        "TCP header: the data offset is 4 and below 5"
+    );
+    let text = format!(in alloc; "{}", TcpOptionWriteError::NotEnoughSpace(41))?;
+    assert_eq!(rt;
+        text.as_str(),
+        "TCP options of 41 byte(s): a header has room for 40"
+    );
+    Ok(())
+}
+
+#[test]
+fn raw_options(rt: HostRuntime) -> Result<(), Fail> {
+    let mut header = TcpHeader::new(1, 2, 3, 4);
+    header.set_options_raw(&[1, 1, 1, 1, 1])?;
+    assert_eq!(rt; header.options(), [1, 1, 1, 1, 1, 0, 0, 0].as_slice());
+    let refused = header.set_options_raw(&[1; 41]);
+    assert_eq!(rt;
+        refused.err(),
+        Some(TcpOptionWriteError::NotEnoughSpace(41))
+    );
+    assert_eq!(rt; header.header_len(), 28);
+    header.set_options_raw(&[1; 40])?;
+    assert_eq!(rt; header.data_offset(), TcpHeader::MAX_DATA_OFFSET);
+    Ok(())
+}
+
+#[test]
+fn laws_are_called(rt: HostRuntime) -> Result<(), Fail> {
+    laws::tcp::sealed_sums_to_all_ones();
+    laws::tcp::headers_are_their_bytes(&fields());
+    let (header, rest) = laws::tcp::header_is_read_again(&fields(), &BYTES)?;
+    assert_eq!(rt; header, fields());
+    assert_eq!(rt; rest.len(), 2);
+    let (a, b) = (
+        TcpOptions::from([1, 1, 1, 0]),
+        TcpOptions::from([1, 1, 1, 1]),
+    );
+    assert_eq!(rt;
+        laws::tcp::options_are_ordered_as_bytes(&a, &b),
+        Ordering::Less
+    );
+    laws::tcp::options_hash_as_bytes(&a, &mut FoldHasher::default());
+    Ok(())
+}

@@ -1,0 +1,136 @@
+use crate::{UdpHeader, UdpHeaderSlice, UdpSlice, laws};
+use ep_base::LenSource;
+use ep_base::err::{Layer, LenError, ValueTooBigError, ValueType};
+use std::test::*;
+
+// Ports 1 and 2 of a datagram of 16 bytes with the payload 1 to 8, and two bytes behind it.
+const BYTES: [u8; 18] = [
+    0, 1, 0, 2, 0, 16, 0xdb, 0xb4, 1, 2, 3, 4, 5, 6, 7, 8, 0xaa, 0xbb,
+];
+
+fn fields() -> UdpHeader {
+    UdpHeader {
+        source_port: 1,
+        destination_port: 2,
+        length: 16,
+        checksum: 0xdbb4,
+    }
+}
+
+fn want(required_len: usize, len: usize, len_source: LenSource, layer: Layer) -> LenError {
+    LenError {
+        required_len,
+        len,
+        len_source,
+        layer,
+        layer_start_offset: 0,
+    }
+}
+
+#[test]
+fn header_by_position(rt: HostRuntime) -> Result<(), Fail> {
+    let (header, rest) = UdpHeader::from_slice(&BYTES)?;
+    assert_eq!(rt; header, fields());
+    assert_eq!(rt; rest, &BYTES[8..]);
+    assert_eq!(rt; header.to_bytes().as_slice(), &BYTES[..8]);
+    assert_eq!(rt;
+        UdpHeader::from_bytes([0, 1, 0, 2, 0, 16, 0xdb, 0xb4]),
+        fields()
+    );
+    assert_eq!(rt; header.header_len(), 8);
+    assert_eq!(rt; UdpHeader::LEN_U16, 8);
+    assert_eq!(rt; UdpHeader::default().to_bytes(), [0; 8]);
+    let short = want(8, 7, LenSource::Slice, Layer::UdpHeader);
+    assert_eq!(rt; UdpHeader::from_slice(&BYTES[..7]).err(), Some(short));
+    Ok(())
+}
+
+#[test]
+fn header_appended(rt: HostRuntime) -> Result<(), Fail> {
+    let mut buffer = vec![in rt.alloc(); 9]?;
+    fields().write(&mut buffer)?;
+    assert_eq!(rt;
+        buffer.as_slice(),
+        [9, 0, 1, 0, 2, 0, 16, 0xdb, 0xb4].as_slice()
+    );
+    Ok(())
+}
+
+#[test]
+fn getters_of_the_header_slice(rt: HostRuntime) -> Result<(), Fail> {
+    let header = UdpHeaderSlice::from_slice(&BYTES)?;
+    assert_eq!(rt; header.slice(), &BYTES[..8]);
+    assert_eq!(rt; header.source_port(), 1);
+    assert_eq!(rt; header.destination_port(), 2);
+    assert_eq!(rt; header.length(), 16);
+    assert_eq!(rt; header.checksum(), 0xdbb4);
+    assert_eq!(rt; header.to_header(), fields());
+    Ok(())
+}
+
+#[test]
+fn getters_of_the_datagram(rt: HostRuntime) -> Result<(), Fail> {
+    let datagram = UdpSlice::from_slice(&BYTES)?;
+    assert_eq!(rt; datagram.slice(), &BYTES[..16]);
+    assert_eq!(rt; datagram.header_slice(), &BYTES[..8]);
+    assert_eq!(rt; datagram.payload(), &BYTES[8..16]);
+    assert_eq!(rt; datagram.payload_len_source(), LenSource::UdpHeaderLen);
+    assert_eq!(rt; datagram.header_len(), 8);
+    assert_eq!(rt; datagram.source_port(), 1);
+    assert_eq!(rt; datagram.destination_port(), 2);
+    assert_eq!(rt; datagram.length(), 16);
+    assert_eq!(rt; datagram.checksum(), 0xdbb4);
+    assert_eq!(rt; datagram.to_header(), fields());
+    Ok(())
+}
+
+// A datagram of 10 bytes whose length field is this.
+fn datagram_of(length: u8) -> [u8; 10] {
+    [0, 1, 0, 2, 0, length, 0, 0, 7, 8]
+}
+
+#[test]
+fn lengths_of_datagrams(rt: HostRuntime) -> Result<(), Fail> {
+    let all = datagram_of(0);
+    let whole = UdpSlice::from_slice(&all)?;
+    assert_eq!(rt; whole.payload(), [7, 8].as_slice());
+    assert_eq!(rt; whole.payload_len_source(), LenSource::Slice);
+    assert_eq!(rt; UdpSlice::from_slice(&datagram_of(8))?.payload().len(), 0);
+    assert_eq!(rt; UdpSlice::from_slice(&datagram_of(10))?.payload().len(), 2);
+    let beyond = want(11, 10, LenSource::Slice, Layer::UdpPayload);
+    assert_eq!(rt; UdpSlice::from_slice(&datagram_of(11)).err(), Some(beyond));
+    let below = want(8, 7, LenSource::UdpHeaderLen, Layer::UdpHeader);
+    assert_eq!(rt; UdpSlice::from_slice(&datagram_of(7)).err(), Some(below));
+    let short = want(8, 7, LenSource::Slice, Layer::UdpHeader);
+    assert_eq!(rt; UdpSlice::from_slice(&[0; 7]).err(), Some(short));
+    Ok(())
+}
+
+#[test]
+fn headers_of_payload_lengths(rt: HostRuntime) -> Result<(), Fail> {
+    let header = UdpHeader::without_ipv4_checksum(1, 2, 65527)?;
+    assert_eq!(rt; header.length, 65535);
+    assert_eq!(rt; header.checksum, 0);
+    let refused = ValueTooBigError {
+        actual: 65528,
+        max_allowed: 65527,
+        value_type: ValueType::UdpPayloadLengthIpv4,
+    };
+    assert_eq!(rt;
+        UdpHeader::without_ipv4_checksum(1, 2, 65528).err(),
+        Some(refused)
+    );
+    Ok(())
+}
+
+#[test]
+fn laws_are_called(rt: HostRuntime) -> Result<(), Fail> {
+    laws::udp::sealed_sums_to_all_ones();
+    laws::udp::headers_are_their_bytes(&fields());
+    let (header, rest) = laws::udp::header_is_read_again(&fields(), &BYTES)?;
+    assert_eq!(rt; header, fields());
+    assert_eq!(rt; rest.len(), 10);
+    laws::traits::copies_are_values();
+    laws::traits::equals_are_same();
+    Ok(())
+}
