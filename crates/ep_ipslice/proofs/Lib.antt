@@ -1,0 +1,7 @@
+mod Cuts
+mod Fronts
+mod IpParts
+mod Ipv4Parts
+mod Ipv6Parts
+mod Left
+mod ViewWalk
