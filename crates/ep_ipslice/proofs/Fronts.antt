@@ -4,14 +4,13 @@ use Rattle.std.proofs.lemmas.Bool.{ltb-false, eqb-false}
 use Rattle.std.proofs.lemmas.List.{get_or-take, length-take-le}
 use Rattle.ep_base.specs.declared.err.layer.Layer.{Layer}
 use Rattle.ep_base.specs.declared.err.len_error.LenError.{LenError}
-use Rattle.ep_ext.specs.Want.{front_at, too_short}
+use Rattle.ep_ext.specs.Want.{front_at}
 use Rattle.ep_ext.specs.Raw.{IsRawExt, raw_at, raw_len}
 use Rattle.ep_ext.specs.Fragment.{IsFragment, fragment_at}
 use Rattle.ep_ext.specs.Auth.{IsAuth, auth_at, auth_len}
 use Rattle.ep_ext.specs.Chain.{IsPiece, front_of, of_len, of_auth}
 use Rattle.ep_ext.specs.declared.err.ip_auth.header_slice_error.HeaderSliceError.{HeaderSliceError as AuthError}
 use Rattle.ep_ext.specs.declared.err.ip_auth.header_slice_error.HeaderSliceError.TheVariants as auth_fault
-use Rattle.ep_ext.specs.declared.err.ipv6_exts.header_slice_error.HeaderSliceError.{HeaderSliceError}
 use Rattle.ep_ext.specs.declared.net.ipv6_ext_place.Ipv6ExtPlace.{Ipv6ExtPlace}
 use Rattle.ep_ext.specs.declared.net.ipv6_ext_place.Ipv6ExtPlace.TheVariants.{HopByHop, Destination, Routing, Fragment, Authentication, FinalDestination}
 

@@ -2,7 +2,6 @@
 use Rattle.std.proofs.Common.{◌≡◌, ℕ, ◌<◌, ◌/◌, List, ◌++◌, length, get_or, Result, Ok, ap, ◌∙◌, append_assoc, arith}
 use Rattle.std.proofs.lemmas.List.{get_or_append_left}
 use Rattle.ep_ip.specs.Ipv4 as v4
-use Rattle.ep_ip.specs.Ipv6 as v6
 use Rattle.ep_ext.specs.Ipv4Exts.{auth_bytes}
 use Rattle.ep_ipslice.specs.IpSlice.{IsIpPacket}
 use Rattle.ep_ipslice.specs.Packet.{Ipv4Packet, Ipv6Packet, IsIpv4Packet, IsIpv6Packet}
@@ -31,10 +30,10 @@ v6_version bytes packet is =
 four_six : (n : ℕ) → n ≡ 4 → n ≡ 6 → ⊥
 four_six n four six = omega (arith, four, six)
 
-ipv4_ok : (x y : Ipv4Packet) → ◌≡◌ {A = Result Ipv4Packet Ipv4Fault} (Ok x) (Ok y) → x ≡ y
+pub ipv4_ok : (x y : Ipv4Packet) → ◌≡◌ {A = Result Ipv4Packet Ipv4Fault} (Ok x) (Ok y) → x ≡ y
 ipv4_ok x y h = cc
 
-ipv6_ok : (x y : Ipv6Packet) → ◌≡◌ {A = Result Ipv6Packet Ipv6Fault} (Ok x) (Ok y) → x ≡ y
+pub ipv6_ok : (x y : Ipv6Packet) → ◌≡◌ {A = Result Ipv6Packet Ipv6Fault} (Ok x) (Ok y) → x ≡ y
 ipv6_ok x y h = cc
 
 abbrev pub IsAnswer : IpSlice → IpSlice → Type 0

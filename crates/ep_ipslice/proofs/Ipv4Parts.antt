@@ -4,13 +4,13 @@ use Rattle.std.proofs.lemmas.Bool.{le-ltb, eq-eqb, ne_eqb}
 use Rattle.std.proofs.lemmas.List.{drop_at}
 use Rattle.ep_ip.specs.Ipv4.{IsIpv4Header, protocol_of, total_len_of}
 use Rattle.ep_ext.specs.Auth.{IsAuth, auth_at}
-use Rattle.ep_ext.specs.Chain.{IsPiece, front_of, of_auth}
+use Rattle.ep_ext.specs.Chain.{front_of, of_auth}
 use Rattle.ep_ext.specs.Ipv4Exts.{IsAuthBehind, auth_behind, auth_bytes, some_auth}
 use Rattle.ep_ext.specs.declared.err.ip_auth.header_slice_error.HeaderSliceError.{HeaderSliceError as AuthFault}
 use Rattle.ep_ext.specs.declared.err.ip_auth.header_slice_error.HeaderSliceError.TheVariants as auth_fault
 use Rattle.ep_ext.specs.declared.net.ipv6_ext_place.Ipv6ExtPlace.TheVariants.{Authentication}
 use Rattle.ep_ipslice.specs.Packet.{Ipv4Packet, IsIpv4Packet}
-use Rattle.ep_ipslice.specs.Ipv4Packet.{body_of, packet_behind, packet_with}
+use Rattle.ep_ipslice.specs.Ipv4Packet.{body_of, packet_with}
 use Rattle.ep_ipslice.proofs.Cuts.{header_body_rest, header_body_len, body_again}
 
 -- a packet stands where its header, its total length and its authentication header were found

@@ -1,5 +1,5 @@
 -- The parts of an IPv6 packet.
-use Rattle.std.proofs.Common.{◌≡◌, ℕ, ◌+◌, ◌-◌, ◌≤◌, ◌==◌, ◌||◌, Bool, true, false, cond, List, [], ◌∷◌, ◌++◌, length, take, drop, Option, Some, None, Result, Ok, Err, IfErr, ◌⊎◌, ⊎_elim, refl, sym, ap, ◌∙◌, subst, append_assoc, length-append, take-append-drop, arith}
+use Rattle.std.proofs.Common.{◌≡◌, ℕ, ◌+◌, ◌-◌, ◌≤◌, ◌==◌, ◌||◌, Bool, true, false, cond, List, [], ◌∷◌, ◌++◌, length, take, drop, Option, Some, None, Result, Ok, Err, Bor, IfErr, IsOkAnd, ◌⊎◌, ⊎_elim, refl, sym, ap, ◌∙◌, subst, append_assoc, length-append, take-append-drop, arith}
 use Rattle.std.proofs.lemmas.List.{drop_at, length-drop, length-take-le, take_at}
 use Rattle.ep_base.specs.declared.err.layer.Layer.{Layer}
 use Rattle.ep_base.specs.declared.len_source.LenSource.{LenSource}
@@ -10,13 +10,16 @@ use Rattle.ep_ip.specs.declared.err.ipv6.header_slice_error.HeaderSliceError.{He
 use Rattle.ep_ipslice.specs.Ipv6Fault.{IsCutOff, IsIpv6Fault, IsRowFault, OfLength, OfExtensions}
 use Rattle.ep_ext.specs.Chain.{Chain, Fault, IsEnd, IsPiece, Row, fault_at, fault_in, fault_of, front_of, layer_of}
 use Rattle.ep_ext.specs.Follow.{has_place}
+use Rattle.ep_ext.specs.Place.{KeepsNumbers, in_front, number_of}
 use Rattle.ep_ext.specs.Value.{Piece, bytes_of, places}
+use Rattle.ep_base.specs.declared.err.len_error.LenError.{LenError}
+use Rattle.std.proofs.lemmas.Bool.{eqb-true}
 use Rattle.ep_base.specs.declared.err.layer.Layer.TheVariants.{Ipv6HopByHopHeader}
 use Rattle.ep_ext.specs.declared.err.ipv6_exts.header_error.HeaderError.TheVariants.{HopByHopNotAtStart}
 use Rattle.ep_ext.specs.declared.err.ipv6_exts.header_slice_error.HeaderSliceError.{HeaderSliceError}
 use Rattle.ep_ext.specs.declared.err.ipv6_exts.header_slice_error.HeaderSliceError.TheVariants.{Content}
 use Rattle.ep_ext.specs.declared.net.ipv6_ext_place.Ipv6ExtPlace.{Ipv6ExtPlace}
-use Rattle.ep_ext.specs.declared.net.ipv6_ext_place.Ipv6ExtPlace.TheVariants.{HopByHop, Destination, Routing, Fragment, Authentication, FinalDestination}
+use Rattle.ep_ext.specs.declared.net.ipv6_ext_place.Ipv6ExtPlace.TheVariants.{HopByHop, Destination, Routing, Fragment, Authentication}
 use Rattle.ep_ipslice.specs.Ipv6Exts.{Ipv6Exts, exts_of, is_any_fragmenting, view_order}
 use Rattle.ep_ipslice.specs.Packet.{IpPayload, Ipv6Packet, IsIpv6Packet, body_len, body_source}
 use Rattle.ep_ipslice.specs.declared.err.ipv6.slice_error.SliceError.{SliceError}
@@ -165,3 +168,38 @@ pub packet_parts : (bytes : List ℕ) (packet : Ipv6Packet) (is : IsIpv6Packet b
 packet_parts bytes packet is =
     is.cut ∙ ap (λ (xs : List ℕ). xs ++ is.padding) (append_assoc packet.header (bytes_of is.pieces) packet.payload.payload)
     ∙ append_assoc packet.header (bytes_of is.pieces ++ packet.payload.payload) is.padding
+
+place_same : (x y : Ipv6ExtPlace) → ◌≡◌ {A = Option Ipv6ExtPlace} (Some x) (Some y) → x ≡ y
+place_same x y h = cc
+
+-- a view takes headers at places of their own numbers
+numbered : (hop routing fragment auth destination : Bool) (number : ℕ) (passed : List Ipv6ExtPlace) (place : Ipv6ExtPlace) →
+    (hop ≡ true → 0 ≡ number) → (routing ≡ true → 43 ≡ number) → (fragment ≡ true → 44 ≡ number) → (auth ≡ true → 51 ≡ number) → (destination ≡ true → 60 ≡ number) →
+    cond hop (in_front passed) (cond routing (Some Routing) (cond fragment (Some Fragment) (cond auth (Some Authentication) (cond destination (Some Destination) None)))) ≡ Some place →
+    number_of place ≡ number
+numbered true routing fragment auth destination number [] place a b c d e is = sym (ap number_of (place_same HopByHop place is)) ∙ a refl
+numbered true routing fragment auth destination number (p ∷ ps) place a b c d e is = cc
+numbered false true fragment auth destination number passed place a b c d e is = sym (ap number_of (place_same Routing place is)) ∙ b refl
+numbered false false true auth destination number passed place a b c d e is = sym (ap number_of (place_same Fragment place is)) ∙ c refl
+numbered false false false true destination number passed place a b c d e is = sym (ap number_of (place_same Authentication place is)) ∙ d refl
+numbered false false false false true number passed place a b c d e is = sym (ap number_of (place_same Destination place is)) ∙ e refl
+numbered false false false false false number passed place a b c d e is = cc
+
+pub keeps_numbers : KeepsNumbers view_order
+keeps_numbers passed number place is =
+    numbered (number == 0) (number == 43) (number == 44) (number == 51) (number == 60) number passed place
+    (λ h. sym (eqb-true number 0 h)) (λ h. sym (eqb-true number 43 h)) (λ h. sym (eqb-true number 44 h)) (λ h. sym (eqb-true number 51 h)) (λ h. sym (eqb-true number 60 h)) is
+
+-- a packet's extension headers are a row in front of its payload
+pub view_chain : EndsClosed → (bytes : List ℕ) (packet : Ipv6Packet) (is : IsIpv6Packet bytes packet) (first : ℕ) (body : List ℕ) → first ≡ next_header_of packet.header →
+    body ≡ packet.exts.slice ++ packet.payload.payload → Chain view_order first body is.pieces is.last packet.payload.payload
+view_chain ends bytes packet is first body named cut = record {
+  row = subst (λ (m : ℕ). Row view_order [] m is.pieces is.last) (sym named) is.row;
+  cut = cut ∙ ap (λ (e : Ipv6Exts). e.slice ++ packet.payload.payload) is.exts;
+  ended = ends view_order (places is.pieces) is.last packet.payload.payload (none_left (places is.pieces) is.last is.ended);
+}
+
+pub skipped_answer : (packet : Ipv6Packet) (last : ℕ) (r : Result (IpNumber × Bor (List ℕ)) LenError) → packet.payload.ip_number.0 ≡ last →
+    IsOkAnd r (λ a. (a.0.0 ≡ last) × (a.1.now ≡ packet.payload.payload)) → IsOkAnd r (λ a. (a.0 ≡ packet.payload.ip_number) × (a.1.now ≡ packet.payload.payload))
+skipped_answer packet last (Ok answer) number is = ((λ i. record { 0 = (is.0 ∙ sym number) i }), is.1)
+skipped_answer packet last (Err e) number is = is

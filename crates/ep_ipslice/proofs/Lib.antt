@@ -4,4 +4,5 @@ mod IpParts
 mod Ipv4Parts
 mod Ipv6Parts
 mod Left
+mod SamePayloads
 mod ViewWalk

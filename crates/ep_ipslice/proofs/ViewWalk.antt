@@ -15,7 +15,7 @@ use Rattle.ep_ext.specs.Place.{Order}
 use Rattle.ep_ext.specs.Value.{Piece, bytes_of, places}
 use Rattle.ep_ext.specs.declared.err.ipv6_exts.header_slice_error.HeaderSliceError.{HeaderSliceError}
 use Rattle.ep_ext.specs.declared.net.ipv6_ext_place.Ipv6ExtPlace.{Ipv6ExtPlace}
-use Rattle.ep_ipslice.specs.Ipv6Exts.{Answers, Ipv6Exts, IsViewOf, Stops, exts_of, is_any_fragmenting, is_begun, is_fragmenting_piece, place_behind, view_order}
+use Rattle.ep_ipslice.specs.Ipv6Exts.{Ipv6Exts, IsViewOf, Stops, exts_of, is_any_fragmenting, is_begun, is_fragmenting_piece, place_behind, view_order}
 
 -- what the walk keeps: so far the bytes are headers in a row and the rest
 pub record Kept (first : ℕ) (bytes : List ℕ) (begun fragmented : Bool) (number : ℕ) (rest : List ℕ) : Type 0 where

@@ -1,11 +1,10 @@
 -- The extension headers of an IPv6 packet, as a view reads them (RFC 8200, sections 4 and 4.1).
-use Rattle.std.specs.Prelude.{◌≡◌, ℕ, zero, suc, ◌+◌, ◌==◌, if◌then◌else◌, Bool, true, false, List, [], ◌∷◌, ◌++◌, length, drop, Option, Some, None, Result, Ok, Err}
+use Rattle.std.specs.Prelude.{◌≡◌, ℕ, ◌==◌, if◌then◌else◌, Bool, true, false, List, [], ◌∷◌, Option, Some, None, Result, Ok, Err}
 use Rattle.std.specs.Borrow.{Bor}
 use Rattle.std.specs.List.{list_any}
-use Rattle.ep_base.specs.Bytes.{num}
 use Rattle.ep_base.specs.declared.err.layer.Layer.{Layer}
 use Rattle.ep_base.specs.declared.net.ip_number.IpNumber.{IpNumber}
-use Rattle.ep_ext.specs.Chain.{Row, Chain, Fault, fault_of}
+use Rattle.ep_ext.specs.Chain.{Row, Fault, fault_of}
 use Rattle.ep_ext.specs.Fragment.{fragment_of, fragments}
 use Rattle.ep_ext.specs.Place.{Order, in_front}
 use Rattle.ep_ext.specs.Value.{Piece, bytes_of}

@@ -1,5 +1,5 @@
 -- The extension headers at the front of bytes, one by one (RFC 8200, section 4).
-use Rattle.std.specs.Prelude.{◌≡◌, false, ℕ, zero, suc, ◌+◌, List, [], ◌∷◌, ◌++◌, length, drop, Option, Some, None, Result, Ok, Err}
+use Rattle.std.specs.Prelude.{◌≡◌, false, ℕ, zero, suc, List, [], ◌∷◌, ◌++◌, length, drop, Option, Some, None, Result, Ok, Err}
 use Rattle.ep_base.specs.Bytes.{num}
 use Rattle.ep_ext.specs.Chain.{Row, front_of}
 use Rattle.ep_ext.specs.Place.{Order}

@@ -1,4 +1,5 @@
 pub mod Compared
+pub mod Examples
 pub mod IpFault
 pub mod Ipv4Lax
 pub mod Ipv4Packet

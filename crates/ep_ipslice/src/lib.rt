@@ -3,9 +3,13 @@
 #![tactic(auto)]
 
 pub mod err;
+pub mod laws;
 mod net;
 
 pub use net::{
     IpPayloadSlice, IpSlice, Ipv4ExtensionsSlice, Ipv4Slice, Ipv6ExtensionSlice,
     Ipv6ExtensionSliceIter, Ipv6ExtensionsSlice, Ipv6Slice, LaxIpPayloadSlice,
 };
+
+#[cfg(test)]
+mod tests;

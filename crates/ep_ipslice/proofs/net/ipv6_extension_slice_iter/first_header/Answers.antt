@@ -1,14 +1,12 @@
-use Rattle.std.proofs.Common.{◌≡◌, ◌∙◌, ◌∷◌, ◌++◌, [], ℕ, List, Option, Result, Some, Ok, IsSome, IsOk, false, get_or, length, eqb-true, sym, ap, subst, refl, arith}
+use Rattle.std.proofs.Common.{◌≡◌, ◌∙◌, ℕ, List, Option, Result, IsSome, IsOk, get_or, length, eqb-true, sym, ap, subst, refl}
 use Rattle.std.proofs.lemmas.Bool.{eqb-false}
 use Rattle.ep_ext.specs.Value.{Piece, bytes_of}
 use Rattle.ep_ext.specs.declared.err.ipv6_exts.header_slice_error.HeaderSliceError.{HeaderSliceError}
 use Rattle.ep_ext.specs.declared.net.ipv6_ext_place.Ipv6ExtPlace.{Ipv6ExtPlace}
 use Rattle.ep_ipslice.specs.declared.net.ipv6_extension_slice.Ipv6ExtensionSlice.{Ipv6ExtensionSlice}
 use Rattle.ep_ipslice.specs.Ipv6Ext.{ext_at, ext_of, piece_of}
-use Rattle.ep_ipslice.specs.Ipv6Exts.{place_behind, view_order}
-use Rattle.ep_ipslice.specs.Ipv6Walk.{IsLeft, pieces_left}
 use Rattle.ep_ipslice.proofs.Cuts.{split_front, drop_is}
-use Rattle.ep_ipslice.proofs.Left.{First, first_of, first_placed, first_front, first_piece, first_left, behind_left, left_is, none_left, some_place, ok_ext, left_behind}
+use Rattle.ep_ipslice.proofs.Left.{first_of, first_placed, first_front, first_piece, none_left, some_place, ok_ext, left_behind}
 use Rattle.ep_ipslice.proofs.net.ipv6_extension_slice_iter.first_header.Goals as goal
 
 pub returns-then-is_empty : goal.returns-then-is_empty

@@ -1,4 +1,4 @@
-use Rattle.std.proofs.Common.{sym, ◌∙◌}
+use Rattle.std.proofs.Common.{sym}
 use Rattle.ep_ipslice.specs.IpSlice.{OfIpv4, OfIpv6}
 use Rattle.ep_ipslice.proofs.IpParts.{ipv4_only, ipv6_only}
 use Rattle.ep_ipslice.proofs.net.ip_slice.IpSlice.from_slice.Goals as goal

@@ -1,4 +1,4 @@
-use Rattle.std.proofs.Common.{◌≡◌, ◌∙◌, ◌-◌, ◌||◌, ℕ, Bool, List, get_or, length, sym, ap, refl, arith}
+use Rattle.std.proofs.Common.{◌∙◌, ◌-◌, ◌||◌, ℕ, Bool, List, get_or, length, sym, ap, refl, arith}
 use Rattle.ep_ext.proofs.Fronts.{fault_moves}
 use Rattle.ep_ipslice.specs.Ipv6Ext.{piece_of}
 use Rattle.ep_ipslice.proofs.Cuts.{split_front, split_back}

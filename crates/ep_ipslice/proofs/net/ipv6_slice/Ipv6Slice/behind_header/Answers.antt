@@ -1,8 +1,7 @@
-use Rattle.std.proofs.Common.{◌≡◌, ◌∙◌, ℕ, List, length, drop, sym, ap}
+use Rattle.std.proofs.Common.{◌∙◌, ℕ, List, length, drop, sym, ap}
 use Rattle.ep_ip.specs.Ipv6.{next_header_of}
-use Rattle.ep_ext.specs.Chain.{Chain}
-use Rattle.ep_ipslice.specs.Ipv6Exts.{exts_of, view_order}
-use Rattle.ep_ipslice.specs.Packet.{Ipv6Packet, IsIpv6Packet, body_len}
+use Rattle.ep_ipslice.specs.Ipv6Exts.{exts_of}
+use Rattle.ep_ipslice.specs.Packet.{body_len}
 use Rattle.ep_ipslice.proofs.Ipv6Parts.{packet_found, packet_chain, packet_same, payload_same, never_refused}
 use Rattle.ep_ipslice.proofs.net.ipv6_slice.Ipv6Slice.behind_header.Goals as goal
 

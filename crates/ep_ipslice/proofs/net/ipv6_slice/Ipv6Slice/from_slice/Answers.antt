@@ -1,5 +1,4 @@
-use Rattle.std.proofs.Common.{sym, ◌∙◌}
-use Rattle.ep_ext.specs.Value.{bytes_of}
+use Rattle.std.proofs.Common.{sym}
 use Rattle.ep_ipslice.specs.Ipv6Fault.{OfHeader}
 use Rattle.ep_ipslice.proofs.Ipv6Parts.{header_same, packet_parts, refused_of}
 use Rattle.ep_ipslice.proofs.net.ipv6_slice.Ipv6Slice.from_slice.Goals as goal
