@@ -1,0 +1,205 @@
+-- The parts of an IPv6 packet.
+use Rattle.std.proofs.Common.{◌≡◌, ℕ, ◌+◌, ◌-◌, ◌≤◌, ◌==◌, ◌||◌, Bool, true, false, cond, List, [], ◌∷◌, ◌++◌, length, take, drop, Option, Some, None, Result, Ok, Err, Bor, IfErr, IsOkAnd, ◌⊎◌, ⊎_elim, refl, sym, ap, ◌∙◌, subst, append_assoc, length-append, take-append-drop, arith}
+use Rattle.std.proofs.lemmas.List.{drop_at, length-drop, length-take-le, take_at}
+use Rattle.ep_base.specs.declared.err.layer.Layer.{Layer}
+use Rattle.ep_base.specs.declared.len_source.LenSource.{LenSource}
+use Rattle.ep_base.specs.declared.net.ip_number.IpNumber.{IpNumber}
+use Rattle.ep_ip.specs.Ipv6.{IsIpv6Header, next_header_of}
+use Rattle.ep_ip.specs.Ipv6Fault.{header_at}
+use Rattle.ep_ip.specs.declared.err.ipv6.header_slice_error.HeaderSliceError.{HeaderSliceError as HeaderFault}
+use Rattle.ep_ipslice.specs.Ipv6Fault.{IsCutOff, IsIpv6Fault, IsRowFault, OfLength, OfExtensions}
+use Rattle.ep_ext.specs.Chain.{Chain, Fault, IsEnd, IsPiece, Row, fault_at, fault_in, fault_of, front_of, layer_of}
+use Rattle.ep_ext.specs.Follow.{has_place}
+use Rattle.ep_ext.specs.Place.{KeepsNumbers, in_front, number_of}
+use Rattle.ep_ext.specs.Value.{Piece, bytes_of, places}
+use Rattle.ep_base.specs.declared.err.len_error.LenError.{LenError}
+use Rattle.std.proofs.lemmas.Bool.{eqb-true}
+use Rattle.ep_base.specs.declared.err.layer.Layer.TheVariants.{Ipv6HopByHopHeader}
+use Rattle.ep_ext.specs.declared.err.ipv6_exts.header_error.HeaderError.TheVariants.{HopByHopNotAtStart}
+use Rattle.ep_ext.specs.declared.err.ipv6_exts.header_slice_error.HeaderSliceError.{HeaderSliceError}
+use Rattle.ep_ext.specs.declared.err.ipv6_exts.header_slice_error.HeaderSliceError.TheVariants.{Content}
+use Rattle.ep_ext.specs.declared.net.ipv6_ext_place.Ipv6ExtPlace.{Ipv6ExtPlace}
+use Rattle.ep_ext.specs.declared.net.ipv6_ext_place.Ipv6ExtPlace.TheVariants.{HopByHop, Destination, Routing, Fragment, Authentication}
+use Rattle.ep_ipslice.specs.Ipv6Exts.{Ipv6Exts, exts_of, is_any_fragmenting, view_order}
+use Rattle.ep_ipslice.specs.Packet.{IpPayload, Ipv6Packet, IsIpv6Packet, body_len, body_source}
+use Rattle.ep_ipslice.specs.declared.err.ipv6.slice_error.SliceError.{SliceError}
+use Rattle.ep_ipslice.proofs.Fronts.{front_begins}
+use Rattle.ep_ipslice.proofs.ViewWalk.{EndsClosed}
+
+-- the order has no place for a number, and it is not that of hop-by-hop options: it is none of the
+-- five
+closed_all : (zero hop routing fragment auth destination : Bool) (x : Option Ipv6ExtPlace) → zero ≡ false →
+    cond zero x (cond routing (Some Routing) (cond fragment (Some Fragment) (cond auth (Some Authentication) (cond destination (Some Destination) None)))) ≡ None →
+    (zero || (routing || (fragment || (auth || (destination || false))))) ≡ false
+closed_all true hop routing fragment auth destination x none closed = cc
+closed_all false hop true fragment auth destination x none closed = cc
+closed_all false hop false true auth destination x none closed = cc
+closed_all false hop false false true destination x none closed = cc
+closed_all false hop false false false true x none closed = cc
+closed_all false hop false false false false x none closed = refl
+
+closed_back : (zero routing fragment auth destination : Bool) (x : Option Ipv6ExtPlace) →
+    (zero || (routing || (fragment || (auth || (destination || false))))) ≡ false →
+    cond zero x (cond routing (Some Routing) (cond fragment (Some Fragment) (cond auth (Some Authentication) (cond destination (Some Destination) None)))) ≡ None
+closed_back true routing fragment auth destination x none = cc
+closed_back false true fragment auth destination x none = cc
+closed_back false false true auth destination x none = cc
+closed_back false false false true destination x none = cc
+closed_back false false false false true x none = cc
+closed_back false false false false false x none = refl
+
+none_left : (passed : List Ipv6ExtPlace) (last : ℕ) → has_place last ≡ false → view_order passed last ≡ None
+none_left passed last none = closed_back (last == 0) (last == 43) (last == 44) (last == 51) (last == 60) _ none
+
+not_zero : (zero rest : Bool) → (zero || rest) ≡ false → zero ≡ false
+not_zero true rest h = cc
+not_zero false rest h = refl
+
+-- no fault at the end of a row: no header is open there
+no_fault_in : (layer : Layer) (offset : ℕ) (r : Result (List ℕ) HeaderSliceError) → fault_in layer offset r ≡ None → (header : List ℕ) × (r ≡ Ok header)
+no_fault_in layer offset (Ok header) none = (header, refl)
+no_fault_in layer offset (Err e) none = cc
+
+not_misplaced : (zero : Bool) (fault : Fault) → cond zero (Some fault) None ≡ None → zero ≡ false
+not_misplaced true fault none = cc
+not_misplaced false fault none = refl
+
+no_fault : (offset : ℕ) (place : Option Ipv6ExtPlace) (last : ℕ) (rest : List ℕ) → fault_at offset place last rest ≡ None →
+    ((p : Ipv6ExtPlace) (header behind : List ℕ) → place ≡ Some p → IsPiece p header → rest ≡ header ++ behind → ⊥) → (place ≡ None) × ((last == 0) ≡ false)
+no_fault offset (Some p) last rest none ended =
+    let front = no_fault_in (layer_of p) offset (front_of p rest) none in
+    let begins = front_begins p rest front.0 front.1 in
+    absurd (ended p front.0 begins.1.0 refl begins.0 begins.1.1)
+no_fault offset None last rest none ended = (refl, not_misplaced (last == 0) _ none)
+
+pub ended_of : (pieces : List Piece) (last : ℕ) (rest : List ℕ) → IsEnd view_order (places pieces) last rest → fault_of view_order pieces last rest ≡ None → has_place last ≡ false
+ended_of pieces last rest ended none =
+    let closed = no_fault (length (bytes_of pieces)) (view_order (places pieces) last) last rest none ended in
+    closed_all (last == 0) false (last == 43) (last == 44) (last == 51) (last == 60) _ closed.1 closed.0
+
+pub no_fault_of : (pieces : List Piece) (last : ℕ) (rest : List ℕ) → has_place last ≡ false → fault_of view_order pieces last rest ≡ None
+no_fault_of pieces last rest none =
+    ap (λ (p : Option Ipv6ExtPlace). fault_at (length (bytes_of pieces)) p last rest) (none_left (places pieces) last none)
+    ∙ ap (λ (b : Bool). cond b (Some (Content HopByHopNotAtStart, Ipv6HopByHopHeader)) None) (not_zero (last == 0) _ none)
+
+-- a packet stands where its header, its payload length and its extension headers were found
+pub packet_found : (bytes header rest0 behind body : List ℕ) (first len : ℕ) (source : LenSource) (pieces : List Piece) (last : ℕ) (rest : List ℕ) →
+    (exts : Ipv6Exts) (number : IpNumber) (fragmented : Bool) (payload : List ℕ) →
+    IsIpv6Header header → bytes ≡ header ++ rest0 → behind ≡ drop (length header) bytes → first ≡ next_header_of header →
+    source ≡ body_source header (length behind) → len ≡ body_len header (length behind) → len ≤ length behind → body ≡ take len behind →
+    Chain view_order first body pieces last rest → exts ≡ exts_of first pieces → number.0 ≡ last → payload ≡ rest → fault_of view_order pieces last rest ≡ None →
+    fragmented ≡ exts.fragmented →
+    IsIpv6Packet bytes (record { header = header; exts = exts; payload = record { ip_number = number; fragmented = fragmented; len_source = source; payload = payload } })
+packet_found bytes header rest0 behind body first len source pieces last rest exts number fragmented payload is parts split named bounded sized fits cut chain seen numbered left none parted =
+    let behind_is : behind ≡ rest0 = split ∙ ap (drop (length header)) parts ∙ drop_at header rest0 (length header) refl in
+    let all : length bytes ≡ length header + length rest0 = ap length parts ∙ length-append header rest0 in
+    let size : length bytes - 40 ≡ length behind = omega (arith, all, is.whole, ap length behind_is) in
+    let body_parts : body ≡ bytes_of pieces ++ payload = chain.cut ∙ ap (λ (xs : List ℕ). bytes_of pieces ++ xs) (sym left) in
+    let body_size : length (bytes_of pieces) + length payload ≡ len = sym (length-append (bytes_of pieces) payload) ∙ sym (ap length body_parts) ∙ ap length cut ∙ length-take-le len behind fits in
+    let number_is : number ≡ record { 0 = last } = λ i. record { 0 = numbered i } in
+    record {
+      pieces = pieces;
+      last = last;
+      padding = drop len behind;
+      cut =
+          parts ∙ ap (λ (xs : List ℕ). header ++ xs) (sym behind_is ∙ sym (take-append-drop len behind) ∙ ap (λ (xs : List ℕ). xs ++ drop len behind) (sym cut ∙ body_parts))
+          ∙ sym (append_assoc header (bytes_of pieces ++ payload) (drop len behind)) ∙ ap (λ (xs : List ℕ). xs ++ drop len behind) (sym (append_assoc header (bytes_of pieces) payload));
+      header = is;
+      row = subst (λ (n : ℕ). Row view_order [] n pieces last) named chain.row;
+      ended = ended_of pieces last rest chain.ended none;
+      size = body_size ∙ sized ∙ ap (body_len header) (sym size);
+      exts = seen ∙ ap (λ (n : ℕ). exts_of n pieces) named;
+      fields = λ i. record { ip_number = number_is i; fragmented = (parted ∙ ap (λ (e : Ipv6Exts). e.fragmented) seen) i; len_source = (bounded ∙ ap (body_source header) (sym size)) i; payload = payload };
+    }
+
+-- a packet's extension headers are a row in what its payload length gives it
+pub packet_chain : EndsClosed → (bytes behind body : List ℕ) (first len n : ℕ) (packet : Ipv6Packet) (is : IsIpv6Packet bytes packet) →
+    behind ≡ drop n bytes → n ≡ length packet.header → first ≡ next_header_of packet.header → len ≡ body_len packet.header (length behind) → body ≡ take len behind →
+    Chain view_order first body is.pieces is.last packet.payload.payload
+packet_chain ends bytes behind body first len n packet is split n_is named sized cut =
+    let exts : List ℕ = bytes_of is.pieces in
+    let payload : List ℕ = packet.payload.payload in
+    let parts : bytes ≡ packet.header ++ (exts ++ payload ++ is.padding) =
+    is.cut ∙ ap (λ (xs : List ℕ). xs ++ is.padding) (append_assoc packet.header exts payload) ∙ append_assoc packet.header (exts ++ payload) is.padding in
+    let behind_is : behind ≡ exts ++ payload ++ is.padding = split ∙ ap (drop n) parts ∙ drop_at packet.header (exts ++ payload ++ is.padding) n (sym n_is) in
+    let all : length bytes ≡ length packet.header + length (exts ++ payload ++ is.padding) = ap length parts ∙ length-append packet.header (exts ++ payload ++ is.padding) in
+    let size : length bytes - 40 ≡ length behind = omega (arith, all, is.header.whole, ap length behind_is) in
+    let len_is : len ≡ length (exts ++ payload) = sized ∙ ap (body_len packet.header) (sym size) ∙ sym is.size ∙ sym (length-append exts payload) in
+    record {
+      row = subst (λ (m : ℕ). Row view_order [] m is.pieces is.last) (sym named) is.row;
+      cut = cut ∙ ap (take len) behind_is ∙ take_at (exts ++ payload) is.padding len (sym len_is);
+      ended = ends view_order (places is.pieces) is.last payload (none_left (places is.pieces) is.last is.ended);
+    }
+
+-- what the parts of a row tell is what the packet tells
+pub payload_same : (bytes behind header : List ℕ) (first n : ℕ) (source : LenSource) (exts : Ipv6Exts) (number : IpNumber) (fragmented : Bool) (payload : List ℕ) (packet : Ipv6Packet) (is : IsIpv6Packet bytes packet) →
+    header ≡ packet.header → behind ≡ drop n bytes → n ≡ length header → source ≡ body_source header (length behind) → exts ≡ exts_of first is.pieces → number.0 ≡ is.last →
+    fragmented ≡ exts.fragmented → payload ≡ packet.payload.payload →
+    record { ip_number = number; fragmented = fragmented; len_source = source; payload = payload } ≡ packet.payload
+payload_same bytes behind header first n source exts number fragmented payload packet is same split n_is bounded seen numbered parted left =
+    let size : length behind ≡ length bytes - 40 = omega (arith, ap length split, length-drop n bytes, n_is, ap length same, is.header.whole) in
+    let number_is : number ≡ record { 0 = is.last } = λ i. record { 0 = numbered i } in
+    let source_is : source ≡ body_source packet.header (length bytes - 40) = bounded ∙ ap (λ (h : List ℕ). body_source h (length behind)) same ∙ ap (body_source packet.header) size in
+    let part_is : fragmented ≡ is_any_fragmenting is.pieces = parted ∙ ap (λ (e : Ipv6Exts). e.fragmented) seen in
+    (λ i. record { ip_number = number_is i; fragmented = part_is i; len_source = source_is i; payload = left i }) ∙ sym is.fields
+
+pub packet_same : (packet : Ipv6Packet) (header : List ℕ) (exts : Ipv6Exts) (payload : IpPayload) → header ≡ packet.header → exts ≡ packet.exts → payload ≡ packet.payload →
+    ◌≡◌ {A = Result Ipv6Packet SliceError} (Ok (record { header = header; exts = exts; payload = payload })) (Ok packet)
+packet_same packet header exts payload h e p = λ i. Ok (record { header = h i; exts = e i; payload = p i })
+
+none_some : (x : Fault) → ◌≡◌ {A = Option Fault} None (Some x) → ⊥
+none_some x h = cc
+
+-- a row that ends at none of the five numbers ends without a fault
+pub never_refused : (pieces : List Piece) (last : ℕ) (rest : List ℕ) (fault : Fault) → has_place last ≡ false → fault_of view_order pieces last rest ≡ Some fault → ⊥
+never_refused pieces last rest fault none found = none_some fault (sym (no_fault_of pieces last rest none) ∙ found)
+
+-- behind a header, the first fault is that of the length or of the extension headers
+pub refused_of : (bytes header : List ℕ) (r : Result Ipv6Packet SliceError) → header_at bytes ≡ Ok header →
+    IfErr r (λ e. IsCutOff bytes header e ⊎ IsRowFault bytes header e) → IfErr r (λ e. IsIpv6Fault bytes e)
+refused_of bytes header (Ok packet) is either = tt
+refused_of bytes header (Err e) is either = ⊎_elim (λ cut. OfLength header is cut) (λ row. OfExtensions header is row) either
+
+pub header_same : (x y : List ℕ) → ◌≡◌ {A = Result (List ℕ) HeaderFault} (Ok x) (Ok y) → x ≡ y
+header_same x y h = cc
+
+-- a packet begins with its header
+pub packet_parts : (bytes : List ℕ) (packet : Ipv6Packet) (is : IsIpv6Packet bytes packet) → bytes ≡ packet.header ++ (bytes_of is.pieces ++ packet.payload.payload ++ is.padding)
+packet_parts bytes packet is =
+    is.cut ∙ ap (λ (xs : List ℕ). xs ++ is.padding) (append_assoc packet.header (bytes_of is.pieces) packet.payload.payload)
+    ∙ append_assoc packet.header (bytes_of is.pieces ++ packet.payload.payload) is.padding
+
+place_same : (x y : Ipv6ExtPlace) → ◌≡◌ {A = Option Ipv6ExtPlace} (Some x) (Some y) → x ≡ y
+place_same x y h = cc
+
+-- a view takes headers at places of their own numbers
+numbered : (hop routing fragment auth destination : Bool) (number : ℕ) (passed : List Ipv6ExtPlace) (place : Ipv6ExtPlace) →
+    (hop ≡ true → 0 ≡ number) → (routing ≡ true → 43 ≡ number) → (fragment ≡ true → 44 ≡ number) → (auth ≡ true → 51 ≡ number) → (destination ≡ true → 60 ≡ number) →
+    cond hop (in_front passed) (cond routing (Some Routing) (cond fragment (Some Fragment) (cond auth (Some Authentication) (cond destination (Some Destination) None)))) ≡ Some place →
+    number_of place ≡ number
+numbered true routing fragment auth destination number [] place a b c d e is = sym (ap number_of (place_same HopByHop place is)) ∙ a refl
+numbered true routing fragment auth destination number (p ∷ ps) place a b c d e is = cc
+numbered false true fragment auth destination number passed place a b c d e is = sym (ap number_of (place_same Routing place is)) ∙ b refl
+numbered false false true auth destination number passed place a b c d e is = sym (ap number_of (place_same Fragment place is)) ∙ c refl
+numbered false false false true destination number passed place a b c d e is = sym (ap number_of (place_same Authentication place is)) ∙ d refl
+numbered false false false false true number passed place a b c d e is = sym (ap number_of (place_same Destination place is)) ∙ e refl
+numbered false false false false false number passed place a b c d e is = cc
+
+pub keeps_numbers : KeepsNumbers view_order
+keeps_numbers passed number place is =
+    numbered (number == 0) (number == 43) (number == 44) (number == 51) (number == 60) number passed place
+    (λ h. sym (eqb-true number 0 h)) (λ h. sym (eqb-true number 43 h)) (λ h. sym (eqb-true number 44 h)) (λ h. sym (eqb-true number 51 h)) (λ h. sym (eqb-true number 60 h)) is
+
+-- a packet's extension headers are a row in front of its payload
+pub view_chain : EndsClosed → (bytes : List ℕ) (packet : Ipv6Packet) (is : IsIpv6Packet bytes packet) (first : ℕ) (body : List ℕ) → first ≡ next_header_of packet.header →
+    body ≡ packet.exts.slice ++ packet.payload.payload → Chain view_order first body is.pieces is.last packet.payload.payload
+view_chain ends bytes packet is first body named cut = record {
+  row = subst (λ (m : ℕ). Row view_order [] m is.pieces is.last) (sym named) is.row;
+  cut = cut ∙ ap (λ (e : Ipv6Exts). e.slice ++ packet.payload.payload) is.exts;
+  ended = ends view_order (places is.pieces) is.last packet.payload.payload (none_left (places is.pieces) is.last is.ended);
+}
+
+pub skipped_answer : (packet : Ipv6Packet) (last : ℕ) (r : Result (IpNumber × Bor (List ℕ)) LenError) → packet.payload.ip_number.0 ≡ last →
+    IsOkAnd r (λ a. (a.0.0 ≡ last) × (a.1.now ≡ packet.payload.payload)) → IsOkAnd r (λ a. (a.0 ≡ packet.payload.ip_number) × (a.1.now ≡ packet.payload.payload))
+skipped_answer packet last (Ok answer) number is = ((λ i. record { 0 = (is.0 ∙ sym number) i }), is.1)
+skipped_answer packet last (Err e) number is = is

@@ -1,0 +1,15 @@
+-- Faults of IP headers of either version, seen from a slice that begins earlier.
+use Rattle.std.specs.Prelude.{ℕ, ⊤}
+use Rattle.ep_base.specs.Moved as len
+use Rattle.ep_ipslice.specs.declared.err.ip.headers_slice_error.HeadersSliceError.{HeadersSliceError}
+use Rattle.ep_ipslice.specs.declared.err.ip.headers_slice_error.HeadersSliceError.TheVariants.{Len, Content}
+
+-- the offset fits a `usize`
+abbrev pub CanMove : HeadersSliceError → ℕ → Type 0
+CanMove (Len e) n = len.CanMove e n
+CanMove (Content e) n = ⊤
+
+-- a want of bytes is further on, and a fault of the content is the same
+abbrev pub moved : HeadersSliceError → ℕ → HeadersSliceError
+moved (Len e) n = Len (len.moved e n)
+moved (Content e) n = Content e

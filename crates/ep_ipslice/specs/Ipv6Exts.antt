@@ -1,0 +1,93 @@
+-- The extension headers of an IPv6 packet, as a view reads them (RFC 8200, sections 4 and 4.1).
+use Rattle.std.specs.Prelude.{◌≡◌, ℕ, ◌==◌, if◌then◌else◌, Bool, true, false, List, [], ◌∷◌, Option, Some, None, Result, Ok, Err}
+use Rattle.std.specs.Borrow.{Bor}
+use Rattle.std.specs.List.{list_any}
+use Rattle.ep_base.specs.declared.err.layer.Layer.{Layer}
+use Rattle.ep_base.specs.declared.net.ip_number.IpNumber.{IpNumber}
+use Rattle.ep_ext.specs.Chain.{Row, Fault, fault_of}
+use Rattle.ep_ext.specs.Fragment.{fragment_of, fragments}
+use Rattle.ep_ext.specs.Place.{Order, in_front}
+use Rattle.ep_ext.specs.Value.{Piece, bytes_of}
+use Rattle.ep_ext.specs.declared.err.ipv6_exts.header_slice_error.HeaderSliceError.{HeaderSliceError}
+use Rattle.ep_ext.specs.declared.net.ipv6_ext_place.Ipv6ExtPlace.{Ipv6ExtPlace}
+use Rattle.ep_ext.specs.declared.net.ipv6_ext_place.Ipv6ExtPlace.TheVariants.{HopByHop, Destination, Routing, Fragment, Authentication, FinalDestination}
+
+-- the order of a view: hop-by-hop options in front of all, and every other header as often as it is
+-- named
+abbrev pub view_order : Order
+view_order passed number =
+    if number == 0 then in_front passed else (
+    if number == 43 then Some Routing else (
+    if number == 44 then Some Fragment else (
+    if number == 51 then Some Authentication else (
+    if number == 60 then Some Destination else None))))
+
+-- the same place, where all that matters of the headers in front is whether there are any
+abbrev pub place_behind : Bool → ℕ → Option Ipv6ExtPlace
+place_behind begun number =
+    if number == 0 then (if begun then None else Some HopByHop) else (
+    if number == 43 then Some Routing else (
+    if number == 44 then Some Fragment else (
+    if number == 51 then Some Authentication else (
+    if number == 60 then Some Destination else None))))
+
+abbrev pub is_begun : List Piece → Bool
+is_begun [] = false
+is_begun (piece ∷ pieces) = true
+
+-- the fragment header of a part of a message
+abbrev pub is_fragmenting_header : List ℕ → Bool
+is_fragmenting_header header = fragments (fragment_of header)
+
+abbrev pub is_fragmenting_piece : Piece → Bool
+is_fragmenting_piece (HopByHop, header) = false
+is_fragmenting_piece (Destination, header) = false
+is_fragmenting_piece (Routing, header) = false
+is_fragmenting_piece (Fragment, header) = is_fragmenting_header header
+is_fragmenting_piece (Authentication, header) = false
+is_fragmenting_piece (FinalDestination, header) = false
+
+-- one of the headers at least is that of a part of a message
+abbrev pub is_any_fragmenting : List Piece → Bool
+is_any_fragmenting pieces = list_any is_fragmenting_piece pieces
+
+-- what a view shows: the number of the first header, where there is one, whether a header is that of
+-- a part of a message, and the bytes of all headers
+pub record Ipv6Exts : Type 0 where
+  pub first_header : Option IpNumber
+  pub fragmented : Bool
+  pub slice : List ℕ
+
+abbrev pub first_header_of : ℕ → List Piece → Option IpNumber
+first_header_of first [] = None
+first_header_of first (piece ∷ pieces) = Some (record { 0 = first })
+
+-- the view of these headers, of which the first has this number
+abbrev pub exts_of : ℕ → List Piece → Ipv6Exts
+exts_of first pieces = record {
+  first_header = first_header_of first pieces;
+  fragmented = is_any_fragmenting pieces;
+  slice = bytes_of pieces;
+}
+
+-- it is the view of some headers in a row
+abbrev pub IsView : Ipv6Exts → Type 0
+IsView exts = (first : ℕ) × (pieces : List Piece) × (last : ℕ) × Row view_order [] first pieces last × (exts ≡ exts_of first pieces)
+
+-- the parts of a view are those of some headers in a row
+abbrev pub IsViewOf : IpNumber → Bool → Bool → List ℕ → Type 0
+IsViewOf first begun fragmented bytes =
+    (pieces : List Piece) × (last : ℕ) × Row view_order [] first.0 pieces last × (bytes ≡ bytes_of pieces)
+    × (begun ≡ is_begun pieces) × (fragmented ≡ is_any_fragmenting pieces)
+
+-- the answers of a call that stops at a fault, and of one that refuses it
+pub record Stops (first : ℕ) (pieces : List Piece) (last : ℕ) (rest : List ℕ) (answer : Ipv6Exts × IpNumber × Bor (List ℕ) × Option Fault) : Type 0 where
+  pub view : answer.0 ≡ exts_of first pieces
+  pub number : answer.1.0 ≡ last
+  pub left : answer.2.now ≡ rest
+  pub fault : answer.3 ≡ fault_of view_order pieces last rest
+
+abbrev pub Answers : ℕ → List Piece → ℕ → List ℕ → Result (Ipv6Exts × IpNumber × Bor (List ℕ)) HeaderSliceError → Type 0
+Answers first pieces last rest (Ok r) =
+    (r.0 ≡ exts_of first pieces) × (r.1.0 ≡ last) × (r.2.now ≡ rest) × (fault_of view_order pieces last rest ≡ None)
+Answers first pieces last rest (Err e) = (layer : Layer) × (fault_of view_order pieces last rest ≡ Some (e, layer))

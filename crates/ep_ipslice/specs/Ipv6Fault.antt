@@ -1,0 +1,55 @@
+-- Why bytes begin with no IPv6 packet (RFC 8200, sections 3 and 4).
+use Rattle.std.specs.Prelude.{◌≡◌, ◌<◌, ◌≤◌, ℕ, ◌+◌, ◌-◌, List, length, take, drop, Some, Ok, Err}
+use Rattle.ep_base.specs.Moved.{moved}
+use Rattle.ep_base.specs.declared.err.layer.Layer.TheVariants as layer
+use Rattle.ep_base.specs.declared.err.len_error.LenError.{LenError}
+use Rattle.ep_base.specs.declared.len_source.LenSource.{LenSource}
+use Rattle.ep_base.specs.declared.len_source.LenSource.TheVariants.{Slice}
+use Rattle.ep_ip.specs.Ipv6.{next_header_of, payload_length_of}
+use Rattle.ep_ip.specs.Ipv6Fault.{header_at}
+use Rattle.ep_ip.specs.declared.err.ipv6.header_slice_error.HeaderSliceError.{HeaderSliceError as HeaderFault}
+use Rattle.ep_ip.specs.declared.err.ipv6.header_slice_error.HeaderSliceError.TheVariants as header_fault
+use Rattle.ep_ext.specs.Chain.{Chain, Fault, fault_of}
+use Rattle.ep_ext.specs.Value.{Piece}
+use Rattle.ep_ext.specs.declared.err.ipv6_exts.header_slice_error.HeaderSliceError.{HeaderSliceError as ExtsFault}
+use Rattle.ep_ext.specs.declared.err.ipv6_exts.header_slice_error.HeaderSliceError.TheVariants as exts_fault
+use Rattle.ep_ipslice.specs.Ipv6Exts.{view_order}
+use Rattle.ep_ipslice.specs.Packet.{body_len, body_source}
+use Rattle.ep_ipslice.specs.declared.err.ipv6.slice_error.SliceError.{SliceError}
+use Rattle.ep_ipslice.specs.declared.err.ipv6.slice_error.SliceError.TheVariants.{Len, Header, Exts}
+
+abbrev pub of_header_fault : HeaderFault → SliceError
+of_header_fault (header_fault.Len e) = Len e
+of_header_fault (header_fault.Content e) = Header e
+
+-- a want of bytes behind the header, in what this source bounds
+abbrev pub of_exts_fault : LenSource → ExtsFault → SliceError
+of_exts_fault source (exts_fault.Len e) = Len (record (moved e 40) { len_source = source })
+of_exts_fault source (exts_fault.Content e) = Exts e
+
+-- fewer bytes are there than header and payload length
+abbrev pub not_whole : List ℕ → ℕ → LenError
+not_whole header found = record { required_len = 40 + payload_length_of header; len = found; len_source = Slice; layer = layer.Ipv6Packet; layer_start_offset = 0 }
+
+-- fewer bytes stand behind the header than its payload length
+pub record IsCutOff (bytes header : List ℕ) (e : SliceError) : Type 0 where
+  pub size : length bytes - 40 < body_len header (length bytes - 40)
+  pub error : e ≡ Len (not_whole header (length bytes))
+
+-- the row of extension headers within the payload length ends at a fault
+pub record IsRowFault (bytes header : List ℕ) (e : SliceError) : Type 0 where
+  pub pieces : List Piece
+  pub last : ℕ
+  pub rest : List ℕ
+  pub fault : Fault
+  pub size : body_len header (length bytes - 40) ≤ length bytes - 40
+  pub chain : Chain view_order (next_header_of header) (take (body_len header (length bytes - 40)) (drop 40 bytes)) pieces last rest
+  pub found : fault_of view_order pieces last rest ≡ Some fault
+  pub error : e ≡ of_exts_fault (body_source header (length bytes - 40)) fault.0
+
+-- the first fault of the bytes: of the header, then of the length that it tells, then of the
+-- extension headers
+pub data IsIpv6Fault (bytes : List ℕ) (e : SliceError) : Type 0 where
+  OfHeader : (fault : HeaderFault) → header_at bytes ≡ Err fault → e ≡ of_header_fault fault → IsIpv6Fault bytes e
+  OfLength : (header : List ℕ) → header_at bytes ≡ Ok header → IsCutOff bytes header e → IsIpv6Fault bytes e
+  OfExtensions : (header : List ℕ) → header_at bytes ≡ Ok header → IsRowFault bytes header e → IsIpv6Fault bytes e

@@ -1,0 +1,12 @@
+pub mod Compared
+pub mod Examples
+pub mod IpFault
+pub mod Ipv4Lax
+pub mod Ipv4Packet
+pub mod Ipv6Ext
+pub mod Ipv6Exts
+pub mod IpSlice
+pub mod Ipv6Fault
+pub mod Ipv6Walk
+pub mod Packet
+pub mod PayloadHash

@@ -1,0 +1,86 @@
+-- IP packets: base header, extension headers, payload and padding (IPv4: RFC 791, section 3.1, and
+-- RFC 4302, section 3.1.1; IPv6: RFC 8200, sections 3 and 4), and what a packet tells.
+use Rattle.std.specs.Prelude.{◌≡◌, ℕ, ◌+◌, ◌-◌, ◌==◌, ◌&&◌, nat_lt, Bool, false, if◌then◌else◌, List, [], ◌++◌, length, Option}
+use Rattle.ep_base.specs.declared.len_source.LenSource.{LenSource}
+use Rattle.ep_base.specs.declared.len_source.LenSource.TheVariants.{Slice, Ipv4HeaderTotalLen, Ipv6HeaderPayloadLen}
+use Rattle.ep_base.specs.declared.net.ip_number.IpNumber.{IpNumber}
+use Rattle.ep_ip.specs.Ipv4 as v4
+use Rattle.ep_ip.specs.Ipv6 as v6
+use Rattle.ep_ext.specs.Chain.{Row}
+use Rattle.ep_ext.specs.Follow.{has_place}
+use Rattle.ep_ext.specs.Value.{Piece, bytes_of}
+use Rattle.ep_ext.specs.Ipv4Exts.{IsAuthBehind, auth_bytes, number_behind}
+use Rattle.ep_ipslice.specs.Ipv6Exts.{Ipv6Exts, exts_of, is_any_fragmenting, view_order}
+
+-- the payload of a packet: its protocol number, whether it is a part of a message, what its length
+-- came from, and its bytes
+pub record IpPayload : Type 0 where
+  pub ip_number : IpNumber
+  pub fragmented : Bool
+  pub len_source : LenSource
+  pub payload : List ℕ
+
+-- the parts of an IPv4 packet
+pub record Ipv4Packet : Type 0 where
+  pub header : List ℕ
+  pub auth : Option (List ℕ)
+  pub payload : List ℕ
+
+-- the bytes begin with this packet: its parts have the header's total length, and padding may
+-- follow
+pub record IsIpv4Packet (bytes : List ℕ) (packet : Ipv4Packet) : Type 0 where
+  pub padding : List ℕ
+  pub cut : bytes ≡ packet.header ++ auth_bytes packet.auth ++ packet.payload ++ padding
+  pub header : v4.IsIpv4Header packet.header
+  pub auth : IsAuthBehind (v4.protocol_of packet.header) packet.auth
+  pub total : length packet.header + length (auth_bytes packet.auth) + length packet.payload ≡ v4.total_len_of packet.header
+
+-- the payload is a part of a message
+abbrev pub is_ipv4_fragment : List ℕ → Bool
+is_ipv4_fragment header = v4.is_fragmenting (v4.more_fragments_of header) (v4.fragment_offset_of header)
+
+abbrev pub ipv4_payload : Ipv4Packet → IpPayload
+ipv4_payload packet = record {
+  ip_number = record { 0 = number_behind (v4.protocol_of packet.header) packet.auth };
+  fragmented = is_ipv4_fragment packet.header;
+  len_source = Ipv4HeaderTotalLen;
+  payload = packet.payload;
+}
+
+-- the parts of an IPv6 packet
+pub record Ipv6Packet : Type 0 where
+  pub header : List ℕ
+  pub exts : Ipv6Exts
+  pub payload : IpPayload
+
+-- the packet's own length is not given: the payload length is 0 (RFC 2675, section 3), and more than
+-- the header is there
+abbrev pub is_open : List ℕ → ℕ → Bool
+is_open header behind = (v6.payload_length_of header == 0) && nat_lt 0 behind
+
+-- how long extension headers and payload are, where so many bytes stand behind the header
+abbrev pub body_len : List ℕ → ℕ → ℕ
+body_len header behind = if is_open header behind then behind else v6.payload_length_of header
+
+-- what that length came from
+abbrev pub body_source : List ℕ → ℕ → LenSource
+body_source header behind = if is_open header behind then Slice else Ipv6HeaderPayloadLen
+
+-- the bytes begin with this packet: behind the header stand its extension headers, in a row up to a
+-- number that names none, and its payload, and padding may follow
+pub record IsIpv6Packet (bytes : List ℕ) (packet : Ipv6Packet) : Type 0 where
+  pub pieces : List Piece
+  pub last : ℕ
+  pub padding : List ℕ
+  pub cut : bytes ≡ packet.header ++ bytes_of pieces ++ packet.payload.payload ++ padding
+  pub header : v6.IsIpv6Header packet.header
+  pub row : Row view_order [] (v6.next_header_of packet.header) pieces last
+  pub ended : has_place last ≡ false
+  pub size : length (bytes_of pieces) + length packet.payload.payload ≡ body_len packet.header (length bytes - 40)
+  pub exts : packet.exts ≡ exts_of (v6.next_header_of packet.header) pieces
+  pub fields : packet.payload ≡ record {
+    ip_number = record { 0 = last };
+    fragmented = is_any_fragmenting pieces;
+    len_source = body_source packet.header (length bytes - 40);
+    payload = packet.payload.payload;
+  }

@@ -1,0 +1,30 @@
+ghost use Rattle.std.specs.Prelude.{◌≡◌};
+ghost use Rattle.ep_ipslice.specs.IpFault.{CanMove, moved};
+
+use super::HeadersError;
+use ep_base::err::LenError;
+use thiserror::Error;
+
+/// Why no IP base header with its extension headers could be read from a slice.
+#[derive(Clone, Copy, Debug, PartialEq, Eq, Hash, Error)]
+pub enum HeadersSliceError {
+    /// Fewer bytes are there than a header needs.
+    #[error("{0}")]
+    Len(LenError),
+    /// A header breaks its format.
+    #[error("{0}")]
+    Content(HeadersError),
+}
+
+impl HeadersSliceError {
+    /// The same fault of headers that start `offset` bytes further on. A `Content` stays as it is.
+    pub fn add_slice_offset(self, offset: usize) -> Self
+        requires { CanMove self offset }
+        ensures { result ≡ moved self offset }
+    {
+        match self {
+            HeadersSliceError::Len(error) => HeadersSliceError::Len(error.add_offset(offset)),
+            HeadersSliceError::Content(error) => HeadersSliceError::Content(error),
+        }
+    }
+}

@@ -1,0 +1,182 @@
+//! An IP packet of either version.
+
+ghost use Rattle.std.specs.Prelude.{◌≡◌, IfOk, IfErr, Ok};
+ghost use Rattle.std.specs.Option.{option_map};
+ghost use Rattle.ep_ipslice.specs.declared.net.ip_slice.IpSlice.{IpSlice};
+ghost use Rattle.ep_ipslice.specs.declared.net.ip_slice.IpSlice.TheVariants as view;
+ghost use Rattle.ep_ipslice.specs.IpSlice.{IsAddress, IsIpFault, IsIpPacket, destination_of, fragmented_of, ipv4_fault, ipv6_fault, ipv4_of, ipv6_of, payload_of, source_of};
+
+use super::{IpPayloadSlice, Ipv4Slice, Ipv6Slice};
+use crate::err::ip::{HeaderError, HeadersError, SliceError};
+use crate::err::{ipv4, ipv6};
+use ep_base::err::{Layer, LenError};
+use ep_base::{IpNumber, LenSource};
+use std::net::{IpAddr, Ipv4Addr, Ipv6Addr};
+
+/// An IP packet of either version (RFC 791; RFC 8200), borrowed.
+#[derive(Clone, Debug, PartialEq, Eq, Drop)]
+pub enum IpSlice<'a> {
+    /// An IPv4 packet.
+    Ipv4(Ipv4Slice<'a>),
+    /// An IPv6 packet.
+    Ipv6(Ipv6Slice<'a>),
+}
+
+impl<'a> IpSlice<'a> {
+    /// The packet at the front of the slice, of the version that the upper half of its first byte
+    /// tells. Refused are, in this order, a slice of no bytes, a version that is neither 4 nor 6, and
+    /// what [`Ipv4Slice::from_slice`] or [`Ipv6Slice::from_slice`] refuses.
+    pub fn from_slice(slice: &'a [u8]) -> Result<IpSlice<'a>, SliceError>
+        // The slice begins with what is taken.
+        ensures found { IfOk result (λ packet. IsIpPacket slice.now packet) }
+        // A packet that the slice begins with is taken.
+        ensures only { (packet : IpSlice) → IsIpPacket slice.now packet → result ≡ Ok packet }
+        // Else it is the first fault.
+        ensures refused { IfErr result (λ e. IsIpFault slice.now e) }
+    {
+        if slice.is_empty() {
+            return Err(SliceError::Len(LenError {
+                required_len: 1,
+                len: 0,
+                len_source: LenSource::Slice,
+                layer: Layer::IpHeader,
+                layer_start_offset: 0,
+            }));
+        }
+        let version_number = slice[0] >> 4;
+        if version_number == 4 {
+            return match Ipv4Slice::from_slice(slice) {
+                Ok(packet) => Ok(IpSlice::Ipv4(packet)),
+                Err(error) => Err(ipv4_fault(error)),
+            };
+        }
+        if version_number == 6 {
+            return match Ipv6Slice::from_slice(slice) {
+                Ok(packet) => Ok(IpSlice::Ipv6(packet)),
+                Err(error) => Err(ipv6_fault(error)),
+            };
+        }
+        Err(SliceError::IpHeaders(HeadersError::Ip(HeaderError::UnsupportedIpVersion {
+            version_number,
+        })))
+    }
+
+    /// The IPv4 packet, if it is one.
+    pub fn ipv4(&self) -> Option<&Ipv4Slice<'a>>
+        ensures { option_map (λ packet. packet.now) result ≡ ipv4_of self.now }
+    {
+        match self {
+            IpSlice::Ipv4(packet) => Some(packet),
+            IpSlice::Ipv6(_) => None,
+        }
+    }
+
+    /// The IPv6 packet, if it is one.
+    pub fn ipv6(&self) -> Option<&Ipv6Slice<'a>>
+        ensures { option_map (λ packet. packet.now) result ≡ ipv6_of self.now }
+    {
+        match self {
+            IpSlice::Ipv4(_) => None,
+            IpSlice::Ipv6(packet) => Some(packet),
+        }
+    }
+
+    /// Whether the payload is a part of a message.
+    pub fn is_fragmenting_payload(&self) -> bool
+        ensures { result ≡ fragmented_of self.now }
+    {
+        match self {
+            IpSlice::Ipv4(packet) => packet.is_payload_fragmented(),
+            IpSlice::Ipv6(packet) => packet.is_payload_fragmented(),
+        }
+    }
+
+    /// The source address.
+    pub fn source_addr(&self) -> IpAddr
+        ensures { IsAddress (source_of self.now) result }
+    {
+        match self {
+            IpSlice::Ipv4(packet) => IpAddr::V4(Ipv4Addr::from(packet.header().source())),
+            IpSlice::Ipv6(packet) => IpAddr::V6(Ipv6Addr::from(packet.header().source())),
+        }
+    }
+
+    /// The destination address.
+    pub fn destination_addr(&self) -> IpAddr
+        ensures { IsAddress (destination_of self.now) result }
+    {
+        match self {
+            IpSlice::Ipv4(packet) => IpAddr::V4(Ipv4Addr::from(packet.header().destination())),
+            IpSlice::Ipv6(packet) => IpAddr::V6(Ipv6Addr::from(packet.header().destination())),
+        }
+    }
+
+    /// The payload.
+    pub fn payload(&self) -> &IpPayloadSlice<'a>
+        ensures { result.now ≡ payload_of self.now }
+    {
+        match self {
+            IpSlice::Ipv4(packet) => packet.payload(),
+            IpSlice::Ipv6(packet) => packet.payload(),
+        }
+    }
+
+    /// The number of the protocol that the payload begins with, behind the extension headers.
+    pub fn payload_ip_number(&self) -> IpNumber
+        ensures { result ≡ (payload_of self.now).ip_number }
+    {
+        match self {
+            IpSlice::Ipv4(packet) => packet.payload_ip_number(),
+            IpSlice::Ipv6(packet) => packet.payload_ip_number(),
+        }
+    }
+}
+
+impl<'a> From<Ipv4Slice<'a>> for IpSlice<'a> {
+    ghost from_gives = { λ packet ip. ip ≡ view.Ipv4 packet };
+
+    fn from(packet: Ipv4Slice<'a>) -> Self {
+        IpSlice::Ipv4(packet)
+    }
+}
+
+impl<'a> From<Ipv6Slice<'a>> for IpSlice<'a> {
+    ghost from_gives = { λ packet ip. ip ≡ view.Ipv6 packet };
+
+    fn from(packet: Ipv6Slice<'a>) -> Self {
+        IpSlice::Ipv6(packet)
+    }
+}
+
+// The fault of a packet of version 4.
+fn ipv4_fault(error: ipv4::SliceError) -> SliceError
+    ensures { result ≡ ipv4_fault error }
+{
+    match error {
+        ipv4::SliceError::Len(error) => SliceError::Len(error),
+        ipv4::SliceError::Header(error) => SliceError::IpHeaders(HeadersError::Ip(match error {
+            ep_ip::err::ipv4::HeaderError::UnexpectedVersion { version_number } => {
+                HeaderError::UnsupportedIpVersion { version_number }
+            }
+            ep_ip::err::ipv4::HeaderError::HeaderLengthSmallerThanHeader { ihl } => {
+                HeaderError::Ipv4HeaderLengthSmallerThanHeader { ihl }
+            }
+        })),
+        ipv4::SliceError::Exts(error) => SliceError::IpHeaders(HeadersError::Ipv4Ext(error)),
+    }
+}
+
+// The fault of a packet of version 6.
+fn ipv6_fault(error: ipv6::SliceError) -> SliceError
+    ensures { result ≡ ipv6_fault error }
+{
+    match error {
+        ipv6::SliceError::Len(error) => SliceError::Len(error),
+        ipv6::SliceError::Header(
+            ep_ip::err::ipv6::HeaderError::UnexpectedVersion { version_number },
+        ) => SliceError::IpHeaders(HeadersError::Ip(HeaderError::UnsupportedIpVersion {
+            version_number,
+        })),
+        ipv6::SliceError::Exts(error) => SliceError::IpHeaders(HeadersError::Ipv6Ext(error)),
+    }
+}

@@ -1,0 +1,181 @@
+//! The IPv4 packet.
+
+ghost use Rattle.std.specs.Prelude.{◌≡◌, ℕ, List, ◌++◌, IfOk, Ok};
+ghost use Rattle.ep_ipslice.specs.Packet.{Ipv4Packet, IsIpv4Packet, is_ipv4_fragment, ipv4_payload};
+ghost use Rattle.ep_ipslice.specs.Ipv4Packet.{in_total_len, ipv4_packet_at, packet_with};
+ghost use Rattle.std.specs.Prelude.{◌&&◌, nat_eq};
+ghost use Rattle.std.specs.Cmp.Lexicographic.{pointwise};
+ghost use Rattle.std.specs.Cmp.Rules.{comparing};
+ghost use Rattle.std.specs.Ordering.{on};
+ghost use Rattle.std.proofs.Common.{rules};
+ghost use Rattle.ep_ipslice.specs.Compared.{auth_code};
+ghost use Rattle.ep_base.specs.Moved.{CanMove};
+
+use super::{IpPayloadSlice, Ipv4ExtensionsSlice};
+use crate::err::ipv4::SliceError;
+use ep_base::err::{Layer, LenError};
+use ep_base::{IpNumber, LenSource};
+use ep_ext::err::ip_auth;
+use ep_ext::laws;
+use ep_ip::Ipv4HeaderSlice;
+use ep_ip::err::ipv4::HeaderSliceError;
+use std::marker::Model;
+
+/// An IPv4 packet (RFC 791, section 3.1): its header, an authentication header where the protocol
+/// number names one (RFC 4302), and the payload, borrowed. What stands behind the total length is
+/// no part of it.
+///
+/// A contract sees the value as these parts.
+#[derive(Clone, Debug, Drop)]
+pub struct Ipv4Slice<'a> {
+    header: Ipv4HeaderSlice<'a>,
+    exts: Ipv4ExtensionsSlice<'a>,
+    payload: IpPayloadSlice<'a>,
+}
+
+impl<'a> Model for Ipv4Slice<'a> {
+    ghost Value = { Ipv4Packet };
+
+    ghost view = { λ p. record { header = p.header; auth = p.exts.auth; payload = p.payload.payload } };
+
+    ghost invariant = { λ p. p.payload ≡ ipv4_payload (record { header = p.header; auth = p.exts.auth; payload = p.payload.payload }) };
+}
+
+impl<'a> Ipv4Slice<'a> {
+    /// The packet at the front of the slice. Refused are, in this order, what
+    /// [`Ipv4HeaderSlice::from_slice`] refuses, a total length below the header's own, one above the
+    /// bytes that are there, and an authentication header that isn't whole within the total length or
+    /// breaks its format.
+    pub fn from_slice(slice: &'a [u8]) -> Result<Ipv4Slice<'a>, SliceError>
+        // The slice begins with what is taken.
+        ensures found { IfOk result (λ packet. IsIpv4Packet slice.now packet) }
+        // A packet that the slice begins with is taken.
+        ensures only { (packet : Ipv4Packet) → IsIpv4Packet slice.now packet → result ≡ Ok packet }
+        // Else it is the first fault.
+        ensures exact { result ≡ ipv4_packet_at slice.now }
+    {
+        laws::whole_header_is_found();
+        match Ipv4HeaderSlice::from_slice(slice) {
+            Ok(header) => Self::behind_header(header, slice),
+            Err(HeaderSliceError::Len(error)) => Err(SliceError::Len(error)),
+            Err(HeaderSliceError::Content(error)) => Err(SliceError::Header(error)),
+        }
+    }
+
+    // The packet of this header, which begins the slice.
+    fn behind_header(
+        header: Ipv4HeaderSlice<'a>,
+        slice: &'a [u8],
+    ) -> Result<Ipv4Slice<'a>, SliceError>
+        requires { (rest : List ℕ) × (slice.now ≡ header ++ rest) }
+        ensures found { IfOk result (λ packet. IsIpv4Packet slice.now packet) }
+        ensures exact { result ≡ packet_with slice.now (Ok header.entry) }
+    {
+        laws::whole_header_is_found();
+        let header_len = header.slice().len();
+        let total_len = usize::from(header.total_len());
+        if total_len < header_len {
+            return Err(SliceError::Len(LenError {
+                required_len: header_len,
+                len: total_len,
+                len_source: LenSource::Ipv4HeaderTotalLen,
+                layer: Layer::Ipv4Packet,
+                layer_start_offset: 0,
+            }));
+        }
+        if slice.len() < total_len {
+            return Err(SliceError::Len(LenError {
+                required_len: total_len,
+                len: slice.len(),
+                len_source: LenSource::Slice,
+                layer: Layer::Ipv4Packet,
+                layer_start_offset: 0,
+            }));
+        }
+        let (whole, _padding) = slice.split_at(total_len);
+        let (_, body) = whole.split_at(header_len);
+        match Ipv4ExtensionsSlice::from_slice(header.protocol(), body) {
+            Ok((exts, ip_number, payload)) => {
+                let fragmented = header.is_fragmenting_payload();
+                Ok(Ipv4Slice {
+                    header,
+                    exts,
+                    payload: IpPayloadSlice {
+                        ip_number,
+                        fragmented,
+                        len_source: LenSource::Ipv4HeaderTotalLen,
+                        payload,
+                    },
+                })
+            }
+            Err(ip_auth::HeaderSliceError::Len(error)) => Err(SliceError::Len(in_total_len(
+                error, header_len,
+            ))),
+            Err(ip_auth::HeaderSliceError::Content(error)) => Err(SliceError::Exts(error)),
+        }
+    }
+
+    /// The header.
+    pub fn header(&self) -> &Ipv4HeaderSlice<'a>
+        ensures { result.now ≡ self.now.header }
+    {
+        &self.header
+    }
+
+    /// The authentication header, if there is one.
+    pub fn extensions(&self) -> &Ipv4ExtensionsSlice<'a>
+        ensures { result.now.auth ≡ self.now.auth }
+    {
+        &self.exts
+    }
+
+    /// The payload.
+    pub fn payload(&self) -> &IpPayloadSlice<'a>
+        ensures { result.now ≡ ipv4_payload self.now }
+    {
+        &self.payload
+    }
+
+    /// The number of the protocol that the payload begins with, behind the authentication header.
+    pub fn payload_ip_number(&self) -> IpNumber
+        ensures { result ≡ (ipv4_payload self.now).ip_number }
+    {
+        self.payload.ip_number
+    }
+
+    /// Whether the payload is a part of a message: more fragments follow, or its offset isn't 0.
+    pub fn is_payload_fragmented(&self) -> bool
+        ensures { result ≡ is_ipv4_fragment self.now.header }
+    {
+        self.payload.fragmented
+    }
+}
+
+impl<'a> PartialEq for Ipv4Slice<'a> {
+    ghost eq = { λ a b. on (λ p. p.header) (pointwise nat_eq) a b && on (λ p. auth_code p.auth) (pointwise nat_eq) a b
+        && on (λ p. p.payload) (pointwise nat_eq) a b };
+
+    ghost laws = { Prim.search (comparing, rules) depth 9 };
+
+    fn eq(&self, other: &Self) -> bool {
+        // Number, flag and source of the payload are told by the headers.
+        self.header == other.header
+            && self.exts == other.exts
+            && self.payload.payload == other.payload.payload
+    }
+}
+
+impl<'a> Eq for Ipv4Slice<'a> {
+    ghost laws = { Prim.search (comparing, rules) };
+}
+
+// A want of bytes behind the header, in what the total length bounds.
+fn in_total_len(error: LenError, offset: usize) -> LenError
+    requires { CanMove error offset }
+    ensures { result ≡ in_total_len offset error }
+{
+    LenError {
+        len_source: LenSource::Ipv4HeaderTotalLen,
+        ..error.add_offset(offset)
+    }
+}

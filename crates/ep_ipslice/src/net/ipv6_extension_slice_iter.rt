@@ -1,0 +1,91 @@
+//! Going over the extension headers of an IPv6 packet.
+
+ghost use Rattle.std.specs.Prelude.{◌≡◌, List, [], ◌∷◌, MatchOption};
+ghost use Rattle.std.specs.Iterator.{YieldsFirstBy, item_count};
+ghost use Rattle.ep_base.specs.Bytes.{num};
+ghost use Rattle.ep_ext.specs.Value.{Piece};
+ghost use Rattle.ep_ipslice.specs.Ipv6Ext.{piece_of};
+ghost use Rattle.ep_ipslice.specs.Ipv6Walk.{IsLeft, pieces_left};
+
+use super::Ipv6ExtensionSlice;
+use super::ipv6_extensions_slice::place_of;
+use ep_base::IpNumber;
+use ep_ext::laws;
+use std::marker::Model;
+
+/// The extension headers of an [`Ipv6ExtensionsSlice`](super::Ipv6ExtensionsSlice), in their order,
+/// and then nothing more.
+///
+/// A contract sees the value as the headers that are left.
+#[derive(Clone, Debug, Drop)]
+pub struct Ipv6ExtensionSliceIter<'a> {
+    next_header: IpNumber,
+    rest: &'a [u8],
+}
+
+impl<'a> Model for Ipv6ExtensionSliceIter<'a> {
+    ghost Value = { List Piece };
+
+    ghost view = { λ iter. pieces_left iter.next_header.0 iter.rest.now };
+
+    ghost invariant = { λ iter. IsLeft iter.next_header.0 iter.rest.now };
+}
+
+impl<'a> Ipv6ExtensionSliceIter<'a> {
+    // The headers whose bytes these are, of which the first has this number.
+    pub(super) fn new(first: IpNumber, slice: &'a [u8]) -> Ipv6ExtensionSliceIter<'a>
+        requires { IsLeft first.0 slice.now }
+        ensures { result ≡ pieces_left first.0 slice.now }
+    {
+        Ipv6ExtensionSliceIter {
+            next_header: first,
+            rest: slice,
+        }
+    }
+}
+
+impl<'a> Iterator for Ipv6ExtensionSliceIter<'a> {
+    type Item = Ipv6ExtensionSlice<'a>;
+
+    ghost next_gives = { YieldsFirstBy piece_of (λ left. left) };
+
+    ghost remaining = { item_count (λ left. left) };
+
+    fn next(&mut self) -> Option<Ipv6ExtensionSlice<'a>> {
+        match first_header(self.next_header, self.rest) {
+            Some((header, next_header, behind)) => {
+                self.next_header = next_header;
+                self.rest = behind;
+                Some(header)
+            }
+            None => None,
+        }
+    }
+}
+
+impl<'a> Default for Ipv6ExtensionSliceIter<'a> {
+    ghost is_default = { λ iter. iter ≡ [] };
+
+    fn default() -> Self {
+        Ipv6ExtensionSliceIter {
+            next_header: IpNumber::IPV6_NO_NEXT_HEADER,
+            rest: &[],
+        }
+    }
+}
+
+// The first of the headers that are left, the number that it names and what stands behind it.
+fn first_header(number: IpNumber, rest: &[u8]) -> Option<(Ipv6ExtensionSlice<'_>, IpNumber, &[u8])>
+    requires { IsLeft number.0 rest.now }
+    ensures { MatchOption result (pieces_left number.0 rest.now ≡ [])
+        (λ r. (pieces_left number.0 rest.now ≡ piece_of r.0 ∷ pieces_left r.1.0 r.2.now) × IsLeft r.1.0 r.2.now) }
+{
+    laws::whole_header_is_found();
+    if rest.is_empty() {
+        return None;
+    }
+    let place = place_of(false, number).unwrap();
+    let header = Ipv6ExtensionSlice::from_slice(place, rest).unwrap();
+    let (front, behind) = rest.split_at(header.bytes().len());
+    Some((header, IpNumber(front[0]), behind))
+}

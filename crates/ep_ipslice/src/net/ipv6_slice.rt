@@ -1,0 +1,193 @@
+//! The IPv6 packet.
+
+ghost use Rattle.std.specs.Prelude.{◌≡◌, ◌⊎◌, ℕ, List, ◌++◌, IfOk, IfErr, Ok};
+ghost use Rattle.std.specs.Prelude.{◌&&◌, nat_eq};
+ghost use Rattle.std.specs.Cmp.Lexicographic.{pointwise};
+ghost use Rattle.std.specs.Cmp.Rules.{comparing};
+ghost use Rattle.std.specs.Ordering.{on};
+ghost use Rattle.std.proofs.Common.{rules};
+ghost use Rattle.ep_ext.specs.Moved.{CanMove};
+ghost use Rattle.ep_ipslice.specs.Compared.{compared_as, ordered_as};
+ghost use Rattle.ep_ipslice.specs.Packet.{Ipv6Packet, IsIpv6Packet, body_len, body_source};
+ghost use Rattle.ep_ipslice.specs.Ipv6Fault.{IsCutOff, IsIpv6Fault, IsRowFault, of_exts_fault, of_header_fault};
+
+use super::{IpPayloadSlice, Ipv6ExtensionsSlice};
+use crate::err::ipv6::SliceError;
+use ep_base::err::{Layer, LenError};
+use ep_base::{IpNumber, LenSource};
+use ep_ext::err::ipv6_exts::HeaderSliceError;
+use ep_ext::laws;
+use ep_ip::err::ipv6;
+use ep_ip::{Ipv6Header, Ipv6HeaderSlice};
+use std::marker::Model;
+
+/// An IPv6 packet (RFC 8200, section 3): its header, the extension headers behind it and the payload,
+/// borrowed.
+///
+/// Where the payload length is 0 and bytes stand behind the header, the packet takes all of them (RFC
+/// 2675, section 3, leaves the length to others). Else what stands behind the payload length is no
+/// part of it.
+#[derive(Clone, Debug, Drop)]
+pub struct Ipv6Slice<'a> {
+    header: Ipv6HeaderSlice<'a>,
+    exts: Ipv6ExtensionsSlice<'a>,
+    payload: IpPayloadSlice<'a>,
+}
+
+impl<'a> Model for Ipv6Slice<'a> {
+    ghost Value = { Ipv6Packet };
+
+    ghost view = { λ p. record { header = p.header; exts = p.exts; payload = p.payload } };
+}
+
+impl<'a> Ipv6Slice<'a> {
+    /// The packet at the front of the slice. Refused are, in this order, what
+    /// [`Ipv6HeaderSlice::from_slice`] refuses, a payload length above the bytes that are there, and
+    /// the first extension header that isn't whole within that length, breaks its format or stands out
+    /// of its place.
+    pub fn from_slice(slice: &'a [u8]) -> Result<Ipv6Slice<'a>, SliceError>
+        // The slice begins with what is taken.
+        ensures found { IfOk result (λ packet. IsIpv6Packet slice.now packet) }
+        // A packet that the slice begins with is taken.
+        ensures only { (packet : Ipv6Packet) → IsIpv6Packet slice.now packet → result ≡ Ok packet }
+        // Else it is the first fault.
+        ensures refused { IfErr result (λ e. IsIpv6Fault slice.now e) }
+    {
+        match Ipv6HeaderSlice::from_slice(slice) {
+            Ok(header) => Self::behind_header(header, slice),
+            Err(error) => Err(header_fault(error)),
+        }
+    }
+
+    // The packet of this header, which begins the slice.
+    fn behind_header(
+        header: Ipv6HeaderSlice<'a>,
+        slice: &'a [u8],
+    ) -> Result<Ipv6Slice<'a>, SliceError>
+        requires { (rest : List ℕ) × (slice.now ≡ header ++ rest) }
+        ensures found { IfOk result (λ packet. IsIpv6Packet slice.now packet) }
+        ensures only { (packet : Ipv6Packet) → IsIpv6Packet slice.now packet → header.entry ≡ packet.header
+            → result ≡ Ok packet }
+        ensures refused { IfErr result (λ e. IsCutOff slice.now header.entry e ⊎ IsRowFault slice.now header.entry e) }
+    {
+        laws::row_ends_where_none_is_taken();
+        // The header that begins the slice has its 40 bytes.
+        let header_len = header.slice().len();
+        let (_, behind) = slice.split_at(header_len);
+        let (len_source, body_len) = body(&header, behind.len());
+        if behind.len() < body_len {
+            return Err(SliceError::Len(LenError {
+                required_len: Ipv6Header::LEN + body_len,
+                len: slice.len(),
+                len_source: LenSource::Slice,
+                layer: Layer::Ipv6Packet,
+                layer_start_offset: 0,
+            }));
+        }
+        let (body, _padding) = behind.split_at(body_len);
+        match Ipv6ExtensionsSlice::from_slice(header.next_header(), body) {
+            Ok((exts, ip_number, payload)) => {
+                let fragmented = exts.is_fragmenting_payload();
+                Ok(Ipv6Slice {
+                    header,
+                    exts,
+                    payload: IpPayloadSlice {
+                        ip_number,
+                        fragmented,
+                        len_source,
+                        payload,
+                    },
+                })
+            }
+            Err(error) => Err(exts_fault(error, len_source)),
+        }
+    }
+
+    /// The header.
+    pub fn header(&self) -> &Ipv6HeaderSlice<'a>
+        ensures { result.now ≡ self.now.header }
+    {
+        &self.header
+    }
+
+    /// The extension headers.
+    pub fn extensions(&self) -> &Ipv6ExtensionsSlice<'a>
+        ensures { result.now ≡ self.now.exts }
+    {
+        &self.exts
+    }
+
+    /// The payload.
+    pub fn payload(&self) -> &IpPayloadSlice<'a>
+        ensures { result.now ≡ self.now.payload }
+    {
+        &self.payload
+    }
+
+    /// The number of the protocol that the payload begins with, behind the extension headers.
+    pub fn payload_ip_number(&self) -> IpNumber
+        ensures { result ≡ self.now.payload.ip_number }
+    {
+        self.payload.ip_number
+    }
+
+    /// Whether the payload is a part of a message: one of the extension headers is the fragment header
+    /// of one.
+    pub fn is_payload_fragmented(&self) -> bool
+        ensures { result ≡ self.now.payload.fragmented }
+    {
+        self.payload.fragmented
+    }
+}
+
+impl<'a> PartialEq for Ipv6Slice<'a> {
+    ghost eq = { λ a b. on (λ p. p.header) (pointwise nat_eq) a b && on (λ p. compared_as p.exts) (pointwise nat_eq) a b
+        && on (λ p. ordered_as p.payload) (pointwise nat_eq) a b };
+
+    ghost laws = { Prim.search (comparing, rules) depth 9 };
+
+    fn eq(&self, other: &Self) -> bool {
+        self.header == other.header && self.exts == other.exts && self.payload == other.payload
+    }
+}
+
+impl<'a> Eq for Ipv6Slice<'a> {
+    ghost laws = { Prim.search (comparing, rules) };
+}
+
+// How many bytes of those behind the header are extension headers and payload, and what says so.
+fn body(header: &Ipv6HeaderSlice<'_>, behind: usize) -> (LenSource, usize)
+    ensures source { result.0 ≡ body_source header.now behind }
+    ensures len { result.1 ≡ body_len header.now behind }
+{
+    let payload_length = header.payload_length();
+    if payload_length == 0 && behind > 0 {
+        (LenSource::Slice, behind)
+    } else {
+        (LenSource::Ipv6HeaderPayloadLen, usize::from(payload_length))
+    }
+}
+
+// A fault of the header.
+fn header_fault(error: ipv6::HeaderSliceError) -> SliceError
+    ensures { result ≡ of_header_fault error }
+{
+    match error {
+        ipv6::HeaderSliceError::Len(error) => SliceError::Len(error),
+        ipv6::HeaderSliceError::Content(error) => SliceError::Header(error),
+    }
+}
+
+// A fault of the extension headers, which stand behind the header, in what this source bounds.
+fn exts_fault(error: HeaderSliceError, len_source: LenSource) -> SliceError
+    requires { CanMove error 40 }
+    ensures { result ≡ of_exts_fault len_source error }
+{
+    match error {
+        HeaderSliceError::Len(error) => SliceError::Len(LenError {
+            len_source,
+            ..error.add_offset(Ipv6Header::LEN)
+        }),
+        HeaderSliceError::Content(error) => SliceError::Exts(error),
+    }
+}

@@ -1,0 +1,19 @@
+//! The payload of an IP packet that may have been cut off.
+
+use ep_base::{IpNumber, LenSource};
+
+/// The payload of an IP packet, behind its extension headers, borrowed; it may be a front of it, where
+/// fewer bytes were there than the packet's own length says.
+#[derive(Clone, Debug, Drop)]
+pub struct LaxIpPayloadSlice<'a> {
+    /// Whether bytes of the payload are missing.
+    pub incomplete: bool,
+    /// The number of the protocol that the payload begins with.
+    pub ip_number: IpNumber,
+    /// Whether the payload is a part of a message, of which other packets hold the rest.
+    pub fragmented: bool,
+    /// What the payload's length came from.
+    pub len_source: LenSource,
+    /// The bytes.
+    pub payload: &'a [u8],
+}

@@ -1,0 +1,318 @@
+//! IP packets in slices. The bytes are made by the RFCs' tables.
+
+use crate::err::{ip, ipv4, ipv6};
+use crate::{
+    IpSlice, Ipv4ExtensionsSlice, Ipv4Slice, Ipv6ExtensionSlice, Ipv6ExtensionsSlice, Ipv6Slice,
+};
+use ep_base::err::{Layer, LenError};
+use ep_base::{IpNumber, LenSource};
+use ep_ext::err::{ip_auth, ipv6_exts};
+use std::net::IpAddr;
+use std::process::Abort;
+use std::test::*;
+
+// IPv4 (RFC 791, section 3.1): 10.0.0.1 to 10.0.0.2, an authentication header (RFC 4302), two bytes
+// of payload and one of padding.
+const IPV4: [u8; 35] = [
+    0x45, 0, 0, 34, 0, 7, 0, 0, 64, 51, 0, 0, 10, 0, 0, 1, 10, 0, 0, 2, 17, 1, 0, 0, 1, 2, 3, 4, 5,
+    6, 7, 8, 0xaa, 0xbb, 0,
+];
+
+// IPv6 (RFC 8200, section 3) with a payload length of 46: hop-by-hop options, routing header, fragment
+// header (offset 1), authentication header, destination options, two bytes of payload and one of
+// padding.
+const IPV6: [u8; 87] = [
+    0x60, 0, 0, 0, 0, 46, 0, 64, 0xfd, 0, 0, 0, 0, 0, 0, 0, 0, 0, 0, 0, 0, 0, 0, 1, 0xfd, 0, 0, 0,
+    0, 0, 0, 0, 0, 0, 0, 0, 0, 0, 0, 2, 43, 0, 1, 4, 0, 0, 0, 0, 44, 0, 0, 0, 0, 0, 0, 0, 51, 0, 0,
+    8, 0, 0, 0, 7, 60, 1, 0, 0, 1, 2, 3, 4, 5, 6, 7, 8, 17, 0, 1, 4, 0, 0, 0, 0, 0xaa, 0xbb, 0,
+];
+
+#[test]
+fn ipv4_with_an_authentication_header(rt: HostRuntime) -> Result<(), Fail> {
+    let bytes = IPV4;
+    let Ok(packet) = Ipv4Slice::from_slice(&bytes) else {
+        panic!(rt; "no packet");
+    };
+    assert_eq!(rt; packet.payload_ip_number(), IpNumber::UDP);
+    assert_eq!(rt; packet.payload().payload, [0xaa, 0xbb].as_slice());
+    assert_eq!(rt; packet.payload().len_source, LenSource::Ipv4HeaderTotalLen);
+    assert_eq!(rt; packet.is_payload_fragmented(), false);
+    assert_eq!(rt; packet.header().slice(), &IPV4[..20]);
+    assert_eq!(rt; packet.extensions().is_empty(), false);
+    Ok(())
+}
+
+#[test]
+fn ipv6_with_all_extension_headers(rt: HostRuntime) -> Result<(), Fail> {
+    let bytes = IPV6;
+    let Ok(packet) = Ipv6Slice::from_slice(&bytes) else {
+        panic!(rt; "no packet");
+    };
+    assert_eq!(rt; packet.payload_ip_number(), IpNumber::UDP);
+    assert_eq!(rt; packet.payload().payload, [0xaa, 0xbb].as_slice());
+    assert_eq!(rt;
+        packet.payload().len_source,
+        LenSource::Ipv6HeaderPayloadLen
+    );
+    assert_eq!(rt; packet.is_payload_fragmented(), true);
+    assert_eq!(rt; packet.extensions().slice(), &IPV6[40..84]);
+    Ok(())
+}
+
+#[test]
+fn extension_headers_in_their_order(rt: HostRuntime) -> Result<(), Fail> {
+    let bytes = IPV6;
+    let Ok(packet) = Ipv6Slice::from_slice(&bytes) else {
+        panic!(rt; "no packet");
+    };
+    let mut kinds = Vec::new(rt.alloc());
+    for header in packet.extensions().iter() {
+        kinds.push(match header {
+            Ipv6ExtensionSlice::HopByHop(_) => 0,
+            Ipv6ExtensionSlice::Routing(_) => 43,
+            Ipv6ExtensionSlice::Fragment(_) => 44,
+            Ipv6ExtensionSlice::Authentication(_) => 51,
+            Ipv6ExtensionSlice::DestinationOptions(_) => 60,
+        })?;
+    }
+    assert_eq!(rt; kinds.as_slice(), [0, 43, 44, 51, 60].as_slice());
+    Ok(())
+}
+
+#[test]
+fn repeated_fragment_headers(rt: HostRuntime) -> Result<(), Fail> {
+    let bytes = [
+        0x2c, 0, 0, 1, 0, 0, 0, 7, 0x11, 0, 0, 0, 0, 0, 0, 7, 0xaa, 0xbb,
+    ];
+    match Ipv6ExtensionsSlice::from_slice(IpNumber(44), &bytes) {
+        Ok((extensions, number, rest)) => {
+            assert_eq!(rt; number, IpNumber::UDP);
+            assert_eq!(rt; rest, [0xaa, 0xbb].as_slice());
+            assert_eq!(rt; extensions.is_fragmenting_payload(), true);
+            assert_eq!(rt; extensions.first_header(), Some(IpNumber(44)));
+        }
+        Err(_) => panic!(rt; "refused"),
+    }
+    Ok(())
+}
+
+#[test]
+fn hop_by_hop_options_behind_another_header(rt: HostRuntime) -> Result<(), Fail> {
+    let bytes = [0, 0, 0, 0, 0, 0, 0, 0, 0x11, 0, 0, 0, 0, 0, 0, 0];
+    let (extensions, number, rest, fault) = Ipv6ExtensionsSlice::from_slice_lax(
+        IpNumber(60),
+        &bytes,
+    );
+    let error = ipv6_exts::HeaderSliceError::Content(ipv6_exts::HeaderError::HopByHopNotAtStart);
+    assert_eq!(rt; fault, Some((error, Layer::Ipv6HopByHopHeader)));
+    assert_eq!(rt; number, IpNumber(0));
+    assert_eq!(rt; extensions.slice(), &bytes[..8]);
+    assert_eq!(rt; rest, &bytes[8..]);
+    match Ipv6ExtensionsSlice::from_slice(IpNumber(60), &bytes) {
+        Ok(_) => panic!(rt; "taken"),
+        Err(e) => assert_eq!(rt; e, error),
+    }
+    Ok(())
+}
+
+#[test]
+fn an_authentication_header_of_length_zero(rt: HostRuntime) -> Result<(), Fail> {
+    let bytes = [0; 12];
+    let content = ip_auth::HeaderError::ZeroPayloadLen;
+    match Ipv6ExtensionsSlice::from_slice(IpNumber(51), &bytes) {
+        Ok(_) => panic!(rt; "taken"),
+        Err(e) => assert_eq!(rt;
+            e,
+            ipv6_exts::HeaderSliceError::Content(ipv6_exts::HeaderError::IpAuth(content))
+        ),
+    }
+    match Ipv4ExtensionsSlice::from_slice(IpNumber(51), &bytes) {
+        Ok(_) => panic!(rt; "taken"),
+        Err(e) => assert_eq!(rt; e, ip_auth::HeaderSliceError::Content(content)),
+    }
+    Ok(())
+}
+
+#[test]
+fn no_number_of_an_authentication_header(rt: HostRuntime) -> Result<(), Fail> {
+    let bytes = [0, 1, 2, 3];
+    let (extensions, number, rest, fault) = Ipv4ExtensionsSlice::from_slice_lax(
+        IpNumber::UDP,
+        &bytes,
+    );
+    assert_eq!(rt; extensions.is_empty(), true);
+    assert_eq!(rt; number, IpNumber::UDP);
+    assert_eq!(rt; rest, bytes.as_slice());
+    assert_eq!(rt; fault, None);
+    Ok(())
+}
+
+// A want of bytes that isn't told by the packet's own length.
+fn want(required_len: usize, len: usize, layer: Layer) -> LenError {
+    LenError {
+        required_len,
+        len,
+        len_source: LenSource::Slice,
+        layer,
+        layer_start_offset: 0,
+    }
+}
+
+#[test]
+fn every_front_of_an_ipv4_packet(rt: HostRuntime) -> Result<(), Fail> {
+    let bytes = IPV4;
+    for end in 0..34usize {
+        let required = if end < 20 {
+            want(20, end, Layer::Ipv4Header)
+        } else {
+            want(34, end, Layer::Ipv4Packet)
+        };
+        match Ipv4Slice::from_slice(&bytes[..end]) {
+            Ok(_) => panic!(rt; "taken"),
+            Err(e) => assert_eq!(rt; e, ipv4::SliceError::Len(required)),
+        }
+    }
+    assert_eq!(rt; Ipv4Slice::from_slice(&bytes[..34]).is_ok(), true);
+    Ok(())
+}
+
+#[test]
+fn every_front_of_an_ipv6_packet(rt: HostRuntime) -> Result<(), Fail> {
+    let bytes = IPV6;
+    for end in 0..86usize {
+        let required = if end < 40 {
+            want(40, end, Layer::Ipv6Header)
+        } else {
+            want(86, end, Layer::Ipv6Packet)
+        };
+        match Ipv6Slice::from_slice(&bytes[..end]) {
+            Ok(_) => panic!(rt; "taken"),
+            Err(e) => assert_eq!(rt; e, ipv6::SliceError::Len(required)),
+        }
+    }
+    assert_eq!(rt; Ipv6Slice::from_slice(&bytes[..86]).is_ok(), true);
+    Ok(())
+}
+
+// A want inside an extension header names the packet's own length, and the place in the whole slice.
+#[test]
+fn a_cut_extension_header(rt: HostRuntime) -> Result<(), Fail> {
+    let mut bytes = IPV6;
+    bytes[5] = 12;
+    match Ipv6Slice::from_slice(&bytes) {
+        Ok(_) => panic!(rt; "taken"),
+        Err(e) => assert_eq!(rt;
+            e,
+            ipv6::SliceError::Len(LenError {
+                required_len: 8,
+                len: 4,
+                len_source: LenSource::Ipv6HeaderPayloadLen,
+                layer: Layer::Ipv6ExtHeader,
+                layer_start_offset: 48,
+            })
+        ),
+    }
+    let mut bytes = IPV4;
+    bytes[3] = 25;
+    match Ipv4Slice::from_slice(&bytes) {
+        Ok(_) => panic!(rt; "taken"),
+        Err(e) => assert_eq!(rt;
+            e,
+            ipv4::SliceError::Len(LenError {
+                required_len: 12,
+                len: 5,
+                len_source: LenSource::Ipv4HeaderTotalLen,
+                layer: Layer::IpAuthHeader,
+                layer_start_offset: 20,
+            })
+        ),
+    }
+    Ok(())
+}
+
+#[test]
+fn a_payload_length_of_zero(rt: HostRuntime) -> Result<(), Fail> {
+    let mut bytes = IPV6;
+    bytes[5] = 0;
+    bytes[6] = 253;
+    let Ok(packet) = Ipv6Slice::from_slice(&bytes) else {
+        panic!(rt; "no packet");
+    };
+    assert_eq!(rt; packet.payload().payload.len(), 47);
+    assert_eq!(rt; packet.payload().len_source, LenSource::Slice);
+    let Ok(packet) = Ipv6Slice::from_slice(&bytes[..40]) else {
+        panic!(rt; "no packet");
+    };
+    assert_eq!(rt; packet.payload().payload.len(), 0);
+    assert_eq!(rt;
+        packet.payload().len_source,
+        LenSource::Ipv6HeaderPayloadLen
+    );
+    Ok(())
+}
+
+#[test]
+fn a_total_length_below_the_header(rt: HostRuntime) -> Result<(), Fail> {
+    let mut bytes = IPV4;
+    bytes[3] = 19;
+    match Ipv4Slice::from_slice(&bytes) {
+        Ok(_) => panic!(rt; "taken"),
+        Err(e) => assert_eq!(rt;
+            e,
+            ipv4::SliceError::Len(LenError {
+                required_len: 20,
+                len: 19,
+                len_source: LenSource::Ipv4HeaderTotalLen,
+                layer: Layer::Ipv4Packet,
+                layer_start_offset: 0,
+            })
+        ),
+    }
+    Ok(())
+}
+
+#[test]
+fn packets_of_either_version(rt: HostRuntime) -> Result<(), Fail> {
+    let bytes = IPV4;
+    let Ok(packet) = IpSlice::from_slice(&bytes) else {
+        panic!(rt; "no packet");
+    };
+    assert_eq!(rt; packet.source_addr(), IpAddr::from([10, 0, 0, 1]));
+    assert_eq!(rt; packet.destination_addr(), IpAddr::from([10, 0, 0, 2]));
+    assert_eq!(rt; packet.ipv6().is_none(), true);
+    let bytes = IPV6;
+    let Ok(packet) = IpSlice::from_slice(&bytes) else {
+        panic!(rt; "no packet");
+    };
+    assert_eq!(rt; packet.source_addr(), IpAddr::from([0xfd, 0, 0, 0, 0, 0, 0, 0, 0, 0, 0, 0, 0, 0, 0, 1]));
+    assert_eq!(rt; packet.destination_addr(), IpAddr::from([0xfd, 0, 0, 0, 0, 0, 0, 0, 0, 0, 0, 0, 0, 0, 0, 2]));
+    assert_eq!(rt; packet.payload_ip_number(), IpNumber::UDP);
+    Ok(())
+}
+
+#[test]
+fn no_bytes_and_another_version(rt: HostRuntime) -> Result<(), Fail> {
+    match IpSlice::from_slice(&[]) {
+        Ok(_) => panic!(rt; "taken"),
+        Err(e) => assert_eq!(rt; e, ip::SliceError::Len(want(1, 0, Layer::IpHeader))),
+    }
+    match IpSlice::from_slice(&[0x50]) {
+        Ok(_) => panic!(rt; "taken"),
+        Err(e) => assert_eq!(rt;
+            e,
+            ip::SliceError::IpHeaders(ip::HeadersError::Ip(ip::HeaderError::UnsupportedIpVersion {
+                version_number: 5
+            }))
+        ),
+    }
+    match IpSlice::from_slice(&[0x44; 20]) {
+        Ok(_) => panic!(rt; "taken"),
+        Err(e) => assert_eq!(rt;
+            e,
+            ip::SliceError::IpHeaders(ip::HeadersError::Ip(
+                ip::HeaderError::Ipv4HeaderLengthSmallerThanHeader { ihl: 4 }
+            ))
+        ),
+    }
+    Ok(())
+}
