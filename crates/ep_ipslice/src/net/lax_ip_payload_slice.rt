@@ -4,7 +4,7 @@ use ep_base::{IpNumber, LenSource};
 
 /// The payload of an IP packet, behind its extension headers, borrowed; it may be a front of it, where
 /// fewer bytes were there than the packet's own length says.
-#[derive(Clone, Debug, Drop)]
+#[derive(Clone, Debug, PartialEq, Eq, Drop)]
 pub struct LaxIpPayloadSlice<'a> {
     /// Whether bytes of the payload are missing.
     pub incomplete: bool,

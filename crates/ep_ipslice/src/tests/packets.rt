@@ -284,8 +284,14 @@ fn packets_of_either_version(rt: HostRuntime) -> Result<(), Fail> {
     let Ok(packet) = IpSlice::from_slice(&bytes) else {
         panic!(rt; "no packet");
     };
-    assert_eq!(rt; packet.source_addr(), IpAddr::from([0xfd, 0, 0, 0, 0, 0, 0, 0, 0, 0, 0, 0, 0, 0, 0, 1]));
-    assert_eq!(rt; packet.destination_addr(), IpAddr::from([0xfd, 0, 0, 0, 0, 0, 0, 0, 0, 0, 0, 0, 0, 0, 0, 2]));
+    assert_eq!(rt;
+        packet.source_addr(),
+        IpAddr::from([0xfd, 0, 0, 0, 0, 0, 0, 0, 0, 0, 0, 0, 0, 0, 0, 1])
+    );
+    assert_eq!(rt;
+        packet.destination_addr(),
+        IpAddr::from([0xfd, 0, 0, 0, 0, 0, 0, 0, 0, 0, 0, 0, 0, 0, 0, 2])
+    );
     assert_eq!(rt; packet.payload_ip_number(), IpNumber::UDP);
     Ok(())
 }
