@@ -16,7 +16,7 @@ use Rattle.digits.specs.Digits.{Reads, AreDigitValues, AreDecoded}
 in_block : (xs : List ℕ) (m n j k : ℕ) → m + j ≡ k → j < n → get_or (chunk m n xs) j 0 ≡ get_or xs k 0
 in_block xs m n j k e h = get_or-chunk m n xs j 0 h ∙ ap (λ i. get_or xs i 0) e
 
--- and a block that is put_chunk_in there has it at k
+-- and a block that is put in there has it at k
 put_chunk_in : (xs ys : List ℕ) (m j k : ℕ) → m + j ≡ k → j < length ys → m + length ys ≤ length xs → get_or (put_chunk m xs ys) k 0 ≡ get_or ys j 0
 put_chunk_in xs ys m j k e h fits = ap (λ i. get_or (put_chunk m xs ys) i 0) (sym e) ∙ get_or-put_chunk_at m xs ys j 0 h fits
 

@@ -1,9 +1,10 @@
+//! Digits at every length, and at values from outside.
 ghost use Rattle.std.specs.Prelude.{◌*◌, ◌<◌, ◌≤◌};
 
 use crate::{decode, decode_to_slice, encode};
 use hex::FromHexError;
 
-// The SHA-256 of no bytes, from FIPS 180-4's examples.
+// The SHA-256 (FIPS 180-4) of no bytes.
 const DIGITS: &[u8; 64] = b"e3b0c44298fc1c149afbf4c8996fb92427ae41e4649b934ca495991b7852b855";
 
 const UPPER_DIGITS: &[u8; 64] = b"E3B0C44298FC1C149AFBF4C8996FB92427AE41E4649B934CA495991B7852B855";

@@ -85,11 +85,19 @@ fn orders_and_copies(rt: HostRuntime) -> Result<(), Fail> {
     assert!(rt; Ipv6FlowLabel::try_new(256)? > Ipv6FlowLabel::try_new(255)?);
     assert!(rt; EtherType::IPV4 < EtherType::ARP);
     assert!(rt; IpEcn::Ect1 < IpEcn::Ect0);
-    assert!(rt; LenSource::Slice < LenSource::MacsecShortLength);
-    assert!(rt; LenSource::UdpHeaderLen < LenSource::TcpHeaderLen);
     assert_eq!(rt; IpDscp::EF.clone()?, IpDscp::EF);
     assert_eq!(rt; LenSource::UdpHeaderLen.clone()?, LenSource::UdpHeaderLen);
     Ok(())
+}
+
+#[test]
+fn order_of_sources_of_lengths(rt: HostRuntime) {
+    assert!(rt; LenSource::Slice < LenSource::MacsecShortLength);
+    assert!(rt; LenSource::MacsecShortLength < LenSource::Ipv4HeaderTotalLen);
+    assert!(rt; LenSource::Ipv4HeaderTotalLen < LenSource::Ipv6HeaderPayloadLen);
+    assert!(rt; LenSource::Ipv6HeaderPayloadLen < LenSource::UdpHeaderLen);
+    assert!(rt; LenSource::UdpHeaderLen < LenSource::TcpHeaderLen);
+    assert!(rt; LenSource::TcpHeaderLen < LenSource::ArpAddrLengths);
 }
 
 #[test]

@@ -40,8 +40,8 @@ pub fn header_is_read_again<'a>(
     Ipv4Header::from_slice(slice)
 }
 
-/// Two headers' bytes are read as equal fields exactly where they agree with the reserved bit,
-/// the top one of byte 6, with_reserved_bit_zero.
+/// Two headers' bytes are read as equal fields exactly where they agree but for the reserved
+/// bit, the top one of byte 6.
 pub fn same_fields_from_same_bytes()
     ensures { (a b : List ℕ) → IsIpv4Header a → IsBytes a → IsIpv4Header b → IsBytes b
         → (header_of a ≡ header_of b) ↔ (with_reserved_bit_zero a ≡ with_reserved_bit_zero b) }

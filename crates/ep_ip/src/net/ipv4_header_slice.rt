@@ -18,7 +18,7 @@ use std::marker::Model;
 /// The bytes of an IPv4 header (RFC 791, section 3.1), borrowed. A contract sees them as a list,
 /// which is a header: version, length field and length were tested when the value was made.
 ///
-/// Neither the header checksum nor the total length is parse.
+/// Neither the header checksum nor the total length is tested.
 #[derive(Clone, Debug, Drop)]
 pub struct Ipv4HeaderSlice<'a> {
     slice: &'a [u8],

@@ -1,12 +1,11 @@
-//! What `Clone`, `PartialEq` and `Ord` of the types here mean. Each clause is about the relation that
+//! What `Clone` and `PartialEq` of the types here mean. Each clause is about the relation that
 //! the type's own impl names and that its calls keep.
-ghost use Rattle.ep_base.specs.Traits.{CopyIsValue, CopyNeverFails, EqualIsSame, OrderIsOf};
+ghost use Rattle.ep_base.specs.Traits.{CopyIsValue, CopyNeverFails, EqualIsSame};
 
-use crate::{IpFragVersionSpecId, Letter, PostError, RunError, VlanId};
+use crate::{IpFragVersionSpecId, Letter, PostError, RunError};
 
 /// A copy is the value.
 pub fn copies_are_values()
-    ensures vlan_id { CopyIsValue ⟦<VlanId as Clone>⟧.is_clone }
     ensures ip_frag_version_spec_id { CopyIsValue ⟦<IpFragVersionSpecId as Clone>⟧.is_clone }
     ensures letter { CopyIsValue ⟦<Letter as Clone>⟧.is_clone }
     ensures post_error { CopyIsValue ⟦<PostError as Clone>⟧.is_clone }
@@ -15,7 +14,6 @@ pub fn copies_are_values()
 
 /// To copy one of these takes no memory and doesn't fail.
 pub fn copies_never_fail()
-    ensures vlan_id { CopyNeverFails ⟦<VlanId as Clone>⟧.is_infallible }
     ensures ip_frag_version_spec_id { CopyNeverFails ⟦<IpFragVersionSpecId as Clone>⟧.is_infallible }
     ensures letter { CopyNeverFails ⟦<Letter as Clone>⟧.is_infallible }
     ensures post_error { CopyNeverFails ⟦<PostError as Clone>⟧.is_infallible }
@@ -24,13 +22,7 @@ pub fn copies_never_fail()
 
 /// Equal are the values that are the same.
 pub fn equals_are_same()
-    ensures vlan_id { EqualIsSame ⟦<VlanId as PartialEq>⟧.eq }
     ensures ip_frag_version_spec_id { EqualIsSame ⟦<IpFragVersionSpecId as PartialEq>⟧.eq }
     ensures post_error { EqualIsSame ⟦<PostError as PartialEq>⟧.eq }
     ensures run_error { EqualIsSame ⟦<RunError as PartialEq>⟧.eq }
-{}
-
-/// Identifiers of VLANs are ordered as numbers.
-pub fn orders_are_of_numbers()
-    ensures vlan_id { OrderIsOf (λ n. n) ⟦<VlanId as Ord>⟧.cmp }
 {}

@@ -1,7 +1,8 @@
 //! Runs over readers and writers that give and take little, and fail.
 ghost use Rattle.std.specs.Prelude.{◌≡◌, IfOk};
 
-use crate::{RunError, answers, run};
+use crate::device::ReaderWriter;
+use crate::{RunError, answers, run, run_over};
 use std::alloc::{AllocError, Global};
 use std::io::{self, ErrorKind, Read, Write};
 use std::test::Fail;
@@ -251,6 +252,51 @@ fn stops_at_each_write_that_fails(rt: HostRuntime) -> Result<(), Fail> {
 
 // Where an allocation fails, nothing is read and nothing written. The test holds in both cases, for
 // runs of it in which an allocation is made to fail.
+// A text of two lines takes three reads of one byte a line, and one more to tell the end.
+#[test]
+fn makes_no_more_reads_than_it_may(rt: HostRuntime) -> Result<(), Fail> {
+    let text = b"a\nb";
+    for (reads, calls, answer, written) in [
+        (0, 0, Err(RunError::TooManyReads), ""),
+        (2, 2, Err(RunError::TooManyReads), "bad line\n"),
+        (3, 3, Err(RunError::TooManyReads), "bad line\n"),
+        (4, 4, Ok(()), "bad line\nbad line\n"),
+    ] {
+        let mut reader = reader_of(text, None);
+        let mut writer = writer_of(rt.alloc(), None);
+        let mut device = ReaderWriter {
+            reader: &mut reader,
+            writer: &mut writer,
+        };
+        assert_eq!(rt; run_over(rt.alloc(), &mut device, reads), answer);
+        assert_eq!(rt; reader.calls, calls);
+        assert_eq!(rt; writer.taken.as_slice(), written.as_bytes());
+    }
+    Ok(())
+}
+
+// Tells how many bytes it was asked for at most, and ends at once.
+#[derive(Drop)]
+struct SizeReader {
+    size: usize,
+}
+
+impl Read for SizeReader {
+    fn read(&mut self, buf: &mut [u8]) -> io::Result<usize> {
+        self.size = buf.len();
+        Ok(0)
+    }
+}
+
+#[test]
+fn reads_up_to_65536_bytes(rt: HostRuntime) -> Result<(), Fail> {
+    let mut reader = SizeReader { size: 0 };
+    let mut writer = writer_of(rt.alloc(), None);
+    assert_eq!(rt; run(rt.alloc(), &mut reader, &mut writer), Ok(()));
+    assert_eq!(rt; reader.size, 65536);
+    Ok(())
+}
+
 #[test]
 fn makes_no_call_without_memory(rt: HostRuntime) {
     let mut reader = reader_of(INPUT, None);
