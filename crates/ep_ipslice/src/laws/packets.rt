@@ -2,6 +2,7 @@
 ghost use Rattle.std.specs.Prelude.{◌≡◌, ℕ, List, [], ◌∷◌, ◌++◌, Ok, None, Some, IsOkAnd, false, replicate};
 ghost use Rattle.ep_ip.specs.Ipv6.{next_header_of};
 ghost use Rattle.ep_ip.specs.Skip.{is_skipped};
+ghost use Rattle.ep_ext.specs.Place.{KeepsNumbers};
 ghost use Rattle.ep_ext.specs.declared.net.ipv6_ext_place.Ipv6ExtPlace.TheVariants as place;
 ghost use Rattle.ep_ipslice.specs.Examples.{example_ipv4, example_ipv4_packet};
 ghost use Rattle.ep_ipslice.specs.Ipv4Packet.{ipv4_packet_at};
@@ -50,6 +51,7 @@ pub fn numbers_of_a_view()
     ensures auth { view_order [] 51 ≡ Some place.Authentication }
     ensures destination { view_order (place.Destination ∷ []) 60 ≡ Some place.Destination }
     ensures other { view_order [] 135 ≡ None }
+    ensures own { KeepsNumbers view_order }
     ensures without_a_length { body_len (replicate 40 0) 7 ≡ 7 }
 {}
 

@@ -144,7 +144,9 @@ impl<'a> Ipv6ExtensionsSlice<'a> {
 
     /// The headers, in their order.
     pub fn iter(&self) -> Ipv6ExtensionSliceIter<'a>
-        ensures { (first : ℕ) (pieces : List Piece) (last : ℕ) → Row view_order [] first pieces last
+        // They are the headers of some row, of which the view shows the bytes.
+        ensures view { IsView self.now }
+        ensures headers { (first : ℕ) (pieces : List Piece) (last : ℕ) → Row view_order [] first pieces last
             → self.now ≡ exts_of first pieces → result ≡ pieces }
     {
         laws::whole_header_is_found();
@@ -171,7 +173,8 @@ impl<'a> Ipv6ExtensionsSlice<'a> {
 
     /// The bytes of all headers.
     pub fn slice(&self) -> &'a [u8]
-        ensures { result.now ≡ self.now.slice }
+        ensures bytes { result.now ≡ self.now.slice }
+        ensures view { IsView self.now }
     {
         self.slice
     }

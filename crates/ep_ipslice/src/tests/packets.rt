@@ -96,6 +96,47 @@ fn repeated_fragment_headers(rt: HostRuntime) -> Result<(), Fail> {
     Ok(())
 }
 
+// Extension headers in a row from the number 44, or 0, and whether they are those of a part of a message.
+#[test]
+fn which_headers_are_of_a_part(rt: HostRuntime) -> Result<(), Fail> {
+    let whole = [0x11, 0, 0, 0, 0, 0, 0, 7];
+    let whole_then_part = [0x2c, 0, 0, 0, 0, 0, 0, 7, 0x11, 0, 0, 1, 0, 0, 0, 7];
+    let others = [43, 0, 1, 4, 0, 0, 0, 0, 17, 0, 0xff, 0xff, 0, 0, 0, 0];
+    let rows = [
+        (44, whole.as_slice(), false),
+        (44, whole_then_part.as_slice(), true),
+        (0, others.as_slice(), false),
+        (17, others.as_slice(), false),
+    ];
+    for (first, bytes, is_part) in rows {
+        let Ok((extensions, _, _)) = Ipv6ExtensionsSlice::from_slice(IpNumber(first), bytes) else {
+            panic!(rt; "refused");
+        };
+        assert_eq!(rt;
+            extensions.is_fragmenting_payload(),
+            is_part,
+            "from {first}"
+        );
+    }
+    Ok(())
+}
+
+// Where there is no header there is no first number.
+#[test]
+fn no_headers(rt: HostRuntime) -> Result<(), Fail> {
+    let bytes = [1, 2, 3];
+    let Ok((extensions, number, rest)) = Ipv6ExtensionsSlice::from_slice(IpNumber::TCP, &bytes)
+    else {
+        panic!(rt; "refused");
+    };
+    assert_eq!(rt; extensions.first_header(), None);
+    assert_eq!(rt; extensions.is_empty(), true);
+    assert_eq!(rt; number, IpNumber::TCP);
+    assert_eq!(rt; rest, bytes.as_slice());
+    assert_eq!(rt; extensions.iter().count(), 0);
+    Ok(())
+}
+
 #[test]
 fn hop_by_hop_options_behind_another_header(rt: HostRuntime) -> Result<(), Fail> {
     let bytes = [0, 0, 0, 0, 0, 0, 0, 0, 0x11, 0, 0, 0, 0, 0, 0, 0];

@@ -8,7 +8,7 @@ new-requires c =
     let exts : Ipv6Exts = record { first_header = c.self.inside.first_header; fragmented = c.self.inside.fragmented; slice = c.self.inside.slice.now } in
     view_left exts c.in-Some.first c.self.invariant c.in-Some.is
 
-pub returns-in-Some : goal.returns-in-Some
-returns-in-Some c = λ first pieces last row seen.
+pub returns-in-Some-clause-headers : goal.returns-in-Some-clause-headers
+returns-in-Some-clause-headers c = λ first pieces last row seen.
     let exts : Ipv6Exts = record { first_header = c.self.inside.first_header; fragmented = c.self.inside.fragmented; slice = c.self.inside.slice.now } in
     c.new.ensures ∙ view_pieces c.whole_header_is_found.ensures.found c.whole_header_is_found.ensures.least exts c.in-Some.first first pieces last c.in-Some.is row (c.self.view_is ∙ seen)
