@@ -123,6 +123,10 @@ fn addresses_that_make_no_packet(rt: HostRuntime) {
         Err(ArpNewError::HwAddr(ArpHwAddrError::LenNonMatching(6, 5)))
     );
     assert_eq!(rt;
+        made(&long, proto, hw, proto),
+        Err(ArpNewError::HwAddr(ArpHwAddrError::LenNonMatching(256, 6)))
+    );
+    assert_eq!(rt;
         made(&long, &long, &long, proto),
         Err(ArpNewError::HwAddr(ArpHwAddrError::LenTooBig(256)))
     );

@@ -134,6 +134,21 @@ fn packet_types(rt: HostRuntime) -> Result<(), Fail> {
     assert_eq!(rt; LinuxSllHeaderSlice::from_slice(&bytes).err(), Some(error));
     assert_eq!(rt; LinuxSllSlice::from_slice(&bytes).err(), Some(error));
     assert_eq!(rt; error.add_slice_offset(3), error);
+    let want = LenError {
+        required_len: 16,
+        len: 7,
+        len_source: LenSource::Slice,
+        layer: Layer::LinuxSllHeader,
+        layer_start_offset: 4,
+    };
+    let further = LenError {
+        layer_start_offset: 7,
+        ..want
+    };
+    assert_eq!(rt;
+        HeaderSliceError::Len(want).add_slice_offset(3),
+        HeaderSliceError::Len(further)
+    );
     Ok(())
 }
 

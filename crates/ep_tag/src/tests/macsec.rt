@@ -70,6 +70,20 @@ fn flags_of_a_header_slice(rt: HostRuntime) -> Result<(), Fail> {
     Ok(())
 }
 
+// The flag of an end station alone, and that of single copy broadcast alone.
+#[test]
+fn each_flag_alone(rt: HostRuntime) -> Result<(), Fail> {
+    let bytes = [0x41, 0, 0, 0, 0, 7, 8, 0];
+    let header = MacsecHeaderSlice::from_slice(&bytes)?;
+    assert_eq!(rt; (header.endstation_id(), header.scb()), (true, false));
+    assert_eq!(rt; header.an().value(), 1);
+    let bytes = [0x12, 0, 0, 0, 0, 7, 8, 0];
+    let header = MacsecHeaderSlice::from_slice(&bytes)?;
+    assert_eq!(rt; (header.endstation_id(), header.scb()), (false, true));
+    assert_eq!(rt; header.an().value(), 2);
+    Ok(())
+}
+
 #[test]
 fn numbers_of_a_header_slice(rt: HostRuntime) -> Result<(), Fail> {
     let bytes = BYTES;
