@@ -12,6 +12,7 @@ const LONGEST: usize = 60;
 const SEED: u64 = 0x9e37_79b9_7f4a_7c15;
 
 /// Reads every field of the headers, and sums them all.
+/// It has no `ensures`: the time is a measurement, and the sum is compared with that of a plain program.
 pub fn measure(rt: &HostRuntime) -> io::Result<Measured> {
     let headers = make_headers(rt.alloc())?;
     let start = Instant::now(rt)?;
