@@ -14,7 +14,7 @@ declare -A items=(
     [ipv4_headers]=1000000
 )
 
-build_proved "$ours"
+build_proved "$ours" </dev/null
 printf '%-24s %12s %12s %7s\n' benchmark ours plain ratio
 for name in "${names[@]}"; do
     build_plain "$name"

@@ -38,12 +38,7 @@ build_plain make_captures
 build_plain "$plain"
 "$work/make_captures" 2000000 64 >"$work/short.pcap"
 "$work/make_captures" 200000 1500 >"$work/long.pcap"
-echo "proving and building $ours" >&2
-(cd "crates/$ours" && rt run ${cpu:+--cpu "$cpu"} -- lines - <"$work/long.pcap") >/dev/null 2>"$work/$ours.log" || {
-    tail -n 20 "$work/$ours.log" >&2
-    fail "crates/$ours was not proved and built"
-}
-cp "crates/$ours/out/$ours" "$work/$ours"
+build_proved "$ours" lines - <"$work/long.pcap"
 
 printf '%-32s %12s %12s %7s\n' capture captures_cli plain ratio
 measure "$work/short.pcap" "2,000,000 packets of 64 bytes"

@@ -17,12 +17,13 @@ build_plain() {
         fail "bench/$1.rs was not built"
 }
 
-# build_proved NAME: the program of crates/NAME, proved, as $work/NAME.
+# build_proved NAME [ARGUMENT...]: the program of crates/NAME, proved, as $work/NAME; it runs once, with the
+# arguments and what stands on standard input.
 build_proved() {
     command -v rt >/dev/null || fail "rt is not on the path"
     [[ -f crates/$1/src/main.rt ]] || fail "there is no program crates/$1"
     echo "proving and building $1" >&2
-    (cd "crates/$1" && rt run ${cpu:+--cpu "$cpu"} </dev/null) >"$work/$1.log" 2>&1 || {
+    (cd "crates/$1" && rt run ${cpu:+--cpu "$cpu"} -- "${@:2}") >/dev/null 2>"$work/$1.log" || {
         tail -n 20 "$work/$1.log" >&2
         fail "crates/$1 was not proved and built"
     }

@@ -45,7 +45,7 @@ measure() {
 
 build_plain make_lines
 build_plain "$plain"
-build_proved "$ours"
+build_proved "$ours" </dev/null
 
 compare bench/edges.in "bench/edges.in"
 "$work/make_lines" 200000 64 >"$work/short.in"
