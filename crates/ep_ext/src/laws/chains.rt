@@ -1,10 +1,14 @@
 //! Laws of headers in a row, under any order of places.
-ghost use Rattle.std.specs.Prelude.{◌≡◌, ◌≤◌, ℕ, List, [], ◌∷◌, ◌++◌, length, Some, None, Ok, Err, IsOkAnd, false};
+ghost use Rattle.std.specs.Prelude.{◌≡◌, ◌≤◌, ◌<◌, ◌+◌, ◌^◌, ℕ, List, [], ◌∷◌, ◌++◌, length, Some, None, Ok, Err, IsOkAnd, false};
 ghost use Rattle.ep_ip.specs.Skip.{is_skipped};
 ghost use Rattle.ep_base.specs.Bytes.{num};
-ghost use Rattle.ep_ext.specs.Chain.{Chain, IsEnd, IsPiece, Row, front_of};
+ghost use Rattle.ep_ext.specs.Auth.{auth_at};
+ghost use Rattle.ep_ext.specs.AuthFault as auth;
+ghost use Rattle.ep_ext.specs.Chain.{Chain, Fault, IsEnd, IsPiece, Row, fault_of, front_of};
+ghost use Rattle.ep_ext.specs.Moved.{CanMove};
 ghost use Rattle.ep_ext.specs.Place.{KeepsNumbers, Order, place_of};
 ghost use Rattle.ep_ext.specs.Value.{Piece, bytes_of, places};
+ghost use Rattle.ep_ext.specs.declared.err.ip_auth.header_slice_error.HeaderSliceError.{HeaderSliceError as AuthError};
 ghost use Rattle.ep_ext.specs.declared.err.ipv6_exts.header_slice_error.HeaderSliceError.{HeaderSliceError};
 ghost use Rattle.ep_ext.specs.declared.net.ipv6_ext_place.Ipv6ExtPlace.{Ipv6ExtPlace};
 
@@ -44,6 +48,19 @@ pub fn whole_header_is_found()
     ensures found { (place : Ipv6ExtPlace) (header rest : List ℕ)
         → IsPiece place header → front_of place (header ++ rest) ≡ Ok header }
     ensures least { (place : Ipv6ExtPlace) (header : List ℕ) → IsPiece place header → 8 ≤ length header }
+{}
+
+/// The place of a fault is within the bytes, so that it can be moved by what stands in front of them:
+/// of a header at the front, alone and as an authentication header, the place is 0; of headers in a
+/// row it is that of the header at which the row stops.
+pub fn faults_can_be_moved()
+    ensures front { (place : Ipv6ExtPlace) (bytes : List ℕ) (error : HeaderSliceError) (n : ℕ)
+        → front_of place bytes ≡ Err error → n < 2 ^ 64 → CanMove error n }
+    ensures row { (order : Order) (first : ℕ) (bytes : List ℕ) (pieces : List Piece) (last : ℕ) (rest : List ℕ)
+        (fault : Fault) (n : ℕ) → Chain order first bytes pieces last rest
+        → fault_of order pieces last rest ≡ Some fault → length bytes + n < 2 ^ 64 → CanMove fault.0 n }
+    ensures auth { (bytes : List ℕ) (error : AuthError) (n : ℕ)
+        → auth_at bytes ≡ Err error → n < 2 ^ 64 → auth.CanMove error n }
 {}
 
 /// Where bytes are headers in a row and a rest, behind a number that the walk over all skipped

@@ -1,5 +1,5 @@
 //! Laws of the extension headers that one value holds.
-ghost use Rattle.std.specs.Prelude.{◌≡◌, ◌≢◌, Ok, ℕ, List, ◌++◌, IsOkAnd, false, None, [], length};
+ghost use Rattle.std.specs.Prelude.{◌≡◌, ◌≢◌, Ok, ℕ, List, ◌∷◌, ◌++◌, IsOkAnd, false, None, [], length};
 ghost use Rattle.ep_ext.specs.Follow.{Follows, has_place, walk_fault};
 ghost use Rattle.ep_ext.specs.Place.{place_of};
 ghost use Rattle.ep_ext.specs.Ipv4Exts.{NamesBehind, auth_number, ipv4_exts_of, ipv4_exts_spelling};
@@ -8,7 +8,7 @@ ghost use Rattle.ep_ext.specs.Value.{Piece, bytes_of, value_of};
 
 use crate::err::ip_auth;
 use crate::err::ipv6_exts::{ExtsWalkError, HeaderSliceError};
-use crate::{Ipv4Extensions, Ipv6Extensions};
+use crate::{Ipv4Extensions, Ipv6Extensions, Ipv6RoutingExtensions};
 use ep_base::IpNumber;
 
 /// What `write` appends from a first number is read again from that number, whatever follows it,
@@ -81,4 +81,19 @@ pub fn default_holds_no_header() -> (Ipv4Extensions, Ipv6Extensions)
     ensures ipv6 { result.1 ≡ value_of [] }
 {
     (Ipv4Extensions::default(), Ipv6Extensions::default())
+}
+
+/// The least and the greatest length in bytes: of the extension headers of IPv4, of those of IPv6, and
+/// of a routing header with the options behind it.
+pub fn chain_lengths() -> [usize; 6]
+    ensures { result ≡ 0 ∷ 1028 ∷ 0 ∷ 9228 ∷ 8 ∷ 4096 ∷ [] }
+{
+    [
+        Ipv4Extensions::MIN_LEN,
+        Ipv4Extensions::MAX_LEN,
+        Ipv6Extensions::MIN_LEN,
+        Ipv6Extensions::MAX_LEN,
+        Ipv6RoutingExtensions::MIN_LEN,
+        Ipv6RoutingExtensions::MAX_LEN,
+    ]
 }

@@ -1,6 +1,6 @@
-//! The extension headers of IPv4.
-ghost use Rattle.std.specs.Prelude.{◌≡◌, ◌+◌, ◌≤◌, ◌<◌, ℕ, List, IfOk, IfErr, IsOkAnd, MatchOption, Err, Ok, None, Some, Option, is_some, is_none, if◌then◌else◌, length, vec_len, vec_capacity};
+ghost use Rattle.std.specs.Prelude.{◌≡◌, ◌+◌, ◌≤◌, ◌<◌, ◌^◌, ℕ, List, IfOk, IfErr, IsOkAnd, MatchOption, Err, Ok, None, Some, Option, is_some, is_none, if◌then◌else◌, length, vec_len, vec_capacity};
 ghost use Rattle.ep_ext.specs.Auth.{IsAuth, auth_of, auth_spelling};
+ghost use Rattle.ep_ext.specs.AuthFault.{CanMove};
 ghost use Rattle.ep_ext.specs.declared.net.ip_auth_header.IpAuthHeader.{IpAuthHeader};
 ghost use Rattle.ep_ext.specs.Ipv4Exts.{Ipv4Chain, auth_behind, ipv4_exts_of, number_behind, ipv4_exts_spelling, ipv4_with_link, ipv4_walk_fault, NamesBehind, AppendsNamed};
 ghost use Rattle.ep_ext.specs.declared.err.ipv4_exts.header_write_error.HeaderWriteError.TheVariants.{Memory};
@@ -40,6 +40,8 @@ impl Ipv4Extensions {
         ensures only { (auth : Option (List ℕ)) (rest : List ℕ) → Ipv4Chain first.0 slice.now auth rest
             → IsOkAnd result (λ r. (r.0 ≡ ipv4_exts_of auth) × (r.1.0 ≡ number_behind first.0 auth) × (r.2.now ≡ rest)) }
         ensures err { IfErr result (λ e. auth_behind first.0 slice.now ≡ Err e) }
+        // A want of bytes is that of a header at the start of the slice.
+        ensures place { IfErr result (λ e. (n : ℕ) → n < 2 ^ 64 → CanMove e n) }
     {
         if first != IpNumber::AUTHENTICATION_HEADER {
             return Ok((Ipv4Extensions { auth: None }, first, slice));

@@ -1,7 +1,7 @@
-ghost use Rattle.std.specs.Prelude.{◌≡◌, ℕ, List, ◌++◌, IfOk, IfErr, MatchResult, Option, Some};
+ghost use Rattle.std.specs.Prelude.{◌≡◌, ◌≤◌, ◌-◌, ℕ, List, ◌++◌, length, IfOk, IfErr, MatchResult, Option, Some};
 ghost use Rattle.ep_ext.specs.Ipv4Exts.{IsAuthBehind, auth_bytes, auth_number, ipv4_exts_of, number_behind};
 ghost use Rattle.ep_ext.specs.Limited.{started};
-ghost use Rattle.ep_ext.specs.Reads.{IsAuthIo, RefusesAuth, RefusesAuthWithin};
+ghost use Rattle.ep_ext.specs.Reads.{IsAuthIo, IsAuthLimitedIo, RefusesAuth, RefusesAuthWithin};
 ghost use Rattle.ep_ext.specs.ReadsIpv4Exts.{ReadsAuthBehind, ReadsAuthWithin};
 
 use super::{IpAuthHeader, Ipv4Extensions};
@@ -46,6 +46,12 @@ impl Ipv4Extensions {
         first: IpNumber,
     ) -> Result<(Ipv4Extensions, IpNumber), HeaderLimitedReadError>
         ensures found { IfOk result (ReadsAuthWithin R.remaining first.0 reader.old reader.new) }
+        // Where a header is next and within the limit, or none is named, it is read, or a read failed.
+        ensures only { (auth : Option (List ℕ)) (rest : List ℕ) → IsAuthBehind first.0 auth
+            → R.remaining reader.old.reader ≡ Some (auth_bytes auth ++ rest)
+            → length (auth_bytes auth) ≤ reader.old.max_len - reader.old.read_len
+            → MatchResult result (λ r. (r.0 ≡ ipv4_exts_of auth) × (r.1.0 ≡ number_behind first.0 auth)
+            × (R.remaining reader.new.reader ≡ Some rest)) IsAuthLimitedIo }
         // Else a read failed, the limit is too low, or what was read is no header.
         ensures err { IfErr result (λ e. (first.0 ≡ auth_number)
             × RefusesAuthWithin R.remaining (started reader.old Layer.IpAuthHeader) e reader.new) }

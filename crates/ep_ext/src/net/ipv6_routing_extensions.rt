@@ -1,4 +1,3 @@
-//! A routing header and the destination options behind it.
 ghost use Rattle.std.specs.Prelude.{◌≡◌, ◌≤◌, length, ◌++◌, unwrap_or, []};
 ghost use Rattle.std.specs.Option.{option_map};
 ghost use Rattle.ep_ext.specs.Raw.{raw_spelling};
