@@ -9,8 +9,7 @@ use crate::{
     Ipv6RoutingExtensions,
 };
 
-/// A copy is the value: of headers all fields, of a slice its bytes. (`Ipv6Extensions` copies each of
-/// its fields.)
+/// A copy is the value: of headers all fields, of a slice its bytes.
 pub fn copies_are_values<'a>()
     ensures ipv6_raw_ext_header { CopyIsValue ⟦<Ipv6RawExtHeader as Clone>⟧.is_clone }
     ensures ipv6_fragment_header { CopyIsValue ⟦<Ipv6FragmentHeader as Clone>⟧.is_clone }
@@ -35,6 +34,13 @@ pub fn copies_are_values<'a>()
     ensures ip_header_error { CopyIsValue ⟦<ip_exts::HeaderError as Clone>⟧.is_clone }
     ensures ip_headers_slice_error { CopyIsValue ⟦<ip_exts::HeadersSliceError as Clone>⟧.is_clone }
 {}
+
+/// A copy of all extension headers of a packet is the value, too.
+pub fn copies_of_chains_are_values()
+    ensures { CopyIsValue ⟦<Ipv6Extensions as Clone>⟧.is_clone }
+{
+    copies_are_values();
+}
 
 /// To copy one of these takes no memory and doesn't fail.
 pub fn copies_never_fail<'a>()
