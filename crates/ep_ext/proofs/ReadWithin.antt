@@ -1,12 +1,12 @@
 -- Refusals of a reader with a limit.
-use Rattle.std.proofs.Common.{◌≡◌, ℕ, List, Option, Some, Result, Ok, Err, refl, sym, subst}
-use Rattle.std.specs.Prelude.{IfErr}
-use Rattle.ep_base.specs.declared.net.ip_number.IpNumber.{IpNumber}
+use Rattle.std.proofs.Common.{◌≡◌, ℕ, List, Option, Some, refl, sym, subst}
+use Rattle.ep_base.specs.declared.err.layer.Layer.TheVariants.{Ipv6ExtHeader}
 use Rattle.ep_ext.specs.Limited.{Limited, started}
 use Rattle.ep_ext.specs.Passed.{place_behind}
 use Rattle.ep_ext.specs.Place.{place_of}
 use Rattle.ep_ext.specs.Value.{places}
-use Rattle.ep_ext.specs.Reads.{RefusesAuthWithin}
+use Rattle.ep_ext.specs.Raw.{raw_len}
+use Rattle.ep_ext.specs.Reads.{RefusesAuthWithin, RefusesHeader}
 use Rattle.ep_ext.specs.ReadsExts.{RefusesBytes, RefusesExtWithin, RefusesRowWithin, TakesRow, auth_exts_error, bytes_error, read_layer}
 use Rattle.ep_ext.specs.declared.err.io.limited_read_error.LimitedReadError.{LimitedReadError}
 use Rattle.ep_ext.specs.declared.err.io.limited_read_error.LimitedReadError.TheVariants as bytes_fault
@@ -14,7 +14,7 @@ use Rattle.ep_ext.specs.declared.err.ip_auth.header_limited_read_error.HeaderLim
 use Rattle.ep_ext.specs.declared.err.ip_auth.header_limited_read_error.HeaderLimitedReadError.TheVariants as auth_limited
 use Rattle.ep_ext.specs.declared.err.ipv6_exts.header_limited_read_error.HeaderLimitedReadError.{HeaderLimitedReadError}
 use Rattle.ep_ext.specs.declared.net.ipv6_ext_place.Ipv6ExtPlace.{Ipv6ExtPlace}
-use Rattle.ep_ext.specs.declared.net.ipv6_ext_place.Ipv6ExtPlace.TheVariants.{Authentication}
+use Rattle.ep_ext.specs.declared.net.ipv6_ext_place.Ipv6ExtPlace.TheVariants.{HopByHop, Destination, Routing, Fragment, Authentication, FinalDestination}
 use Rattle.ep_ext.specs.declared.net.ipv6_extensions.Ipv6Extensions.{Ipv6Extensions}
 use Rattle.ep_ext.specs.declared.net.passed.Passed.{Passed}
 use Rattle.ep_ext.proofs.ReadWalk.{Given, given_most, given_place}
@@ -31,12 +31,15 @@ module _ {T : Type 0} (remaining : T → Option (List ℕ)) (old new : Limited T
   auth_refused (auth_limited.Len e) far is refused = rw is (Authentication, refl, refused)
   auth_refused (auth_limited.Content e) far is refused = rw is (refl, refused)
 
--- the refusal of a header that is read into its place
-pub raw_refused : {T : Type 0} (remaining : T → Option (List ℕ)) (old new : Limited T) (at : Ipv6ExtPlace) (result : Result IpNumber HeaderLimitedReadError) →
-    IfErr result (λ e. (bytes : LimitedReadError) × (e ≡ bytes_error bytes) × RefusesBytes remaining at (started old (read_layer at)) bytes new) →
-    IfErr result (λ e. (number : ℕ) → RefusesExtWithin remaining (Some at) number old e new)
-raw_refused remaining old new at (Ok n) given = tt
-raw_refused remaining old new at (Err e) given = λ number. bytes_refused remaining old new number at given.0 e given.1 given.2
+-- the refusal of a header of the raw layout is that of its place
+pub raw_bytes_refused : {T : Type 0} (remaining : T → Option (List ℕ)) (place : Ipv6ExtPlace) (old new : Limited T) (e : LimitedReadError) →
+    (place ≡ Fragment → ⊥) → (place ≡ Authentication → ⊥) → RefusesHeader remaining 8 raw_len (started old Ipv6ExtHeader) e new → RefusesBytes remaining place (started old (read_layer place)) e new
+raw_bytes_refused remaining HopByHop old new e fragment auth refused = refused
+raw_bytes_refused remaining Destination old new e fragment auth refused = refused
+raw_bytes_refused remaining Routing old new e fragment auth refused = refused
+raw_bytes_refused remaining Fragment old new e fragment auth refused = absurd (fragment refl)
+raw_bytes_refused remaining Authentication old new e fragment auth refused = absurd (auth refl)
+raw_bytes_refused remaining FinalDestination old new e fragment auth refused = refused
 
 -- a row, behind which a header was refused
 pub row_refused : {T : Type 0} (remaining : T → Option (List ℕ)) (old between new : Limited T) (first : ℕ) (value : Ipv6Extensions) (passed : Passed) (number : ℕ) (place : Option Ipv6ExtPlace) (e : HeaderLimitedReadError) →

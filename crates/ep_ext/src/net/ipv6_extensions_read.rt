@@ -2,15 +2,11 @@ ghost use Rattle.std.specs.Prelude.{◌≡◌, ℕ, List, [], ◌++◌, IfOk, If
 ghost use Rattle.std.specs.Io.KnownBytes.{Consumes};
 ghost use Rattle.ep_base.specs.Bytes.{num};
 ghost use Rattle.ep_ext.specs.Chain.{IsPiece};
-ghost use Rattle.ep_ext.specs.Raw.{IsRawExt, raw_of};
 ghost use Rattle.ep_ext.specs.ReadsExts.{IsExtsIo, IsWholeRow, ReadsRow, RefusesExt, RefusesRow};
 ghost use Rattle.ep_ext.specs.Value.{Piece, bytes_of, put, value_of};
 
 use super::passed::Passed;
-use super::{
-    IpAuthHeader, Ipv6ExtPlace, Ipv6Extensions, Ipv6FragmentHeader, Ipv6RawExtHeader,
-    Ipv6RoutingExtensions,
-};
+use super::{IpAuthHeader, Ipv6ExtPlace, Ipv6Extensions, Ipv6FragmentHeader, Ipv6RawExtHeader};
 use crate::err::ip_auth;
 use crate::err::ipv6_exts::{HeaderError, HeaderReadError};
 use ep_base::IpNumber;
@@ -94,19 +90,6 @@ impl Ipv6Extensions {
             → RefusesExt (Some place) number (R.remaining reader.old) e (R.remaining reader.new)) }
     {
         match place {
-            Ipv6ExtPlace::HopByHop => read_raw(&mut self.hop_by_hop_options, reader),
-            Ipv6ExtPlace::Destination => read_raw(&mut self.destination_options, reader),
-            Ipv6ExtPlace::Routing => match Ipv6RawExtHeader::read(reader) {
-                Ok(routing) => {
-                    let next = routing.next_header;
-                    self.routing = Some(Ipv6RoutingExtensions {
-                        routing,
-                        final_destination_options: None,
-                    });
-                    Ok(next)
-                }
-                Err(error) => Err(HeaderReadError::Io(error)),
-            },
             Ipv6ExtPlace::Fragment => match Ipv6FragmentHeader::read(reader) {
                 Ok(header) => {
                     let next = header.next_header;
@@ -126,36 +109,10 @@ impl Ipv6Extensions {
                     HeaderError::IpAuth(error),
                 )),
             },
-            Ipv6ExtPlace::FinalDestination => match Ipv6RawExtHeader::read(reader) {
-                Ok(header) => {
-                    let next = header.next_header;
-                    if let Some(routing) = &mut self.routing {
-                        routing.final_destination_options = Some(header);
-                    }
-                    Ok(next)
-                }
+            _ => match Ipv6RawExtHeader::read(reader) {
+                Ok(header) => Ok(self.put_raw(place, header)),
                 Err(error) => Err(HeaderReadError::Io(error)),
             },
         }
-    }
-}
-
-// Reads a header into the place.
-fn read_raw<R: Read>(
-    place: &mut Option<Ipv6RawExtHeader>,
-    reader: &mut R,
-) -> Result<IpNumber, HeaderReadError>
-    ensures found { IfOk result (λ n. (header : List ℕ) × IsRawExt header
-        × Consumes (R.remaining reader.old) (R.remaining reader.new) header
-        × (n.0 ≡ num header 0 1) × (place.new ≡ Some (raw_of header))) }
-    ensures err { IfErr result IsExtsIo }
-{
-    match Ipv6RawExtHeader::read(reader) {
-        Ok(header) => {
-            let next = header.next_header;
-            *place = Some(header);
-            Ok(next)
-        }
-        Err(error) => Err(HeaderReadError::Io(error)),
     }
 }

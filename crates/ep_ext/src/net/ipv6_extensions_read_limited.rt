@@ -2,23 +2,16 @@ ghost use Rattle.std.specs.Prelude.{◌≡◌, ◌≤◌, ◌-◌, ℕ, List, []
 ghost use Rattle.ep_base.specs.Bytes.{num};
 ghost use Rattle.ep_ext.specs.Chain.{IsPiece};
 ghost use Rattle.ep_ext.specs.Limited.{started, Takes};
-ghost use Rattle.ep_ext.specs.Raw.{IsRawExt, raw_of, raw_len};
-ghost use Rattle.ep_ext.specs.Reads.{RefusesHeader};
 ghost use Rattle.ep_ext.specs.ReadsExts.{IsExtsLimitedIo, IsWholeRow, ReadsRowWithin, RefusesExtWithin, RefusesRowWithin, auth_exts_error, bytes_error, read_layer};
-ghost use Rattle.ep_ext.specs.declared.err.io.limited_read_error.LimitedReadError.{LimitedReadError};
 ghost use Rattle.ep_ext.specs.Value.{Piece, bytes_of, put, value_of};
 
 use super::passed::Passed;
-use super::{
-    IpAuthHeader, Ipv6ExtPlace, Ipv6Extensions, Ipv6FragmentHeader, Ipv6RawExtHeader,
-    Ipv6RoutingExtensions,
-};
+use super::{IpAuthHeader, Ipv6ExtPlace, Ipv6Extensions, Ipv6FragmentHeader, Ipv6RawExtHeader};
 use crate::err::io::LimitedReadError;
 use crate::err::ip_auth;
 use crate::err::ipv6_exts::{HeaderError, HeaderLimitedReadError};
 use crate::io::LimitedReader;
 use ep_base::IpNumber;
-use ep_base::err::Layer;
 use std::io::Read;
 
 impl Ipv6Extensions {
@@ -101,19 +94,6 @@ impl Ipv6Extensions {
             → RefusesExtWithin R.remaining (Some place) number reader.old e reader.new) }
     {
         match place {
-            Ipv6ExtPlace::HopByHop => read_raw(&mut self.hop_by_hop_options, reader),
-            Ipv6ExtPlace::Destination => read_raw(&mut self.destination_options, reader),
-            Ipv6ExtPlace::Routing => match Ipv6RawExtHeader::read_limited(reader) {
-                Ok(routing) => {
-                    let next = routing.next_header;
-                    self.routing = Some(Ipv6RoutingExtensions {
-                        routing,
-                        final_destination_options: None,
-                    });
-                    Ok(next)
-                }
-                Err(error) => Err(of_bytes(error)),
-            },
             Ipv6ExtPlace::Fragment => match Ipv6FragmentHeader::read_limited(reader) {
                 Ok(header) => {
                     let next = header.next_header;
@@ -130,38 +110,11 @@ impl Ipv6Extensions {
                 }
                 Err(error) => Err(of_auth(error)),
             },
-            Ipv6ExtPlace::FinalDestination => match Ipv6RawExtHeader::read_limited(reader) {
-                Ok(header) => {
-                    let next = header.next_header;
-                    if let Some(routing) = &mut self.routing {
-                        routing.final_destination_options = Some(header);
-                    }
-                    Ok(next)
-                }
+            _ => match Ipv6RawExtHeader::read_limited(reader) {
+                Ok(header) => Ok(self.put_raw(place, header)),
                 Err(error) => Err(of_bytes(error)),
             },
         }
-    }
-}
-
-// Reads a header into the place.
-fn read_raw<R: Read>(
-    place: &mut Option<Ipv6RawExtHeader>,
-    reader: &mut LimitedReader<R>,
-) -> Result<IpNumber, HeaderLimitedReadError>
-    ensures found { IfOk result (λ n. (header : List ℕ) × IsRawExt header
-        × Takes R.remaining (started reader.old Layer.Ipv6ExtHeader) header reader.new
-        × (n.0 ≡ num header 0 1) × (place.new ≡ Some (raw_of header))) }
-    ensures err { IfErr result (λ e. (bytes : LimitedReadError) × (e ≡ bytes_error bytes)
-        × RefusesHeader R.remaining 8 raw_len (started reader.old Layer.Ipv6ExtHeader) bytes reader.new) }
-{
-    match Ipv6RawExtHeader::read_limited(reader) {
-        Ok(header) => {
-            let next = header.next_header;
-            *place = Some(header);
-            Ok(next)
-        }
-        Err(error) => Err(of_bytes(error)),
     }
 }
 
