@@ -1,11 +1,11 @@
 -- Calls one after another, and calls that are writes alone.
-use Rattle.std.proofs.Common.{◌≡◌, ◌∙◌, sym, ap, refl, subst, zero, suc, ◌+◌, arith, false, List, [], ◌∷◌, ◌++◌, Some, None, append_assoc, append-nil}
+use Rattle.std.proofs.Common.{◌≡◌, ◌∙◌, sym, ap, refl, subst, ℕ, zero, suc, ◌+◌, arith, false, List, [], ◌∷◌, ◌++◌, Some, None, append_assoc, append-nil}
 use Rattle.std.specs.Prelude.{cond}
 use Rattle.std.specs.List.{AllByRecursion}
 use Rattle.std.proofs.lemmas.List.Elements.{filter_map-append}
 use Rattle.std.proofs.lemmas.List.Sums.{sum_by-append}
 use Rattle.captures.specs.Calls.{Call, Reads, Writes, Makes, bytes_read, read_count, is_read, is_end_told, fault_of, faults_of}
-use Rattle.captures.specs.Runs.{EachFollows}
+use Rattle.captures.specs.Courses.{EachFollows}
 use Rattle.captures.specs.Writes.{TakesBytes}
 
 pub AllByRecursion-append : {X : Type 0} (P : X → Type 0) (xs ys : List X) → AllByRecursion P xs → AllByRecursion P ys → AllByRecursion P (xs ++ ys)
@@ -19,10 +19,10 @@ Makes-append transition a b c (x ∷ xs) ys p q = (p.0, p.1, Makes-append transi
 pub read_count-append : (xs ys : List Call) → read_count (xs ++ ys) ≡ read_count xs + read_count ys
 read_count-append xs ys = sum_by-append (λ call. cond (is_read call) 1 0) xs ys
 
-pub EachFollows-append : (before xs ys : List Call) → EachFollows before xs → EachFollows (before ++ xs) ys → EachFollows before (xs ++ ys)
-EachFollows-append before [] ys p q = subst (λ l. EachFollows l ys) (append-nil before) q
-EachFollows-append before (x ∷ xs) ys p q =
-    (p.0, EachFollows-append (before ++ x ∷ []) xs ys p.1 (subst (λ l. EachFollows l ys) (sym (append_assoc before (x ∷ []) xs)) q))
+pub EachFollows-append : (due : List ℕ → List ℕ → Type 0) (before xs ys : List Call) → EachFollows due before xs → EachFollows due (before ++ xs) ys → EachFollows due before (xs ++ ys)
+EachFollows-append due before [] ys p q = subst (λ l. EachFollows due l ys) (append-nil before) q
+EachFollows-append due before (x ∷ xs) ys p q =
+    (p.0, EachFollows-append due (before ++ x ∷ []) xs ys p.1 (subst (λ l. EachFollows due l ys) (sym (append_assoc before (x ∷ []) xs)) q))
 
 -- writes that take bytes have no fault,
 pub writes_faults : (calls : List Call) → AllByRecursion TakesBytes calls → faults_of calls ≡ []
@@ -50,12 +50,12 @@ writes_read (Reads given ∷ calls) each = absurd each.0
 writes_read (Writes bytes taken ∷ calls) each = writes_read calls each.1
 
 -- they may follow where there is no fault
-pub writes_follow : (before calls : List Call) → faults_of before ≡ [] → AllByRecursion TakesBytes calls → EachFollows before calls
-writes_follow before [] none each = tt
-writes_follow before (Reads given ∷ calls) none each = absurd each.0
-writes_follow before (Writes bytes None ∷ calls) none each = absurd each.0
-writes_follow before (Writes bytes (Some zero) ∷ calls) none each = let some = each.0.0 in absurd (omega arith)
-writes_follow before (Writes bytes (Some (suc n)) ∷ calls) none each =
+pub writes_follow : (due : List ℕ → List ℕ → Type 0) (before calls : List Call) → faults_of before ≡ [] → AllByRecursion TakesBytes calls → EachFollows due before calls
+writes_follow due before [] none each = tt
+writes_follow due before (Reads given ∷ calls) none each = absurd each.0
+writes_follow due before (Writes bytes None ∷ calls) none each = absurd each.0
+writes_follow due before (Writes bytes (Some zero) ∷ calls) none each = let some = each.0.0 in absurd (omega arith)
+writes_follow due before (Writes bytes (Some (suc n)) ∷ calls) none each =
     let call = Writes bytes (Some (suc n)) in
     let fits = each.0.1 in
-    ((none, omega arith), writes_follow (before ++ call ∷ []) calls (filter_map-append fault_of before (call ∷ []) ∙ ap (λ l. l ++ []) none) each.1)
+    ((none, omega arith), writes_follow due (before ++ call ∷ []) calls (filter_map-append fault_of before (call ∷ []) ∙ ap (λ l. l ++ []) none) each.1)

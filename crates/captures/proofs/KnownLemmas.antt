@@ -10,7 +10,8 @@ use Rattle.captures.specs.Lines.{Packet, lines_of}
 use Rattle.captures.specs.Calls.{Call, Reads, Writes, Makes, bytes_given, bytes_taken, bytes_read, bytes_written, tells_end, is_end_told, read_count, faults_of}
 use Rattle.captures.specs.Known.{Known, KnownCall, Transfers}
 use Rattle.captures.proofs.CallLemmas.{read_count-append}
-use Rattle.captures.specs.Runs.{EachFollows, IsCapture, Runs}
+use Rattle.captures.specs.Courses.{EachFollows, Goes}
+use Rattle.captures.specs.Runs.{IsCapture, Runs}
 
 -- what each call keeps, calls keep
 Makes-keep : {D N : Type 0} (transition : D → Call → D → Type 0) (name : D → N) → ((s t : D) (call : Call) → transition s call t → name t ≡ name s)
@@ -18,9 +19,9 @@ Makes-keep : {D N : Type 0} (transition : D → Call → D → Type 0) (name : D
 Makes-keep transition name keep old new [] made = ap name made
 Makes-keep transition name keep old new (call ∷ calls) made = Makes-keep transition name keep made.0 new calls made.2 ∙ keep old made.0 call made.1
 
-pub Runs-keep : {D N : Type 0} (transition : D → Call → D → Type 0) (name : D → N) → ((s t : D) (call : Call) → transition s call t → name t ≡ name s)
-    → (limit : ℕ) (old new : D) (result : Result Unit RunError) → Runs transition limit old new result → name new ≡ name old
-Runs-keep transition name keep limit old new result runs = Makes-keep transition name keep old new runs.calls runs.made
+pub Goes-keep : {due : List ℕ → List ℕ → Type 0} {outcome : Result Unit RunError → Bool → List ℕ → List ℕ → Type 0} {D N : Type 0} (transition : D → Call → D → Type 0) (name : D → N) → ((s t : D) (call : Call) → transition s call t → name t ≡ name s)
+    → (limit : ℕ) (old new : D) (result : Result Unit RunError) → Goes due outcome transition limit old new result → name new ≡ name old
+Goes-keep transition name keep limit old new result runs = Makes-keep transition name keep old new runs.calls runs.made
 
 -- calls on what is seen of a device
 Makes-map : {D E : Type 0} (transition : D → Call → D → Type 0) (transition' : E → Call → E → Type 0) (seen : D → E) → ((s t : D) (call : Call) → transition s call t → transition' (seen s) call (seen t))
@@ -29,9 +30,9 @@ Makes-map transition transition' seen see old new [] made = ap seen made
 Makes-map transition transition' seen see old new (call ∷ calls) made =
     (seen made.0, see old made.0 call made.1, Makes-map transition transition' seen see made.0 new calls made.2)
 
-pub Runs-map : {D E : Type 0} (transition : D → Call → D → Type 0) (transition' : E → Call → E → Type 0) (seen : D → E) → ((s t : D) (call : Call) → transition s call t → transition' (seen s) call (seen t))
-    → (limit : ℕ) (old new : D) (result : Result Unit RunError) → Runs transition limit old new result → Runs transition' limit (seen old) (seen new) result
-Runs-map transition transition' seen see limit old new result runs = record {
+pub Goes-map : {due : List ℕ → List ℕ → Type 0} {outcome : Result Unit RunError → Bool → List ℕ → List ℕ → Type 0} {D E : Type 0} (transition : D → Call → D → Type 0) (transition' : E → Call → E → Type 0) (seen : D → E) → ((s t : D) (call : Call) → transition s call t → transition' (seen s) call (seen t))
+    → (limit : ℕ) (old new : D) (result : Result Unit RunError) → Goes due outcome transition limit old new result → Goes due outcome transition' limit (seen old) (seen new) result
+Goes-map transition transition' seen see limit old new result runs = record {
   calls = runs.calls;
   made = Makes-map transition transition' seen see old new runs.calls runs.made;
   each = runs.each;
@@ -40,11 +41,11 @@ Runs-map transition transition' seen see limit old new result runs = record {
   output = runs.output;
 }
 
-memory_keeps : {D : Type 0} (transition : D → Call → D → Type 0) (limit : ℕ) (old new : D) → Runs transition limit old new (Err Memory) → new ≡ old
+memory_keeps : {due : List ℕ → List ℕ → Type 0} {outcome : Result Unit RunError → Bool → List ℕ → List ℕ → Type 0} {D : Type 0} (transition : D → Call → D → Type 0) (limit : ℕ) (old new : D) → Goes due outcome transition limit old new (Err Memory) → new ≡ old
 memory_keeps transition limit old new runs = subst (λ calls. Makes transition old calls new) runs.ends runs.made
 
-pub runs_memory : {D : Type 0} (transition : D → Call → D → Type 0) (limit : ℕ) (old new : D) (result : Result Unit RunError) → result ≡ Err Memory → Runs transition limit old new result → new ≡ old
-runs_memory transition limit old new result is runs = memory_keeps transition limit old new (subst (Runs transition limit old new) is runs)
+pub goes_memory : {due : List ℕ → List ℕ → Type 0} {outcome : Result Unit RunError → Bool → List ℕ → List ℕ → Type 0} {D : Type 0} (transition : D → Call → D → Type 0) (limit : ℕ) (old new : D) (result : Result Unit RunError) → result ≡ Err Memory → Goes due outcome transition limit old new result → new ≡ old
+goes_memory {due} {outcome} transition limit old new result is runs = memory_keeps transition limit old new (subst (Goes due outcome transition limit old new) is runs)
 
 -- one call,
 input_moves : (a b : Known) (call : Call) → KnownCall a call b → Consumes a.input b.input (bytes_given call)
@@ -78,41 +79,44 @@ told_more : (before : List Call) (call : Call) → is_end_told before ≡ true �
 told_more before call told = list_any-append tells_end before (call ∷ []) ∙ ap (λ b. b || (tells_end call || false)) told
 
 -- after the end is told nothing is read
-input_kept : (before : List Call) → is_end_told before ≡ true → (a b : Known) (calls : List Call) → EachFollows before calls → Makes KnownCall a calls b → b.input ≡ a.input
-input_kept before told a b [] each made = ap (λ (k : Known). k.input) made
-input_kept before told a b (Reads given ∷ calls) each made = let untold = each.0.0.no_end in absurd (cc)
-input_kept before told a b (Writes bytes (Some n) ∷ calls) each made =
-    input_kept (before ++ Writes bytes (Some n) ∷ []) (told_more before (Writes bytes (Some n)) told) made.0 b calls each.1 made.2 ∙ made.1.1
-input_kept before told a b (Writes bytes None ∷ calls) each made =
-    input_kept (before ++ Writes bytes None ∷ []) (told_more before (Writes bytes None) told) made.0 b calls each.1 made.2 ∙ made.1.1
+input_kept : (due : List ℕ → List ℕ → Type 0) (before : List Call) → is_end_told before ≡ true → (a b : Known) (calls : List Call) → EachFollows due before calls → Makes KnownCall a calls b → b.input ≡ a.input
+input_kept due before told a b [] each made = ap (λ (k : Known). k.input) made
+input_kept due before told a b (Reads given ∷ calls) each made = let untold = each.0.0.no_end in absurd (cc)
+input_kept due before told a b (Writes bytes (Some n) ∷ calls) each made =
+    input_kept due (before ++ Writes bytes (Some n) ∷ []) (told_more before (Writes bytes (Some n)) told) made.0 b calls each.1 made.2 ∙ made.1.1
+input_kept due before told a b (Writes bytes None ∷ calls) each made =
+    input_kept due (before ++ Writes bytes None ∷ []) (told_more before (Writes bytes None) told) made.0 b calls each.1 made.2 ∙ made.1.1
 
 -- where the end is told no known byte is left
-known_end : (before : List Call) (a b : Known) (calls : List Call) → EachFollows before calls → Makes KnownCall a calls b → is_end_told calls ≡ true → IsAtEnd b.input
-known_end before a b [] each made told = absurd (cc)
-known_end before a b (Reads None ∷ calls) each made told = known_end (before ++ Reads None ∷ []) made.0 b calls each.1 made.2 told
-known_end before a b (Reads (Some []) ∷ calls) each made told =
-    subst IsAtEnd (sym (input_kept (before ++ Reads (Some []) ∷ []) (list_any-append tells_end before (Reads (Some []) ∷ []) ∙ or_true (is_end_told before)) made.0 b calls each.1 made.2)) (made.1.1 refl)
-known_end before a b (Reads (Some (x ∷ bytes)) ∷ calls) each made told = known_end (before ++ Reads (Some (x ∷ bytes)) ∷ []) made.0 b calls each.1 made.2 told
-known_end before a b (Writes bytes taken ∷ calls) each made told = known_end (before ++ Writes bytes taken ∷ []) made.0 b calls each.1 made.2 told
+known_end : (due : List ℕ → List ℕ → Type 0) (before : List Call) (a b : Known) (calls : List Call) → EachFollows due before calls → Makes KnownCall a calls b → is_end_told calls ≡ true → IsAtEnd b.input
+known_end due before a b [] each made told = absurd (cc)
+known_end due before a b (Reads None ∷ calls) each made told = known_end due (before ++ Reads None ∷ []) made.0 b calls each.1 made.2 told
+known_end due before a b (Reads (Some []) ∷ calls) each made told =
+    subst IsAtEnd (sym (input_kept due (before ++ Reads (Some []) ∷ []) (list_any-append tells_end before (Reads (Some []) ∷ []) ∙ or_true (is_end_told before)) made.0 b calls each.1 made.2)) (made.1.1 refl)
+known_end due before a b (Reads (Some (x ∷ bytes)) ∷ calls) each made told = known_end due (before ++ Reads (Some (x ∷ bytes)) ∷ []) made.0 b calls each.1 made.2 told
+known_end due before a b (Writes bytes taken ∷ calls) each made told = known_end due (before ++ Writes bytes taken ∷ []) made.0 b calls each.1 made.2 told
 
-pub runs_end : (limit : ℕ) (a b : Known) (result : Result Unit RunError) → Runs KnownCall limit a b result → OnOk result (IsAtEnd b.input)
-runs_end limit a b (Ok tt) runs = known_end [] a b runs.calls runs.each runs.made runs.ends.1
-runs_end limit a b (Err e) runs = tt
+pub goes_end : {due : List ℕ → List ℕ → Type 0} {outcome : Result Unit RunError → Bool → List ℕ → List ℕ → Type 0} (limit : ℕ) (a b : Known) (result : Result Unit RunError) → Goes due outcome KnownCall limit a b result → OnOk result (IsAtEnd b.input)
+goes_end {due} limit a b (Ok tt) runs = known_end due [] a b runs.calls runs.each runs.made runs.ends.1
+goes_end limit a b (Err e) runs = tt
 
-pub runs_ok : (limit : ℕ) (a b : Known) (result : Result Unit RunError) → Runs KnownCall limit a b result → OnOk result (IfSome a.input (λ bytes. (packets : List Packet) × IsCapture bytes packets × Appends a.output b.output (lines_of packets)))
-runs_ok limit a b (Ok tt) runs =
-    Consumes-whole a.input b.input (bytes_read runs.calls) (λ bytes. (packets : List Packet) × IsCapture bytes packets × Appends a.output b.output (lines_of packets)) (known_read a b runs.calls runs.made)
-    (runs_end limit a b (Ok tt) runs) (runs.output.0, runs.output.1, subst (Appends a.output b.output) runs.output.2 (known_written a b runs.calls runs.made))
-runs_ok limit a b (Err e) runs = tt
-
-pub runs_transfer : (limit : ℕ) (a b : Known) (result : Result Unit RunError) → Runs KnownCall limit a b result → Transfers a.input b.input a.output b.output result
-runs_transfer limit a b result runs = record {
+pub goes_transfer : {due : List ℕ → List ℕ → Type 0} {outcome : Result Unit RunError → Bool → List ℕ → List ℕ → Type 0} (limit : ℕ) (a b : Known) (result : Result Unit RunError) → Goes due outcome KnownCall limit a b result
+    → Transfers outcome a.input b.input a.output b.output result
+goes_transfer {due} limit a b result runs = record {
+  told = is_end_told runs.calls;
   read = bytes_read runs.calls;
   written = bytes_written runs.calls;
   consumed = known_read a b runs.calls runs.made;
   appended = known_written a b runs.calls runs.made;
+  end = known_end due [] a b runs.calls runs.each runs.made;
   due = runs.output;
 }
+
+pub runs_ok : (limit : ℕ) (a b : Known) (result : Result Unit RunError) → Runs KnownCall limit a b result → OnOk result (IfSome a.input (λ bytes. (packets : List Packet) × IsCapture bytes packets × Appends a.output b.output (lines_of packets)))
+runs_ok limit a b (Ok tt) runs =
+    Consumes-whole a.input b.input (bytes_read runs.calls) (λ bytes. (packets : List Packet) × IsCapture bytes packets × Appends a.output b.output (lines_of packets)) (known_read a b runs.calls runs.made)
+    (goes_end limit a b (Ok tt) runs) (runs.output.0, runs.output.1, subst (Appends a.output b.output) runs.output.2 (known_written a b runs.calls runs.made))
+runs_ok limit a b (Err e) runs = tt
 
 -- reads that neither fail nor tell the end give a byte each
 read_count_le : (calls : List Call) → faults_of calls ≡ [] → is_end_told calls ≡ false → read_count calls ≤ length (bytes_read calls)
@@ -133,11 +137,11 @@ Consumes-length None new bytes n consumed le = tt
 Consumes-length (Some x) None bytes n consumed le = absurd consumed
 Consumes-length (Some x) (Some y) bytes n consumed le = let whole = ap length consumed in omega (arith, length-append bytes y)
 
-too_many : (limit : ℕ) (a b : Known) → Runs KnownCall limit a b (Err TooManyReads) → IfSome a.input (λ bytes. limit ≤ length bytes)
+too_many : {due : List ℕ → List ℕ → Type 0} {outcome : Result Unit RunError → Bool → List ℕ → List ℕ → Type 0} (limit : ℕ) (a b : Known) → Goes due outcome KnownCall limit a b (Err TooManyReads) → IfSome a.input (λ bytes. limit ≤ length bytes)
 too_many limit a b runs =
     let le = read_count_le runs.calls runs.ends.0 runs.ends.1 in
     let all = runs.ends.2 in
     Consumes-length a.input b.input (bytes_read runs.calls) limit (known_read a b runs.calls runs.made) (omega arith)
 
-pub runs_too_many : (limit : ℕ) (a b : Known) (result : Result Unit RunError) → result ≡ Err TooManyReads → Runs KnownCall limit a b result → IfSome a.input (λ bytes. limit ≤ length bytes)
-runs_too_many limit a b result is runs = too_many limit a b (subst (Runs KnownCall limit a b) is runs)
+pub goes_too_many : {due : List ℕ → List ℕ → Type 0} {outcome : Result Unit RunError → Bool → List ℕ → List ℕ → Type 0} (limit : ℕ) (a b : Known) (result : Result Unit RunError) → result ≡ Err TooManyReads → Goes due outcome KnownCall limit a b result → IfSome a.input (λ bytes. limit ≤ length bytes)
+goes_too_many {due} {outcome} limit a b result is runs = too_many limit a b (subst (Goes due outcome KnownCall limit a b) is runs)

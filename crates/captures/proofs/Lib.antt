@@ -4,5 +4,6 @@ pub mod CallLemmas
 pub mod Going
 pub mod KnownLemmas
 pub mod SpellingLemmas
+pub mod Standing
 pub mod UnitLemmas
 pub mod WriteLemmas

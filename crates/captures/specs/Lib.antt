@@ -1,4 +1,5 @@
 pub mod Calls
+pub mod Courses
 pub mod Known
 pub mod Lines
 pub mod Numbers

@@ -1,13 +1,14 @@
--- How a run goes over a device: which call may follow which, how it ends, and what it has written by then.
-use Rattle.std.specs.Prelude.{◌≡◌, ◌≢◌, ◌⊎◌, nat_lt, if◌then◌else◌, ℕ, zero, suc, ◌<◌, ◌≤◌, true, false, List, [], ◌∷◌, ◌++◌, length, Option, Some, None, Result, Ok, Err}
+-- A run from captures to lines: what is written before it reads on, and what it has written when it ends.
+use Rattle.std.specs.Prelude.{◌≡◌, ◌≢◌, ◌⊎◌, nat_lt, if◌then◌else◌, ℕ, zero, suc, ◌<◌, ◌≤◌, Bool, List, [], ◌++◌, length, Option, Some, None, Result, Ok, Err}
 use Rattle.captures.specs.declared.capture_error.CaptureError.TheVariants.{NotCapture, LinkType, FrameTooLong, CutOff, BlockTooLong, BadBlock}
 use Rattle.captures.specs.declared.capture_error.CaptureError.{CaptureError}
 use Rattle.captures.specs.declared.run_error.RunError.{RunError}
-use Rattle.captures.specs.declared.run_error.RunError.TheVariants.{Read, Write, WriteZero, Memory, TooManyReads, Capture}
-use Rattle.captures.specs.declared.limits.TheConstants.{INPUT_ROOM, FIRST_UNIT_LEN}
+use Rattle.captures.specs.declared.run_error.RunError.TheVariants.{Read, Write, WriteZero, Memory, TooManyReads, Capture, BadLine}
+use Rattle.captures.specs.declared.limits.TheConstants.{FIRST_UNIT_LEN}
 use Rattle.captures.specs.declared.state.State.{State}
 use Rattle.captures.specs.declared.state.State.TheVariants.{Start, Classic, Pcapng}
-use Rattle.captures.specs.Calls.{Call, Reads, Writes, Makes, bytes_given, bytes_read, bytes_written, read_count, is_end_told, faults_of}
+use Rattle.captures.specs.Calls.{Call}
+use Rattle.captures.specs.Courses.{Goes}
 use Rattle.captures.specs.Lines.{Packet, lines_of}
 use Rattle.captures.specs.Units.{Passes, Takes, IsNoCapture}
 
@@ -39,40 +40,6 @@ pub record EndsWithinPacket (bytes text : List ℕ) : Type 0 where
   pub known : (state ≢ Start) ⊎ (FIRST_UNIT_LEN ≤ length rest)
   pub takes : Takes Start bytes state rest text None
 
--- a read may follow these calls: none of them is a fault, the end is not told yet,
--- and the line of each whole packet so far is written whole
-pub record MayRead (before : List Call) : Type 0 where
-  pub no_fault : faults_of before ≡ []
-  pub no_end : is_end_told before ≡ false
-  pub told : AreTold (bytes_read before) (bytes_written before)
-
--- a call may follow these: a read, which gives so many bytes at most, or a write of some bytes, where none of these is a fault
-abbrev pub Follows : List Call → Call → Type 0
-Follows before (Reads given) = MayRead before × (length (bytes_given (Reads given)) ≤ INPUT_ROOM)
-Follows before (Writes bytes taken) = (faults_of before ≡ []) × (0 < length bytes)
-
--- each of these calls follows those before it
-abbrev pub EachFollows : List Call → List Call → Type 0
-EachFollows before [] = Unit {0}
-EachFollows before (call ∷ calls) = Follows before call × EachFollows (before ++ call ∷ []) calls
-
--- the calls of a run of at most so many reads that ends by this result: without a fault at the end of the input,
--- by its one fault, with no call made, without a fault and with no end told when all the reads are made,
--- or without a fault where the input is refused: as no capture only when a header would be whole, or at the end
-abbrev pub Ends : ℕ → List Call → Result Unit RunError → Type 0
-Ends limit calls (Ok done) = (faults_of calls ≡ []) × (is_end_told calls ≡ true)
-Ends limit calls (Err Read) = faults_of calls ≡ Read ∷ []
-Ends limit calls (Err Write) = faults_of calls ≡ Write ∷ []
-Ends limit calls (Err WriteZero) = faults_of calls ≡ WriteZero ∷ []
-Ends limit calls (Err Memory) = calls ≡ []
-Ends limit calls (Err TooManyReads) = (faults_of calls ≡ []) × (is_end_told calls ≡ false) × (read_count calls ≡ limit)
-Ends limit calls (Err (Capture NotCapture)) = (faults_of calls ≡ []) × ((is_end_told calls ≡ true) ⊎ (FIRST_UNIT_LEN ≤ length (bytes_read calls)))
-Ends limit calls (Err (Capture CutOff)) = (faults_of calls ≡ []) × (is_end_told calls ≡ true)
-Ends limit calls (Err (Capture (LinkType number))) = faults_of calls ≡ []
-Ends limit calls (Err (Capture (FrameTooLong captured))) = faults_of calls ≡ []
-Ends limit calls (Err (Capture (BlockTooLong len))) = faults_of calls ≡ []
-Ends limit calls (Err (Capture BadBlock)) = faults_of calls ≡ []
-
 -- what a run that ends by this result has written: it depends on the bytes that it has read and on nothing else
 abbrev pub IsOutput : Result Unit RunError → List ℕ → List ℕ → Type 0
 IsOutput (Ok done) read written = (packets : List Packet) × IsCapture read packets × (written ≡ lines_of packets)
@@ -87,6 +54,7 @@ IsOutput (Err (Capture (LinkType number))) read written = AreToldBefore (LinkTyp
 IsOutput (Err (Capture (FrameTooLong captured))) read written = AreToldBefore (FrameTooLong captured) read written
 IsOutput (Err (Capture (BlockTooLong len))) read written = AreToldBefore (BlockTooLong len) read written
 IsOutput (Err (Capture BadBlock)) read written = AreToldBefore BadBlock read written
+IsOutput (Err (BadLine number)) read written = ⊥
 
 -- how a run ends where the input does: what is known of the capture, and how many bytes are left
 abbrev pub result_at_end : State → ℕ → Result Unit RunError
@@ -96,12 +64,10 @@ result_at_end (Classic order) (suc left) = Err (Capture CutOff)
 result_at_end (Pcapng section) zero = Ok tt
 result_at_end (Pcapng section) (suc left) = Err (Capture CutOff)
 
--- a run of at most so many reads took a device from old to new by these calls, each of which may follow those before it,
--- and ended by this result
-pub record Runs {D : Type 0} (transition : D → Call → D → Type 0) (limit : ℕ) (old new : D) (result : Result Unit RunError) : Type 0 where
-  pub calls : List Call
-  pub made : Makes transition old calls new
-  pub each : EachFollows [] calls
-  pub reads : read_count calls ≤ limit
-  pub ends : Ends limit calls result
-  pub output : IsOutput result (bytes_read calls) (bytes_written calls)
+-- what a run has written when it ends: it doesn't matter whether the end was told
+abbrev pub IsOutcome : Result Unit RunError → Bool → List ℕ → List ℕ → Type 0
+IsOutcome result told read written = IsOutput result read written
+
+-- a run of at most so many reads from captures to lines took a device from old to new, and ended by this result
+abbrev pub Runs : {D : Type 0} → (D → Call → D → Type 0) → ℕ → D → D → Result Unit RunError → Type 0
+Runs transition limit old new result = Goes AreTold IsOutcome transition limit old new result

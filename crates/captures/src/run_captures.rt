@@ -3,7 +3,7 @@ ghost use Rattle.std.specs.Prelude.{◌≡◌, ◌≤◌, ℕ, List, length, OnO
 ghost use Rattle.std.specs.Io.KnownBytes.{Appends, IsAtEnd};
 ghost use Rattle.captures.specs.Known.{KnownCall, Transfers, known_of};
 ghost use Rattle.captures.specs.Lines.{Packet, lines_of};
-ghost use Rattle.captures.specs.Runs.{Runs, IsCapture, result_at_end};
+ghost use Rattle.captures.specs.Runs.{Runs, IsCapture, IsOutcome, result_at_end};
 
 use crate::device::{Device, ReaderWriter, write_whole};
 use crate::limits::{FIRST_UNIT_LEN, INPUT_ROOM, OUTPUT_ROOM};
@@ -25,7 +25,7 @@ pub fn run<R: Read, W: Write>(alloc: Global, reader: &mut R, writer: &mut W) -> 
     ensures end { OnOk result (IsAtEnd (R.remaining reader.new)) }
 
     // However reads and writes cut the bytes, what is written is the output for the bytes read.
-    ensures bytes { Transfers (R.remaining reader.old) (R.remaining reader.new)
+    ensures bytes { Transfers IsOutcome (R.remaining reader.old) (R.remaining reader.new)
         (W.contents writer.old) (W.contents writer.new) result }
 
     // The calls, one by one, as far as they show in the known bytes.

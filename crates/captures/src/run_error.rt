@@ -1,11 +1,11 @@
-//! Why a run ends before all packets are told.
+//! Why a run ends before all packets are told, or all frames written.
 ghost use Rattle.std.specs.Prelude.{◌≡◌};
 ghost use Rattle.captures.specs.declared.run_error.RunError.TheVariants as run_error;
 
 use crate::CaptureError;
 use thiserror::Error;
 
-/// Why a run ends before all packets are told.
+/// Why a run ends before all packets are told, or all frames written.
 #[derive(Clone, Copy, Debug, PartialEq, Eq, Error)]
 pub enum RunError {
     /// A read answered a fault, of whatever kind.
@@ -23,7 +23,11 @@ pub enum RunError {
     /// As many reads as a run may make gave bytes.
     #[error("too many reads")]
     TooManyReads,
-    /// The input is no capture of Ethernet frames, or is cut off.
+    /// The input of [`run`](crate::run) is no capture of Ethernet frames, or is cut off.
     #[error("{0}")]
     Capture(CaptureError),
+    /// The line with this number, counted from 1, of the input of [`write_capture`](crate::write_capture)
+    /// hands in no frame, or one that a line of `run` can't hold.
+    #[error("line {0} hands in no frame")]
+    BadLine(u64),
 }

@@ -5,7 +5,7 @@ use borrow.Rule.Slice.PartMut.{put_mid}
 use Rattle.captures.specs.Units.{Takes, joined}
 use Rattle.captures.specs.declared.limits.TheConstants.{INPUT_ROOM}
 use Rattle.captures.proofs.BufferLemmas.{read_front, moved_front}
-use Rattle.captures.proofs.Going.{Standing, standing_start, standing_end, standing_fails, standing_stops, standing_refused, standing_more}
+use Rattle.captures.proofs.Standing.{Standing, standing_start, standing_end, standing_fails, standing_stops, standing_refused, standing_more}
 use Rattle.captures.proofs.UnitLemmas.{begun_room, rest_size}
 use Rattle.captures.proofs.run_captures.tell_packets.Goals as goal
 

@@ -1,5 +1,5 @@
 use Rattle.std.proofs.Common.{◌<◌, length, take}
-use Rattle.captures.proofs.Going.{Standing}
+use Rattle.captures.proofs.Standing.{Standing}
 use Rattle.captures.proofs.run_captures.tell_packets.Given as goal
 
 -- What was read is told but for a front of the input, which begins a unit and leaves room.
