@@ -12,6 +12,8 @@ use Rattle.captures.specs.Known.{Known, KnownCall, Transfers}
 use Rattle.captures.proofs.CallLemmas.{read_count-append}
 use Rattle.captures.specs.Courses.{EachFollows, Goes}
 use Rattle.captures.specs.Runs.{IsCapture, Runs}
+use Rattle.captures.specs.Spelling.{TimedFrame, capture_of}
+use Rattle.captures.specs.Texts.{IsText, WritesCapture}
 
 -- what each call keeps, calls keep
 Makes-keep : {D N : Type 0} (transition : D → Call → D → Type 0) (name : D → N) → ((s t : D) (call : Call) → transition s call t → name t ≡ name s)
@@ -117,6 +119,13 @@ runs_ok limit a b (Ok tt) runs =
     Consumes-whole a.input b.input (bytes_read runs.calls) (λ bytes. (packets : List Packet) × IsCapture bytes packets × Appends a.output b.output (lines_of packets)) (known_read a b runs.calls runs.made)
     (goes_end limit a b (Ok tt) runs) (runs.output.0, runs.output.1, subst (Appends a.output b.output) runs.output.2 (known_written a b runs.calls runs.made))
 runs_ok limit a b (Err e) runs = tt
+
+pub writes_ok : (limit : ℕ) (a b : Known) (result : Result Unit RunError) → WritesCapture KnownCall limit a b result
+    → OnOk result (IfSome a.input (λ bytes. (frames : List TimedFrame) × IsText bytes frames × Appends a.output b.output (capture_of frames)))
+writes_ok limit a b (Ok tt) runs =
+    Consumes-whole a.input b.input (bytes_read runs.calls) (λ bytes. (frames : List TimedFrame) × IsText bytes frames × Appends a.output b.output (capture_of frames)) (known_read a b runs.calls runs.made)
+    (goes_end limit a b (Ok tt) runs) (runs.output.0, runs.output.1, subst (Appends a.output b.output) runs.output.2 (known_written a b runs.calls runs.made))
+writes_ok limit a b (Err e) runs = tt
 
 -- reads that neither fail nor tell the end give a byte each
 read_count_le : (calls : List Call) → faults_of calls ≡ [] → is_end_told calls ≡ false → read_count calls ≤ length (bytes_read calls)

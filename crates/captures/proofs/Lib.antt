@@ -3,7 +3,11 @@ pub mod BufferLemmas
 pub mod CallLemmas
 pub mod Going
 pub mod KnownLemmas
+pub mod NumberLemmas
+pub mod RecordLemmas
 pub mod SpellingLemmas
 pub mod Standing
+pub mod TextLemmas
 pub mod UnitLemmas
 pub mod WriteLemmas
+pub mod Writing

@@ -1,5 +1,6 @@
 pub mod Calls
 pub mod Courses
+pub mod FrameLines
 pub mod Known
 pub mod Lines
 pub mod Numbers
@@ -7,5 +8,6 @@ pub mod Pcap
 pub mod Pcapng
 pub mod Runs
 pub mod Spelling
+pub mod Texts
 pub mod Units
 pub mod Writes

@@ -4,6 +4,10 @@
 /// that ends it, whatever its channel.
 pub const FRAME_LIMIT: usize = 99_991;
 
+/// The bytes of a line that hands a frame in at most, without the 0a that ends it: those of the longest
+/// frame, channel and time.
+pub const LINE_LIMIT: usize = 200_021;
+
 /// The bytes of the shortest capture there is: a file header.
 pub const FIRST_UNIT_LEN: usize = 24;
 

@@ -18,7 +18,8 @@ pub(crate) fn append_line(out: &mut [u8], used: usize, channel: u32, frame: &[u8
     append(out, digits, b"\n")
 }
 
-fn append(out: &mut [u8], used: usize, text: &[u8]) -> usize
+/// Puts a text behind the first `used` bytes, and tells how many are used then.
+pub(crate) fn append(out: &mut [u8], used: usize, text: &[u8]) -> usize
     requires { used + length text.now ≤ length out.old }
     ensures end { result ≡ used + length text.now }
     ensures text { take result out.new ≡ take used out.old ++ text.now }

@@ -60,8 +60,8 @@ pub fn run_over<D: Device>(alloc: Global, device: &mut D, reads: u64) -> Result<
     tell_packets(input.as_mut_slice(), output.as_mut_slice(), device, reads)
 }
 
-// All the memory of a run.
-fn buffers(alloc: Global) -> Result<(Vec<u8>, Vec<u8>), AllocError>
+/// All the memory of a run.
+pub(crate) fn buffers(alloc: Global) -> Result<(Vec<u8>, Vec<u8>), AllocError>
     ensures input { IfOk result (λ made. vec_len made.0 ≡ INPUT_ROOM) }
     ensures output { IfOk result (λ made. vec_len made.1 ≡ OUTPUT_ROOM) }
 {

@@ -6,8 +6,8 @@ ghost use Rattle.captures.specs.Writes.{Delivers};
 use crate::device::{Device, write_whole};
 use crate::{FRAME_LIMIT, RunError};
 
-// Low byte first, with times in microseconds: version 2.4, a snap length of 262,144, Ethernet.
-const FILE_HEADER: [u8; 24] = [
+/// The file header: low byte first, with times in microseconds: version 2.4, a snap length of 262,144, Ethernet.
+pub(crate) const FILE_HEADER: [u8; 24] = [
     0xd4, 0xc3, 0xb2, 0xa1, 2, 0, 4, 0, 0, 0, 0, 0, 0, 0, 0, 0, 0, 0, 4, 0, 1, 0, 0, 0,
 ];
 
@@ -44,7 +44,8 @@ impl<D: Device> Writer<D> {
     }
 }
 
-fn record_head(seconds: u32, microseconds: u32, len: u32) -> [u8; 16]
+/// The head of a packet record, for a frame of so many bytes that was captured whole.
+pub(crate) fn record_head(seconds: u32, microseconds: u32, len: u32) -> [u8; 16]
     ensures { result ≡ record_head seconds microseconds len }
 {
     let [a, b, c, d] = seconds.to_le_bytes();

@@ -1,7 +1,7 @@
 -- The exit status of the program where a run ends by an error. Words that are no command give 2.
 use Rattle.std.specs.Prelude.{ℕ}
 use Rattle.captures.specs.declared.run_error.RunError.{RunError}
-use Rattle.captures.specs.declared.run_error.RunError.TheVariants.{Read, Write, WriteZero, Memory, TooManyReads, Capture}
+use Rattle.captures.specs.declared.run_error.RunError.TheVariants.{Read, Write, WriteZero, Memory, TooManyReads, Capture, BadLine}
 
 abbrev pub status_of : RunError → ℕ
 status_of Read = 4
@@ -10,3 +10,4 @@ status_of WriteZero = 4
 status_of Memory = 5
 status_of TooManyReads = 5
 status_of (Capture error) = 3
+status_of (BadLine number) = 3

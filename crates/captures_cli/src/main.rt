@@ -1,8 +1,12 @@
-//! Turns a capture file into lines for `netlines`: `captures_cli lines [FILE|-]`.
+//! Turns a capture file into lines for `netlines`, `captures_cli lines [FILE|-]`, and lines into a capture
+//! file, `captures_cli capture [FILE|-]`.
 #![tactic(auto)]
 
-ghost use Rattle.std.specs.Prelude.{◌≡◌};
+ghost use Rattle.std.specs.Prelude.{◌≡◌, List, ℕ, OnOk, IfSome, MatchResult};
+ghost use Rattle.std.specs.Io.KnownBytes.{Appends};
+ghost use Rattle.std.specs.Process.{exit_status};
 ghost use Rattle.captures_cli.specs.ErrorStatus.{status_of};
+ghost use Rattle.captures_cli.specs.Modes.{IsMade};
 
 use anyhow::Context;
 use captures::RunError;
@@ -10,8 +14,17 @@ use clap::{Arg, ArgMatches, Command};
 use std::alloc::Global;
 use std::env;
 use std::fs::File;
-use std::io::Write;
+use std::io::{Read, Write};
 use std::process::ExitCode;
+
+/// What is made of the input.
+#[derive(Clone, Copy, Debug, PartialEq, Eq)]
+pub enum Mode {
+    /// The lines of the packets of a capture.
+    Lines,
+    /// A capture of the frames of lines.
+    Capture,
+}
 
 fn main(rt: HostRuntime) -> anyhow::Result<ExitCode> {
     let alloc = rt.alloc();
@@ -24,55 +37,87 @@ fn main(rt: HostRuntime) -> anyhow::Result<ExitCode> {
         }
     };
     match matches.subcommand() {
-        Some(("lines", matches)) => tell_lines(&rt, matches),
+        Some(("lines", words)) => make_of_file(&rt, Mode::Lines, words),
+        Some(("capture", words)) => make_of_file(&rt, Mode::Capture, words),
         _ => Ok(ExitCode::SUCCESS),
     }
 }
 
 fn command<'a>(alloc: Global) -> Result<Command<'a>, clap::Error> {
-    let file = Arg::new(alloc, "FILE")
-        .help("A file, or - for standard input")
-        .default_value("-");
     let lines = Command::new(alloc, "lines")
         .about("Writes a line for each packet of a capture of Ethernet frames")
-        .arg(file)?;
+        .arg(file(alloc))?;
+    let capture = Command::new(alloc, "capture")
+        .about("Writes a capture of the Ethernet frames of such lines")
+        .arg(file(alloc))?;
     Ok(
         Command::new(alloc, "captures_cli")
-            .about("Capture files as lines")
+            .about("Capture files as lines, and lines as capture files")
             .subcommand_required(true)
-            .subcommand(lines)?,
+            .subcommand(lines)?
+            .subcommand(capture)?,
     )
 }
 
-fn tell_lines(rt: &HostRuntime, matches: &ArgMatches) -> anyhow::Result<ExitCode> {
-    let name = matches.get_str("FILE").unwrap_or("-");
+fn file<'a>(alloc: Global) -> Arg<'a> {
+    Arg::new(alloc, "FILE")
+        .help("A file, or - for standard input")
+        .default_value("-")
+}
+
+fn make_of_file(rt: &HostRuntime, mode: Mode, words: &ArgMatches) -> anyhow::Result<ExitCode> {
+    let name = words.get_str("FILE").unwrap_or("-");
     let mut output = rt.stdout();
-    let told = if name == "-" {
-        captures::run(rt.alloc(), &mut rt.stdin(), &mut output)
+    let made = if name == "-" {
+        make(rt.alloc(), mode, &mut rt.stdin(), &mut output)
     } else {
-        captures::run(
-            rt.alloc(),
-            &mut File::open(rt, name).context("the capture cannot be opened")?,
-            &mut output,
-        )
+        let mut input = File::open(rt, name).context("the file cannot be opened")?;
+        make(rt.alloc(), mode, &mut input, &mut output)
     };
-    let told = told.and(output.flush().map_err(|_| RunError::Write));
-    Ok(match told {
+    Ok(exit_code(rt, made))
+}
+
+// Makes of the input what is wanted, and flushes it, where the input is refused too.
+fn make<R: Read, W: Write>(
+    alloc: Global,
+    mode: Mode,
+    reader: &mut R,
+    writer: &mut W,
+) -> Result<(), RunError>
+    ensures { OnOk result (IfSome (R.remaining reader.old) (λ input. (output : List ℕ) × IsMade mode input output
+        × Appends (W.contents writer.old) (W.contents writer.new) output)) }
+{
+    let made = match mode {
+        Mode::Lines => captures::run(alloc, reader, writer),
+        Mode::Capture => captures::write_capture(alloc, reader, writer),
+    };
+    let flushed = writer.flush();
+    made?;
+    flushed.map_err(|_| RunError::Write)
+}
+
+// Tells an error on standard error. The status tells of it where that fails too.
+fn exit_code<P: Eprint>(rt: &P, made: Result<(), RunError>) -> ExitCode
+    ensures { MatchResult made (λ _. exit_status result ≡ 0) (λ error. exit_status result ≡ status_of error) }
+{
+    match made {
         Ok(()) => ExitCode::SUCCESS,
         Err(error) => {
-            // The status tells of the error where standard error fails too.
             let _ = eprintln!(rt; "captures_cli: {error}");
             ExitCode::from(status(error))
         }
-    })
+    }
 }
 
 fn status(error: RunError) -> u8
     ensures { result ≡ status_of error }
 {
     match error {
-        RunError::Capture(_) => 3,
+        RunError::Capture(_) | RunError::BadLine(_) => 3,
         RunError::Read | RunError::Write | RunError::WriteZero => 4,
         RunError::Memory | RunError::TooManyReads => 5,
     }
 }
+
+#[cfg(test)]
+mod tests;

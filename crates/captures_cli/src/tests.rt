@@ -1,0 +1,95 @@
+//! What is made of an input, the flush, the status and what is told of an error.
+use crate::{Mode, exit_code, make};
+use captures::{CaptureError, RunError};
+use std::alloc::Global;
+use std::io::{self, ErrorKind, Write};
+use std::process::ExitCode;
+use std::test::Fail;
+
+// Takes all bytes, and fails at the flush.
+#[derive(Drop)]
+struct UnflushableWriter {
+    taken: Vec<u8>,
+}
+
+impl Write for UnflushableWriter {
+    fn write(&mut self, buf: &[u8]) -> io::Result<usize> {
+        self.taken.extend_from_slice(buf)?;
+        Ok(buf.len())
+    }
+
+    fn flush(&mut self) -> io::Result<()> {
+        Err(ErrorKind::Other.into())
+    }
+}
+
+// A file header of low byte first, in microseconds, of Ethernet frames, with snap length 262,144.
+const HEADER: &[u8; 24] = b"\
+    \xd4\xc3\xb2\xa1\x02\x00\x04\x00\x00\x00\x00\x00\x00\x00\x00\x00\x00\x00\x04\x00\x01\x00\x00\x00";
+
+// A frame of two bytes, captured 1,700,000,000.25 seconds after 1970 began.
+const PACKET: &[u8; 18] = b"\x00\xf1\x53\x65\x90\xd0\x03\x00\x02\x00\x00\x00\x02\x00\x00\x00\x0a\xff";
+
+#[test]
+fn lines_are_made_a_capture_and_lines_again(rt: HostRuntime) -> Result<(), Fail> {
+    let alloc = rt.alloc();
+    let mut capture = Vec::new(alloc);
+    let mut text = b"frame 0 0aff 1700000000 250000\n".as_slice();
+    assert_eq!(rt; make(alloc, Mode::Capture, &mut text, &mut capture), Ok(()));
+    let mut wanted = Vec::from_slice(alloc, HEADER)?;
+    wanted.extend_from_slice(PACKET)?;
+    assert_eq!(rt; capture.as_slice(), wanted.as_slice());
+    let mut lines = Vec::new(alloc);
+    assert_eq!(rt; make(alloc, Mode::Lines, &mut capture.as_slice(), &mut lines), Ok(()));
+    assert_eq!(rt; lines.as_slice(), b"frame 0 0aff\n".as_slice());
+    Ok(())
+}
+
+#[test]
+fn a_flush_that_fails_is_a_failed_write(rt: HostRuntime) {
+    for mode in [Mode::Lines, Mode::Capture] {
+        let mut writer = UnflushableWriter {
+            taken: Vec::new(rt.alloc()),
+        };
+        let input = match mode {
+            Mode::Lines => HEADER.as_slice(),
+            Mode::Capture => b"".as_slice(),
+        };
+        let made = make(rt.alloc(), mode, &mut &*input, &mut writer);
+        assert_eq!(rt; made, Err(RunError::Write));
+    }
+}
+
+// What is told of an error.
+fn message(alloc: Global, error: RunError) -> Result<String, Fail> {
+    Ok(format!(in alloc; "{error}")?)
+}
+
+#[test]
+fn errors_have_messages_and_a_status(rt: HostRuntime) -> Result<(), Fail> {
+    for (error, text, status) in [
+        (RunError::Read, "the input cannot be read", 4),
+        (RunError::Write, "the output cannot be written", 4),
+        (RunError::WriteZero, "the output takes no more bytes", 4),
+        (RunError::Memory, "out of memory", 5),
+        (RunError::TooManyReads, "too many reads", 5),
+        (RunError::BadLine(7), "line 7 hands in no frame", 3),
+        (RunError::Capture(CaptureError::NotCapture), "no capture file", 3),
+        (RunError::Capture(CaptureError::LinkType(113)), "link type 113 is not Ethernet", 3),
+        (RunError::Capture(CaptureError::FrameTooLong(99_992)), "a packet of 99992 bytes is too long for a line", 3),
+        (RunError::Capture(CaptureError::CutOff), "the capture ends within a packet", 3),
+        (RunError::Capture(CaptureError::BadBlock), "a block is not well made", 3),
+    ] {
+        assert_eq!(rt; message(rt.alloc(), error)?.as_str(), text);
+        assert_eq!(rt; exit_code(&rt, Err(error)), ExitCode::from(status));
+    }
+    assert_eq!(rt; exit_code(&rt, Ok(())), ExitCode::SUCCESS);
+    Ok(())
+}
+
+#[test]
+#[should_panic(expected = "captures_cli: line 2 hands in no frame")]
+fn errors_are_told(rt: HostRuntime) {
+    let _ = exit_code(&rt, Err(RunError::BadLine(2)));
+    panic!(rt; "told");
+}
