@@ -110,7 +110,7 @@ ends_newline : (xs : List ℕ) → ends_line xs ≡ true → ends_line (10 ∷ x
 ends_newline [] ends = refl
 ends_newline (x ∷ xs) ends = ends
 
-ends_ended : (lines : List (List ℕ)) → ends_line (ended lines) ≡ true
+pub ends_ended : (lines : List (List ℕ)) → ends_line (ended lines) ≡ true
 ends_ended [] = refl
 ends_ended (line ∷ lines) = ends_line-front line 10 (ended lines) ∙ ends_newline (ended lines) (ends_ended lines)
 

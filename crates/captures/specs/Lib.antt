@@ -1,4 +1,5 @@
 pub mod Calls
+pub mod ComeBack
 pub mod Courses
 pub mod FrameLines
 pub mod Known

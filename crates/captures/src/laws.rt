@@ -2,17 +2,26 @@
 
 ghost use Rattle.std.specs.Prelude.{◌≡◌, ◌≤◌, ◌<◌, ◌^◌, List, [], ◌∷◌, codes, length};
 ghost use Rattle.std.specs.List.{AllByRecursion};
+ghost use Rattle.captures.specs.ComeBack.{LinesComeBack};
 ghost use Rattle.captures.specs.Lines.{Packet, line_of};
 ghost use Rattle.captures.specs.Runs.{IsCapture};
 ghost use Rattle.captures.specs.Spelling.{TimedFrame, capture_of, packets_in};
 
-use crate::limits::{BLOCK_LIMIT, FIRST_UNIT_LEN, FRAME_LIMIT, INPUT_ROOM, READ_COUNT_LIMIT};
+use crate::limits::{
+    BLOCK_LIMIT, FIRST_UNIT_LEN, FRAME_LIMIT, INPUT_ROOM, LINE_LIMIT, READ_COUNT_LIMIT,
+};
 use crate::section::ETHERNET;
 
 /// What is written is read again, as the same frames in the same order.
 pub fn written_frames_are_read()
     ensures { (frames : List TimedFrame) → AllByRecursion (λ timed. length timed.frame ≤ FRAME_LIMIT) frames
         → IsCapture (capture_of frames) (packets_in frames) }
+{}
+
+/// The lines of packets are a text of which a capture of the same frames in the same order is written: the
+/// same packets where all have channel 0.
+pub fn lines_come_back()
+    ensures { LinesComeBack }
 {}
 
 /// The line of a frame that isn't too long has 200,000 bytes at most before its end, whatever its channel.
@@ -32,6 +41,7 @@ pub fn constants()
     ensures block { BLOCK_LIMIT ≡ 262_144 }
     ensures first { FIRST_UNIT_LEN ≡ 24 }
     ensures input { INPUT_ROOM ≡ 262_144 }
+    ensures line { LINE_LIMIT ≡ 200_021 }
     ensures reads { READ_COUNT_LIMIT ≡ 2 ^ 40 }
     ensures ethernet { ETHERNET ≡ 1 }
 {}

@@ -5,6 +5,7 @@ use std::alloc::{AllocError, Global};
 mod blocks;
 mod classic;
 mod pieces;
+mod text;
 mod written;
 
 // The packets that the files hold.

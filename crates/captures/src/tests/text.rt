@@ -1,0 +1,95 @@
+//! Captures that are written of lines.
+use super::{LINES, lines_of};
+use crate::{FRAME_LIMIT, RunError, write_capture};
+use std::alloc::{AllocError, Global};
+use std::test::Fail;
+
+// The file header, by the draft: low byte first, microseconds, version 2.4, snap length 262,144, Ethernet.
+const HEADER: &[u8; 24] = b"\
+    \xd4\xc3\xb2\xa1\x02\x00\x04\x00\x00\x00\x00\x00\x00\x00\x00\x00\x00\x00\x04\x00\x01\x00\x00\x00";
+
+fn capture_of(alloc: Global, text: &[u8]) -> Result<(Result<(), RunError>, Vec<u8>), AllocError> {
+    let mut capture = Vec::new(alloc);
+    let mut reader = text;
+    let result = write_capture(alloc, &mut reader, &mut capture);
+    Ok((result, capture))
+}
+
+#[test]
+fn lines_come_back(rt: HostRuntime) -> Result<(), Fail> {
+    let alloc = rt.alloc();
+    let (result, capture) = capture_of(alloc, LINES)?;
+    assert_eq!(rt; result, Ok(()));
+    assert_eq!(rt; &capture.as_slice()[..24], HEADER.as_slice());
+    assert_eq!(rt; &capture.as_slice()[24..40], b"\0\0\0\0\0\0\0\0\x32\0\0\0\x32\0\0\0".as_slice());
+    let (result, lines) = lines_of(alloc, capture.as_slice())?;
+    assert_eq!(rt; result, Ok(()));
+    assert_eq!(rt; lines.as_slice(), LINES.as_slice());
+    Ok(())
+}
+
+// Each with what follows the file header.
+#[test]
+fn each_line(rt: HostRuntime) -> Result<(), Fail> {
+    let bad = Err(RunError::BadLine(1));
+    for (text, wanted, packets) in [
+        (b"".as_slice(), Ok(()), b"".as_slice()),
+        // digits of either case, and a last line that nothing ends
+        (b"frame 0 0aFf", Ok(()), b"\0\0\0\0\0\0\0\0\x02\0\0\0\x02\0\0\0\x0a\xff"),
+        // a time
+        (b"frame 4294967295 01 1700000000 250000\n", Ok(()), b"\x00\xf1\x53\x65\x90\xd0\x03\x00\x01\0\0\0\x01\0\0\0\x01"),
+        (b"frame 0 01 4294967295 999999\n", Ok(()), b"\xff\xff\xff\xff\x3f\x42\x0f\x00\x01\0\0\0\x01\0\0\0\x01"),
+        // a million microseconds, a second beyond 32 bits, half a time
+        (b"frame 0 01 0 1000000\n", bad, b""),
+        (b"frame 0 01 4294967296 0\n", bad, b""),
+        (b"frame 0 01 5\n", bad, b""),
+        (b"frame 0 01 5 6 7\n", bad, b""),
+        // no channel, one beyond 32 bits, one of 11 digits
+        (b"frame  01\n", bad, b""),
+        (b"frame 4294967296 01\n", bad, b""),
+        (b"frame 00000000000 01\n", bad, b""),
+        (b"frame +1 01\n", bad, b""),
+        // no byte, half a byte, no digit
+        (b"frame 0 \n", bad, b""),
+        (b"frame 0 012\n", bad, b""),
+        (b"frame 0 0g\n", bad, b""),
+        (b"frame 0\n", bad, b""),
+        (b"\n", bad, b""),
+        (b"Frame 0 01\n", bad, b""),
+        (b"frame 0 01\r\n", bad, b""),
+        // the packets before a bad line are written
+        (b"frame 0 01\nforget\nframe 0 02\n", Err(RunError::BadLine(2)), b"\0\0\0\0\0\0\0\0\x01\0\0\0\x01\0\0\0\x01"),
+        (b"frame 0 01\nframe 0 0", Err(RunError::BadLine(2)), b"\0\0\0\0\0\0\0\0\x01\0\0\0\x01\0\0\0\x01"),
+    ] {
+        let (result, capture) = capture_of(rt.alloc(), text)?;
+        assert_eq!(rt; result, wanted);
+        assert_eq!(rt; &capture.as_slice()[..24], HEADER.as_slice());
+        assert_eq!(rt; &capture.as_slice()[24..], packets);
+    }
+    Ok(())
+}
+
+// A line of so many bytes of a frame, all of them 0.
+fn long_line(alloc: Global, len: usize) -> Result<Vec<u8>, AllocError> {
+    let mut line = Vec::from_slice(alloc, b"frame 0000000000 ")?;
+    for _ in 0..len {
+        line.extend_from_slice(b"00")?;
+    }
+    line.extend_from_slice(b" 0000000000 0000000000")?;
+    Ok(line)
+}
+
+#[test]
+fn longest_frame(rt: HostRuntime) -> Result<(), Fail> {
+    for (len, wanted, size) in [
+        (FRAME_LIMIT, Ok(()), 24 + 16 + FRAME_LIMIT),
+        (FRAME_LIMIT + 1, Err(RunError::BadLine(1)), 24),
+        (2 * FRAME_LIMIT, Err(RunError::BadLine(1)), 24),
+    ] {
+        let line = long_line(rt.alloc(), len)?;
+        let (result, capture) = capture_of(rt.alloc(), line.as_slice())?;
+        assert_eq!(rt; result, wanted);
+        assert_eq!(rt; capture.len(), size);
+    }
+    Ok(())
+}
