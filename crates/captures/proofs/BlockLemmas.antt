@@ -9,6 +9,7 @@ use Rattle.captures.specs.declared.capture_error.CaptureError.{CaptureError}
 use Rattle.captures.specs.declared.capture_error.CaptureError.TheVariants.{NotCapture, LinkType, FrameTooLong, CutOff, BlockTooLong, BadBlock}
 use Rattle.captures.specs.Pcapng.Content.{Opens, Describes, Holds, Nothing}
 use Rattle.captures.specs.declared.byte_order.ByteOrder.{ByteOrder}
+use Rattle.captures.specs.declared.limits.TheConstants.{BLOCK_LIMIT}
 use Rattle.captures.specs.declared.section.Section.{Section}
 
 -- where it holds no enhanced packet and is of that kind
@@ -35,14 +36,14 @@ order_of order order' bytes front rest parts size (inl h) = inl (rw (word_of Big
 order_of order order' bytes front rest parts size (inr h) = inr (rw (word_of Big bytes front rest 0 parts (omega arith)) at h.0, rw (word_of order' bytes front rest 8 parts (omega arith)) at h.1)
 
 -- a whole block is refused
-pub refused_at : (section : Section) (order : ByteOrder) (bytes block rest : List ℕ) (error : CaptureError) → bytes ≡ block ++ rest → HasOrder section.order block order → IsBlock order block
+pub refused_at : (section : Section) (order : ByteOrder) (bytes block rest : List ℕ) (error : CaptureError) → bytes ≡ block ++ rest → length block ≤ BLOCK_LIMIT → HasOrder section.order block order → IsBlock order block
     → 12 ≤ length bytes → RefusesBlock section order block error → RefusesAt section bytes error
-refused_at section order bytes block rest NotCapture parts has_order is_block size refused = refused
-refused_at section order bytes block rest (LinkType number) parts has_order is_block size refused =
-    record { order = order; block = block; rest = rest; parts = parts; has_order = has_order; is_block = is_block; refused = refused }
-refused_at section order bytes block rest (FrameTooLong captured) parts has_order is_block size refused =
-    record { order = order; block = block; rest = rest; parts = parts; has_order = has_order; is_block = is_block; refused = refused }
-refused_at section order bytes block rest CutOff parts has_order is_block size refused = refused
-refused_at section order bytes block rest (BlockTooLong len) parts has_order is_block size refused = absurd refused
-refused_at section order bytes block rest BadBlock parts has_order is_block size refused =
-    (size, inr (inr (record { order = order; block = block; rest = rest; parts = parts; has_order = has_order; is_block = is_block; refused = refused })))
+refused_at section order bytes block rest NotCapture parts fits has_order is_block size refused = refused
+refused_at section order bytes block rest (LinkType number) parts fits has_order is_block size refused =
+    record { order = order; block = block; rest = rest; parts = parts; fits = fits; has_order = has_order; is_block = is_block; refused = refused }
+refused_at section order bytes block rest (FrameTooLong captured) parts fits has_order is_block size refused =
+    record { order = order; block = block; rest = rest; parts = parts; fits = fits; has_order = has_order; is_block = is_block; refused = refused }
+refused_at section order bytes block rest CutOff parts fits has_order is_block size refused = refused
+refused_at section order bytes block rest (BlockTooLong len) parts fits has_order is_block size refused = absurd refused
+refused_at section order bytes block rest BadBlock parts fits has_order is_block size refused =
+    (size, inr (inr (record { order = order; block = block; rest = rest; parts = parts; fits = fits; has_order = has_order; is_block = is_block; refused = refused })))

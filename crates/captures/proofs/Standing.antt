@@ -80,7 +80,7 @@ module _ {D : Type 0} (transition : D → Call → D → Type 0) where
   refusal_ends limit calls read written state rest BadBlock none gave takes = (none, (state, rest, takes))
   refusal_ends limit calls read written state rest (LinkType number) none gave takes = (none, (state, rest, takes))
   refusal_ends limit calls read written state rest (FrameTooLong captured) none gave takes = (none, (state, rest, takes))
-  refusal_ends limit calls read written Start rest CutOff none gave takes = absurd takes.left
+  refusal_ends limit calls read written Start rest CutOff none gave takes = absurd takes.left.1
   refusal_ends limit calls read written (Classic order) rest CutOff none gave takes = absurd takes.left
   refusal_ends limit calls read written (Pcapng section) rest CutOff none gave takes = absurd takes.left
 

@@ -25,11 +25,12 @@ pub record OpensFile (unit : List ℕ) (after : State) : Type 0 where
 abbrev pub no_section : Section
 no_section = record { order = Big; first = 0; interfaces = 0; snap_len = 0 }
 
--- a block of a section, whole, after which the section has come to this
+-- a block of a section, whole and no longer than a run can hold, after which the section has come to this
 pub record IsBlockUnit (section : Section) (unit : List ℕ) (after : State) (channel : ℕ) (frame : List ℕ) : Type 0 where
   pub order : ByteOrder
   pub has_order : HasOrder section.order unit order
   pub block : IsBlock order unit
+  pub fits : length unit ≤ BLOCK_LIMIT
   pub next : Section
   pub reads : Reads section order unit next channel frame
   pub becomes : after ≡ Pcapng next
@@ -79,12 +80,13 @@ pub record IsShortBlock (section : Section) (bytes : List ℕ) : Type 0 where
   pub short : length bytes < word order bytes 4
   pub fits : word order bytes 4 ≤ BLOCK_LIMIT
 
--- a whole block that ends with another length
+-- a whole block that a run can hold and that ends with another length
 pub record HasOtherBack (order : ByteOrder) (bytes : List ℕ) : Type 0 where
   pub block : List ℕ
   pub rest : List ℕ
   pub parts : bytes ≡ block ++ rest
   pub size : length block ≡ word order bytes 4
+  pub fits : length block ≤ BLOCK_LIMIT
   pub other : word order block (length block - 4) ≢ length block
 
 -- bytes that may become a unit and are too few for one
@@ -109,21 +111,23 @@ pub record HasBadLength (section : Section) (bytes : List ℕ) : Type 0 where
   pub has_order : HasOrder section.order bytes order
   pub bad : (word order bytes 4 < 12) ⊎ ((word order bytes 4 % 4 ≢ 0) ⊎ HasOtherBack order bytes)
 
--- the bytes begin with a whole block that is refused for what it says
+-- the bytes begin with a whole block that a run can hold, and that is refused for what it says
 pub record HasRefusedBlock (section : Section) (bytes : List ℕ) (error : CaptureError) : Type 0 where
   pub order : ByteOrder
   pub block : List ℕ
   pub rest : List ℕ
   pub parts : bytes ≡ block ++ rest
+  pub fits : length block ≤ BLOCK_LIMIT
   pub has_order : HasOrder section.order block order
   pub is_block : IsBlock order block
   pub refused : RefusesBlock section order block error
 
--- the bytes begin with a block of so many bytes
+-- the bytes begin with a block of so many bytes, whole words and more than a run can hold
 pub record HasLongBlock (section : Section) (bytes : List ℕ) (len : ℕ) : Type 0 where
   pub order : ByteOrder
   pub has_order : HasOrder section.order bytes order
   pub told : word order bytes 4 ≡ len
+  pub words : len % 4 ≡ 0
   pub long : BLOCK_LIMIT < len
 
 -- why no block can follow in a section, whatever comes after these bytes
@@ -156,14 +160,18 @@ pub record HasLongFrame (order : ByteOrder) (bytes : List ℕ) (captured : ℕ) 
   pub told : word order head 8 ≡ captured
   pub long : FRAME_LIMIT < captured
 
+-- why no unit is the first, where there are as many bytes as a file header has
+abbrev pub RefusesFirst : List ℕ → CaptureError → Type 0
+RefusesFirst bytes NotCapture = IsNoCapture bytes
+RefusesFirst bytes (LinkType number) = HasLinkType bytes number ⊎ (BeginsSection bytes × RefusesAt no_section bytes (LinkType number))
+RefusesFirst bytes (FrameTooLong captured) = BeginsSection bytes × RefusesAt no_section bytes (FrameTooLong captured)
+RefusesFirst bytes CutOff = ⊥
+RefusesFirst bytes (BlockTooLong len) = BeginsSection bytes × RefusesAt no_section bytes (BlockTooLong len)
+RefusesFirst bytes BadBlock = BeginsSection bytes × RefusesAt no_section bytes BadBlock
+
 -- why no unit can follow, whatever comes after these bytes
 abbrev pub Refuses : State → List ℕ → CaptureError → Type 0
-Refuses Start bytes NotCapture = (FIRST_UNIT_LEN ≤ length bytes) × IsNoCapture bytes
-Refuses Start bytes (LinkType number) = HasLinkType bytes number ⊎ (BeginsSection bytes × RefusesAt no_section bytes (LinkType number))
-Refuses Start bytes (FrameTooLong captured) = BeginsSection bytes × RefusesAt no_section bytes (FrameTooLong captured)
-Refuses Start bytes CutOff = ⊥
-Refuses Start bytes (BlockTooLong len) = BeginsSection bytes × RefusesAt no_section bytes (BlockTooLong len)
-Refuses Start bytes BadBlock = BeginsSection bytes × RefusesAt no_section bytes BadBlock
+Refuses Start bytes error = (FIRST_UNIT_LEN ≤ length bytes) × RefusesFirst bytes error
 Refuses (Classic order) bytes NotCapture = ⊥
 Refuses (Classic order) bytes (LinkType number) = ⊥
 Refuses (Classic order) bytes (FrameTooLong captured) = HasLongFrame order bytes captured

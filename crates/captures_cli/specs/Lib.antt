@@ -1,2 +1,2 @@
 pub mod ErrorStatus
-pub mod Modes
+pub mod Made

@@ -6,8 +6,11 @@ ghost use Rattle.std.specs.Prelude.{◌≡◌, List, ℕ, OnOk, IfSome, MatchRes
 ghost use Rattle.std.specs.Io.KnownBytes.{Appends};
 ghost use Rattle.std.specs.Process.{exit_status};
 ghost use Rattle.captures_cli.specs.ErrorStatus.{status_of};
-ghost use Rattle.captures_cli.specs.Modes.{IsMade};
+ghost use Rattle.captures_cli.specs.Made.{IsMade};
 
+mod modes;
+
+use crate::modes::Mode;
 use anyhow::Context;
 use captures::RunError;
 use clap::{Arg, ArgMatches, Command};
@@ -16,15 +19,6 @@ use std::env;
 use std::fs::File;
 use std::io::{Read, Write};
 use std::process::ExitCode;
-
-/// What is made of the input.
-#[derive(Clone, Copy, Debug, PartialEq, Eq)]
-pub enum Mode {
-    /// The lines of the packets of a capture.
-    Lines,
-    /// A capture of the frames of lines.
-    Capture,
-}
 
 fn main(rt: HostRuntime) -> anyhow::Result<ExitCode> {
     let alloc = rt.alloc();

@@ -1,5 +1,6 @@
 //! What is made of an input, the flush, the status and what is told of an error.
-use crate::{Mode, exit_code, make};
+use crate::modes::Mode;
+use crate::{exit_code, make};
 use captures::{CaptureError, RunError};
 use std::alloc::Global;
 use std::io::{self, ErrorKind, Write};

@@ -22,6 +22,7 @@ returns-in-Ok-clause-found c =
         order = order;
         has_order = order_of c.args.section.order order bytes block rest parts size c.in-Some.ensures;
         block = is_block;
+        fits = omega arith;
         next = c.in-Ok.reading.after;
         reads = c.in-Ok.ensures.reads;
         becomes = refl;
@@ -39,5 +40,5 @@ returns-in-Err-clause-refused c =
     let whole : length block ≡ word order bytes 4 = omega arith in
     let front : word order block 4 ≡ length block = sym (word_of order bytes block rest 4 parts (omega arith)) ∙ sym whole in
     let is_block : IsBlock order block = record { size = size; words = omega arith; front = front; back = omega arith } in
-    refused_at c.args.section order bytes block rest c.in-Err.error parts
+    refused_at c.args.section order bytes block rest c.in-Err.error parts (omega arith)
     (order_of c.args.section.order order bytes block rest parts size c.in-Some.ensures) is_block (omega arith) c.in-Err.ensures.refused

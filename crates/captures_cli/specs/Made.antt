@@ -4,8 +4,8 @@ use Rattle.captures.specs.Lines.{Packet, lines_of}
 use Rattle.captures.specs.Runs.{IsCapture}
 use Rattle.captures.specs.Spelling.{TimedFrame, capture_of}
 use Rattle.captures.specs.Texts.{IsText}
-use Rattle.captures_cli.specs.declared.main.Mode.{Mode}
-use Rattle.captures_cli.specs.declared.main.Mode.TheVariants.{Lines, Capture}
+use Rattle.captures_cli.specs.declared.modes.Mode.{Mode}
+use Rattle.captures_cli.specs.declared.modes.Mode.TheVariants.{Lines, Capture}
 
 -- the lines of a capture's packets, or a capture of the frames that lines hand in
 abbrev pub IsMade : Mode → List ℕ → List ℕ → Type 0
