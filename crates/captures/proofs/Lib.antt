@@ -1,6 +1,7 @@
 pub mod BlockLemmas
 pub mod BufferLemmas
 pub mod CallLemmas
+pub mod CapturedLemmas
 pub mod ComeBackLemmas
 pub mod Going
 pub mod KnownLemmas

@@ -27,3 +27,7 @@ abbrev pub LinesComeBack : Type 0
 LinesComeBack =
     (packets : List Packet) → AllByRecursion HasLine packets
     → IsText (lines_of packets) (map at_no_time packets) × IsCapture (capture_of (map at_no_time packets)) (map on_one_channel packets)
+
+-- each packet of a capture has a line
+abbrev pub CapturedPacketsHaveLines : Type 0
+CapturedPacketsHaveLines = (bytes : List ℕ) (packets : List Packet) → IsBytes bytes → IsCapture bytes packets → AllByRecursion HasLine packets

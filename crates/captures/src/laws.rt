@@ -2,7 +2,8 @@
 
 ghost use Rattle.std.specs.Prelude.{◌≡◌, ◌≤◌, ◌<◌, ◌^◌, List, [], ◌∷◌, codes, length};
 ghost use Rattle.std.specs.List.{AllByRecursion};
-ghost use Rattle.captures.specs.ComeBack.{LinesComeBack};
+ghost use Rattle.ep_base.specs.Traits.{CopyIsValue, CopyNeverFails, EqualIsSame};
+ghost use Rattle.captures.specs.ComeBack.{CapturedPacketsHaveLines, LinesComeBack};
 ghost use Rattle.captures.specs.Lines.{Packet, line_of};
 ghost use Rattle.captures.specs.Runs.{IsCapture};
 ghost use Rattle.captures.specs.Spelling.{TimedFrame, capture_of, packets_in};
@@ -11,11 +12,17 @@ use crate::limits::{
     BLOCK_LIMIT, FIRST_UNIT_LEN, FRAME_LIMIT, INPUT_ROOM, LINE_LIMIT, READ_COUNT_LIMIT,
 };
 use crate::section::ETHERNET;
+use crate::{CaptureError, RunError};
 
 /// What is written is read again, as the same frames in the same order.
 pub fn written_frames_are_read()
     ensures { (frames : List TimedFrame) → AllByRecursion (λ timed. length timed.frame ≤ FRAME_LIMIT) frames
         → IsCapture (capture_of frames) (packets_in frames) }
+{}
+
+/// Each packet of a capture has a byte at least, no more than a line can hold, and a channel of 32 bits.
+pub fn captured_packets_have_lines()
+    ensures { CapturedPacketsHaveLines }
 {}
 
 /// The lines of packets are a text of which a capture of the same frames in the same order is written: the
@@ -33,6 +40,24 @@ pub fn lines_are_short()
 /// The line of two bytes.
 pub fn worked_line()
     ensures { line_of (record { channel = 7; frame = 0x0a ∷ 0xff ∷ [] }) ≡ codes "frame 7 0aff\n" }
+{}
+
+/// A copy of an error is the error.
+pub fn copies_are_values()
+    ensures capture_error { CopyIsValue ⟦<CaptureError as Clone>⟧.is_clone }
+    ensures run_error { CopyIsValue ⟦<RunError as Clone>⟧.is_clone }
+{}
+
+/// To copy an error takes no memory and doesn't fail.
+pub fn copies_never_fail()
+    ensures capture_error { CopyNeverFails ⟦<CaptureError as Clone>⟧.is_infallible }
+    ensures run_error { CopyNeverFails ⟦<RunError as Clone>⟧.is_infallible }
+{}
+
+/// Equal are the errors that are the same, with what they tell.
+pub fn equals_are_same()
+    ensures capture_error { EqualIsSame ⟦<CaptureError as PartialEq>⟧.eq }
+    ensures run_error { EqualIsSame ⟦<RunError as PartialEq>⟧.eq }
 {}
 
 /// The numbers that the definitions take from the code.

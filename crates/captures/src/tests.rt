@@ -4,6 +4,7 @@ use std::alloc::{AllocError, Global};
 
 mod blocks;
 mod classic;
+mod limits;
 mod pieces;
 mod text;
 mod written;

@@ -1,2 +1,1 @@
 pub mod ErrorStatus
-pub mod Made

@@ -6,7 +6,10 @@ ghost use Rattle.std.specs.Prelude.{◌≡◌, List, ℕ, OnOk, IfSome, MatchRes
 ghost use Rattle.std.specs.Io.KnownBytes.{Appends};
 ghost use Rattle.std.specs.Process.{exit_status};
 ghost use Rattle.captures_cli.specs.ErrorStatus.{status_of};
-ghost use Rattle.captures_cli.specs.Made.{IsMade};
+ghost use Rattle.captures.specs.Lines.{Packet, lines_of};
+ghost use Rattle.captures.specs.Runs.{IsCapture};
+ghost use Rattle.captures.specs.Spelling.{TimedFrame, capture_of};
+ghost use Rattle.captures.specs.Texts.{IsText};
 
 mod modes;
 
@@ -71,20 +74,47 @@ fn make_of_file(rt: &HostRuntime, mode: Mode, words: &ArgMatches) -> anyhow::Res
     Ok(exit_code(rt, made))
 }
 
-// Makes of the input what is wanted, and flushes it, where the input is refused too.
 fn make<R: Read, W: Write>(
     alloc: Global,
     mode: Mode,
     reader: &mut R,
     writer: &mut W,
 ) -> Result<(), RunError>
-    ensures { OnOk result (IfSome (R.remaining reader.old) (λ input. (output : List ℕ) × IsMade mode input output
-        × Appends (W.contents writer.old) (W.contents writer.new) output)) }
+    ensures lines { mode ≡ Mode.Lines → OnOk result (IfSome (R.remaining reader.old) (λ input. (packets : List Packet)
+        × IsCapture input packets × Appends (W.contents writer.old) (W.contents writer.new) (lines_of packets))) }
+    ensures capture { mode ≡ Mode.Capture → OnOk result (IfSome (R.remaining reader.old) (λ input. (frames : List TimedFrame)
+        × IsText input frames × Appends (W.contents writer.old) (W.contents writer.new) (capture_of frames))) }
 {
-    let made = match mode {
-        Mode::Lines => captures::run(alloc, reader, writer),
-        Mode::Capture => captures::write_capture(alloc, reader, writer),
-    };
+    match mode {
+        Mode::Lines => make_lines(alloc, reader, writer),
+        Mode::Capture => make_capture(alloc, reader, writer),
+    }
+}
+
+// What is written is flushed, where the input is refused too.
+fn make_lines<R: Read, W: Write>(
+    alloc: Global,
+    reader: &mut R,
+    writer: &mut W,
+) -> Result<(), RunError>
+    ensures { OnOk result (IfSome (R.remaining reader.old) (λ input. (packets : List Packet)
+        × IsCapture input packets × Appends (W.contents writer.old) (W.contents writer.new) (lines_of packets))) }
+{
+    let made = captures::run(alloc, reader, writer);
+    let flushed = writer.flush();
+    made?;
+    flushed.map_err(|_| RunError::Write)
+}
+
+fn make_capture<R: Read, W: Write>(
+    alloc: Global,
+    reader: &mut R,
+    writer: &mut W,
+) -> Result<(), RunError>
+    ensures { OnOk result (IfSome (R.remaining reader.old) (λ input. (frames : List TimedFrame)
+        × IsText input frames × Appends (W.contents writer.old) (W.contents writer.new) (capture_of frames))) }
+{
+    let made = captures::write_capture(alloc, reader, writer);
     let flushed = writer.flush();
     made?;
     flushed.map_err(|_| RunError::Write)

@@ -22,7 +22,7 @@ const SCAPY: &[u8; 208] = b"\
 
 // A section of either byte order, each with two interfaces. The first has a block of another kind and a packet
 // with options, the second a comment and a simple packet that its interface cut.
-const TWO_SECTIONS: &[u8; 320] = b"\
+pub(super) const TWO_SECTIONS: &[u8; 320] = b"\
     \x0a\x0d\x0d\x0a\x1c\x00\x00\x00\x4d\x3c\x2b\x1a\x01\x00\x00\x00\xff\xff\xff\xff\
     \xff\xff\xff\xff\x1c\x00\x00\x00\x01\x00\x00\x00\x14\x00\x00\x00\x01\x00\x00\x00\
     \x00\x00\x00\x00\x14\x00\x00\x00\x01\x00\x00\x00\x14\x00\x00\x00\x01\x00\x00\x00\
@@ -41,7 +41,7 @@ const TWO_SECTIONS: &[u8; 320] = b"\
     \x00\x00\x00\x01\x00\x00\x00\x02\x00\x00\x00\x00\x00\x00\x00\x07\x00\x00\x00\x20\
 ";
 
-const TWO_SECTIONS_LINES: &[u8; 64] = b"frame 1 0102030405\n\
+pub(super) const TWO_SECTIONS_LINES: &[u8; 64] = b"frame 1 0102030405\n\
     frame 0 aabbcc\n\
     frame 2 11223344\n\
     frame 3 5566\n";

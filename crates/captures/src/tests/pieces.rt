@@ -1,13 +1,16 @@
-//! Captures that come one byte a read.
+//! Runs whose reads and writes move one byte, fail, or move none.
 use super::LINES;
+use super::blocks::{TWO_SECTIONS, TWO_SECTIONS_LINES};
 use super::classic::LITTLE_NANOSECONDS;
-use crate::{RunError, run};
-use std::io::{self, Read};
+use crate::{RunError, run, write_capture};
+use std::io::{self, ErrorKind, Read, Write};
 use std::test::Fail;
 
+// Gives a byte a read, and then the end or a fault.
 #[derive(Drop)]
 struct ByteReader<'a> {
     rest: &'a [u8],
+    fails: bool,
 }
 
 impl<'a> Read for ByteReader<'a> {
@@ -18,19 +21,87 @@ impl<'a> Read for ByteReader<'a> {
                 self.rest = rest;
                 Ok(1)
             }
+            _ if self.fails => Err(ErrorKind::Other.into()),
             _ => Ok(0),
         }
     }
 }
 
+// Takes a byte a write, as long as there is room, and then fails.
+#[derive(Drop)]
+struct ByteWriter {
+    taken: Vec<u8>,
+    room: usize,
+}
+
+impl Write for ByteWriter {
+    fn write(&mut self, buf: &[u8]) -> io::Result<usize> {
+        match buf.first() {
+            Some(byte) if self.taken.len() < self.room => {
+                self.taken.push(*byte)?;
+                Ok(1)
+            }
+            _ => Err(ErrorKind::Other.into()),
+        }
+    }
+
+    fn flush(&mut self) -> io::Result<()> {
+        Ok(())
+    }
+}
+
 #[test]
-fn one_byte_a_read(rt: HostRuntime) -> Result<(), Fail> {
+fn one_byte_a_call(rt: HostRuntime) -> Result<(), Fail> {
+    for (file, lines) in [
+        (LITTLE_NANOSECONDS.as_slice(), LINES.as_slice()),
+        (TWO_SECTIONS.as_slice(), TWO_SECTIONS_LINES.as_slice()),
+    ] {
+        let mut reader = ByteReader {
+            rest: file,
+            fails: false,
+        };
+        let mut writer = ByteWriter {
+            taken: Vec::new(rt.alloc()),
+            room: lines.len(),
+        };
+        assert_eq!(rt; run(rt.alloc(), &mut reader, &mut writer), Ok(()));
+        assert_eq!(rt; writer.taken.as_slice(), lines);
+    }
+    Ok(())
+}
+
+#[test]
+fn reads_that_fail(rt: HostRuntime) -> Result<(), Fail> {
+    let mut capture = Vec::new(rt.alloc());
+    // The first line, and a byte of the second.
     let mut reader = ByteReader {
-        rest: LITTLE_NANOSECONDS.as_slice(),
+        rest: &LINES[..110],
+        fails: true,
     };
+    assert_eq!(rt; write_capture(rt.alloc(), &mut reader, &mut capture), Err(RunError::Read));
+    assert_eq!(rt; capture.len(), 90);
     let mut lines = Vec::new(rt.alloc());
-    assert_eq!(rt; run(rt.alloc(), &mut reader, &mut lines), Ok(()));
-    assert_eq!(rt; lines.as_slice(), LINES.as_slice());
+    let mut reader = ByteReader {
+        rest: capture.as_slice(),
+        fails: true,
+    };
+    assert_eq!(rt; run(rt.alloc(), &mut reader, &mut lines), Err(RunError::Read));
+    assert_eq!(rt; lines.as_slice(), &LINES[..109]);
+    Ok(())
+}
+
+#[test]
+fn writes_that_fail(rt: HostRuntime) -> Result<(), Fail> {
+    // Within the header, and within the second packet's head.
+    for room in [0, 23, 100] {
+        let mut writer = ByteWriter {
+            taken: Vec::new(rt.alloc()),
+            room,
+        };
+        let result = write_capture(rt.alloc(), &mut LINES.as_slice(), &mut writer);
+        assert_eq!(rt; result, Err(RunError::Write));
+        assert_eq!(rt; writer.taken.len(), room);
+    }
     Ok(())
 }
 

@@ -1,0 +1,79 @@
+//! Blocks of least and greatest lengths, in a section with one Ethernet interface that cuts nothing.
+ghost use Rattle.std.specs.Prelude.{◌≤◌, ◌<◌, ◌^◌, length};
+
+use super::lines_of;
+use crate::{BLOCK_LIMIT, CaptureError, FRAME_LIMIT, RunError};
+use std::alloc::{AllocError, Global};
+use std::test::Fail;
+
+const FRONT: &[u8; 48] = b"\
+    \x0a\x0d\x0d\x0a\x1c\x00\x00\x00\x4d\x3c\x2b\x1a\x01\x00\x00\x00\xff\xff\xff\xff\
+    \xff\xff\xff\xff\x1c\x00\x00\x00\x01\x00\x00\x00\x14\x00\x00\x00\x01\x00\x00\x00\
+    \x00\x00\x00\x00\x14\x00\x00\x00";
+
+// The front and a block of this kind and length, 0 but for these words behind its two lengths.
+fn with_block(alloc: Global, kind: u32, len: u32, words: &[u32]) -> Result<Vec<u8>, AllocError> {
+    let mut file = Vec::from_slice(alloc, FRONT)?;
+    file.extend_from_slice(&kind.to_le_bytes())?;
+    file.extend_from_slice(&len.to_le_bytes())?;
+    let mut left = (len as usize).saturating_sub(12);
+    for word in words {
+        if left >= 4 {
+            file.extend_from_slice(&word.to_le_bytes())?;
+            left -= 4;
+        }
+    }
+    for _ in 0..left {
+        file.push(0)?;
+    }
+    file.extend_from_slice(&len.to_le_bytes())?;
+    Ok(file)
+}
+
+#[test]
+fn each_length(rt: HostRuntime) -> Result<(), Fail> {
+    let bad = Err(RunError::Capture(CaptureError::BadBlock));
+    let most = FRAME_LIMIT as u32;
+    let limit = BLOCK_LIMIT as u32;
+    for (kind, len, words, wanted, line_len) in [
+        // The least that each kind has: 12 of any, 20 of an interface, 32 and 16 of packets; and 4 bytes less.
+        (5, 12, [0u32, 0, 0, 0].as_slice(), Ok(()), 0),
+        (1, 16, [1].as_slice(), bad, 0),
+        (6, 32, [0, 0, 0, 0, 0].as_slice(), Ok(()), 0),
+        (6, 28, [0, 0, 0, 0].as_slice(), bad, 0),
+        (3, 16, [0].as_slice(), Ok(()), 0),
+        (3, 12, [].as_slice(), bad, 0),
+        // No whole words.
+        (5, 13, [].as_slice(), bad, 0),
+        // A packet's bytes up to the second length, and into it.
+        (3, 20, [4, 0].as_slice(), Ok(()), 17),
+        (3, 20, [5, 0].as_slice(), bad, 0),
+        (6, 36, [0, 0, 0, 4, 4, 0].as_slice(), Ok(()), 17),
+        (6, 36, [0, 0, 0, 5, 5, 0].as_slice(), bad, 0),
+        // As long as a line can hold, and one byte more.
+        (6, 100_024, [0, 0, 0, most, most].as_slice(), Ok(()), 199_991),
+        (6, 100_024, [0, 0, 0, most + 1, most + 1].as_slice(), Err(RunError::Capture(CaptureError::FrameTooLong(most + 1))), 0),
+        // As long as a block may be, a word more, and no whole words.
+        (5, limit, [].as_slice(), Ok(()), 0),
+        (5, limit + 4, [].as_slice(), Err(RunError::Capture(CaptureError::BlockTooLong(limit + 4))), 0),
+        (5, limit + 5, [].as_slice(), bad, 0),
+    ] {
+        let file = with_block(rt.alloc(), kind, len, words)?;
+        let (result, lines) = lines_of(rt.alloc(), file.as_slice())?;
+        assert_eq!(rt; result, wanted);
+        assert_eq!(rt; lines.len(), line_len);
+    }
+    Ok(())
+}
+
+// Fewer bytes than a file header has are no capture, whatever their lengths are.
+#[test]
+fn front_of_a_bad_section(rt: HostRuntime) -> Result<(), Fail> {
+    let mut file = *FRONT;
+    file[4] = 7;
+    let (result, _) = lines_of(rt.alloc(), &file[..20])?;
+    assert_eq!(rt; result, Err(RunError::Capture(CaptureError::NotCapture)));
+    let (result, _) = lines_of(rt.alloc(), &file[..24])?;
+    assert_eq!(rt; result, Err(RunError::Capture(CaptureError::BadBlock)));
+    Ok(())
+}
