@@ -8,6 +8,8 @@ use Rattle.ep_link.specs.declared.link.link_slice.LinkSlice.TheVariants as slice
 use Rattle.ep_link.specs.declared.link.linux_sll_header.LinuxSllHeader.{LinuxSllHeader}
 use Rattle.ep_link.specs.Ethernet as ethernet
 use Rattle.ep_link.specs.Sll as sll
+use Rattle.ep_link.specs.SllPayload as cooked
+use Rattle.ep_tag.specs.Ether.{EtherPayload}
 
 abbrev pub ethernet2_in : LinkHeader → Option Ethernet2Header
 ethernet2_in (header.Ethernet2 h) = Some h
@@ -33,3 +35,10 @@ fields_of (slice.Ethernet2 frame) = Some (header.Ethernet2 (ethernet.header_of f
 fields_of (slice.LinuxSll bytes) = Some (header.LinuxSll (sll.header_of bytes))
 fields_of (slice.EtherPayload p) = None
 fields_of (slice.LinuxSllPayload p) = None
+
+-- what stands behind an ether type, the link header's own or that in its place
+abbrev pub payload_behind : LinkSlice → Option EtherPayload
+payload_behind (slice.Ethernet2 frame) = Some (ethernet.payload_of frame)
+payload_behind (slice.LinuxSll bytes) = cooked.named_payload (cooked.payload_of bytes)
+payload_behind (slice.EtherPayload p) = Some p
+payload_behind (slice.LinuxSllPayload p) = cooked.named_payload p

@@ -1,5 +1,5 @@
 -- Why bytes do not begin with the header of a Linux cooked capture.
-use Rattle.std.specs.Prelude.{ℕ, ⊤, ◌<◌, ◌≤◌, ◌≡◌, List, length, take, nat_lt, if◌then◌else◌, Result, Ok, Err}
+use Rattle.std.specs.Prelude.{ℕ, ◌+◌, ◌^◌, ◌<◌, ◌≤◌, ◌≡◌, List, length, take, nat_lt, if◌then◌else◌, Result, Ok, Err}
 use Rattle.ep_base.specs.Moved as len_error
 use Rattle.ep_base.specs.declared.err.layer.Layer.TheVariants as layer
 use Rattle.ep_link.specs.declared.err.linux_sll.header_error.HeaderError.{HeaderError}
@@ -29,10 +29,14 @@ header_at bytes = tested bytes (take sll_len bytes)
 abbrev pub whole_at : List ℕ → Result (List ℕ) HeaderSliceError
 whole_at bytes = tested bytes bytes
 
--- the place of a want of bytes, n bytes further on, fits a `usize`
+-- the place of the layer that wants bytes; a fault of the content names no place
+abbrev pub place_of : HeaderSliceError → ℕ
+place_of (Len e) = e.layer_start_offset
+place_of (Content e) = 0
+
+-- the place n bytes further on fits a `usize`
 abbrev pub CanMove : HeaderSliceError → ℕ → Type 0
-CanMove (Len e) n = len_error.CanMove e n
-CanMove (Content e) n = ⊤
+CanMove e n = place_of e + n < 2 ^ 64
 
 -- a want of bytes is further on, and a fault of the content is the same
 abbrev pub moved : HeaderSliceError → ℕ → HeaderSliceError

@@ -1,5 +1,6 @@
 -- What follows the header of a Linux cooked capture.
-use Rattle.std.specs.Prelude.{ℕ, ◌∷◌, List, drop, Result, Ok, Err}
+use Rattle.std.specs.Prelude.{ℕ, [], ◌∷◌, List, drop, Option, Some, None, Result}
+use Rattle.std.specs.Option.{ok_or}
 use Rattle.ep_base.specs.Bytes.{num}
 use Rattle.ep_base.specs.declared.len_source.LenSource.TheVariants.{Slice}
 use Rattle.ep_link.specs.declared.link.linux_sll_protocol_type.LinuxSllProtocolType.{LinuxSllProtocolType}
@@ -23,17 +24,25 @@ kind_place (protocol.GenericRoutingEncapsulationProtocolType n) = 2
 kind_place (protocol.EtherType t) = 3
 kind_place (protocol.LinuxNonstandardEtherType n) = 4
 
+-- kind and number of a protocol, which tell protocols apart
+abbrev pub protocol_ordered_as : LinuxSllProtocolType → List ℕ
+protocol_ordered_as p = kind_place p ∷ number_of p ∷ []
+
 -- all of a payload in one list, which tells payloads apart
 abbrev pub compared_as : SllPayload → List ℕ
 compared_as p = kind_place p.protocol_type ∷ number_of p.protocol_type ∷ p.payload
 
-abbrev pub ether_payload_of : LinuxSllProtocolType → List ℕ → Result EtherPayload (Unit {0})
-ether_payload_of (protocol.Ignored n) bytes = Err tt
-ether_payload_of (protocol.NetlinkProtocolType n) bytes = Err tt
-ether_payload_of (protocol.GenericRoutingEncapsulationProtocolType n) bytes = Err tt
-ether_payload_of (protocol.EtherType t) bytes = Ok (record { ether_type = t; len_source = Slice; payload = bytes })
-ether_payload_of (protocol.LinuxNonstandardEtherType n) bytes = Err tt
+abbrev pub ether_payload_of : LinuxSllProtocolType → List ℕ → Option EtherPayload
+ether_payload_of (protocol.Ignored n) bytes = None
+ether_payload_of (protocol.NetlinkProtocolType n) bytes = None
+ether_payload_of (protocol.GenericRoutingEncapsulationProtocolType n) bytes = None
+ether_payload_of (protocol.EtherType t) bytes = Some (record { ether_type = t; len_source = Slice; payload = bytes })
+ether_payload_of (protocol.LinuxNonstandardEtherType n) bytes = None
 
 -- the same bytes behind an ether type, where the protocol is one
+abbrev pub named_payload : SllPayload → Option EtherPayload
+named_payload p = ether_payload_of p.protocol_type p.payload
+
+-- the same, or `()`
 abbrev pub as_ether_payload : SllPayload → Result EtherPayload (Unit {0})
-as_ether_payload p = ether_payload_of p.protocol_type p.payload
+as_ether_payload p = ok_or (named_payload p) tt

@@ -4,4 +4,5 @@ pub mod MacsecFront
 pub mod MacsecRead
 pub mod MacsecSpelling
 pub mod Numbers
+pub mod SameHeaders
 pub mod VlanSpelling

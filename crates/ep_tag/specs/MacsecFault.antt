@@ -1,5 +1,5 @@
 -- Why bytes do not begin with a MACsec header (IEEE 802.1AE, clause 9).
-use Rattle.std.specs.Prelude.{ℕ, ⊤, List, length, take, nat_lt, if◌then◌else◌, Result, Ok, Err}
+use Rattle.std.specs.Prelude.{ℕ, ◌+◌, ◌<◌, ◌^◌, List, length, take, nat_lt, if◌then◌else◌, Result, Ok, Err}
 use Rattle.ep_base.specs.Moved as len_error
 use Rattle.ep_base.specs.declared.err.layer.Layer.TheVariants.{MacsecHeader}
 use Rattle.ep_tag.specs.declared.err.macsec.header_error.HeaderError.TheVariants.{UnexpectedVersion, InvalidUnmodifiedShortLen}
@@ -18,10 +18,14 @@ header_at bytes =
     if nat_lt (length bytes) (header_len_of bytes) then Err (Len (too_short MacsecHeader (header_len_of bytes) (length bytes))) else
     Ok (take (header_len_of bytes) bytes))))
 
--- the place of a want of bytes, n bytes further on, fits a `usize`
+-- the place of the layer that wants bytes; a fault of the content names no place
+abbrev pub place_of : HeaderSliceError → ℕ
+place_of (Len e) = e.layer_start_offset
+place_of (Content e) = 0
+
+-- the place n bytes further on fits a `usize`
 abbrev pub CanMove : HeaderSliceError → ℕ → Type 0
-CanMove (Len e) n = len_error.CanMove e n
-CanMove (Content e) n = ⊤
+CanMove e n = place_of e + n < 2 ^ 64
 
 -- a want of bytes is further on, and a fault of the content is the same
 abbrev pub moved : HeaderSliceError → ℕ → HeaderSliceError

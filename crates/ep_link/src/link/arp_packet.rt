@@ -154,6 +154,7 @@ impl ArpPacket {
             → result ≡ Ok (fields_of front) }
         // Else it is the first want of bytes.
         ensures err { IfErr result (λ e. packet_at slice.now ≡ Err e) }
+        ensures place { IfErr result (λ e. e.layer_start_offset ≡ 0) }
     {
         let packet = ArpPacketSlice::from_slice(slice)?;
         Ok(packet.to_packet())

@@ -1,4 +1,4 @@
-ghost use Rattle.std.specs.Prelude.{◌≡◌, ◌≤◌, ◌+◌, ◌*◌, ℕ, List, ◌++◌, length, drop, IfOk, Ok, nat_eq};
+ghost use Rattle.std.specs.Prelude.{◌≡◌, ◌≤◌, ◌+◌, ◌*◌, ℕ, List, ◌++◌, length, drop, IfOk, IfErr, Ok, nat_eq};
 ghost use Rattle.std.specs.Cmp.Lexicographic.{pointwise};
 ghost use Rattle.std.specs.Cmp.Rules.{comparing};
 ghost use Rattle.std.proofs.Common.{rules};
@@ -39,12 +39,14 @@ impl<'a> ArpPacketSlice<'a> {
             → result ≡ Ok packet }
         // Else it is the first want of bytes.
         ensures exact { result ≡ packet_at slice.now }
+        ensures place { IfErr result (λ e. e.layer_start_offset ≡ 0) }
     {
         Self::tested(slice)
     }
 
     fn tested(slice: &'a [u8]) -> Result<ArpPacketSlice<'a>, LenError>
-        ensures { result ≡ packet_at slice.now }
+        ensures exact { result ≡ packet_at slice.now }
+        ensures place { IfErr result (λ e. e.layer_start_offset ≡ 0) }
     {
         if slice.len() < 8 {
             return Err(too_short(Layer::Arp, 8, slice.len()));

@@ -33,6 +33,7 @@ impl Ethernet2Header {
         ensures only { (front rest : List ℕ) → length front ≡ ethernet_len → slice.now ≡ front ++ rest
             → IsOkAnd result (λ r. (r.0 ≡ header_of front) × (r.1.now ≡ rest)) }
         ensures err { IfErr result (λ e. front_at layer.Ethernet2Header ethernet_len slice.now ≡ Err e) }
+        ensures place { IfErr result (λ e. e.layer_start_offset ≡ 0) }
     {
         let header = Ethernet2HeaderSlice::from_slice(slice)?;
         let rest = &slice[Ethernet2Header::LEN..];

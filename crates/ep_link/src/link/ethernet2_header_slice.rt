@@ -1,4 +1,4 @@
-ghost use Rattle.std.specs.Prelude.{◌≡◌, ℕ, List, ◌++◌, length, IfOk, Ok, nat_eq};
+ghost use Rattle.std.specs.Prelude.{◌≡◌, ℕ, List, ◌++◌, length, IfOk, IfErr, Ok, nat_eq};
 ghost use Rattle.std.specs.Cmp.Lexicographic.{pointwise};
 ghost use Rattle.std.specs.Cmp.Rules.{comparing};
 ghost use Rattle.std.proofs.Common.{rules};
@@ -36,12 +36,14 @@ impl<'a> Ethernet2HeaderSlice<'a> {
         ensures only { (header rest : List ℕ) → length header ≡ ethernet_len → slice.now ≡ header ++ rest
             → result ≡ Ok header }
         ensures exact { result ≡ front_at layer.Ethernet2Header ethernet_len slice.now }
+        ensures place { IfErr result (λ e. e.layer_start_offset ≡ 0) }
     {
         Self::taken(slice)
     }
 
     fn taken(slice: &'a [u8]) -> Result<Ethernet2HeaderSlice<'a>, LenError>
-        ensures { result ≡ front_at layer.Ethernet2Header ethernet_len slice.now }
+        ensures exact { result ≡ front_at layer.Ethernet2Header ethernet_len slice.now }
+        ensures place { IfErr result (λ e. e.layer_start_offset ≡ 0) }
     {
         if slice.len() < Ethernet2Header::LEN {
             return Err(too_short(Layer::Ethernet2Header, Ethernet2Header::LEN, slice.len()));

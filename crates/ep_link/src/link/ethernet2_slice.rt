@@ -1,4 +1,4 @@
-ghost use Rattle.std.specs.Prelude.{◌≡◌, ◌≤◌, ℕ, List, length, take, drop, nat_eq};
+ghost use Rattle.std.specs.Prelude.{◌≡◌, ◌≤◌, ℕ, List, length, take, drop, nat_eq, IfErr};
 ghost use Rattle.std.specs.Cmp.Lexicographic.{pointwise};
 ghost use Rattle.std.specs.Cmp.Rules.{comparing};
 ghost use Rattle.std.proofs.Common.{rules};
@@ -32,7 +32,8 @@ impl<'a> Ethernet2Slice<'a> {
     /// A frame without frame check sequence: all bytes behind the header are payload. A slice of
     /// fewer than 14 bytes is refused.
     pub fn from_slice_without_fcs(slice: &'a [u8]) -> Result<Ethernet2Slice<'a>, LenError>
-        ensures { result ≡ whole_at layer.Ethernet2Header ethernet_len slice.now }
+        ensures exact { result ≡ whole_at layer.Ethernet2Header ethernet_len slice.now }
+        ensures place { IfErr result (λ e. e.layer_start_offset ≡ 0) }
     {
         if slice.len() < Ethernet2Header::LEN {
             return Err(too_short(Layer::Ethernet2Header, Ethernet2Header::LEN, slice.len()));

@@ -1,5 +1,5 @@
 ghost use Rattle.std.specs.Prelude.{◌≡◌};
-ghost use Rattle.ep_link.specs.Link.{fields_of};
+ghost use Rattle.ep_link.specs.Link.{fields_of, payload_behind};
 
 use super::{Ethernet2Slice, LinkHeader, LinuxSllPayloadSlice, LinuxSllSlice};
 use ep_tag::EtherPayloadSlice;
@@ -27,6 +27,23 @@ impl<'a> LinkSlice<'a> {
             LinkSlice::LinuxSll(packet) => Some(LinkHeader::LinuxSll(packet.to_header())),
             LinkSlice::EtherPayload(_) => None,
             LinkSlice::LinuxSllPayload(_) => None,
+        }
+    }
+
+    /// What stands behind an ether type: of an Ethernet II frame always, of a packet of a Linux cooked
+    /// capture where its protocol is an ether type.
+    pub fn ether_payload(&self) -> Option<EtherPayloadSlice<'a>>
+        ensures { result ≡ payload_behind self.now }
+    {
+        match self {
+            LinkSlice::Ethernet2(frame) => Some(frame.payload()),
+            LinkSlice::LinuxSll(packet) => packet.payload().ether_payload(),
+            LinkSlice::EtherPayload(payload) => Some(EtherPayloadSlice {
+                ether_type: payload.ether_type,
+                len_source: payload.len_source,
+                payload: payload.payload,
+            }),
+            LinkSlice::LinuxSllPayload(payload) => payload.ether_payload(),
         }
     }
 }

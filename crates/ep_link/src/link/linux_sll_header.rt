@@ -1,6 +1,6 @@
 ghost use Rattle.std.specs.Prelude.{◌≡◌, ◌+◌, ◌≤◌, ℕ, List, ◌++◌, length, Err, OnOk, OnErr, IsOk, IfOk, IfErr, IsOkAnd, vec_len, vec_capacity};
 ghost use Rattle.ep_link.specs.Sll.{sll_len, IsSllHeader, NamesProtocol, IsRead, Fits, header_of, spelling};
-ghost use Rattle.ep_link.specs.SllFault.{header_at};
+ghost use Rattle.ep_link.specs.SllFault.{header_at, place_of};
 
 use super::{ArpHardwareId, LinuxSllHeaderSlice, LinuxSllPacketType, LinuxSllProtocolType};
 use crate::err::linux_sll::HeaderSliceError;
@@ -36,6 +36,7 @@ impl LinuxSllHeader {
             → IsOkAnd result (λ r. (r.0 ≡ header_of front) × (r.1.now ≡ rest)) }
         // Else it is the first fault.
         ensures err { IfErr result (λ e. header_at slice.now ≡ Err e) }
+        ensures place { IfErr result (λ e. place_of e ≡ 0) }
     {
         let header = LinuxSllHeaderSlice::from_slice(slice)?;
         let rest = &slice[LinuxSllHeader::LEN..];

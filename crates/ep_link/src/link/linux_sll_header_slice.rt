@@ -1,10 +1,10 @@
-ghost use Rattle.std.specs.Prelude.{◌≡◌, ◌≤◌, ℕ, List, ◌++◌, length, drop, IfOk, Ok, nat_eq};
+ghost use Rattle.std.specs.Prelude.{◌≡◌, ◌≤◌, ℕ, List, ◌++◌, length, drop, IfOk, IfErr, Ok, nat_eq};
 ghost use Rattle.std.specs.Cmp.Lexicographic.{pointwise};
 ghost use Rattle.std.specs.Cmp.Rules.{comparing};
 ghost use Rattle.std.proofs.Common.{rules};
 ghost use Rattle.ep_base.specs.Bytes.{num};
 ghost use Rattle.ep_link.specs.Sll.{IsSllHeader, packet_type_of, hardware_type_of, address_len_of, address_of, protocol_of, header_of};
-ghost use Rattle.ep_link.specs.SllFault.{header_at};
+ghost use Rattle.ep_link.specs.SllFault.{header_at, place_of};
 
 use super::front::too_short;
 use super::{ArpHardwareId, LinuxSllHeader, LinuxSllPacketType, LinuxSllProtocolType};
@@ -39,12 +39,14 @@ impl<'a> LinuxSllHeaderSlice<'a> {
             → result ≡ Ok header }
         // Else it is the first fault.
         ensures exact { result ≡ header_at slice.now }
+        ensures place { IfErr result (λ e. place_of e ≡ 0) }
     {
         Self::tested(slice)
     }
 
     fn tested(slice: &'a [u8]) -> Result<LinuxSllHeaderSlice<'a>, HeaderSliceError>
-        ensures { result ≡ header_at slice.now }
+        ensures exact { result ≡ header_at slice.now }
+        ensures place { IfErr result (λ e. place_of e ≡ 0) }
     {
         if slice.len() < LinuxSllHeader::LEN {
             return Err(HeaderSliceError::Len(too_short(

@@ -4,7 +4,7 @@ ghost use Rattle.std.specs.Cmp.Rules.{comparing};
 ghost use Rattle.std.specs.Ordering.{on};
 ghost use Rattle.std.proofs.Common.{rules};
 ghost use Rattle.ep_link.specs.declared.link.linux_sll_protocol_type.LinuxSllProtocolType.TheVariants as variant;
-ghost use Rattle.ep_link.specs.SllPayload.{SllPayload, compared_as, as_ether_payload};
+ghost use Rattle.ep_link.specs.SllPayload.{SllPayload, compared_as, as_ether_payload, named_payload};
 
 use super::LinuxSllProtocolType;
 use ep_base::LenSource;
@@ -24,6 +24,22 @@ impl<'a> Model for LinuxSllPayloadSlice<'a> {
     ghost Value = { SllPayload };
 
     ghost view = { λ p. record { protocol_type = p.protocol_type; payload = p.payload.now } };
+}
+
+impl<'a> LinuxSllPayloadSlice<'a> {
+    // The same bytes behind an ether type, where the protocol is one.
+    pub(super) fn ether_payload(&self) -> Option<EtherPayloadSlice<'a>>
+        ensures { result ≡ named_payload self.now }
+    {
+        match self.protocol_type {
+            LinuxSllProtocolType::EtherType(ether_type) => Some(EtherPayloadSlice {
+                ether_type,
+                len_source: LenSource::Slice,
+                payload: self.payload,
+            }),
+            _ => None,
+        }
+    }
 }
 
 impl<'a> PartialEq for LinuxSllPayloadSlice<'a> {
@@ -48,14 +64,7 @@ impl<'a> TryFrom<LinuxSllPayloadSlice<'a>> for EtherPayloadSlice<'a> {
     /// The same bytes behind an ether type, where the protocol is one. Else there is nothing to
     /// say, and the error is `()`.
     fn try_from(payload: LinuxSllPayloadSlice<'a>) -> Result<EtherPayloadSlice<'a>, ()> {
-        match payload.protocol_type {
-            LinuxSllProtocolType::EtherType(ether_type) => Ok(EtherPayloadSlice {
-                ether_type,
-                len_source: LenSource::Slice,
-                payload: payload.payload,
-            }),
-            _ => Err(()),
-        }
+        payload.ether_payload().ok_or(())
     }
 }
 

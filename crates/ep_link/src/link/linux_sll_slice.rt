@@ -1,10 +1,10 @@
-ghost use Rattle.std.specs.Prelude.{◌≡◌, ◌≤◌, ℕ, List, length, drop, nat_eq};
+ghost use Rattle.std.specs.Prelude.{◌≡◌, ◌≤◌, ℕ, List, length, drop, nat_eq, IfErr};
 ghost use Rattle.std.specs.Cmp.Lexicographic.{pointwise};
 ghost use Rattle.std.specs.Cmp.Rules.{comparing};
 ghost use Rattle.std.proofs.Common.{rules};
 ghost use Rattle.ep_base.specs.Bytes.{num};
 ghost use Rattle.ep_link.specs.Sll.{sll_len, greatest_packet_type, packet_type_of, hardware_type_of, address_len_of, address_of, protocol_of, header_of};
-ghost use Rattle.ep_link.specs.SllFault.{whole_at};
+ghost use Rattle.ep_link.specs.SllFault.{place_of, whole_at};
 ghost use Rattle.ep_link.specs.SllPayload.{payload_of};
 
 use super::front::too_short;
@@ -35,7 +35,8 @@ impl<'a> LinuxSllSlice<'a> {
     /// The header at the front of the slice, and what follows it. Refused are, in this order, a
     /// slice of fewer than 16 bytes and a packet type above 4.
     pub fn from_slice(slice: &'a [u8]) -> Result<LinuxSllSlice<'a>, HeaderSliceError>
-        ensures { result ≡ whole_at slice.now }
+        ensures exact { result ≡ whole_at slice.now }
+        ensures place { IfErr result (λ e. place_of e ≡ 0) }
     {
         if slice.len() < LinuxSllHeader::LEN {
             return Err(HeaderSliceError::Len(too_short(

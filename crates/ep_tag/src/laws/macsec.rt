@@ -7,8 +7,8 @@ ghost use Rattle.ep_tag.specs.declared.err.macsec.header_error.HeaderError.TheVa
 ghost use Rattle.ep_tag.specs.declared.err.macsec.header_slice_error.HeaderSliceError.TheVariants.{Len, Content};
 ghost use Rattle.ep_tag.specs.declared.link.macsec_p_type.MacsecPType.TheVariants as ptype;
 ghost use Rattle.ep_tag.specs.Front.{too_short};
-ghost use Rattle.ep_tag.specs.Macsec.{IsMacsecHeader, HasRoom, header_of, spelling, with_unused_bits_zero};
-ghost use Rattle.ep_tag.specs.MacsecPayload.{macsec_at, Unmodified, Modified};
+ghost use Rattle.ep_tag.specs.Macsec.{IsMacsecHeader, HasRoom, has_no_room, header_of, payload_len_in, ptype_of, short_len_of, spelling, with_unused_bits_zero};
+ghost use Rattle.ep_tag.specs.MacsecPayload.{macsec_at, payload_len_of, Unmodified, Modified};
 
 use crate::MacsecHeader;
 use crate::err::macsec::HeaderSliceError;
@@ -57,6 +57,53 @@ pub fn fields_by_hand()
           packet_nr = 0x01020304;
           sci = Some 0x0a0b0c0d0e0f1011;
         } }
+{}
+
+/// What a header's fields and what its bytes say of the payload's length behind a short length above 0
+/// is the same, and there is none where the short length has no room for the ether type.
+pub fn payload_lengths_agree()
+    ensures room { (header : List ℕ) → has_no_room header ≡ false
+        → payload_len_in (ptype_of header) (short_len_of header) ≡ Some (payload_len_of header) }
+    ensures no_room { (header : List ℕ) → has_no_room header ≡ true
+        → payload_len_in (ptype_of header) (short_len_of header) ≡ None }
+{}
+
+/// A short length leaves its bytes for the payload, 2 fewer where an ether type stands in it, and so
+/// none of 1 there.
+pub fn payload_lengths_by_hand()
+    ensures modified { payload_len_in ptype.Modified 1 ≡ Some 1 }
+    ensures encrypted { payload_len_in ptype.Encrypted 63 ≡ Some 63 }
+    ensures encrypted_unmodified { payload_len_in ptype.EncryptedUnmodified 2 ≡ Some 2 }
+    ensures no_room { payload_len_in (ptype.Unmodified (record { 0 = 0x0800 })) 1 ≡ None }
+    ensures type_alone { payload_len_in (ptype.Unmodified (record { 0 = 0x0800 })) 2 ≡ Some 0 }
+    ensures greatest { payload_len_in (ptype.Unmodified (record { 0 = 0x0800 })) 63 ≡ Some 61 }
+{}
+
+/// Short lengths 0 and 1 under the other flags: 0 leaves all that follows, 1 a single byte, and 1 is
+/// refused where an ether type is to stand in it.
+pub fn short_lengths_by_hand()
+    ensures zero_identifier { macsec_at (0x20 ∷ 0 ∷ 0 ∷ 0 ∷ 0 ∷ 1 ∷ 10 ∷ 11 ∷ 12 ∷ 13 ∷ 14 ∷ 15 ∷ 16 ∷ 17 ∷ 8 ∷ 6 ∷ 7 ∷ 8 ∷ []) ≡ Ok (record {
+      header = 0x20 ∷ 0 ∷ 0 ∷ 0 ∷ 0 ∷ 1 ∷ 10 ∷ 11 ∷ 12 ∷ 13 ∷ 14 ∷ 15 ∷ 16 ∷ 17 ∷ 8 ∷ 6 ∷ [];
+      payload = Unmodified (record { ether_type = record { 0 = 0x0806 }; len_source = source.Slice; payload = 7 ∷ 8 ∷ [] });
+    }) }
+    ensures zero_changed { macsec_at (0x44 ∷ 0 ∷ 0 ∷ 0 ∷ 0 ∷ 1 ∷ 7 ∷ 8 ∷ []) ≡ Ok (record {
+      header = 0x44 ∷ 0 ∷ 0 ∷ 0 ∷ 0 ∷ 1 ∷ [];
+      payload = Modified (7 ∷ 8 ∷ []);
+    }) }
+    ensures zero_encrypted { macsec_at (8 ∷ 0 ∷ 0 ∷ 0 ∷ 0 ∷ 1 ∷ 7 ∷ 8 ∷ []) ≡ Ok (record {
+      header = 8 ∷ 0 ∷ 0 ∷ 0 ∷ 0 ∷ 1 ∷ [];
+      payload = Modified (7 ∷ 8 ∷ []);
+    }) }
+    ensures one_encrypted { macsec_at (8 ∷ 1 ∷ 0 ∷ 0 ∷ 0 ∷ 1 ∷ 7 ∷ 8 ∷ []) ≡ Ok (record {
+      header = 8 ∷ 1 ∷ 0 ∷ 0 ∷ 0 ∷ 1 ∷ [];
+      payload = Modified (7 ∷ []);
+    }) }
+    ensures one_of_all { macsec_at (0x2c ∷ 1 ∷ 0 ∷ 0 ∷ 0 ∷ 1 ∷ 10 ∷ 11 ∷ 12 ∷ 13 ∷ 14 ∷ 15 ∷ 16 ∷ 17 ∷ 7 ∷ 8 ∷ []) ≡ Ok (record {
+      header = 0x2c ∷ 1 ∷ 0 ∷ 0 ∷ 0 ∷ 1 ∷ 10 ∷ 11 ∷ 12 ∷ 13 ∷ 14 ∷ 15 ∷ 16 ∷ 17 ∷ [];
+      payload = Modified (7 ∷ []);
+    }) }
+    ensures one_identifier { macsec_at (0x20 ∷ 1 ∷ 0 ∷ 0 ∷ 0 ∷ 1 ∷ []) ≡ Err (Content InvalidUnmodifiedShortLen) }
+    ensures one_broadcast { macsec_at (0x53 ∷ 0xc1 ∷ 0 ∷ 0 ∷ 0 ∷ 1 ∷ 8 ∷ 6 ∷ 7 ∷ []) ≡ Err (Content InvalidUnmodifiedShortLen) }
 {}
 
 /// What a header makes of the bytes behind it: an ether type and the payload that the short length

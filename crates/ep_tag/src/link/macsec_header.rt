@@ -2,7 +2,7 @@ ghost use Rattle.std.specs.Prelude.{◌≡◌, ◌==◌, ◌&&◌, ℕ, ◌+◌,
 ghost use Rattle.std.specs.Int.{w32, to_be_bytes};
 ghost use Rattle.arrayvec.specs.ArrayVec.{array_vec_len};
 ghost use Rattle.ep_tag.specs.Macsec.{IsMacsecHeader, IsRead, HasRoom, Fits, SciFits, TypeFits, header_of, spelling, first_byte, ptype_bits, ptype_spelling, sci_spelling, worth, next_type_in, payload_len_in};
-ghost use Rattle.ep_tag.specs.MacsecFault.{header_at};
+ghost use Rattle.ep_tag.specs.MacsecFault.{header_at, place_of};
 
 use super::{MacsecAn, MacsecHeaderSlice, MacsecPType, MacsecShortLen};
 use crate::err::macsec::HeaderSliceError;
@@ -48,6 +48,7 @@ impl MacsecHeader {
             → IsOkAnd result (λ r. (r.0 ≡ header_of front) × (r.1.now ≡ rest)) }
         // Else it is the first fault.
         ensures err { IfErr result (λ e. header_at slice.now ≡ Err e) }
+        ensures place { IfErr result (λ e. place_of e ≡ 0) }
     {
         let header = MacsecHeaderSlice::from_slice(slice)?;
         let rest = &slice[header.slice().len()..];

@@ -1,11 +1,11 @@
-ghost use Rattle.std.specs.Prelude.{◌≡◌, ◌<◌, ◌≤◌, ◌+◌, ◌==◌, true, ℕ, List, ◌++◌, length, Some, None, Ok, IfOk, if◌then◌else◌, nat_eq};
+ghost use Rattle.std.specs.Prelude.{◌≡◌, ◌<◌, ◌≤◌, ◌+◌, ◌==◌, true, ℕ, List, ◌++◌, length, Some, None, Ok, IfOk, IfErr, if◌then◌else◌, nat_eq};
 ghost use Rattle.std.specs.Cmp.Lexicographic.{pointwise};
 ghost use Rattle.std.specs.Cmp.Rules.{comparing};
 ghost use Rattle.std.proofs.Common.{rules};
 ghost use Rattle.ep_tag.specs.Macsec.{IsMacsecHeader, version_of, endstation_id_of, has_sci, scb_of, is_encrypted, is_changed, is_unmodified, an_of, short_len_of, packet_nr_of, sci_of, sci_len, type_len, header_len_of, next_type_of, ptype_of, has_no_room, header_of};
 ghost use Rattle.ep_base.specs.Bytes.{num};
 ghost use Rattle.ep_tag.specs.Ether.{ether_type_at};
-ghost use Rattle.ep_tag.specs.MacsecFault.{header_at};
+ghost use Rattle.ep_tag.specs.MacsecFault.{header_at, place_of};
 ghost use Rattle.ep_tag.specs.MacsecPayload.{payload_len_of};
 
 use super::front::too_short;
@@ -45,12 +45,14 @@ impl<'a> MacsecHeaderSlice<'a> {
             → result ≡ Ok header }
         // Else it is the first fault.
         ensures exact { result ≡ header_at slice.now }
+        ensures place { IfErr result (λ e. place_of e ≡ 0) }
     {
         Self::tested(slice)
     }
 
     fn tested(slice: &'a [u8]) -> Result<MacsecHeaderSlice<'a>, HeaderSliceError>
-        ensures { result ≡ header_at slice.now }
+        ensures exact { result ≡ header_at slice.now }
+        ensures place { IfErr result (λ e. place_of e ≡ 0) }
     {
         if slice.len() < MacsecHeader::MIN_LEN {
             return Err(HeaderSliceError::Len(too_short(
@@ -76,13 +78,6 @@ impl<'a> MacsecHeaderSlice<'a> {
         Ok(MacsecHeaderSlice {
             slice: &slice[..header_len],
         })
-    }
-
-    // The same: a type with a model and a reference can't be `Copy`.
-    pub(crate) fn again(&self) -> MacsecHeaderSlice<'a>
-        ensures { result ≡ self.now }
-    {
-        MacsecHeaderSlice { slice: self.slice }
     }
 
     /// The header's bytes.

@@ -1,9 +1,10 @@
-ghost use Rattle.std.specs.Prelude.{◌≡◌, ◌&&◌, ℕ, List, length, nat_eq, IfOk, Ok, option_map};
+ghost use Rattle.std.specs.Prelude.{◌≡◌, ◌&&◌, ℕ, List, length, nat_eq, IfOk, IfErr, Ok, option_map};
 ghost use Rattle.std.specs.Cmp.Lexicographic.{pointwise};
 ghost use Rattle.std.specs.Cmp.Rules.{comparing};
 ghost use Rattle.std.specs.Ordering.{on};
 ghost use Rattle.std.proofs.Common.{rules};
 ghost use Rattle.ep_tag.specs.Macsec.{header_of};
+ghost use Rattle.ep_tag.specs.MacsecFault.{place_of};
 ghost use Rattle.ep_tag.specs.MacsecOrder.{compared_as};
 ghost use Rattle.ep_tag.specs.MacsecPayload.{Macsec, IsMacsec, macsec_at, named_payload};
 ghost use Rattle.ep_tag.specs.MacsecView.{payload_told};
@@ -42,12 +43,14 @@ impl<'a> MacsecSlice<'a> {
         ensures only { (macsec : Macsec) → IsMacsec slice.now macsec → result ≡ Ok macsec }
         // Else it is the first fault.
         ensures exact { result ≡ macsec_at slice.now }
+        ensures place { IfErr result (λ e. place_of e ≡ 0) }
     {
         Self::tested(slice)
     }
 
     fn tested(slice: &'a [u8]) -> Result<MacsecSlice<'a>, HeaderSliceError>
-        ensures { result ≡ macsec_at slice.now }
+        ensures exact { result ≡ macsec_at slice.now }
+        ensures place { IfErr result (λ e. place_of e ≡ 0) }
     {
         let header = MacsecHeaderSlice::from_slice(slice)?;
         let header_len = header.slice().len();

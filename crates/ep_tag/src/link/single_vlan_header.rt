@@ -34,6 +34,7 @@ impl SingleVlanHeader {
         ensures only { (front rest : List ℕ) → length front ≡ vlan_len → slice.now ≡ front ++ rest
             → IsOkAnd result (λ r. (r.0 ≡ header_of front) × (r.1.now ≡ rest)) }
         ensures err { IfErr result (λ e. front_at layer.VlanHeader vlan_len slice.now ≡ Err e) }
+        ensures place { IfErr result (λ e. e.layer_start_offset ≡ 0) }
     {
         let header = SingleVlanHeaderSlice::from_slice(slice)?;
         let rest = &slice[SingleVlanHeader::LEN..];

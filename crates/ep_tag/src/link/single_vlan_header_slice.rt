@@ -1,4 +1,4 @@
-ghost use Rattle.std.specs.Prelude.{◌≡◌, ℕ, List, ◌++◌, length, IfOk, Ok, nat_eq};
+ghost use Rattle.std.specs.Prelude.{◌≡◌, ℕ, List, ◌++◌, length, IfOk, IfErr, Ok, nat_eq};
 ghost use Rattle.std.specs.Cmp.Lexicographic.{pointwise};
 ghost use Rattle.std.specs.Cmp.Rules.{comparing};
 ghost use Rattle.std.proofs.Common.{rules};
@@ -37,12 +37,14 @@ impl<'a> SingleVlanHeaderSlice<'a> {
         ensures only { (tag rest : List ℕ) → length tag ≡ vlan_len → slice.now ≡ tag ++ rest
             → result ≡ Ok tag }
         ensures exact { result ≡ front_at layer.VlanHeader vlan_len slice.now }
+        ensures place { IfErr result (λ e. e.layer_start_offset ≡ 0) }
     {
         Self::taken(slice)
     }
 
     fn taken(slice: &'a [u8]) -> Result<SingleVlanHeaderSlice<'a>, LenError>
-        ensures { result ≡ front_at layer.VlanHeader vlan_len slice.now }
+        ensures exact { result ≡ front_at layer.VlanHeader vlan_len slice.now }
+        ensures place { IfErr result (λ e. e.layer_start_offset ≡ 0) }
     {
         if slice.len() < SingleVlanHeader::LEN {
             return Err(too_short(Layer::VlanHeader, SingleVlanHeader::LEN, slice.len()));

@@ -1,4 +1,4 @@
-ghost use Rattle.std.specs.Prelude.{◌≡◌, ◌≤◌, ℕ, List, length, take, drop, replicate, nat_eq};
+ghost use Rattle.std.specs.Prelude.{◌≡◌, ◌≤◌, ℕ, List, length, take, drop, replicate, nat_eq, IfErr};
 ghost use Rattle.std.specs.Cmp.Lexicographic.{pointwise};
 ghost use Rattle.std.specs.Cmp.Rules.{comparing};
 ghost use Rattle.std.proofs.Common.{rules};
@@ -32,7 +32,8 @@ impl<'a> SingleVlanSlice<'a> {
     /// The tag at the front of the slice, and what follows it. A slice of fewer than 4 bytes is
     /// refused.
     pub fn from_slice(slice: &'a [u8]) -> Result<SingleVlanSlice<'a>, LenError>
-        ensures { result ≡ whole_at layer.VlanHeader vlan_len slice.now }
+        ensures exact { result ≡ whole_at layer.VlanHeader vlan_len slice.now }
+        ensures place { IfErr result (λ e. e.layer_start_offset ≡ 0) }
     {
         if slice.len() < SingleVlanHeader::LEN {
             return Err(too_short(Layer::VlanHeader, SingleVlanHeader::LEN, slice.len()));
@@ -45,13 +46,6 @@ impl<'a> SingleVlanSlice<'a> {
         ensures { result ≡ replicate 4 0 }
     {
         SingleVlanSlice { slice: b"\0\0\0\0" }
-    }
-
-    // The same: a type with a model and a reference can't be `Copy`.
-    pub(crate) fn again(&self) -> SingleVlanSlice<'a>
-        ensures { result ≡ self.now }
-    {
-        SingleVlanSlice { slice: self.slice }
     }
 
     /// The tag and all bytes behind it.
