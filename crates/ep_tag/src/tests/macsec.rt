@@ -2,8 +2,8 @@
 use crate::err::macsec::{HeaderError, HeaderSliceError};
 use crate::laws::macsec::*;
 use crate::{
-    MacsecAn, MacsecHeader, MacsecHeaderSlice, MacsecPType, MacsecPayloadSlice, MacsecShortLen,
-    MacsecSlice,
+    EtherPayloadSlice, MacsecAn, MacsecHeader, MacsecHeaderSlice, MacsecPType, MacsecPayloadSlice,
+    MacsecShortLen, MacsecSlice, SingleVlanSlice,
 };
 use ep_base::err::{Layer, LenError};
 use ep_base::{EtherType, LenSource};
@@ -142,76 +142,223 @@ fn payload_of<'a>(macsec: &MacsecSlice<'a>) -> &'a [u8] {
     }
 }
 
-fn flag(is_set: bool, value: u8) -> u8 {
-    if is_set { value } else { 0 }
-}
+// Of 80 bytes: the flags E, C and SC of the first one, the length of the header, what its payload is,
+// and the payload's length behind short lengths 0, 1, 2, 3, 47 and 63, or none where they are refused.
+const BY_FLAGS: [(u8, u8, MacsecPType, [Option<u8>; 6]); 8] = [
+    (
+        0,
+        8,
+        MacsecPType::Unmodified(EtherType(0x0607)),
+        [Some(72), None, Some(0), Some(1), Some(45), Some(61)],
+    ),
+    (
+        0x20,
+        16,
+        MacsecPType::Unmodified(EtherType(0x0e0f)),
+        [Some(64), None, Some(0), Some(1), Some(45), Some(61)],
+    ),
+    (
+        0x04,
+        6,
+        MacsecPType::Modified,
+        [Some(74), Some(1), Some(2), Some(3), Some(47), Some(63)],
+    ),
+    (
+        0x24,
+        14,
+        MacsecPType::Modified,
+        [Some(66), Some(1), Some(2), Some(3), Some(47), Some(63)],
+    ),
+    (
+        0x08,
+        6,
+        MacsecPType::EncryptedUnmodified,
+        [Some(74), Some(1), Some(2), Some(3), Some(47), Some(63)],
+    ),
+    (
+        0x28,
+        14,
+        MacsecPType::EncryptedUnmodified,
+        [Some(66), Some(1), Some(2), Some(3), Some(47), Some(63)],
+    ),
+    (
+        0x0c,
+        6,
+        MacsecPType::Encrypted,
+        [Some(74), Some(1), Some(2), Some(3), Some(47), Some(63)],
+    ),
+    (
+        0x2c,
+        14,
+        MacsecPType::Encrypted,
+        [Some(66), Some(1), Some(2), Some(3), Some(47), Some(63)],
+    ),
+];
 
-// The refusal of a header with these bits E, C and SC and 64 bytes behind its fixed part, or the
-// lengths of header and payload.
-fn outcome(e: bool, c: bool, sc: bool, short_len: usize) -> Result<(usize, usize), HeaderError> {
-    let type_len = if e || c { 0 } else { 2 };
-    let sci_len = if sc { 8 } else { 0 };
-    if type_len == 2 && short_len == 1 {
-        return Err(HeaderError::InvalidUnmodifiedShortLen);
+// 80 bytes, each its own place but the first two.
+fn numbered(first: u8, short_len: u8) -> [u8; 80] {
+    let mut bytes = [0; 80];
+    for place in 2..80u8 {
+        bytes[usize::from(place)] = place;
     }
-    let protected: usize = if short_len == 0 {
-        64 - sci_len
-    } else {
-        short_len
-    };
-    Ok((6 + sci_len + type_len, protected.saturating_sub(type_len)))
+    bytes[0] = first;
+    bytes[1] = short_len;
+    bytes
 }
 
 #[test]
 fn every_flag_and_short_length(rt: HostRuntime) {
-    for short_len in [0u8, 1, 2, 3, 47, 63] {
-        for bits in 0..16u8 {
-            let (v, e, c, sc) = (bits & 8 != 0, bits & 4 != 0, bits & 2 != 0, bits & 1 != 0);
-            let mut bytes = [0x5a; 77];
-            bytes[0] = flag(v, 0x80) | flag(sc, 0x20) | flag(e, 8) | flag(c, 4);
-            bytes[1] = short_len;
-            // With an identifier a payload of 63 bytes needs more than 64 bytes.
-            let len = if short_len == 0 { 70 } else { 77 };
-            let answer = MacsecSlice::from_slice(&bytes[..len]);
-            if v {
-                assert_eq!(rt; answer.err(), Some(HeaderError::UnexpectedVersion.into()));
+    for (flags, header_len, ptype, payload_lens) in BY_FLAGS {
+        for (short_len, payload_len) in [0u8, 1, 2, 3, 47, 63].into_iter().zip(payload_lens) {
+            let bytes = numbered(flags, short_len);
+            let answer = MacsecSlice::from_slice(&bytes);
+            let Some(payload_len) = payload_len else {
+                let error = HeaderError::InvalidUnmodifiedShortLen.into();
+                assert_eq!(rt; answer.err(), Some(error));
                 continue;
-            }
-            match outcome(e, c, sc, usize::from(short_len)) {
-                Err(error) => assert_eq!(rt; answer.err(), Some(error.into())),
-                Ok((header_len, payload_len)) => {
-                    let Ok(macsec) = answer else {
-                        panic!(rt; "no header");
+            };
+            let Ok(macsec) = answer else {
+                panic!(rt; "no header");
+            };
+            assert_eq!(rt; macsec.header.ptype(), ptype);
+            let start = usize::from(header_len);
+            let Some(payload) = bytes.get(start..start + usize::from(payload_len)) else {
+                panic!(rt; "too few bytes");
+            };
+            let told = match ptype {
+                MacsecPType::Unmodified(ether_type) => {
+                    let len_source = if short_len == 0 {
+                        LenSource::Slice
+                    } else {
+                        LenSource::MacsecShortLength
                     };
-                    assert_eq!(rt; macsec.header_len(), header_len);
-                    assert_eq!(rt; payload_of(&macsec).len(), payload_len);
+                    MacsecPayloadSlice::Unmodified(EtherPayloadSlice {
+                        ether_type,
+                        len_source,
+                        payload,
+                    })
                 }
-            }
+                _ => MacsecPayloadSlice::Modified(payload),
+            };
+            assert_eq!(rt; macsec.payload, told);
         }
+    }
+}
+
+#[test]
+fn every_flag_and_short_length_of_version_1(rt: HostRuntime) {
+    for (flags, _, _, _) in BY_FLAGS {
+        for short_len in [0, 1, 2, 3, 47, 63] {
+            let bytes = numbered(0x80 | flags, short_len);
+            let error = Some(HeaderError::UnexpectedVersion.into());
+            assert_eq!(rt; MacsecSlice::from_slice(&bytes).err(), error);
+        }
+    }
+}
+
+// One byte fewer than header and payload.
+#[test]
+fn every_flag_and_short_length_of_too_few_bytes(rt: HostRuntime) {
+    for (flags, header_len, _, payload_lens) in BY_FLAGS {
+        let [_, _, two, three, forty_seven, greatest] = payload_lens;
+        for (short_len, payload_len) in [(2, two), (3, three), (47, forty_seven), (63, greatest)] {
+            let header_len = usize::from(header_len);
+            let whole_len = header_len + usize::from(payload_len.unwrap_or(0));
+            let (required_len, layer) = if whole_len == header_len {
+                (header_len, Layer::MacsecHeader)
+            } else {
+                (whole_len, Layer::MacsecPacket)
+            };
+            let bytes = numbered(flags, short_len);
+            let len = whole_len.saturating_sub(1);
+            let Some(front) = bytes.get(..len) else {
+                panic!(rt; "too few bytes");
+            };
+            let error = Some(want(required_len, len, layer));
+            assert_eq!(rt; MacsecSlice::from_slice(front).err(), error);
+        }
+    }
+}
+
+// The refusal of the first `len` bytes of a header of `header_len` bytes, which needs `whole_len` with
+// its payload.
+fn front_refused(len: usize, header_len: usize, whole_len: usize) -> HeaderSliceError {
+    if len < 6 {
+        want(6, len, Layer::MacsecHeader)
+    } else if len < header_len {
+        want(header_len, len, Layer::MacsecHeader)
+    } else {
+        want(whole_len, len, Layer::MacsecPacket)
     }
 }
 
 #[test]
 fn every_front_of_a_header_with_its_payload(rt: HostRuntime) {
-    let bytes = BYTES;
-    for len in 0..17 {
-        let error = if len < 6 {
-            want(6, len, Layer::MacsecHeader)
-        } else if len < 14 {
-            want(14, len, Layer::MacsecHeader)
-        } else {
-            want(17, len, Layer::MacsecPacket)
-        };
-        assert_eq!(rt; MacsecSlice::from_slice(&bytes[..len]).err(), Some(error));
-        if len < 14 {
-            assert_eq!(rt; MacsecHeader::from_slice(&bytes[..len]), Err(error));
-            assert_eq!(rt;
-                MacsecHeaderSlice::from_slice(&bytes[..len]).err(),
-                Some(error)
-            );
+    // Encrypted, with an identifier, and 3 bytes of payload; and unmodified, with 5 of them.
+    for (flags, short_len, header_len, whole_len) in [(0x28, 3, 14, 17), (0x20, 7, 16, 21)] {
+        let bytes = numbered(flags, short_len);
+        for len in 0..whole_len {
+            let error = front_refused(len, header_len, whole_len);
+            let front = &bytes[..len];
+            assert_eq!(rt; MacsecSlice::from_slice(front).err(), Some(error));
+            if len < header_len {
+                assert_eq!(rt; MacsecHeader::from_slice(front), Err(error));
+                assert_eq!(rt; MacsecHeaderSlice::from_slice(front).err(), Some(error));
+            }
         }
+        assert!(rt; MacsecSlice::from_slice(&bytes[..whole_len]).is_ok());
     }
-    assert!(rt; MacsecSlice::from_slice(&bytes[..17]).is_ok());
+}
+
+// Row `every_frame`: an unmodified IPv4 packet behind a MACsec header, the same bytes as a changed
+// payload, version 1, and a short length of 1.
+#[test]
+fn a_packet_behind_a_header(rt: HostRuntime) -> Result<(), Fail> {
+    let mut bytes = [0, 0, 0, 0, 0, 1, 8, 0, 0x45, 0, 0, 0x24];
+    let packet = EtherPayloadSlice {
+        ether_type: EtherType::IPV4,
+        len_source: LenSource::Slice,
+        payload: &[0x45, 0, 0, 0x24],
+    };
+    assert_eq!(rt;
+        MacsecSlice::from_slice(&bytes)?.ether_payload(),
+        Some(packet)
+    );
+    bytes[0] = 0x0c;
+    assert_eq!(rt; MacsecSlice::from_slice(&bytes)?.ether_payload(), None);
+    bytes[0] = 0x80;
+    let error = Some(HeaderError::UnexpectedVersion.into());
+    assert_eq!(rt; MacsecSlice::from_slice(&bytes).err(), error);
+    bytes[0] = 0;
+    bytes[1] = 1;
+    let error = Some(HeaderError::InvalidUnmodifiedShortLen.into());
+    assert_eq!(rt; MacsecSlice::from_slice(&bytes).err(), error);
+    Ok(())
+}
+
+// The short length leaves two bytes of a VLAN tag. The header stands behind 14 bytes of Ethernet II.
+#[test]
+fn a_tag_cut_by_a_short_length(rt: HostRuntime) -> Result<(), Fail> {
+    let bytes = [0, 4, 0, 0, 0, 1, 0x81, 0, 0, 5, 0xff];
+    let macsec = MacsecSlice::from_slice(&bytes)?;
+    let Some(tag) = macsec.ether_payload() else {
+        panic!(rt; "no payload");
+    };
+    assert_eq!(rt; tag.ether_type, EtherType::VLAN_TAGGED_FRAME);
+    let Err(error) = SingleVlanSlice::from_slice(tag.payload) else {
+        panic!(rt; "a whole tag");
+    };
+    assert_eq!(rt;
+        error.add_offset(14 + macsec.header_len()),
+        LenError {
+            required_len: 4,
+            len: 2,
+            len_source: LenSource::Slice,
+            layer: Layer::VlanHeader,
+            layer_start_offset: 22,
+        }
+    );
+    Ok(())
 }
 
 #[test]
@@ -283,6 +430,9 @@ fn laws(rt: HostRuntime) -> Result<(), Fail> {
     headers_are_their_bytes(&header()?);
     assert!(rt; header_is_read_again(&header()?, &bytes).is_ok());
     fields_by_hand();
+    payload_lengths_agree();
+    payload_lengths_by_hand();
+    short_lengths_by_hand();
     payloads_by_hand();
     Ok(())
 }

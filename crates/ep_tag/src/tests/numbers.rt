@@ -76,6 +76,9 @@ fn laws(rt: HostRuntime) {
     copies_are_values();
     copies_never_fail();
     equals_are_same();
+    macsec_payloads_are_equal_as_told();
     orders_are_of_numbers();
+    macsec_p_types_by_kind();
+    hashes_are_of_numbers();
     ether_payloads_by_all_fields();
 }

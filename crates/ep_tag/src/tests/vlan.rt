@@ -127,6 +127,22 @@ fn two_tags(rt: HostRuntime) -> Result<(), Fail> {
     Ok(())
 }
 
+// Four tags behind a frame's ether type 8100, and nothing behind the last: each names the next.
+#[test]
+fn four_tags(rt: HostRuntime) -> Result<(), Fail> {
+    let bytes = [0, 1, 0x81, 0, 0, 2, 0x81, 0, 0, 3, 0x81, 0, 0, 4, 8, 0];
+    let mut rest = bytes.as_slice();
+    for (id, next) in [(1, 0x8100), (2, 0x8100), (3, 0x8100), (4, 0x0800)] {
+        let tag = SingleVlanSlice::from_slice(rest)?;
+        assert_eq!(rt; tag.vlan_identifier(), VlanId::try_new(id)?);
+        let payload = tag.payload();
+        assert_eq!(rt; payload.ether_type, EtherType(next));
+        rest = payload.payload;
+    }
+    assert!(rt; rest.is_empty());
+    Ok(())
+}
+
 #[test]
 fn fields_of_two_tags(rt: HostRuntime) -> Result<(), Fail> {
     let bytes = [0, 5, 0x81, 0, 0xb1, 0x23, 0x86, 0xdd, 7, 8];
