@@ -10,11 +10,13 @@ fail() {
     exit 1
 }
 
-# build_plain NAME: the Rust program bench/NAME.rs, as $work/NAME.
+# build_plain NAME [FLAG...]: the Rust program bench/NAME.rs, or that of the folder bench/NAME, as $work/NAME.
 build_plain() {
+    local source=bench/$1.rs
+    [[ -d bench/$1 ]] && source=bench/$1/main.rs
     command -v rustc >/dev/null || fail "rustc is not on the path"
-    rustc --edition 2024 -O ${cpu:+-C target-cpu="$cpu"} -o "$work/$1" "bench/$1.rs" ||
-        fail "bench/$1.rs was not built"
+    rustc --edition 2024 -O ${cpu:+-C target-cpu="$cpu"} "${@:2}" -o "$work/$1" "$source" ||
+        fail "$source was not built"
 }
 
 # build_proved NAME [ARGUMENT...]: the program of crates/NAME, proved, as $work/NAME; it runs once, with the
@@ -30,7 +32,7 @@ build_proved() {
     cp "crates/$1/out/$1" "$work/$1"
 }
 
-# keep_best PROGRAM MICROSECONDS: the least of each program stands in `best`.
+# keep_best PROGRAM TIME: the least of each program stands in `best`.
 declare -A best
 keep_best() {
     if [[ -z ${best[$1]:-} ]] || (($2 < best[$1])); then

@@ -1,28 +1,55 @@
-//! Benchmarks of library calls, a module for each.
+//! Benchmarks of library calls, a module for each kind of packet.
 //!
-//! The arguments name the benchmarks that are run, one after another. Each prints a line with its
-//! name and the sum of all that it computed; where the first argument is `--timed`, also the
-//! microseconds that the work took.
+//! The arguments name the benchmarks that are run, one after another. Each does its job once with each
+//! of 1000 packets, and prints a line with its name and a sum of all that it computed. Where the first
+//! argument is `--timed`, it does so a thousand times, in blocks of twenty, and also prints the
+//! nanoseconds of the fastest block.
 #![tactic(auto)]
 
+mod checksums;
+mod datagrams;
+mod echoes;
 mod ipv4_headers;
-mod measured;
+mod ipv6_extensions;
+mod job;
+mod links;
+mod random;
+mod segments;
 
-use crate::measured::Measured;
+use crate::checksums::Checksums;
+use crate::datagrams::UdpDatagrams;
+use crate::echoes::{Icmpv4Echoes, Icmpv6Echoes};
+use crate::ipv4_headers::Ipv4Headers;
+use crate::ipv6_extensions::{ReadExtensions, SkippedExtensions};
+use crate::job::{Measured, Repeats};
+use crate::links::{ArpPackets, EthernetFrames, VlanTags};
+use crate::segments::TcpSegments;
 use std::process::ExitCode;
 use std::{env, io};
 
+/// It has no contract: what it prints is compared with what a plain program prints.
 fn main(rt: HostRuntime) -> io::Result<ExitCode> {
     let words: Vec<String> = env::args(&rt)?.skip(1).collect(rt.alloc())?;
     let is_timed = words.first().is_some_and(|word| word.as_str() == "--timed");
+    let repeats = if is_timed {
+        Repeats {
+            blocks: 50,
+            turns: 20,
+        }
+    } else {
+        Repeats {
+            blocks: 1,
+            turns: 1,
+        }
+    };
     for name in words.iter().skip(usize::from(is_timed)) {
-        let Some(measured) = measure(&rt, name.as_str())? else {
+        let Some(measured) = measure(&rt, name.as_str(), repeats)? else {
             eprintln!(rt; "calls_bench: no benchmark has the name {name}")?;
             return Ok(ExitCode::FAILURE);
         };
         let sum = measured.sum;
         if is_timed {
-            println!(rt; "{name} {sum} {}", measured.took.as_micros())?;
+            println!(rt; "{name} {sum} {}", measured.fastest.as_nanos())?;
         } else {
             println!(rt; "{name} {sum}")?;
         }
@@ -30,9 +57,28 @@ fn main(rt: HostRuntime) -> io::Result<ExitCode> {
     Ok(ExitCode::SUCCESS)
 }
 
-fn measure(rt: &HostRuntime, name: &str) -> io::Result<Option<Measured>> {
-    match name {
-        "ipv4_headers" => Ok(Some(ipv4_headers::measure(rt)?)),
-        _ => Ok(None),
-    }
+/// It has no contract, as `main`.
+fn measure(rt: &HostRuntime, name: &str, repeats: Repeats) -> io::Result<Option<Measured>> {
+    let measured = match name {
+        "ipv4_headers" => job::measure::<Ipv4Headers>(rt, repeats)?,
+        "skipped_extensions_0" => job::measure::<SkippedExtensions<0>>(rt, repeats)?,
+        "skipped_extensions_1" => job::measure::<SkippedExtensions<1>>(rt, repeats)?,
+        "skipped_extensions_4" => job::measure::<SkippedExtensions<4>>(rt, repeats)?,
+        "read_extensions_0" => job::measure::<ReadExtensions<0>>(rt, repeats)?,
+        "read_extensions_1" => job::measure::<ReadExtensions<1>>(rt, repeats)?,
+        "read_extensions_4" => job::measure::<ReadExtensions<4>>(rt, repeats)?,
+        "udp_datagrams" => job::measure::<UdpDatagrams>(rt, repeats)?,
+        "tcp_segments" => job::measure::<TcpSegments>(rt, repeats)?,
+        "checksums_20" => job::measure::<Checksums<20>>(rt, repeats)?,
+        "checksums_64" => job::measure::<Checksums<64>>(rt, repeats)?,
+        "checksums_576" => job::measure::<Checksums<576>>(rt, repeats)?,
+        "checksums_1500" => job::measure::<Checksums<1500>>(rt, repeats)?,
+        "ethernet_frames" => job::measure::<EthernetFrames>(rt, repeats)?,
+        "vlan_tags" => job::measure::<VlanTags>(rt, repeats)?,
+        "arp_packets" => job::measure::<ArpPackets>(rt, repeats)?,
+        "icmpv4_echoes" => job::measure::<Icmpv4Echoes>(rt, repeats)?,
+        "icmpv6_echoes" => job::measure::<Icmpv6Echoes>(rt, repeats)?,
+        _ => return Ok(None),
+    };
+    Ok(Some(measured))
 }

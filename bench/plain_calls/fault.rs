@@ -1,0 +1,26 @@
+//! Why bytes are refused.
+
+/// A refusal, with what a caller may want to know of it.
+#[allow(dead_code)]
+pub enum Fault {
+    /// So many bytes are needed, and so many are there, from this place on.
+    Short {
+        needed: usize,
+        found: usize,
+        at: usize,
+    },
+    Version(u8),
+    HeaderWords(u8),
+    Length(usize),
+    EmptyAuthentication,
+    HopByHopBehindOthers,
+}
+
+/// Whether so many bytes are there.
+pub fn need(needed: usize, bytes: &[u8], at: usize) -> Result<(), Fault> {
+    let found = bytes.len();
+    if found < needed {
+        return Err(Fault::Short { needed, found, at });
+    }
+    Ok(())
+}
