@@ -9,6 +9,7 @@
 mod checksums;
 mod datagrams;
 mod echoes;
+mod ip_packets;
 mod ipv4_headers;
 mod ipv6_extensions;
 mod job;
@@ -19,6 +20,7 @@ mod segments;
 use crate::checksums::Checksums;
 use crate::datagrams::UdpDatagrams;
 use crate::echoes::{Icmpv4Echoes, Icmpv6Echoes};
+use crate::ip_packets::{Ipv4Packets, Ipv6Packets, Ipv6PacketsTwoExtensions};
 use crate::ipv4_headers::Ipv4Headers;
 use crate::ipv6_extensions::{ReadExtensions, SkippedExtensions};
 use crate::job::{Measured, Repeats};
@@ -61,6 +63,9 @@ fn main(rt: HostRuntime) -> io::Result<ExitCode> {
 fn measure(rt: &HostRuntime, name: &str, repeats: Repeats) -> io::Result<Option<Measured>> {
     let measured = match name {
         "ipv4_headers" => job::measure::<Ipv4Headers>(rt, repeats)?,
+        "ipv4_packets" => job::measure::<Ipv4Packets>(rt, repeats)?,
+        "ipv6_packets" => job::measure::<Ipv6Packets>(rt, repeats)?,
+        "ipv6_packets_two_extensions" => job::measure::<Ipv6PacketsTwoExtensions>(rt, repeats)?,
         "skipped_extensions_0" => job::measure::<SkippedExtensions<0>>(rt, repeats)?,
         "skipped_extensions_1" => job::measure::<SkippedExtensions<1>>(rt, repeats)?,
         "skipped_extensions_4" => job::measure::<SkippedExtensions<4>>(rt, repeats)?,
