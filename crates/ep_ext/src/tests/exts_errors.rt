@@ -3,6 +3,7 @@
 use crate::err::{ip_auth, ip_exts, ipv4_exts, ipv6_exts};
 use ep_base::IpNumber;
 use ep_base::err::Layer;
+use std::io::ErrorKind;
 use std::test::*;
 
 #[test]
@@ -77,5 +78,15 @@ fn texts_of_a_want(rt: HostRuntime) -> Result<(), Fail> {
         format!(in rt.alloc(); "{v4}")?.as_str(),
         "no memory left for IPv4 extension headers"
     );
+    Ok(())
+}
+
+#[test]
+fn texts_of_failed_reads(rt: HostRuntime) -> Result<(), Fail> {
+    let text = "permission denied";
+    let read = ipv6_exts::HeaderReadError::Io(ErrorKind::PermissionDenied.into());
+    assert_eq!(rt; format!(in rt.alloc(); "{read}")?.as_str(), text);
+    let limited = ipv6_exts::HeaderLimitedReadError::Io(ErrorKind::PermissionDenied.into());
+    assert_eq!(rt; format!(in rt.alloc(); "{limited}")?.as_str(), text);
     Ok(())
 }

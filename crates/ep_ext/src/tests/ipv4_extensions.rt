@@ -36,14 +36,30 @@ fn an_authentication_header(rt: HostRuntime) -> Result<(), Fail> {
     assert_eq!(rt; headers.header_len(), 16);
     assert_eq!(rt; number, IpNumber(6));
     assert_eq!(rt; rest, [0xaa].as_slice());
+    Ok(())
+}
+
+#[test]
+fn an_authentication_header_is_appended(rt: HostRuntime) -> Result<(), Fail> {
+    let bytes = AUTH;
+    let (headers, _, _, _) = Ipv4Extensions::from_slice_lax(IpNumber(51), &bytes);
     assert_eq!(rt; headers.next_header(IpNumber(51)), Ok(IpNumber(6)));
-    let mut buffer = Vec::new(rt.alloc());
+    let mut buffer = vec![in rt.alloc(); 0x55]?;
     assert_eq!(rt; headers.write(&mut buffer, IpNumber(51)), Ok(()));
-    assert_eq!(rt; buffer.as_slice(), &bytes[..16]);
-    assert_eq!(rt;
-        laws::written_ipv4_chain_reads_back(&headers, IpNumber(51), &bytes).is_ok(),
-        true
-    );
+    assert_eq!(rt; buffer.len(), 17);
+    assert_eq!(rt; buffer[0], 0x55);
+    assert_eq!(rt; &buffer[1..], &bytes[..16]);
+    Ok(())
+}
+
+#[test]
+fn what_is_written_reads_back(rt: HostRuntime) -> Result<(), Fail> {
+    let bytes = AUTH;
+    let (headers, _, _, _) = Ipv4Extensions::from_slice_lax(IpNumber(51), &bytes);
+    match laws::written_ipv4_chain_reads_back(&headers, IpNumber(51), &bytes) {
+        Ok((again, _, _)) => assert_eq!(rt; again, headers),
+        Err(_) => panic!(rt; "refused"),
+    }
     assert_eq!(rt; headers.clone()?, headers);
     Ok(())
 }
@@ -82,6 +98,26 @@ fn every_front_of_an_authentication_header(rt: HostRuntime) -> Result<(), Fail> 
         }
     }
     Ok(())
+}
+
+#[test]
+fn a_length_field_of_zero_is_refused(rt: HostRuntime) {
+    let zero = HeaderSliceError::Content(HeaderError::ZeroPayloadLen);
+    match Ipv4Extensions::from_slice(IpNumber(51), &[0; 12]) {
+        Ok(_) => panic!(rt; "taken"),
+        Err(error) => assert_eq!(rt; error, zero),
+    }
+}
+
+#[test]
+fn a_want_of_bytes_keeps_the_slice(rt: HostRuntime) {
+    let bytes = AUTH;
+    let (headers, number, rest, fault) = Ipv4Extensions::from_slice_lax(IpNumber(51), &bytes[..15]);
+    assert!(rt; headers.is_empty());
+    assert_eq!(rt; number, IpNumber(51));
+    assert_eq!(rt; rest, &bytes[..15]);
+    let error = HeaderSliceError::Len(want(16, 15, Layer::IpAuthHeader, 0));
+    assert_eq!(rt; fault, Some(error));
 }
 
 #[test]

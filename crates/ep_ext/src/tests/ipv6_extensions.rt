@@ -155,6 +155,38 @@ fn a_second_fragment_header_ends_the_chain(rt: HostRuntime) -> Result<(), Fail> 
     Ok(())
 }
 
+// Whether the headers from this number on end behind so many bytes, at the same kind of header again.
+fn ends_again_at(first: u8, bytes: &[u8], again: u8, len: usize) -> bool {
+    match Ipv6Extensions::from_slice(IpNumber(first), bytes) {
+        Ok((headers, number, rest)) => {
+            number == IpNumber(again)
+                && headers.header_len() == len
+                && rest.len() == bytes.len() - len.min(bytes.len())
+        }
+        Err(_) => false,
+    }
+}
+
+#[test]
+fn a_second_header_of_a_kind_ends_the_chain(rt: HostRuntime) {
+    let mut bytes = [0; 24];
+    // Routing headers, each of 8 bytes.
+    bytes[0] = 43;
+    bytes[8] = 17;
+    assert!(rt; ends_again_at(43, &bytes, 43, 8));
+    // Destination options behind destination options.
+    bytes[0] = 60;
+    assert!(rt; ends_again_at(60, &bytes, 60, 8));
+    // The same behind a routing header, where one more has a place.
+    bytes[8] = 60;
+    bytes[16] = 17;
+    assert!(rt; ends_again_at(43, &bytes, 60, 16));
+    // Authentication headers, each of 12 bytes.
+    let mut bytes = [1; 24];
+    bytes[0] = 51;
+    assert!(rt; ends_again_at(51, &bytes, 51, 12));
+}
+
 #[test]
 fn hop_by_hop_options_behind_a_header_are_refused(rt: HostRuntime) -> Result<(), Fail> {
     let bytes = [0, 0, 0, 0, 0, 0, 0, 0, 17, 0, 0, 0, 0, 0, 0, 0];

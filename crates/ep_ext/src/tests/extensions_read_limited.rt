@@ -1,0 +1,210 @@
+//! Extension headers in a row, from readers with a limit.
+ghost use Rattle.std.specs.Prelude.{◌<◌};
+
+use super::ipv4_extensions::AUTH;
+use super::ipv6_extensions::CHAIN;
+use super::piece_reader::{PieceReader, failing_reader, reader_of};
+use crate::err::ip_auth;
+use crate::err::ipv6_exts::{HeaderError, HeaderLimitedReadError};
+use crate::io::LimitedReader;
+use crate::{Ipv4Extensions, Ipv6Extensions};
+use ep_base::err::{Layer, LenError};
+use ep_base::{IpNumber, LenSource};
+use std::io::ErrorKind;
+use std::test::*;
+
+// Why headers were not read.
+#[derive(Clone, Copy, Debug, PartialEq, Eq)]
+enum Refusal {
+    Io(ErrorKind),
+    Len(LenError),
+    Content(HeaderError),
+}
+
+// A chain from a reader with this limit: the headers, the number and how many bytes are left behind.
+fn read_within(
+    inner: PieceReader,
+    limit: usize,
+    first: u8,
+) -> Result<(Ipv6Extensions, IpNumber, usize), Refusal>
+    requires { limit < 1000 }
+{
+    let source = LenSource::Ipv6HeaderPayloadLen;
+    let mut reader = LimitedReader::new(inner, limit, source, 40, Layer::Ipv6Packet);
+    match Ipv6Extensions::read_limited(&mut reader, IpNumber(first)) {
+        Ok((headers, number)) => Ok((headers, number, reader.take_reader().rest.len())),
+        Err(HeaderLimitedReadError::Io(error)) => Err(Refusal::Io(error.kind())),
+        Err(HeaderLimitedReadError::Len(error)) => Err(Refusal::Len(error)),
+        Err(HeaderLimitedReadError::Content(fault)) => Err(Refusal::Content(fault)),
+    }
+}
+
+// Why it was not read, if it was not.
+fn why_refused(inner: PieceReader, limit: usize, first: u8) -> Option<Refusal>
+    requires { limit < 1000 }
+{
+    match read_within(inner, limit, first) {
+        Ok(_) => None,
+        Err(refusal) => Some(refusal),
+    }
+}
+
+fn beyond(required_len: usize, len: usize, layer: Layer, layer_start_offset: usize) -> Refusal {
+    Refusal::Len(LenError {
+        required_len,
+        len,
+        len_source: LenSource::Ipv6HeaderPayloadLen,
+        layer,
+        layer_start_offset,
+    })
+}
+
+#[test]
+fn a_limited_chain_is_that_of_the_slice(rt: HostRuntime) {
+    let bytes = CHAIN;
+    let (headers, _, _, _) = Ipv6Extensions::from_slice_lax(IpNumber(0), &bytes);
+    match read_within(reader_of(&bytes, 5), 72, 0) {
+        Ok((read, number, left)) => {
+            assert_eq!(rt; read, headers);
+            assert_eq!(rt; number, IpNumber(17));
+            assert_eq!(rt; left, 2);
+        }
+        Err(_) => panic!(rt; "refused"),
+    }
+}
+
+#[test]
+fn each_read_of_a_limited_chain_fails(rt: HostRuntime) {
+    let bytes = CHAIN;
+    let fault = Some(Refusal::Io(ErrorKind::ConnectionReset));
+    for call in 0..72usize {
+        let reader = failing_reader(&bytes, 1, call, ErrorKind::ConnectionReset);
+        assert_eq!(rt; why_refused(reader, 72, 0), fault);
+    }
+}
+
+#[test]
+fn a_limited_reader_ends_within_a_chain(rt: HostRuntime) {
+    let bytes = CHAIN;
+    let fault = Some(Refusal::Io(ErrorKind::UnexpectedEof));
+    for len in 0..72usize {
+        assert_eq!(rt; why_refused(reader_of(&bytes[..len], 100), 72, 0), fault);
+    }
+}
+
+#[test]
+fn a_chain_at_its_limit(rt: HostRuntime) {
+    let bytes = CHAIN;
+    assert_eq!(rt; why_refused(reader_of(&bytes, 100), 72, 0), None);
+    assert_eq!(rt; why_refused(reader_of(&bytes, 100), 73, 0), None);
+    // The limit, the length that is asked for and the one that is there, the layer and its place:
+    // hop-by-hop options stand at 40, the routing header of 16 bytes at 56, the fragment header at 72,
+    // the authentication header of 24 bytes at 80, the last header at 104.
+    for (limit, required_len, len, layer, place) in [
+        (0usize, 8usize, 0usize, Layer::Ipv6ExtHeader, 40usize),
+        (31, 16, 15, Layer::Ipv6ExtHeader, 56),
+        (39, 8, 7, Layer::Ipv6FragHeader, 72),
+        (51, 12, 11, Layer::IpAuthHeader, 80),
+        (63, 24, 23, Layer::IpAuthHeader, 80),
+        (71, 8, 7, Layer::Ipv6ExtHeader, 104),
+    ] {
+        let want = beyond(required_len, len, layer, place);
+        assert_eq!(rt; why_refused(reader_of(&bytes, 100), limit, 0), Some(want));
+    }
+}
+
+#[test]
+fn faults_of_a_limited_chain(rt: HostRuntime) {
+    let misplaced = Refusal::Content(HeaderError::HopByHopNotAtStart);
+    assert_eq!(rt;
+        why_refused(reader_of(&[0; 16], 100), 16, 60),
+        Some(misplaced)
+    );
+    let zero = HeaderError::IpAuth(ip_auth::HeaderError::ZeroPayloadLen);
+    assert_eq!(rt;
+        why_refused(reader_of(&[0; 16], 100), 16, 51),
+        Some(Refusal::Content(zero))
+    );
+}
+
+// The header of IPv4 from a reader with this limit, as above.
+fn read_ipv4_within(
+    inner: PieceReader,
+    limit: usize,
+    first: u8,
+) -> Result<(Ipv4Extensions, IpNumber, usize), Refusal>
+    requires { limit < 1000 }
+{
+    let source = LenSource::Ipv6HeaderPayloadLen;
+    let mut reader = LimitedReader::new(inner, limit, source, 40, Layer::Ipv4Packet);
+    match Ipv4Extensions::read_limited(&mut reader, IpNumber(first)) {
+        Ok((headers, number)) => Ok((headers, number, reader.take_reader().rest.len())),
+        Err(ip_auth::HeaderLimitedReadError::Io(error)) => Err(Refusal::Io(error.kind())),
+        Err(ip_auth::HeaderLimitedReadError::Len(error)) => Err(Refusal::Len(error)),
+        Err(ip_auth::HeaderLimitedReadError::Content(fault)) => {
+            Err(Refusal::Content(HeaderError::IpAuth(fault)))
+        }
+    }
+}
+
+fn why_ipv4_refused(inner: PieceReader, limit: usize) -> Option<Refusal>
+    requires { limit < 1000 }
+{
+    match read_ipv4_within(inner, limit, 51) {
+        Ok(_) => None,
+        Err(refusal) => Some(refusal),
+    }
+}
+
+#[test]
+fn the_limited_header_of_ipv4_is_that_of_the_slice(rt: HostRuntime) {
+    let bytes = AUTH;
+    let (headers, _, _, _) = Ipv4Extensions::from_slice_lax(IpNumber(51), &bytes);
+    match read_ipv4_within(reader_of(&bytes, 5), 16, 51) {
+        Ok((read, number, left)) => {
+            assert_eq!(rt; read, headers);
+            assert_eq!(rt; number, IpNumber(6));
+            assert_eq!(rt; left, 1);
+        }
+        Err(_) => panic!(rt; "refused"),
+    }
+}
+
+#[test]
+fn each_read_of_the_limited_header_of_ipv4_fails(rt: HostRuntime) {
+    let bytes = AUTH;
+    let fault = Some(Refusal::Io(ErrorKind::ConnectionReset));
+    let end = Some(Refusal::Io(ErrorKind::UnexpectedEof));
+    for count in 0..16usize {
+        let reader = failing_reader(&bytes, 1, count, ErrorKind::ConnectionReset);
+        assert_eq!(rt; why_ipv4_refused(reader, 16), fault);
+        assert_eq!(rt; why_ipv4_refused(reader_of(&bytes[..count], 100), 16), end);
+    }
+}
+
+#[test]
+fn the_header_of_ipv4_at_its_limit(rt: HostRuntime) {
+    let bytes = AUTH;
+    assert_eq!(rt; why_ipv4_refused(reader_of(&bytes, 9), 16), None);
+    assert_eq!(rt; why_ipv4_refused(reader_of(&bytes, 9), 17), None);
+    let want = beyond(16, 15, Layer::IpAuthHeader, 40);
+    assert_eq!(rt; why_ipv4_refused(reader_of(&bytes, 9), 15), Some(want));
+    let zero = HeaderError::IpAuth(ip_auth::HeaderError::ZeroPayloadLen);
+    assert_eq!(rt;
+        why_ipv4_refused(reader_of(&[0; 16], 9), 16),
+        Some(Refusal::Content(zero))
+    );
+}
+
+#[test]
+fn another_number_than_51_leaves_a_limited_reader(rt: HostRuntime) {
+    let bytes = AUTH;
+    match read_ipv4_within(reader_of(&bytes, 9), 16, 6) {
+        Ok((headers, number, left)) => {
+            assert!(rt; headers.is_empty());
+            assert_eq!(rt; number, IpNumber(6));
+            assert_eq!(rt; left, 17);
+        }
+        Err(_) => panic!(rt; "refused"),
+    }
+}

@@ -1,0 +1,26 @@
+//! Places of extension headers.
+
+use crate::Ipv6ExtPlace;
+use ep_base::IpNumber;
+use ep_base::err::Layer;
+use std::test::*;
+
+#[test]
+fn numbers_and_layers_of_places(rt: HostRuntime) {
+    // RFC 8200, section 4.1, and the numbers that IANA gives these headers.
+    for (place, number, layer) in [
+        (Ipv6ExtPlace::HopByHop, 0u8, Layer::Ipv6HopByHopHeader),
+        (Ipv6ExtPlace::Destination, 60, Layer::Ipv6DestOptionsHeader),
+        (Ipv6ExtPlace::Routing, 43, Layer::Ipv6RouteHeader),
+        (Ipv6ExtPlace::Fragment, 44, Layer::Ipv6FragHeader),
+        (Ipv6ExtPlace::Authentication, 51, Layer::IpAuthHeader),
+        (
+            Ipv6ExtPlace::FinalDestination,
+            60,
+            Layer::Ipv6DestOptionsHeader,
+        ),
+    ] {
+        assert_eq!(rt; place.number(), IpNumber(number));
+        assert_eq!(rt; place.layer(), layer);
+    }
+}
