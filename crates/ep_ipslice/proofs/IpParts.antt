@@ -27,7 +27,7 @@ v6_version : (bytes : List ℕ) (packet : Ipv6Packet) → IsIpv6Packet bytes pac
 v6_version bytes packet is =
     ap (λ (n : ℕ). n / 16) (first_byte bytes packet.header _ (packet_parts bytes packet is) (omega (arith, is.header.whole))) ∙ is.header.version
 
-four_six : (n : ℕ) → n ≡ 4 → n ≡ 6 → ⊥
+pub four_six : (n : ℕ) → n ≡ 4 → n ≡ 6 → ⊥
 four_six n four six = omega (arith, four, six)
 
 pub ipv4_ok : (x y : Ipv4Packet) → ◌≡◌ {A = Result Ipv4Packet Ipv4Fault} (Ok x) (Ok y) → x ≡ y

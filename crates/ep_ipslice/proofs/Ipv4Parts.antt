@@ -1,15 +1,17 @@
 -- The parts of an IPv4 packet.
-use Rattle.std.proofs.Common.{◌≡◌, ℕ, ◌+◌, ◌≤◌, List, ◌++◌, length, take, drop, Option, Some, None, Result, Ok, Err, refl, sym, ap, ◌∙◌, append_assoc, length-append, arith}
+use Rattle.std.proofs.Common.{◌≡◌, ℕ, ◌+◌, ◌≤◌, Bool, List, ◌++◌, length, take, drop, Option, Some, None, Result, Ok, Err, refl, sym, ap, ◌∙◌, [], append_assoc, length-append, arith}
 use Rattle.std.proofs.lemmas.Bool.{le-ltb, eq-eqb, ne_eqb}
-use Rattle.std.proofs.lemmas.List.{drop_at}
+use Rattle.std.proofs.lemmas.List.{append-nil, drop_at}
+use Rattle.ep_base.specs.declared.len_source.LenSource.TheVariants.{Ipv4HeaderTotalLen}
+use Rattle.ep_base.specs.declared.net.ip_number.IpNumber.{IpNumber}
 use Rattle.ep_ip.specs.Ipv4.{IsIpv4Header, protocol_of, total_len_of}
 use Rattle.ep_ext.specs.Auth.{IsAuth, auth_at}
 use Rattle.ep_ext.specs.Chain.{front_of, of_auth}
-use Rattle.ep_ext.specs.Ipv4Exts.{IsAuthBehind, auth_behind, auth_bytes, some_auth}
+use Rattle.ep_ext.specs.Ipv4Exts.{IsAuthBehind, auth_behind, auth_bytes, number_behind, some_auth}
 use Rattle.ep_ext.specs.declared.err.ip_auth.header_slice_error.HeaderSliceError.{HeaderSliceError as AuthFault}
 use Rattle.ep_ext.specs.declared.err.ip_auth.header_slice_error.HeaderSliceError.TheVariants as auth_fault
 use Rattle.ep_ext.specs.declared.net.ipv6_ext_place.Ipv6ExtPlace.TheVariants.{Authentication}
-use Rattle.ep_ipslice.specs.Packet.{Ipv4Packet, IsIpv4Packet}
+use Rattle.ep_ipslice.specs.Packet.{IpPayload, Ipv4Packet, IsIpv4Packet, IsWholeIpv4, ipv4_bytes, ipv4_payload, is_ipv4_fragment}
 use Rattle.ep_ipslice.specs.Ipv4Packet.{body_of, packet_with}
 use Rattle.ep_ipslice.proofs.Cuts.{header_body_rest, header_body_len, body_again}
 
@@ -61,3 +63,21 @@ packet_again found bytes packet is =
     rw (le-ltb (total_len_of packet.header) (length packet.header) (omega (arith, size)), le-ltb (length bytes) (total_len_of packet.header) (omega (arith, size, all_len)))
     (rw (body_is, auth_found found (protocol_of packet.header) packet.auth packet.payload is.auth)
     (ap (λ (payload : List ℕ). Ok (record { header = packet.header; auth = packet.auth; payload = payload })) (drop_at exts packet.payload (length exts) refl)))
+
+-- what stands behind a packet is no part of it
+pub packet_by_itself : (bytes : List ℕ) (packet : Ipv4Packet) → IsIpv4Packet bytes packet → IsWholeIpv4 packet
+packet_by_itself bytes packet is = record {
+  padding = [];
+  cut = sym (append-nil (ipv4_bytes packet));
+  header = is.header;
+  auth = is.auth;
+  total = is.total;
+}
+
+-- what is read of a payload is what its packet tells
+pub payload_told : (header : List ℕ) (auth : Option (List ℕ)) (number : IpNumber) (fragmented : Bool) (payload : List ℕ) (protocol : ℕ) → protocol ≡ protocol_of header
+    → number.0 ≡ number_behind protocol auth → fragmented ≡ is_ipv4_fragment header
+    → ◌≡◌ {A = IpPayload} (record { ip_number = number; fragmented = fragmented; len_source = Ipv4HeaderTotalLen; payload = payload }) (ipv4_payload (record { header = header; auth = auth; payload = payload }))
+payload_told header auth number fragmented payload protocol named behind part =
+    let number_is : number.0 ≡ number_behind (protocol_of header) auth = behind ∙ ap (λ (n : ℕ). number_behind n auth) named in
+    λ i. record { ip_number = record { 0 = number_is i }; fragmented = part i; len_source = Ipv4HeaderTotalLen; payload = payload }

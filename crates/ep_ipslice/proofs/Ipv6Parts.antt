@@ -1,10 +1,11 @@
 -- The parts of an IPv6 packet.
-use Rattle.std.proofs.Common.{◌≡◌, ℕ, ◌+◌, ◌-◌, ◌≤◌, ◌==◌, ◌||◌, Bool, true, false, cond, List, [], ◌∷◌, ◌++◌, length, take, drop, Option, Some, None, Result, Ok, Err, Bor, IfErr, IsOkAnd, ◌⊎◌, ⊎_elim, refl, sym, ap, ◌∙◌, subst, append_assoc, length-append, take-append-drop, arith}
-use Rattle.std.proofs.lemmas.List.{drop_at, length-drop, length-take-le, take_at}
+use Rattle.std.proofs.Common.{◌≡◌, ℕ, ◌+◌, ◌-◌, ◌≤◌, ◌==◌, ◌||◌, ◌&&◌, nat_lt, Bool, true, false, cond, List, [], ◌∷◌, ◌++◌, length, take, drop, Option, Some, None, Result, Ok, Err, Bor, IfErr, IsOkAnd, ◌⊎◌, ⊎_elim, refl, sym, ap, ◌∙◌, subst, append_assoc, length-append, take-append-drop, arith}
+use Rattle.std.proofs.lemmas.List.{append-nil, drop_at, length-drop, length-take-le, take_at}
 use Rattle.ep_base.specs.declared.err.layer.Layer.{Layer}
 use Rattle.ep_base.specs.declared.len_source.LenSource.{LenSource}
+use Rattle.ep_base.specs.declared.len_source.LenSource.TheVariants.{Slice, Ipv6HeaderPayloadLen}
 use Rattle.ep_base.specs.declared.net.ip_number.IpNumber.{IpNumber}
-use Rattle.ep_ip.specs.Ipv6.{IsIpv6Header, next_header_of}
+use Rattle.ep_ip.specs.Ipv6.{IsIpv6Header, next_header_of, payload_length_of}
 use Rattle.ep_ip.specs.Ipv6Fault.{header_at}
 use Rattle.ep_ip.specs.declared.err.ipv6.header_slice_error.HeaderSliceError.{HeaderSliceError as HeaderFault}
 use Rattle.ep_ipslice.specs.Ipv6Fault.{IsCutOff, IsIpv6Fault, IsRowFault, OfLength, OfExtensions}
@@ -21,7 +22,7 @@ use Rattle.ep_ext.specs.declared.err.ipv6_exts.header_slice_error.HeaderSliceErr
 use Rattle.ep_ext.specs.declared.net.ipv6_ext_place.Ipv6ExtPlace.{Ipv6ExtPlace}
 use Rattle.ep_ext.specs.declared.net.ipv6_ext_place.Ipv6ExtPlace.TheVariants.{HopByHop, Destination, Routing, Fragment, Authentication}
 use Rattle.ep_ipslice.specs.Ipv6Exts.{Ipv6Exts, exts_of, is_any_fragmenting, view_order}
-use Rattle.ep_ipslice.specs.Packet.{IpPayload, Ipv6Packet, IsIpv6Packet, body_len, body_source}
+use Rattle.ep_ipslice.specs.Packet.{IpPayload, Ipv6Packet, IsIpv6Packet, IsWholeIpv6, body_len, body_source, ipv6_bytes}
 use Rattle.ep_ipslice.specs.declared.err.ipv6.slice_error.SliceError.{SliceError}
 use Rattle.ep_ipslice.proofs.Fronts.{front_begins}
 use Rattle.ep_ipslice.proofs.ViewWalk.{EndsClosed}
@@ -203,3 +204,46 @@ pub skipped_answer : (packet : Ipv6Packet) (last : ℕ) (r : Result (IpNumber ×
     IsOkAnd r (λ a. (a.0.0 ≡ last) × (a.1.now ≡ packet.payload.payload)) → IsOkAnd r (λ a. (a.0 ≡ packet.payload.ip_number) × (a.1.now ≡ packet.payload.payload))
 skipped_answer packet last (Ok answer) number is = ((λ i. record { 0 = (is.0 ∙ sym number) i }), is.1)
 skipped_answer packet last (Err e) number is = is
+
+cond_same : (b : Bool) (n : ℕ) → cond b n n ≡ n
+cond_same true n = refl
+cond_same false n = refl
+
+-- a length that was read stays, where no more bytes are there
+len_again : (none some : Bool) (behind len : ℕ) → nat_lt 0 behind ≡ some →
+    cond (none && nat_lt 0 (cond (none && some) behind len)) (cond (none && some) behind len) len ≡ cond (none && some) behind len
+len_again false some behind len is = refl
+len_again true true behind len is = ap (λ (b : Bool). cond b behind len) is
+len_again true false behind len is = cond_same (nat_lt 0 len) len
+
+source_again : (none some : Bool) (behind len : ℕ) → nat_lt 0 behind ≡ some → (none ≡ true → len ≡ 0) →
+    cond (none && nat_lt 0 (cond (none && some) behind len)) Slice Ipv6HeaderPayloadLen ≡ cond (none && some) Slice Ipv6HeaderPayloadLen
+source_again false some behind len is empty = refl
+source_again true true behind len is empty = ap (λ (b : Bool). cond b Slice Ipv6HeaderPayloadLen) is
+source_again true false behind len is empty = ap (λ (n : ℕ). cond (nat_lt 0 n) Slice Ipv6HeaderPayloadLen) (empty refl)
+
+-- what stands behind a packet is no part of it
+pub packet_by_itself : (bytes : List ℕ) (packet : Ipv6Packet) → IsIpv6Packet bytes packet → IsWholeIpv6 packet
+packet_by_itself bytes packet is =
+    let behind : ℕ = length bytes - 40 in
+    let len : ℕ = payload_length_of packet.header in
+    let exts : packet.exts.slice ≡ bytes_of is.pieces = ap (λ (e : Ipv6Exts). e.slice) is.exts in
+    let parts : length (ipv6_bytes packet) ≡ length packet.header + length packet.exts.slice + length packet.payload.payload =
+    length-append (packet.header ++ packet.exts.slice) packet.payload.payload ∙ ap (λ (n : ℕ). n + length packet.payload.payload) (length-append packet.header packet.exts.slice) in
+    let size : length (ipv6_bytes packet) - 40 ≡ body_len packet.header behind = omega (arith, parts, ap length exts, is.header.whole, is.size) in
+    let same_len : body_len packet.header (body_len packet.header behind) ≡ body_len packet.header behind = len_again (len == 0) (nat_lt 0 behind) behind len refl in
+    let same_source : body_source packet.header (body_len packet.header behind) ≡ body_source packet.header behind =
+    source_again (len == 0) (nat_lt 0 behind) behind len refl (eqb-true len 0) in
+    let source : body_source packet.header behind ≡ body_source packet.header (length (ipv6_bytes packet) - 40) = sym (ap (body_source packet.header) size ∙ same_source) in
+    record {
+      pieces = is.pieces;
+      last = is.last;
+      padding = [];
+      cut = ap (λ (xs : List ℕ). packet.header ++ xs ++ packet.payload.payload) exts ∙ sym (append-nil (packet.header ++ bytes_of is.pieces ++ packet.payload.payload));
+      header = is.header;
+      row = is.row;
+      ended = is.ended;
+      size = is.size ∙ sym (ap (body_len packet.header) size ∙ same_len);
+      exts = is.exts;
+      fields = is.fields ∙ (λ i. record { ip_number = record { 0 = is.last }; fragmented = is_any_fragmenting is.pieces; len_source = source i; payload = packet.payload.payload });
+    }

@@ -26,11 +26,11 @@ source_again UdpHeaderLen = refl
 source_again TcpHeaderLen = refl
 source_again ArpAddrLengths = refl
 
-bool_at : ℕ → Bool
+pub bool_at : ℕ → Bool
 bool_at zero = false
 bool_at (suc n) = true
 
-bool_again : (b : Bool) → bool_at (bool_place b) ≡ b
+pub bool_again : (b : Bool) → bool_at (bool_place b) ≡ b
 unfolding bool_at
 bool_again true = refl
 bool_again false = refl

@@ -1,5 +1,5 @@
 -- An IP packet of either version (RFC 791, section 3.1; RFC 8200, section 3).
-use Rattle.std.specs.Prelude.{◌≡◌, ◌≢◌, ℕ, Bool, List, length, Option, Some, None, Err}
+use Rattle.std.specs.Prelude.{◌≡◌, ◌≢◌, ◌<◌, ℕ, Bool, List, length, Option, Some, None, Err}
 use Rattle.std.specs.Net.Addr.{ipv4_octets, ipv6_segments, segments_of}
 use Rattle.std.specs.declared.net.ip_addr.IpAddr.{IpAddr}
 use Rattle.std.specs.declared.net.ip_addr.IpAddr.TheVariants.{V4, V6}
@@ -12,7 +12,7 @@ use Rattle.ep_ip.specs.declared.err.ipv4.header_error.HeaderError.TheVariants as
 use Rattle.ep_ip.specs.declared.err.ipv6.header_error.HeaderError.TheVariants as v6_header
 use Rattle.ep_ipslice.specs.Ipv4Packet.{ipv4_packet_at}
 use Rattle.ep_ipslice.specs.Ipv6Fault.{IsIpv6Fault}
-use Rattle.ep_ipslice.specs.Packet.{IpPayload, Ipv4Packet, Ipv6Packet, IsIpv4Packet, IsIpv6Packet, ipv4_payload}
+use Rattle.ep_ipslice.specs.Packet.{IpPayload, Ipv4Packet, Ipv6Packet, IsIpv4Packet, IsIpv6Packet, IsWholeIpv4, IsWholeIpv6, ipv4_payload}
 use Rattle.ep_ipslice.specs.declared.err.ip.header_error.HeaderError.TheVariants.{UnsupportedIpVersion, Ipv4HeaderLengthSmallerThanHeader}
 use Rattle.ep_ipslice.specs.declared.err.ip.headers_error.HeadersError.TheVariants as headers
 use Rattle.ep_ipslice.specs.declared.err.ip.slice_error.SliceError.{SliceError}
@@ -28,6 +28,11 @@ use Rattle.ep_ipslice.specs.declared.net.ip_slice.IpSlice.TheVariants.{Ipv4, Ipv
 abbrev pub IsIpPacket : List ℕ → IpSlice → Type 0
 IsIpPacket bytes (Ipv4 packet) = IsIpv4Packet bytes packet
 IsIpPacket bytes (Ipv6 packet) = IsIpv6Packet bytes packet
+
+-- a packet by itself
+abbrev pub IsWhole : IpSlice → Type 0
+IsWhole (Ipv4 packet) = IsWholeIpv4 packet
+IsWhole (Ipv6 packet) = IsWholeIpv6 packet
 
 abbrev pub ipv4_of : IpSlice → Option Ipv4Packet
 ipv4_of (Ipv4 packet) = Some packet
@@ -77,6 +82,6 @@ ipv6_fault (v6_fault.Exts e) = IpHeaders (headers.Ipv6Ext e)
 -- that version's packet
 pub data IsIpFault (bytes : List ℕ) (e : SliceError) : Type 0 where
   NoBytes : length bytes ≡ 0 → e ≡ Len no_version → IsIpFault bytes e
-  OtherVersion : v4.version_of bytes ≢ 4 → v4.version_of bytes ≢ 6 → e ≡ IpHeaders (headers.Ip (UnsupportedIpVersion (v4.version_of bytes))) → IsIpFault bytes e
+  OtherVersion : 0 < length bytes → v4.version_of bytes ≢ 4 → v4.version_of bytes ≢ 6 → e ≡ IpHeaders (headers.Ip (UnsupportedIpVersion (v4.version_of bytes))) → IsIpFault bytes e
   OfIpv4 : (fault : Ipv4Fault) → v4.version_of bytes ≡ 4 → ipv4_packet_at bytes ≡ Err fault → e ≡ ipv4_fault fault → IsIpFault bytes e
   OfIpv6 : (fault : Ipv6Fault) → v4.version_of bytes ≡ 6 → IsIpv6Fault bytes fault → e ≡ ipv6_fault fault → IsIpFault bytes e

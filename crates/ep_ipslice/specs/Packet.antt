@@ -1,6 +1,7 @@
 -- IP packets: base header, extension headers, payload and padding (IPv4: RFC 791, section 3.1, and
 -- RFC 4302, section 3.1.1; IPv6: RFC 8200, sections 3 and 4), and what a packet tells.
 use Rattle.std.specs.Prelude.{◌≡◌, ℕ, ◌+◌, ◌-◌, ◌==◌, ◌&&◌, nat_lt, Bool, false, if◌then◌else◌, List, [], ◌++◌, length, Option}
+use Rattle.std.specs.Option.{option_map}
 use Rattle.ep_base.specs.declared.len_source.LenSource.{LenSource}
 use Rattle.ep_base.specs.declared.len_source.LenSource.TheVariants.{Slice, Ipv4HeaderTotalLen, Ipv6HeaderPayloadLen}
 use Rattle.ep_base.specs.declared.net.ip_number.IpNumber.{IpNumber}
@@ -8,8 +9,10 @@ use Rattle.ep_ip.specs.Ipv4 as v4
 use Rattle.ep_ip.specs.Ipv6 as v6
 use Rattle.ep_ext.specs.Chain.{Row}
 use Rattle.ep_ext.specs.Follow.{has_place}
-use Rattle.ep_ext.specs.Value.{Piece, bytes_of}
+use Rattle.ep_ext.specs.Fragment.{fragment_of}
+use Rattle.ep_ext.specs.Value.{Piece, bytes_of, piece_at}
 use Rattle.ep_ext.specs.Ipv4Exts.{IsAuthBehind, auth_bytes, number_behind}
+use Rattle.ep_ext.specs.declared.net.ipv6_ext_place.Ipv6ExtPlace.TheVariants.{Fragment}
 use Rattle.ep_ipslice.specs.Ipv6Exts.{Ipv6Exts, exts_of, is_any_fragmenting, view_order}
 
 -- the payload of a packet: its protocol number, whether it is a part of a message, what its length
@@ -19,6 +22,37 @@ pub record IpPayload : Type 0 where
   pub fragmented : Bool
   pub len_source : LenSource
   pub payload : List ℕ
+
+-- what a packet tells of the message that its payload is a part of: the identification that all parts
+-- share, the place of the payload in units of 8 bytes, and whether other parts follow
+pub record FragmentFields : Type 0 where
+  pub identification : ℕ
+  pub offset : ℕ
+  pub more : Bool
+
+-- of these three
+abbrev pub fragment_fields : ℕ × ℕ × Bool → FragmentFields
+fragment_fields told = record { identification = told.0; offset = told.1; more = told.2 }
+
+-- by the IPv4 header (RFC 791, section 3.1)
+abbrev pub ipv4_fragment_fields : List ℕ → FragmentFields
+ipv4_fragment_fields header = record {
+  identification = v4.identification_of header;
+  offset = v4.fragment_offset_of header;
+  more = v4.more_fragments_of header;
+}
+
+-- by a fragment header (RFC 8200, section 4.5)
+abbrev pub header_fragment_fields : List ℕ → FragmentFields
+header_fragment_fields header = record {
+  identification = (fragment_of header).identification;
+  offset = (fragment_of header).fragment_offset;
+  more = (fragment_of header).more_fragments;
+}
+
+-- by the first fragment header among these extension headers, if there is one
+abbrev pub ipv6_fragment_fields : List Piece → Option FragmentFields
+ipv6_fragment_fields pieces = option_map header_fragment_fields (piece_at pieces Fragment)
 
 -- the parts of an IPv4 packet
 pub record Ipv4Packet : Type 0 where
@@ -34,6 +68,14 @@ pub record IsIpv4Packet (bytes : List ℕ) (packet : Ipv4Packet) : Type 0 where
   pub header : v4.IsIpv4Header packet.header
   pub auth : IsAuthBehind (v4.protocol_of packet.header) packet.auth
   pub total : length packet.header + length (auth_bytes packet.auth) + length packet.payload ≡ v4.total_len_of packet.header
+
+-- the bytes of a packet, without padding
+abbrev pub ipv4_bytes : Ipv4Packet → List ℕ
+ipv4_bytes packet = packet.header ++ auth_bytes packet.auth ++ packet.payload
+
+-- a packet by itself: its own bytes begin with it
+abbrev pub IsWholeIpv4 : Ipv4Packet → Type 0
+IsWholeIpv4 packet = IsIpv4Packet (ipv4_bytes packet) packet
 
 -- the payload is a part of a message
 abbrev pub is_ipv4_fragment : List ℕ → Bool
@@ -52,6 +94,9 @@ pub record Ipv6Packet : Type 0 where
   pub header : List ℕ
   pub exts : Ipv6Exts
   pub payload : IpPayload
+
+abbrev pub ipv6_bytes : Ipv6Packet → List ℕ
+ipv6_bytes packet = packet.header ++ packet.exts.slice ++ packet.payload.payload
 
 -- the packet's own length is not given: the payload length is 0 (RFC 2675, section 3), and more than
 -- the header is there
@@ -84,3 +129,7 @@ pub record IsIpv6Packet (bytes : List ℕ) (packet : Ipv6Packet) : Type 0 where
     len_source = body_source packet.header (length bytes - 40);
     payload = packet.payload.payload;
   }
+
+-- a packet by itself: its own bytes begin with it
+abbrev pub IsWholeIpv6 : Ipv6Packet → Type 0
+IsWholeIpv6 packet = IsIpv6Packet (ipv6_bytes packet) packet

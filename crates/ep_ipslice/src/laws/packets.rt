@@ -1,17 +1,20 @@
 //! Laws of the definitions of IP packets.
-ghost use Rattle.std.specs.Prelude.{◌≡◌, ℕ, List, [], ◌∷◌, ◌++◌, Ok, None, Some, IsOkAnd, false, replicate};
+ghost use Rattle.std.specs.Prelude.{◌≡◌, ℕ, List, [], ◌∷◌, ◌++◌, None, Some, IsOkAnd, false, replicate};
+ghost use Rattle.std.specs.Option.{option_map};
 ghost use Rattle.ep_ip.specs.Ipv6.{next_header_of};
 ghost use Rattle.ep_ip.specs.Skip.{is_skipped};
 ghost use Rattle.ep_ext.specs.Place.{KeepsNumbers};
 ghost use Rattle.ep_ext.specs.declared.net.ipv6_ext_place.Ipv6ExtPlace.TheVariants as place;
-ghost use Rattle.ep_ipslice.specs.Examples.{example_ipv4, example_ipv4_packet};
-ghost use Rattle.ep_ipslice.specs.Ipv4Packet.{ipv4_packet_at};
+ghost use Rattle.ep_ipslice.specs.IpSlice.{IsIpFault, IsWhole};
+ghost use Rattle.ep_ipslice.specs.Ipv6Fault.{IsIpv6Fault};
+ghost use Rattle.ep_ipslice.specs.declared.err.ip.slice_error.SliceError.{SliceError as IpFault};
+ghost use Rattle.ep_ipslice.specs.declared.err.ipv6.slice_error.SliceError.{SliceError as Ipv6Fault};
 ghost use Rattle.ep_ipslice.specs.Ipv6Exts.{view_order};
-ghost use Rattle.ep_ipslice.specs.Packet.{Ipv4Packet, Ipv6Packet, IsIpv4Packet, IsIpv6Packet, body_len};
+ghost use Rattle.ep_ipslice.specs.Packet.{Ipv4Packet, Ipv6Packet, IsIpv4Packet, IsIpv6Packet, body_len, fragment_fields, ipv4_fragment_fields, ipv6_fragment_fields};
 
-use crate::{Ipv4Slice, Ipv6Slice};
-use ep_base::IpNumber;
+use crate::{IpSlice, Ipv4Slice, Ipv6Slice};
 use ep_base::err::LenError;
+use ep_base::{IpFragOffset, IpNumber};
 use ep_ext::laws;
 
 /// A slice begins with one IPv4 packet at most.
@@ -28,6 +31,15 @@ pub fn ipv6_packet_is_alone(slice: &[u8])
 {
     // For the proof alone.
     let _packet = Ipv6Slice::from_slice(slice);
+}
+
+/// Bytes that begin with no IPv6 packet have one first fault, and so have those that begin with no IP
+/// packet.
+pub fn faults_are_alone()
+    ensures ipv6 { (bytes : List ℕ) (e f : Ipv6Fault) → IsIpv6Fault bytes e → IsIpv6Fault bytes f → e ≡ f }
+    ensures ip { (bytes : List ℕ) (e f : IpFault) → IsIpFault bytes e → IsIpFault bytes f → e ≡ f }
+{
+    laws::chain_is_alone();
 }
 
 /// Where an IPv6 packet's extension headers end at a number that the walk over all skipped headers
@@ -55,7 +67,46 @@ pub fn numbers_of_a_view()
     ensures without_a_length { body_len (replicate 40 0) 7 ≡ 7 }
 {}
 
-/// The parts of one IPv4 packet with an authentication header and padding.
-pub fn ipv4_packet_at_a_literal()
-    ensures { ipv4_packet_at example_ipv4 ≡ Ok example_ipv4_packet }
-{}
+/// An IP packet begins its own bytes: what every caller knows of the view of one.
+pub fn ip_packet_is_whole(packet: &IpSlice)
+    ensures { IsWhole packet.now }
+{
+    // For the proof alone.
+    match packet {
+        IpSlice::Ipv4(packet) => {
+            let _extensions = packet.extensions();
+        }
+        IpSlice::Ipv6(packet) => {
+            let _extensions = packet.extensions();
+        }
+    }
+}
+
+/// What an IPv4 packet's getters tell of the message that its payload is a part of: identification,
+/// offset in units of 8 bytes, and whether more fragments follow.
+pub fn ipv4_fragment_fields(packet: &Ipv4Slice) -> (u16, IpFragOffset, bool)
+    ensures { ipv4_fragment_fields packet.now.header
+        ≡ record { identification = result.0; offset = result.1; more = result.2 } }
+{
+    let header = packet.header();
+    (
+        header.identification(),
+        header.fragments_offset(),
+        header.more_fragments(),
+    )
+}
+
+/// The same of an IPv6 packet, which tells it by its first fragment header, if there is one.
+pub fn ipv6_fragment_fields(packet: &Ipv6Slice) -> Option<(u32, IpFragOffset, bool)>
+    ensures { (bytes : List ℕ) (is : IsIpv6Packet bytes packet.now) → ipv6_fragment_fields is.pieces
+        ≡ option_map fragment_fields result }
+{
+    match packet.extensions().first_fragment_header() {
+        Some(header) => Some((
+            header.identification(),
+            header.fragment_offset(),
+            header.more_fragments(),
+        )),
+        None => None,
+    }
+}

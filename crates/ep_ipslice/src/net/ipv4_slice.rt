@@ -1,7 +1,7 @@
 //! The IPv4 packet.
 
 ghost use Rattle.std.specs.Prelude.{◌≡◌, ℕ, List, ◌++◌, IfOk, Ok};
-ghost use Rattle.ep_ipslice.specs.Packet.{Ipv4Packet, IsIpv4Packet, is_ipv4_fragment, ipv4_payload};
+ghost use Rattle.ep_ipslice.specs.Packet.{Ipv4Packet, IsIpv4Packet, IsWholeIpv4, is_ipv4_fragment, ipv4_payload};
 ghost use Rattle.ep_ipslice.specs.Ipv4Packet.{in_total_len, ipv4_packet_at, packet_with};
 ghost use Rattle.std.specs.Prelude.{◌&&◌, nat_eq};
 ghost use Rattle.std.specs.Cmp.Lexicographic.{pointwise};
@@ -38,7 +38,8 @@ impl<'a> Model for Ipv4Slice<'a> {
 
     ghost view = { λ p. record { header = p.header; auth = p.exts.auth; payload = p.payload.payload } };
 
-    ghost invariant = { λ p. p.payload ≡ ipv4_payload (record { header = p.header; auth = p.exts.auth; payload = p.payload.payload }) };
+    ghost invariant = { λ p. let packet : Ipv4Packet = record { header = p.header; auth = p.exts.auth; payload = p.payload.payload } in
+        (p.payload ≡ ipv4_payload packet) × IsWholeIpv4 packet };
 }
 
 impl<'a> Ipv4Slice<'a> {
@@ -122,9 +123,11 @@ impl<'a> Ipv4Slice<'a> {
         &self.header
     }
 
-    /// The authentication header, if there is one.
+    /// The authentication header, which is there exactly where the header's protocol number is 51, as in
+    /// every packet.
     pub fn extensions(&self) -> &Ipv4ExtensionsSlice<'a>
-        ensures { result.now.auth ≡ self.now.auth }
+        ensures value { result.now.auth ≡ self.now.auth }
+        ensures whole { IsWholeIpv4 self.now }
     {
         &self.exts
     }

@@ -8,14 +8,15 @@ ghost use Rattle.std.proofs.Common.{rules};
 ghost use Rattle.ep_ipslice.specs.Compared.{compared_as};
 ghost use Rattle.ep_ext.specs.Chain.{Chain, Row, fault_at, layer_of};
 ghost use Rattle.ep_ext.specs.Moved.{CanMove};
-ghost use Rattle.ep_ext.specs.Value.{Piece, bytes_of};
+ghost use Rattle.ep_ext.specs.Value.{Piece, bytes_of, piece_at};
+ghost use Rattle.ep_ext.specs.declared.net.ipv6_ext_place.Ipv6ExtPlace.TheVariants as place;
 ghost use Rattle.ep_ipslice.specs.Ipv6Exts.{Answers, Ipv6Exts, IsView, IsViewOf, Stops, exts_of, is_any_fragmenting, is_begun, place_behind, view_order};
 
 use super::{Ipv6ExtensionSlice, Ipv6ExtensionSliceIter};
 use ep_base::IpNumber;
 use ep_base::err::Layer;
 use ep_ext::err::ipv6_exts::{HeaderError, HeaderSliceError};
-use ep_ext::{Ipv6ExtPlace, laws};
+use ep_ext::{Ipv6ExtPlace, Ipv6FragmentHeaderSlice, laws};
 use std::marker::Model;
 
 /// The extension headers behind an IPv6 header (RFC 8200, section 4), borrowed: hop-by-hop options in
@@ -154,6 +155,19 @@ impl<'a> Ipv6ExtensionsSlice<'a> {
             Some(first) => Ipv6ExtensionSliceIter::new(first, self.slice),
             None => Ipv6ExtensionSliceIter::default(),
         }
+    }
+
+    /// The first fragment header, if there is one: it tells which part of a message the payload is.
+    pub fn first_fragment_header(&self) -> Option<Ipv6FragmentHeaderSlice<'a>>
+        ensures { (first : ℕ) (pieces : List Piece) (last : ℕ) → Row view_order [] first pieces last
+            → self.now ≡ exts_of first pieces → result ≡ piece_at pieces place.Fragment }
+    {
+        for header in self.iter() {
+            if let Ipv6ExtensionSlice::Fragment(fragment) = header {
+                return Some(fragment);
+            }
+        }
+        None
     }
 
     /// Whether one of the headers is the fragment header of a part of a message: more fragments follow,

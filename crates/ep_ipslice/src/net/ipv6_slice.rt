@@ -8,7 +8,7 @@ ghost use Rattle.std.specs.Ordering.{on};
 ghost use Rattle.std.proofs.Common.{rules};
 ghost use Rattle.ep_ext.specs.Moved.{CanMove};
 ghost use Rattle.ep_ipslice.specs.Compared.{compared_as, ordered_as};
-ghost use Rattle.ep_ipslice.specs.Packet.{Ipv6Packet, IsIpv6Packet, body_len, body_source};
+ghost use Rattle.ep_ipslice.specs.Packet.{Ipv6Packet, IsIpv6Packet, IsWholeIpv6, body_len, body_source};
 ghost use Rattle.ep_ipslice.specs.Ipv6Fault.{IsCutOff, IsIpv6Fault, IsRowFault, of_exts_fault, of_header_fault};
 
 use super::{IpPayloadSlice, Ipv6ExtensionsSlice};
@@ -38,6 +38,8 @@ impl<'a> Model for Ipv6Slice<'a> {
     ghost Value = { Ipv6Packet };
 
     ghost view = { λ p. record { header = p.header; exts = p.exts; payload = p.payload } };
+
+    ghost invariant = { λ p. IsWholeIpv6 (record { header = p.header; exts = p.exts; payload = p.payload }) };
 }
 
 impl<'a> Ipv6Slice<'a> {
@@ -110,9 +112,11 @@ impl<'a> Ipv6Slice<'a> {
         &self.header
     }
 
-    /// The extension headers.
+    /// The extension headers. They are a row from the number that the header names to the payload's,
+    /// as in every packet.
     pub fn extensions(&self) -> &Ipv6ExtensionsSlice<'a>
-        ensures { result.now ≡ self.now.exts }
+        ensures value { result.now ≡ self.now.exts }
+        ensures whole { IsWholeIpv6 self.now }
     {
         &self.exts
     }

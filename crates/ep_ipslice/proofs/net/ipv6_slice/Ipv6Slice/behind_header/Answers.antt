@@ -1,18 +1,36 @@
 use Rattle.std.proofs.Common.{◌∙◌, ℕ, List, length, drop, sym, ap}
 use Rattle.ep_ip.specs.Ipv6.{next_header_of}
 use Rattle.ep_ipslice.specs.Ipv6Exts.{exts_of}
-use Rattle.ep_ipslice.specs.Packet.{body_len}
-use Rattle.ep_ipslice.proofs.Ipv6Parts.{packet_found, packet_chain, packet_same, payload_same, never_refused}
+use Rattle.ep_ipslice.specs.Packet.{Ipv6Packet, IsIpv6Packet, body_len}
+use Rattle.ep_ipslice.proofs.Ipv6Parts.{packet_by_itself, packet_found, packet_chain, packet_same, payload_same, never_refused}
 use Rattle.ep_ipslice.proofs.net.ipv6_slice.Ipv6Slice.behind_header.Goals as goal
 
-pub returns-in-Ok-clause-found : goal.returns-in-Ok-clause-found
-returns-in-Ok-clause-found c =
+abbrev packet : goal.After-is_fragmenting_payload-fragmented → Ipv6Packet
+packet c = record {
+  header = c.args.header;
+  exts = c.in-Ok.exts;
+  payload = record {
+    ip_number = c.in-Ok.ip_number;
+    fragmented = c.is_fragmenting_payload-fragmented.result;
+    len_source = c.body-len_source.result.0;
+    payload = c.in-Ok.payload.now;
+  };
+}
+
+found : (c : goal.After-is_fragmenting_payload-fragmented) → IsIpv6Packet c.args.slice.now (packet c)
+found c =
     let found = c.in-Ok.ensures.found in
     packet_found c.args.slice.now c.args.header c.requires.0 c.split_at.result.1.now c.split_at-2.result.0.now c.next_header.result.0 c.body-len_source.result.1 c.body-len_source.result.0
     found.0 found.1 found.2 c.in-Ok.exts c.in-Ok.ip_number c.is_fragmenting_payload-fragmented.result c.in-Ok.payload.now
     c.slice-header_len.ensures.header c.requires.1 (c.split_at.ensures.back ∙ ap (λ (n : ℕ). drop n c.args.slice.now) (ap length c.slice-header_len.ensures.bytes)) c.next_header.ensures
     c.body-len_source.ensures.source c.body-len_source.ensures.len c.if-behind-body_len.false c.split_at-2.ensures.front
     found.3 found.4.0 found.4.1 found.4.2 found.4.3 c.is_fragmenting_payload-fragmented.ensures
+
+pub invariant_of-result : goal.invariant_of-result
+invariant_of-result c = packet_by_itself c.args.slice.now (packet c) (found c)
+
+pub returns-in-Ok-clause-found : goal.returns-in-Ok-clause-found
+returns-in-Ok-clause-found c = found c
 
 pub returns-in-Ok-clause-only : goal.returns-in-Ok-clause-only
 returns-in-Ok-clause-only c = λ packet is same.
