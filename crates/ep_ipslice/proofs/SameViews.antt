@@ -58,25 +58,25 @@ three false y z h = cc
 pub ipv4_same : (a b : Ipv4Packet) → IsTrue (pointwise nat_eq a.header b.header && pointwise nat_eq (auth_code a.auth) (auth_code b.auth) && pointwise nat_eq a.payload b.payload) ↔ (a ≡ b)
 ipv4_same a b = (
   (λ h.
-    let all = three _ _ _ h in
-    let header : a.header ≡ b.header = (bytes_decides a.header b.header).0 all.0 in
-    let auth : a.auth ≡ b.auth = auth_same a.auth b.auth ((bytes_decides (auth_code a.auth) (auth_code b.auth)).0 all.1) in
-    let payload : a.payload ≡ b.payload = (bytes_decides a.payload b.payload).0 all.2 in
-    λ i. record { header = header i; auth = auth i; payload = payload i }),
+      let all = three _ _ _ h in
+      let header : a.header ≡ b.header = (bytes_decides a.header b.header).0 all.0 in
+      let auth : a.auth ≡ b.auth = auth_same a.auth b.auth ((bytes_decides (auth_code a.auth) (auth_code b.auth)).0 all.1) in
+      let payload : a.payload ≡ b.payload = (bytes_decides a.payload b.payload).0 all.2 in
+      λ i. record { header = header i; auth = auth i; payload = payload i }),
   (λ e. both_true (both_true ((bytes_decides a.header b.header).1 (ap (λ (p : Ipv4Packet). p.header) e))
-    ((bytes_decides (auth_code a.auth) (auth_code b.auth)).1 (ap (λ (p : Ipv4Packet). auth_code p.auth) e)))
-    ((bytes_decides a.payload b.payload).1 (ap (λ (p : Ipv4Packet). p.payload) e))),
+      ((bytes_decides (auth_code a.auth) (auth_code b.auth)).1 (ap (λ (p : Ipv4Packet). auth_code p.auth) e)))
+      ((bytes_decides a.payload b.payload).1 (ap (λ (p : Ipv4Packet). p.payload) e))),
 )
 
 pub ipv6_same : (a b : Ipv6Packet) → IsTrue (pointwise nat_eq a.header b.header && pointwise nat_eq (compared_as a.exts) (compared_as b.exts) && pointwise nat_eq (ordered_as a.payload) (ordered_as b.payload)) ↔ (a ≡ b)
 ipv6_same a b = (
   (λ h.
-    let all = three _ _ _ h in
-    let header : a.header ≡ b.header = (bytes_decides a.header b.header).0 all.0 in
-    let exts : a.exts ≡ b.exts = (exts_same a.exts b.exts).0 all.1 in
-    let payload : a.payload ≡ b.payload = (payload_same a.payload b.payload).0 all.2 in
-    λ i. record { header = header i; exts = exts i; payload = payload i }),
+      let all = three _ _ _ h in
+      let header : a.header ≡ b.header = (bytes_decides a.header b.header).0 all.0 in
+      let exts : a.exts ≡ b.exts = (exts_same a.exts b.exts).0 all.1 in
+      let payload : a.payload ≡ b.payload = (payload_same a.payload b.payload).0 all.2 in
+      λ i. record { header = header i; exts = exts i; payload = payload i }),
   (λ e. both_true (both_true ((bytes_decides a.header b.header).1 (ap (λ (p : Ipv6Packet). p.header) e))
-    ((exts_same a.exts b.exts).1 (ap (λ (p : Ipv6Packet). p.exts) e)))
-    ((payload_same a.payload b.payload).1 (ap (λ (p : Ipv6Packet). p.payload) e))),
+      ((exts_same a.exts b.exts).1 (ap (λ (p : Ipv6Packet). p.exts) e)))
+      ((payload_same a.payload b.payload).1 (ap (λ (p : Ipv6Packet). p.payload) e))),
 )

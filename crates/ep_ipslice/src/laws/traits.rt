@@ -85,9 +85,9 @@ pub fn equal_packets_are_same<'a>()
 pub fn payloads_are_ordered_by_fields<'a>()
     ensures { (a b : IpPayload) → ⟦<IpPayloadSlice<'a> as Ord>⟧.cmp a b
         ≡ ordering_then (nat_cmp a.ip_number.0 b.ip_number.0) (
-          ordering_then (nat_cmp (bool_place a.fragmented) (bool_place b.fragmented)) (
-          ordering_then (nat_cmp (source_place a.len_source) (source_place b.len_source))
-          (slice_cmp nat_cmp a.payload b.payload))) }
+        ordering_then (nat_cmp (bool_place a.fragmented) (bool_place b.fragmented)) (
+        ordering_then (nat_cmp (source_place a.len_source) (source_place b.len_source))
+        (slice_cmp nat_cmp a.payload b.payload))) }
 {}
 
 /// A payload feeds a hasher all its fields.

@@ -15,7 +15,7 @@ found c =
 pub invariant_of-result : goal.invariant_of-result
 invariant_of-result c = (
   payload_told c.args.header c.in-Ok.exts.auth c.in-Ok.ip_number c.is_fragmenting_payload-fragmented.result c.in-Ok.payload.now c.protocol.result.0
-  c.protocol.ensures c.in-Ok.ensures.found.2 c.is_fragmenting_payload-fragmented.ensures,
+      c.protocol.ensures c.in-Ok.ensures.found.2 c.is_fragmenting_payload-fragmented.ensures,
   packet_by_itself c.args.slice.now (record { header = c.args.header; auth = c.in-Ok.exts.auth; payload = c.in-Ok.payload.now }) (found c),
 )
 
