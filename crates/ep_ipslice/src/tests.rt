@@ -1,1 +1,4 @@
+mod errors;
 mod packets;
+mod refusals;
+mod views;

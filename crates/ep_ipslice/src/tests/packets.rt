@@ -13,7 +13,7 @@ use std::test::*;
 
 // IPv4 (RFC 791, section 3.1): 10.0.0.1 to 10.0.0.2, an authentication header (RFC 4302), two bytes
 // of payload and one of padding.
-const IPV4: [u8; 35] = [
+pub(super) const IPV4: [u8; 35] = [
     0x45, 0, 0, 34, 0, 7, 0, 0, 64, 51, 0, 0, 10, 0, 0, 1, 10, 0, 0, 2, 17, 1, 0, 0, 1, 2, 3, 4, 5,
     6, 7, 8, 0xaa, 0xbb, 0,
 ];
@@ -21,7 +21,7 @@ const IPV4: [u8; 35] = [
 // IPv6 (RFC 8200, section 3) with a payload length of 46: hop-by-hop options, routing header, fragment
 // header (offset 1), authentication header, destination options, two bytes of payload and one of
 // padding.
-const IPV6: [u8; 87] = [
+pub(super) const IPV6: [u8; 87] = [
     0x60, 0, 0, 0, 0, 46, 0, 64, 0xfd, 0, 0, 0, 0, 0, 0, 0, 0, 0, 0, 0, 0, 0, 0, 1, 0xfd, 0, 0, 0,
     0, 0, 0, 0, 0, 0, 0, 0, 0, 0, 0, 2, 43, 0, 1, 4, 0, 0, 0, 0, 44, 0, 0, 0, 0, 0, 0, 0, 51, 0, 0,
     8, 0, 0, 0, 7, 60, 1, 0, 0, 1, 2, 3, 4, 5, 6, 7, 8, 17, 0, 1, 4, 0, 0, 0, 0, 0xaa, 0xbb, 0,
@@ -189,7 +189,7 @@ fn no_number_of_an_authentication_header(rt: HostRuntime) -> Result<(), Fail> {
 }
 
 // A want of bytes that isn't told by the packet's own length.
-fn want(required_len: usize, len: usize, layer: Layer) -> LenError {
+pub(super) fn want(required_len: usize, len: usize, layer: Layer) -> LenError {
     LenError {
         required_len,
         len,

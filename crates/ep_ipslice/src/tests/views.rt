@@ -1,0 +1,200 @@
+//! What views tell of packets. The bytes are those of `packets`, or made by the RFCs' tables.
+
+use super::packets::{IPV4, IPV6};
+use crate::{
+    IpPayloadSlice, IpSlice, Ipv4ExtensionsSlice, Ipv4Slice, Ipv6ExtensionSliceIter,
+    Ipv6ExtensionsSlice, Ipv6Slice, laws,
+};
+use ep_base::{IpNumber, LenSource};
+use std::cmp::Ordering;
+use std::hash::{FoldHasher, Hasher};
+use std::test::*;
+
+// Flags and offset of an IPv4 header, and whether the payload is a part of a message.
+#[test]
+fn ipv4_fragments(rt: HostRuntime) -> Result<(), Fail> {
+    let rows = [
+        (0x20, 0, true),
+        (0, 1, true),
+        (0x20, 1, true),
+        (0x1f, 0xff, true),
+        (0x40, 0, false),
+        (0, 0, false),
+    ];
+    for (flags, offset, is_part) in rows {
+        let mut bytes = IPV4;
+        bytes[6] = flags;
+        bytes[7] = offset;
+        let Ok(packet) = IpSlice::from_slice(&bytes) else {
+            panic!(rt; "no packet");
+        };
+        assert_eq!(rt; packet.is_fragmenting_payload(), is_part);
+        assert_eq!(rt; packet.payload().fragmented, is_part);
+    }
+    Ok(())
+}
+
+#[test]
+fn fragment_fields_of_an_ipv4_packet(rt: HostRuntime) -> Result<(), Fail> {
+    let mut bytes = IPV4;
+    bytes[4] = 1;
+    bytes[6] = 0x20;
+    bytes[7] = 5;
+    let Ok(packet) = Ipv4Slice::from_slice(&bytes) else {
+        panic!(rt; "no packet");
+    };
+    let (identification, offset, more) = laws::ipv4_fragment_fields(&packet);
+    assert_eq!(rt; identification, 0x107);
+    assert_eq!(rt; offset.value(), 5);
+    assert_eq!(rt; more, true);
+    Ok(())
+}
+
+#[test]
+fn fragment_fields_of_an_ipv6_packet(rt: HostRuntime) -> Result<(), Fail> {
+    let bytes = IPV6;
+    let Ok(packet) = Ipv6Slice::from_slice(&bytes) else {
+        panic!(rt; "no packet");
+    };
+    let Some((identification, offset, more)) = laws::ipv6_fragment_fields(&packet) else {
+        panic!(rt; "no fragment header");
+    };
+    assert_eq!(rt; identification, 7);
+    assert_eq!(rt; offset.value(), 1);
+    assert_eq!(rt; more, false);
+    Ok(())
+}
+
+// Two fragment headers behind a routing header, and none.
+#[test]
+fn the_first_fragment_header(rt: HostRuntime) -> Result<(), Fail> {
+    let bytes = [
+        44, 0, 0, 0, 0, 0, 0, 0, 44, 0, 0, 0x10, 0, 0, 0, 7, 17, 0, 0, 1, 0, 0, 0, 8,
+    ];
+    let Ok((extensions, _, _)) = Ipv6ExtensionsSlice::from_slice(IpNumber(43), &bytes) else {
+        panic!(rt; "refused");
+    };
+    let Some(header) = extensions.first_fragment_header() else {
+        panic!(rt; "no fragment header");
+    };
+    assert_eq!(rt; header.slice(), &bytes[8..16]);
+    let Ok((extensions, _, _)) = Ipv6ExtensionsSlice::from_slice(IpNumber::UDP, &bytes) else {
+        panic!(rt; "refused");
+    };
+    assert_eq!(rt; extensions.first_fragment_header().is_none(), true);
+    Ok(())
+}
+
+// An IPv4 packet takes one authentication header, an IPv6 packet each.
+#[test]
+fn authentication_headers_behind_one_another(rt: HostRuntime) -> Result<(), Fail> {
+    let mut bytes = IPV4;
+    bytes[20] = 51;
+    let Ok(packet) = Ipv4Slice::from_slice(&bytes) else {
+        panic!(rt; "no packet");
+    };
+    assert_eq!(rt; packet.payload_ip_number(), IpNumber::AUTHENTICATION_HEADER);
+    assert_eq!(rt; packet.payload().payload, [0xaa, 0xbb].as_slice());
+    let bytes = [
+        51, 1, 0, 0, 1, 2, 3, 4, 5, 6, 7, 8, 17, 1, 0, 0, 1, 2, 3, 4, 5, 6, 7, 8, 0xaa,
+    ];
+    let Ok((extensions, number, rest)) = Ipv6ExtensionsSlice::from_slice(IpNumber(51), &bytes)
+    else {
+        panic!(rt; "refused");
+    };
+    assert_eq!(rt; number, IpNumber::UDP);
+    assert_eq!(rt; rest, [0xaa].as_slice());
+    let mut headers = extensions.into_iter();
+    assert_eq!(rt; headers.next().is_some(), true);
+    assert_eq!(rt; headers.next().is_some(), true);
+    assert_eq!(rt; headers.next().is_none(), true);
+    Ok(())
+}
+
+#[test]
+fn packets_of_a_version_as_packets_of_either(rt: HostRuntime) -> Result<(), Fail> {
+    let bytes = IPV4;
+    let Ok(packet) = Ipv4Slice::from_slice(&bytes) else {
+        panic!(rt; "no packet");
+    };
+    let either = IpSlice::from(packet);
+    assert_eq!(rt; either.ipv4().is_some(), true);
+    assert_eq!(rt; either.ipv6().is_none(), true);
+    assert_eq!(rt; either.payload_ip_number(), IpNumber::UDP);
+    let bytes = IPV6;
+    let Ok(packet) = Ipv6Slice::from_slice(&bytes) else {
+        panic!(rt; "no packet");
+    };
+    let either = IpSlice::from(packet);
+    assert_eq!(rt; either.ipv4().is_none(), true);
+    assert_eq!(rt; either.ipv6().is_some(), true);
+    assert_eq!(rt; either.payload().payload, [0xaa, 0xbb].as_slice());
+    Ok(())
+}
+
+#[test]
+fn views_of_nothing(rt: HostRuntime) -> Result<(), Fail> {
+    assert_eq!(rt; Ipv4ExtensionsSlice::default().is_empty(), true);
+    assert_eq!(rt; Ipv6ExtensionSliceIter::default().next().is_none(), true);
+    Ok(())
+}
+
+#[test]
+fn an_authentication_header_with_its_own_fields(rt: HostRuntime) -> Result<(), Fail> {
+    let bytes = IPV4;
+    let Ok((extensions, _, _)) = Ipv4ExtensionsSlice::from_slice(IpNumber(51), &bytes[20..]) else {
+        panic!(rt; "refused");
+    };
+    let Some(auth) = extensions.to_header().auth else {
+        panic!(rt; "no header");
+    };
+    assert_eq!(rt; auth.next_header, IpNumber::UDP);
+    assert_eq!(rt; auth.spi, 0x01020304);
+    assert_eq!(rt; auth.sequence_number, 0x05060708);
+    Ok(())
+}
+
+fn payload(
+    ip_number: u8,
+    fragmented: bool,
+    len_source: LenSource,
+    bytes: &[u8],
+) -> IpPayloadSlice<'_> {
+    IpPayloadSlice {
+        ip_number: IpNumber(ip_number),
+        fragmented,
+        len_source,
+        payload: bytes,
+    }
+}
+
+// Each row is above those before it: number, flag, source and bytes count in this order.
+#[test]
+fn payloads_in_their_order(rt: HostRuntime) -> Result<(), Fail> {
+    let rows = [
+        payload(6, true, LenSource::Ipv6HeaderPayloadLen, &[9]),
+        payload(17, false, LenSource::Ipv6HeaderPayloadLen, &[9]),
+        payload(17, true, LenSource::Slice, &[9]),
+        payload(17, true, LenSource::Ipv4HeaderTotalLen, &[]),
+        payload(17, true, LenSource::Ipv4HeaderTotalLen, &[1]),
+        payload(17, true, LenSource::Ipv4HeaderTotalLen, &[1, 0]),
+    ];
+    for (at, a) in rows.iter().enumerate() {
+        for (other, b) in rows.iter().enumerate() {
+            assert_eq!(rt; a.cmp(b), at.cmp(&other));
+            assert_eq!(rt; a == b, at == other);
+        }
+    }
+    Ok(())
+}
+
+#[test]
+fn equal_payloads_are_hashed_alike(rt: HostRuntime) -> Result<(), Fail> {
+    let (a, b) = ([1, 2], [1, 2]);
+    let (mut one, mut other) = (FoldHasher::default(), FoldHasher::default());
+    let source = LenSource::Ipv4HeaderTotalLen;
+    laws::traits::payload_hashes_all_fields(&payload(17, true, source, &a), &mut one);
+    laws::traits::payload_hashes_all_fields(&payload(17, true, source, &b), &mut other);
+    assert_eq!(rt; one.finish(), other.finish());
+    Ok(())
+}
