@@ -1,10 +1,17 @@
+pub mod ElementFaults
+pub mod ElementsItems
+pub mod ElementsRead
 pub mod Flags
+pub mod Guards
 pub mod OptionsAgain
 pub mod OptionsBytes
 pub mod OptionsItems
+pub mod SameErrors
+pub mod SameValues
 pub mod Sealed
 pub mod TcpFront
 pub mod TcpSpelling
 pub mod TcpSums
 pub mod UdpFront
 pub mod UdpSpelling
+pub mod Words

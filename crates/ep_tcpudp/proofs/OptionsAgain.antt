@@ -8,13 +8,7 @@ use Rattle.ep_tcpudp.specs.declared.transport.tcp_option_element.TcpOptionElemen
 use Rattle.ep_tcpudp.specs.declared.transport.tcp_option_element.TcpOptionElement.TheVariants.{Noop, MaximumSegmentSize, WindowScale, SelectiveAcknowledgementPermitted, SelectiveAcknowledgement, Timestamp}
 use Rattle.ep_tcpudp.specs.declared.transport.tcp_option_read_error.TcpOptionReadError.{TcpOptionReadError}
 use Rattle.ep_tcpudp.proofs.OptionsItems.{items-step, items-end}
-
-joined : (n : ℕ) → n < 2 ^ 16 → 256 * (n / 256 % 256) + n % 256 ≡ n
-joined n h = omega arith
-
-word_again : (n : ℕ) → n < 2 ^ 32 →
-    256 * (256 * (256 * (n / 2 ^ 24 % 256) + n / 2 ^ 16 % 256) + n / 2 ^ 8 % 256) + n % 256 ≡ n
-word_again n h = omega arith
+use Rattle.ep_tcpudp.proofs.Words.{half_again, word_again}
 
 block_again : (block : ℕ × ℕ) → FitsBlock (Some block) →
     ◌≡◌ {A = ℕ × ℕ} (
@@ -66,7 +60,7 @@ acknowledgement_again first (a ∷ b ∷ c ∷ d ∷ blocks) rest fits = absurd 
 element_again : (element : TcpOptionElement) (rest : List ℕ) → FitsElement element → element_at (element_bytes element ++ rest) ≡ Ok (packed_element element)
 element_again Noop rest fits = refl
 element_again (MaximumSegmentSize size) rest fits =
-    rw (le-ltb (length (element_bytes (MaximumSegmentSize size) ++ rest)) 4 (omega arith)) (ap (λ n. Ok (MaximumSegmentSize n)) (joined size fits))
+    rw (le-ltb (length (element_bytes (MaximumSegmentSize size) ++ rest)) 4 (omega arith)) (ap (λ n. Ok (MaximumSegmentSize n)) (half_again size fits))
 element_again (WindowScale shift) rest fits =
     rw (le-ltb (length (element_bytes (WindowScale shift) ++ rest)) 3 (omega arith)) refl
 element_again SelectiveAcknowledgementPermitted rest fits =
@@ -84,7 +78,7 @@ size_again (SelectiveAcknowledgement first blocks) rest = omega arith
 size_again (Timestamp value reply) rest = refl
 
 -- bytes whose first isn't 0 don't end
-end-cons : (first : ℕ) (rest : List ℕ) → is_end (first ∷ rest) ≡ eqb first 0
+pub end-cons : (first : ℕ) (rest : List ℕ) → is_end (first ∷ rest) ≡ eqb first 0
 end-cons first rest = rw (ne_eqb (length (first ∷ rest)) 0 (λ e. omega arith)) refl
 
 no_end : (element : TcpOptionElement) (rest : List ℕ) → is_end (element_bytes element ++ rest) ≡ false
@@ -96,7 +90,7 @@ no_end (SelectiveAcknowledgement first blocks) rest = end-cons 5 (drop 1 (elemen
 no_end (Timestamp value reply) rest = end-cons 8 (drop 1 (element_bytes (Timestamp value reply) ++ rest))
 
 -- the items of what begins with an element
-item_again : (element : TcpOptionElement) (rest : List ℕ) → FitsElement element
+pub item_again : (element : TcpOptionElement) (rest : List ℕ) → FitsElement element
     → items_of (element_bytes element ++ rest) ≡ Ok (packed_element element) ∷ items_of rest
 item_again element rest fits =
     let left : behind (Ok (packed_element element)) (element_bytes element ++ rest) ≡ rest = rw (size_again element rest) (drop_at (element_bytes element) rest (length (element_bytes element)) refl) in

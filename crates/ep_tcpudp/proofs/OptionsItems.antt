@@ -2,24 +2,19 @@
 use Rattle.std.proofs.Common.{◌≡◌, ⊎_elim, ℕ, zero, suc, ◌-◌, ◌<◌, ◌≤◌, Bool, true, false, cond, eqb, List, [], ◌∷◌, length, take, drop, Result, Ok, Err, Some, arith, sym, refl, ap, ◌∙◌}
 use Rattle.std.specs.Prelude.{⊤}
 use Rattle.std.specs.Iterator.{item_count, MakesProgress}
-use Rattle.std.proofs.lemmas.Bool.{cases_Bool, eqb-true}
+use Rattle.std.proofs.lemmas.Bool.{cases_Bool, eqb-true, not-false}
 use Rattle.std.proofs.lemmas.List.{drop_all, length-drop, take_rest}
 use Rattle.ep_base.specs.Bytes.{num}
-use Rattle.ep_ip.proofs.Front.{guard_ok, not_false}
 use Rattle.ep_tcpudp.specs.Options.{kind_at, size_at, of_size, is_size_of_blocks, acknowledgement_at, element_at, is_end, behind, items_within, items_of, rest_at}
 use Rattle.ep_tcpudp.specs.declared.transport.tcp_option_element.TcpOptionElement.{TcpOptionElement}
 use Rattle.ep_tcpudp.specs.declared.transport.tcp_option_read_error.TcpOptionReadError.{TcpOptionReadError}
-
--- a test and what follows from its two ways
-by_test : {A : Type 0} (P : Type 0) (b : Bool) (x y r : A) → (b ≡ true → x ≡ r → P) → (b ≡ false → y ≡ r → P) → cond b x y ≡ r → P
-by_test P true x y r yes_way no_way h = yes_way refl h
-by_test P false x y r yes_way no_way h = no_way refl h
+use Rattle.ep_tcpudp.proofs.Guards.{by_test, guard_ok}
 
 of_size-ok : {A : Type 0} (size : ℕ) (bytes : List ℕ) (value x : A) → of_size size bytes value ≡ Ok x → num bytes 1 1 ≡ size
 of_size-ok size bytes value x h =
     let room = guard_ok _ _ _ _ h in
     let same = guard_ok _ _ _ _ room.1 in
-    eqb-true (num bytes 1 1) size (not_false _ same.0)
+    eqb-true (num bytes 1 1) size (not-false _ same.0)
 
 blocks_some : (n : ℕ) → is_size_of_blocks n ≡ true → 0 < n
 blocks_some zero h = cc
@@ -29,7 +24,7 @@ acknowledgement-ok : (bytes : List ℕ) (x : TcpOptionElement) → acknowledgeme
 acknowledgement-ok bytes x h =
     let two = guard_ok _ _ _ _ h in
     let blocks = guard_ok _ _ _ _ two.1 in
-    blocks_some (num bytes 1 1) (not_false _ blocks.0)
+    blocks_some (num bytes 1 1) (not-false _ blocks.0)
 
 size_of : (bytes : List ℕ) → eqb (kind_at bytes) 1 ≡ false → 0 < num bytes 1 1 → 0 < size_at bytes
 size_of bytes no_noop positive = rw no_noop positive

@@ -3,7 +3,7 @@ use Rattle.std.proofs.Common.{◌≡◌, ℕ, ◌+◌, ◌-◌, ◌*◌, ◌/◌
 use Rattle.std.proofs.lemmas.Bool.{le-ltb, ltb-false, true≢false}
 use Rattle.std.proofs.lemmas.List.{get_or-take, length-take-le, take-append-drop, take_at, take_rest, drop_at, get_or_append_left, length-append, length-drop}
 use Rattle.ep_base.specs.Bytes.{num}
-use Rattle.ep_ip.proofs.Front.{guard_ok, ok_same}
+use Rattle.ep_tcpudp.proofs.Guards.{guard_ok, ok_same}
 use Rattle.ep_tcpudp.specs.Tcp.{IsTcpHeader, ReadableTcp, data_offset_of, options_of}
 use Rattle.ep_tcpudp.specs.TcpFault.{header_at, segment_at, with_header_at}
 use Rattle.ep_tcpudp.specs.TcpOptions.{IsTcpOptions}

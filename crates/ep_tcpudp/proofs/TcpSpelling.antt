@@ -1,20 +1,11 @@
 -- The bytes of a TCP header against its fields.
-use Rattle.std.proofs.Common.{◌≡◌, ℕ, zero, suc, ◌+◌, ◌*◌, ◌/◌, ◌%◌, ◌^◌, ◌<◌, ◌≤◌, Bool, true, false, eqb, List, ◌∷◌, length, drop, get_or, set, arith, sym, refl, ap, ◌∙◌}
-use Rattle.ep_base.specs.Bytes.{IsBytes}
-use Rattle.ep_base.proofs.Cells.{drop-cells}
+use Rattle.std.proofs.Common.{◌≡◌, ℕ, zero, suc, ◌+◌, ◌*◌, ◌/◌, ◌%◌, ◌^◌, ◌<◌, ◌≤◌, Bool, true, false, eqb, List, ◌∷◌, ◌++◌, length, drop, get_or, set, arith, sym, refl, ap, ◌∙◌}
+use Rattle.std.specs.Int.{w16, w32, to_be_bytes}
+use Rattle.ep_base.specs.Bytes.{IsBytes, num}
 use Rattle.ep_tcpudp.specs.Tcp.{IsTcpHeader, header_of, spelling, with_reserved_bits_zero, flag, flags, data_offset, data_offset_of, options_of, Fits}
 use Rattle.ep_tcpudp.specs.declared.transport.tcp_header.TcpHeader.{TcpHeader}
 use Rattle.ep_tcpudp.proofs.TcpFront.{options_rest, options_offset, readable_header}
-
-high_of : (a b : ℕ) → a < 256 → b < 256 → (256 * a + b) / 256 % 256 ≡ a
-high_of a b h k = omega arith
-
-low_of : (a b : ℕ) → b < 256 → (256 * a + b) % 256 ≡ b
-low_of a b h = omega arith
-
-digits_of : (a b c d : ℕ) → a < 256 → b < 256 → c < 256 → d < 256 → let n : ℕ = 256 * (256 * (256 * a + b) + c) + d in
-    (n / 2 ^ 24 % 256 ≡ a) × (n / 2 ^ 16 % 256 ≡ b) × (n / 256 % 256 ≡ c) × (n % 256 ≡ d)
-digits_of a b c d ha hb hc hd = (omega arith, omega arith, omega arith, omega arith)
+use Rattle.ep_tcpudp.proofs.Words.{byte_front, half_again, half_front, word_again, word_front}
 
 -- a flag as a number
 bit : Bool → ℕ
@@ -78,43 +69,36 @@ flags_bits h = rw (flag-bit h.cwr 128, flag-bit h.ece 64, flag-bit h.urg 32, fla
 offset_and_ns : (n rest : ℕ) → rest ≡ n / 16 → rest * 16 + flag (eqb (n / 2 ^ 0 % 2) 1) 1 ≡ n / 16 * 16 + n % 2
 offset_and_ns n rest e = rw (flag_worth (n / 2 ^ 0 % 2) 1 (omega arith)) (omega arith)
 
+-- the bytes of a header, field by field
+fields_front : (bytes : List ℕ) → 20 ≤ length bytes → IsBytes bytes
+    → bytes ≡ to_be_bytes w16 (num bytes 0 2) ++ (to_be_bytes w16 (num bytes 2 2) ++ (to_be_bytes w32 (num bytes 4 4) ++ (to_be_bytes w32 (num bytes 8 4)
+    ++ (get_or bytes 12 0 ∷ get_or bytes 13 0 ∷ (to_be_bytes w16 (num bytes 14 2) ++ (to_be_bytes w16 (num bytes 16 2) ++ (to_be_bytes w16 (num bytes 18 2) ++ drop 20 bytes)))))))
+fields_front bytes least fits =
+    let a : List ℕ → List ℕ = λ xs. to_be_bytes w16 (num bytes 0 2) ++ (to_be_bytes w16 (num bytes 2 2) ++ xs) in
+    let b : List ℕ → List ℕ = λ xs. a (to_be_bytes w32 (num bytes 4 4) ++ (to_be_bytes w32 (num bytes 8 4) ++ xs)) in
+    let c : List ℕ → List ℕ = λ xs. b (get_or bytes 12 0 ∷ get_or bytes 13 0 ∷ xs) in
+    half_front 0 2 bytes (omega arith) refl fits
+    ∙ ap (λ (xs : List ℕ). to_be_bytes w16 (num bytes 0 2) ++ xs) (half_front 2 4 bytes (omega arith) refl fits)
+    ∙ ap a (word_front 4 8 bytes (omega arith) refl fits)
+    ∙ ap (λ (xs : List ℕ). a (to_be_bytes w32 (num bytes 4 4) ++ xs)) (word_front 8 12 bytes (omega arith) refl fits)
+    ∙ ap b (byte_front 12 13 bytes (omega arith) refl)
+    ∙ ap (λ (xs : List ℕ). b (get_or bytes 12 0 ∷ xs)) (byte_front 13 14 bytes (omega arith) refl)
+    ∙ ap c (half_front 14 16 bytes (omega arith) refl fits)
+    ∙ ap (λ (xs : List ℕ). c (to_be_bytes w16 (num bytes 14 2) ++ xs)) (half_front 16 18 bytes (omega arith) refl fits)
+    ∙ ap (λ (xs : List ℕ). c (to_be_bytes w16 (num bytes 14 2) ++ (to_be_bytes w16 (num bytes 16 2) ++ xs))) (half_front 18 20 bytes (omega arith) refl fits)
+
 -- what is read from the bytes of a header is spelled so, with the reserved bits as 0
 pub spelling-header_of : (bytes : List ℕ) → IsTcpHeader bytes → IsBytes bytes → spelling (header_of bytes) ≡ with_reserved_bits_zero bytes
 spelling-header_of bytes header fits =
     let least : 20 ≤ length bytes = omega (arith, header.minimum, header.whole) in
     let words : 5 + length (options_of bytes) / 4 ≡ data_offset_of bytes = options_offset bytes (options_of bytes) (readable_header bytes header) refl in
     let offset = offset_and_ns (get_or bytes 12 0) (5 + length (options_of bytes) / 4) words in
+    let flags = flags_are (get_or bytes 13 0) (fits 13) in
     let rest = options_rest bytes header in
-    let e0 = high_of (get_or bytes 0 0) (get_or bytes 1 0) (fits 0) (fits 1) in
-    let e1 = low_of (get_or bytes 0 0) (get_or bytes 1 0) (fits 1) in
-    let e2 = high_of (get_or bytes 2 0) (get_or bytes 3 0) (fits 2) (fits 3) in
-    let e3 = low_of (get_or bytes 2 0) (get_or bytes 3 0) (fits 3) in
-    let e4 = (digits_of (get_or bytes 4 0) (get_or bytes 5 0) (get_or bytes 6 0) (get_or bytes 7 0) (fits 4) (fits 5) (fits 6) (fits 7)).0 in
-    let e5 = (digits_of (get_or bytes 4 0) (get_or bytes 5 0) (get_or bytes 6 0) (get_or bytes 7 0) (fits 4) (fits 5) (fits 6) (fits 7)).1 in
-    let e6 = (digits_of (get_or bytes 4 0) (get_or bytes 5 0) (get_or bytes 6 0) (get_or bytes 7 0) (fits 4) (fits 5) (fits 6) (fits 7)).2 in
-    let e7 = (digits_of (get_or bytes 4 0) (get_or bytes 5 0) (get_or bytes 6 0) (get_or bytes 7 0) (fits 4) (fits 5) (fits 6) (fits 7)).3 in
-    let e8 = (digits_of (get_or bytes 8 0) (get_or bytes 9 0) (get_or bytes 10 0) (get_or bytes 11 0) (fits 8) (fits 9) (fits 10) (fits 11)).0 in
-    let e9 = (digits_of (get_or bytes 8 0) (get_or bytes 9 0) (get_or bytes 10 0) (get_or bytes 11 0) (fits 8) (fits 9) (fits 10) (fits 11)).1 in
-    let e10 = (digits_of (get_or bytes 8 0) (get_or bytes 9 0) (get_or bytes 10 0) (get_or bytes 11 0) (fits 8) (fits 9) (fits 10) (fits 11)).2 in
-    let e11 = (digits_of (get_or bytes 8 0) (get_or bytes 9 0) (get_or bytes 10 0) (get_or bytes 11 0) (fits 8) (fits 9) (fits 10) (fits 11)).3 in
-    let e12 = offset in
-    let e13 = flags_are (get_or bytes 13 0) (fits 13) in
-    let e14 = high_of (get_or bytes 14 0) (get_or bytes 15 0) (fits 14) (fits 15) in
-    let e15 = low_of (get_or bytes 14 0) (get_or bytes 15 0) (fits 15) in
-    let e16 = high_of (get_or bytes 16 0) (get_or bytes 17 0) (fits 16) (fits 17) in
-    let e17 = low_of (get_or bytes 16 0) (get_or bytes 17 0) (fits 17) in
-    let e18 = high_of (get_or bytes 18 0) (get_or bytes 19 0) (fits 18) (fits 19) in
-    let e19 = low_of (get_or bytes 18 0) (get_or bytes 19 0) (fits 19) in
-    let spelled : spelling (header_of bytes) ≡ set ((get_or bytes 0 0) ∷ (get_or bytes 1 0) ∷ (get_or bytes 2 0) ∷ (get_or bytes 3 0) ∷ (get_or bytes 4 0) ∷ (get_or bytes 5 0) ∷ (get_or bytes 6 0) ∷ (get_or bytes 7 0) ∷ (get_or bytes 8 0) ∷ (get_or bytes 9 0) ∷ (get_or bytes 10 0) ∷ (get_or bytes 11 0) ∷ (get_or bytes 12 0) ∷ (get_or bytes 13 0) ∷ (get_or bytes 14 0) ∷ (get_or bytes 15 0) ∷ (get_or bytes 16 0) ∷ (get_or bytes 17 0) ∷ (get_or bytes 18 0) ∷ (get_or bytes 19 0) ∷ drop 20 bytes) 12 (get_or bytes 12 0 / 16 * 16 + get_or bytes 12 0 % 2) =
-    λ i. e0 i ∷ e1 i ∷ e2 i ∷ e3 i ∷ e4 i ∷ e5 i ∷ e6 i ∷ e7 i ∷ e8 i ∷ e9 i ∷ e10 i ∷ e11 i ∷ e12 i ∷ e13 i ∷ e14 i ∷ e15 i ∷ e16 i ∷ e17 i ∷ e18 i ∷ e19 i ∷ rest i in
-    spelled ∙ sym (ap (λ (xs : List ℕ). set xs 12 (get_or bytes 12 0 / 16 * 16 + get_or bytes 12 0 % 2)) (drop-cells 20 0 bytes least))
-
-joined : (n : ℕ) → n < 2 ^ 16 → 256 * (n / 256 % 256) + n % 256 ≡ n
-joined n h = omega arith
-
-word_again : (n : ℕ) → n < 2 ^ 32 →
-    256 * (256 * (256 * (n / 2 ^ 24 % 256) + n / 2 ^ 16 % 256) + n / 2 ^ 8 % 256) + n % 256 ≡ n
-word_again n h = omega arith
+    let value : ℕ = get_or bytes 12 0 / 16 * 16 + get_or bytes 12 0 % 2 in
+    (λ i. to_be_bytes w16 (num bytes 0 2) ++ (to_be_bytes w16 (num bytes 2 2) ++ (to_be_bytes w32 (num bytes 4 4) ++ (to_be_bytes w32 (num bytes 8 4)
+    ++ (offset i ∷ flags i ∷ (to_be_bytes w16 (num bytes 14 2) ++ (to_be_bytes w16 (num bytes 16 2) ++ (to_be_bytes w16 (num bytes 18 2) ++ rest i))))))))
+    ∙ sym (ap (λ (xs : List ℕ). set xs 12 value) (fields_front bytes least fits))
 
 offset_again : (len : ℕ) (ns : Bool) → ((5 + len / 4) * 16 + flag ns 1) / 16 ≡ 5 + len / 4
 offset_again len true = omega arith
@@ -136,8 +120,8 @@ IsTcpHeader-spelling h fits = record {
 -- the fields are read again
 pub header_of-spelling : (h : TcpHeader) → Fits h → header_of (spelling h) ≡ h
 header_of-spelling h fits =
-    let source_port = joined h.source_port fits.source_port in
-    let destination_port = joined h.destination_port fits.destination_port in
+    let source_port = half_again h.source_port fits.source_port in
+    let destination_port = half_again h.destination_port fits.destination_port in
     let sequence_number = word_again h.sequence_number fits.sequence_number in
     let acknowledgment_number = word_again h.acknowledgment_number fits.acknowledgment_number in
     let ns = ns_again (data_offset h) h.ns in
@@ -149,9 +133,9 @@ header_of-spelling h fits =
     let rst : eqb (flags h / 2 ^ 2 % 2) 1 ≡ h.rst = rw (flags_bits h, bit_2 (bit h.cwr) (bit h.ece) (bit h.urg) (bit h.ack) (bit h.psh) (bit h.rst) (bit h.syn) (bit h.fin) (bit_below h.cwr) (bit_below h.ece) (bit_below h.urg) (bit_below h.ack) (bit_below h.psh) (bit_below h.rst) (bit_below h.syn) (bit_below h.fin)) (eqb_bit h.rst) in
     let syn : eqb (flags h / 2 ^ 1 % 2) 1 ≡ h.syn = rw (flags_bits h, bit_1 (bit h.cwr) (bit h.ece) (bit h.urg) (bit h.ack) (bit h.psh) (bit h.rst) (bit h.syn) (bit h.fin) (bit_below h.cwr) (bit_below h.ece) (bit_below h.urg) (bit_below h.ack) (bit_below h.psh) (bit_below h.rst) (bit_below h.syn) (bit_below h.fin)) (eqb_bit h.syn) in
     let fin : eqb (flags h / 2 ^ 0 % 2) 1 ≡ h.fin = rw (flags_bits h, bit_0 (bit h.cwr) (bit h.ece) (bit h.urg) (bit h.ack) (bit h.psh) (bit h.rst) (bit h.syn) (bit h.fin) (bit_below h.cwr) (bit_below h.ece) (bit_below h.urg) (bit_below h.ack) (bit_below h.psh) (bit_below h.rst) (bit_below h.syn) (bit_below h.fin)) (eqb_bit h.fin) in
-    let window_size = joined h.window_size fits.window_size in
-    let checksum = joined h.checksum fits.checksum in
-    let urgent_pointer = joined h.urgent_pointer fits.urgent_pointer in
+    let window_size = half_again h.window_size fits.window_size in
+    let checksum = half_again h.checksum fits.checksum in
+    let urgent_pointer = half_again h.urgent_pointer fits.urgent_pointer in
     let options = options_rest (spelling h) (IsTcpHeader-spelling h fits) in
     λ i. record {
       source_port = source_port i;

@@ -3,7 +3,7 @@ use Rattle.std.proofs.Common.{◌≡◌, ◌⊎◌, inl, inr, ⊎_elim, ℕ, ◌
 use Rattle.std.proofs.lemmas.Bool.{le-ltb, eq-eqb, ne_eqb, ltb-false, cases_eq, true≢false}
 use Rattle.std.proofs.lemmas.List.{length-take-le, take-append-drop, take_at, take_rest, drop_at, length-append}
 use Rattle.ep_base.specs.declared.err.len_error.LenError.{LenError}
-use Rattle.ep_ip.proofs.Front.{guard_ok, ok_same}
+use Rattle.ep_tcpudp.proofs.Guards.{guard_ok, ok_same}
 use Rattle.ep_tcpudp.specs.Udp.{IsUdpHeader, ReadableUdp, summed_udp, length_of}
 use Rattle.ep_tcpudp.specs.UdpFault.{header_at, udp_at}
 

@@ -1,3 +1,5 @@
+pub mod Elements
+pub mod Examples
 pub mod Limit
 pub mod Options
 pub mod Tcp

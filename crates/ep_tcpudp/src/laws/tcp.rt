@@ -5,6 +5,7 @@ ghost use Rattle.std.specs.Cmp.Lexicographic.{slice_cmp};
 ghost use Rattle.std.specs.Hash as fed;
 ghost use Rattle.std.specs.Ordering.{nat_cmp};
 ghost use Rattle.ep_base.specs.Bytes.{IsBytes};
+ghost use Rattle.ep_tcpudp.specs.Elements.{ItemsAreSpelled, NoOtherItems};
 ghost use Rattle.ep_tcpudp.specs.Options.{ElementsComeBack};
 ghost use Rattle.ep_tcpudp.specs.Tcp.{IsTcpHeader, header_of, spelling, with_reserved_bits_zero};
 ghost use Rattle.ep_tcpudp.specs.TcpChecksum.{SealedTcpSumsToAllOnes, SealedSegmentSumsToAllOnes};
@@ -47,6 +48,15 @@ pub fn header_is_read_again<'a>(
     TcpHeader::from_slice(slice)
 }
 
+/// The lengths of a TCP header and of its options in bytes, and its lengths in words of 4 bytes.
+pub fn header_lengths()
+    ensures least { TcpHeader.MIN_LEN ≡ 20 }
+    ensures greatest { TcpHeader.MAX_LEN ≡ 60 }
+    ensures options { TcpOptions.MAX_LEN ≡ 40 }
+    ensures least_words { TcpHeader.MIN_DATA_OFFSET ≡ 5 }
+    ensures greatest_words { TcpHeader.MAX_DATA_OFFSET ≡ 15 }
+{}
+
 /// Options are ordered as their bytes.
 pub fn options_are_ordered_as_bytes(a: &TcpOptions, b: &TcpOptions) -> Ordering
     ensures { result ≡ slice_cmp nat_cmp a.now b.now }
@@ -65,4 +75,11 @@ pub fn options_hash_as_bytes<H: Hasher>(options: &TcpOptions, state: &mut H)
 /// acknowledgement, the blocks that are there stand in front.
 pub fn elements_come_back()
     ensures { ElementsComeBack }
+{}
+
+/// The bytes of options are read as the elements that they begin with, up to the end of the list, and
+/// then as the fault that it ends with, if there is one; and there is no other way to read them.
+pub fn items_are_elements()
+    ensures spelled { ItemsAreSpelled }
+    ensures no_other { NoOtherItems }
 {}

@@ -17,6 +17,12 @@ pub fn sealed_sums_to_all_ones()
     checksum_sums_to_all_ones();
 }
 
+/// The length of a UDP header in bytes.
+pub fn header_lengths()
+    ensures len { UdpHeader.LEN ≡ 8 }
+    ensures len_u16 { UdpHeader.LEN_U16 ≡ 8 }
+{}
+
 /// Headers and lists of 8 bytes are each other's: a header's bytes are such a list, which spells the
 /// header, and such a list spells a header whose bytes it is.
 pub fn headers_are_their_bytes(header: &UdpHeader)

@@ -1,7 +1,10 @@
 //! The options of a TCP header, one after the other.
 
-ghost use Rattle.std.specs.Prelude.{◌≡◌, ◌≢◌, ⊤, ◌+◌, ◌<◌, ◌≤◌, ℕ, List, length, OnOk};
+ghost use Rattle.std.specs.Prelude.{◌≡◌, ◌≢◌, ⊤, ◌+◌, ◌<◌, ◌≤◌, ℕ, List, length, nat_eq, OnOk};
+ghost use Rattle.std.specs.Cmp.Lexicographic.{pointwise};
+ghost use Rattle.std.specs.Cmp.Rules.{comparing};
 ghost use Rattle.std.specs.Iterator.{YieldsFirst, item_count, MakesProgress};
+ghost use Rattle.std.proofs.Common.{rules};
 ghost use Rattle.ep_tcpudp.specs.Options.{acknowledgement_at, block_at, block_within, element_at, is_end, item_at, items_of, kind_at, of_size, rest_at, size_at};
 
 use crate::tcp_option::{
@@ -15,7 +18,8 @@ use std::marker::Model;
 /// The elements that the bytes of TCP options spell, one after the other (RFC 9293, section 3.2).
 ///
 /// It ends with the bytes, at the option that ends the list, or behind the first fault, which is given
-/// as the last item. A contract sees it as the bytes that are left.
+/// as the last item; [`crate::laws::tcp::items_are_elements`] states it of the table of options. A
+/// contract sees it as the bytes that are left, and by these it is equal to another.
 #[derive(Clone, Debug, Drop)]
 pub struct TcpOptionsIterator<'a> {
     options: &'a [u8],
@@ -73,6 +77,20 @@ impl<'a> Iterator for TcpOptionsIterator<'a> {
             }
         }
     }
+}
+
+impl<'a> PartialEq for TcpOptionsIterator<'a> {
+    ghost eq = { pointwise nat_eq };
+
+    ghost laws = { Prim.search (comparing, rules) };
+
+    fn eq(&self, other: &Self) -> bool {
+        self.options == other.options
+    }
+}
+
+impl<'a> Eq for TcpOptionsIterator<'a> {
+    ghost laws = { Prim.search (comparing, rules) };
 }
 
 fn is_end(options: &[u8]) -> bool

@@ -1,5 +1,6 @@
 use Rattle.std.proofs.Common.{arith}
-use Rattle.ep_ip.proofs.Front.{ok_same, front_fits}
+use Rattle.ep_tcpudp.proofs.Guards.{ok_same}
+use Rattle.ep_tcpudp.proofs.Words.{front_fits}
 use Rattle.ep_tcpudp.proofs.TcpFront.{rest_of}
 use Rattle.ep_tcpudp.proofs.TcpSpelling.{spelling-header_of}
 use Rattle.ep_tcpudp.proofs.transport.tcp_header.TcpHeader.from_slice.Goals as goal

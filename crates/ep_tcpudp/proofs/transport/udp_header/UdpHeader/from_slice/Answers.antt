@@ -1,5 +1,6 @@
 use Rattle.std.proofs.Common.{arith, ap, ◌∙◌}
-use Rattle.ep_ip.proofs.Front.{ok_same, front_fits}
+use Rattle.ep_tcpudp.proofs.Guards.{ok_same}
+use Rattle.ep_tcpudp.proofs.Words.{front_fits}
 use Rattle.ep_tcpudp.specs.Udp.{header_of, spelling}
 use Rattle.ep_tcpudp.proofs.UdpFront.{rest_of}
 use Rattle.ep_tcpudp.proofs.UdpSpelling.{spelling-header_of}
