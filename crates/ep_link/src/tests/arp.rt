@@ -1,7 +1,7 @@
 //! ARP packets (RFC 826).
 use crate::err::arp::{ArpHwAddrError, ArpNewError, ArpProtoAddrError};
 use crate::laws::arp::*;
-use crate::{ArpHardwareId, ArpOperation, ArpPacket, ArpPacketSlice};
+use crate::{ArpHardwareId, ArpOperation, ArpPacket, ArpPacketSlice, Ethernet2Slice};
 use ep_base::err::{Layer, LenError};
 use ep_base::{EtherType, LenSource};
 use std::test::Fail;
@@ -111,6 +111,35 @@ fn addresses_of_every_length(rt: HostRuntime) -> Result<(), Fail> {
             assert_eq!(rt; ArpPacket::from_slice(bytes.as_slice()), Ok(packet));
         }
     }
+    Ok(())
+}
+
+// The packet behind an Ethernet II header of ether type 0806, and the same without its last byte.
+#[test]
+fn a_packet_in_a_frame(rt: HostRuntime) -> Result<(), Fail> {
+    let mut frame = [0; 42];
+    frame[12..14].copy_from_slice(&[8, 6]);
+    frame[14..].copy_from_slice(&BYTES[..28]);
+    let payload = Ethernet2Slice::from_slice_without_fcs(&frame)?.payload();
+    assert_eq!(rt; payload.ether_type, EtherType::ARP);
+    assert_eq!(rt;
+        ArpPacketSlice::from_slice(payload.payload)?.slice(),
+        &BYTES[..28]
+    );
+    let cut = Ethernet2Slice::from_slice_without_fcs(&frame[..41])?;
+    let Err(error) = ArpPacketSlice::from_slice(cut.payload_slice()) else {
+        panic!(rt; "a whole packet");
+    };
+    assert_eq!(rt;
+        error.add_offset(cut.header_len()),
+        LenError {
+            required_len: 28,
+            len: 27,
+            len_source: LenSource::ArpAddrLengths,
+            layer: Layer::Arp,
+            layer_start_offset: 14,
+        }
+    );
     Ok(())
 }
 

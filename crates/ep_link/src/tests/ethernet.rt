@@ -84,6 +84,20 @@ fn every_front_of_a_header(rt: HostRuntime) {
     assert!(rt; Ethernet2Slice::from_slice_without_fcs(&bytes[..14]).is_ok());
 }
 
+// The ether type 1234 and nothing behind it, and a frame that ends within its ether type.
+#[test]
+fn frames_of_few_bytes(rt: HostRuntime) -> Result<(), Fail> {
+    let bytes = [2, 0, 0, 0, 0, 2, 2, 0, 0, 0, 0, 1, 0x12, 0x34];
+    let payload = Ethernet2Slice::from_slice_without_fcs(&bytes)?.payload();
+    assert_eq!(rt; payload.ether_type, EtherType(0x1234));
+    assert!(rt; payload.payload.is_empty());
+    let Err(error) = Ethernet2Slice::from_slice_without_fcs(&bytes[..13]) else {
+        panic!(rt; "a whole header");
+    };
+    assert_eq!(rt; (error.required_len, error.len), (14, 13));
+    Ok(())
+}
+
 #[test]
 fn a_header_written_over_a_slice(rt: HostRuntime) {
     let mut bytes = [9; 16];
@@ -125,4 +139,6 @@ fn laws(rt: HostRuntime) {
     copies_never_fail();
     equals_are_same();
     orders_are_of_numbers();
+    protocols_by_kind_and_number();
+    hashes_are_of_numbers();
 }

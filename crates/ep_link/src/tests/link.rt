@@ -99,3 +99,53 @@ fn fields_of_slices(rt: HostRuntime) -> Result<(), Fail> {
     assert_eq!(rt; payload.to_header(), None);
     Ok(())
 }
+
+// An Ethernet II frame and a packet of ether type 0806 name it; 802.11 with radiotap gives the
+// same number no meaning.
+#[test]
+fn payloads_behind_ether_types(rt: HostRuntime) -> Result<(), Fail> {
+    let mut frame = [0; 16];
+    frame[..14].copy_from_slice(&ETHERNET);
+    frame[14..].copy_from_slice(&[7, 8]);
+    let named = EtherPayloadSlice {
+        ether_type: EtherType::IPV4,
+        len_source: LenSource::Slice,
+        payload: &[7, 8],
+    };
+    let link = LinkSlice::Ethernet2(Ethernet2Slice::from_slice_without_fcs(&frame)?);
+    assert_eq!(rt; link.ether_payload(), Some(named));
+    let mut packet = [9; 17];
+    packet[..16].copy_from_slice(&SLL);
+    let named = EtherPayloadSlice {
+        ether_type: EtherType::ARP,
+        len_source: LenSource::Slice,
+        payload: &[9],
+    };
+    let link = LinkSlice::LinuxSll(LinuxSllSlice::from_slice(&packet)?);
+    assert_eq!(rt; link.ether_payload(), Some(named));
+    packet[2..4].copy_from_slice(&[3, 0x23]);
+    let link = LinkSlice::LinuxSll(LinuxSllSlice::from_slice(&packet)?);
+    assert_eq!(rt; link.ether_payload(), None);
+    Ok(())
+}
+
+#[test]
+fn payloads_without_a_header(rt: HostRuntime) {
+    let bytes = ETHERNET;
+    let named = EtherPayloadSlice {
+        ether_type: EtherType::IPV6,
+        len_source: LenSource::MacsecShortLength,
+        payload: &bytes,
+    };
+    let link = LinkSlice::EtherPayload(EtherPayloadSlice {
+        ether_type: EtherType::IPV6,
+        len_source: LenSource::MacsecShortLength,
+        payload: &bytes,
+    });
+    assert_eq!(rt; link.ether_payload(), Some(named));
+    let link = LinkSlice::LinuxSllPayload(LinuxSllPayloadSlice {
+        protocol_type: LinuxSllProtocolType::NetlinkProtocolType(0x0800),
+        payload: &bytes,
+    });
+    assert_eq!(rt; link.ether_payload(), None);
+}
