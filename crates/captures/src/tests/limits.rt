@@ -1,8 +1,6 @@
 //! Blocks of least and greatest lengths, in a section with one Ethernet interface that cuts nothing.
-ghost use Rattle.std.specs.Prelude.{◌≤◌, ◌<◌, ◌^◌, length};
-
 use super::lines_of;
-use crate::{BLOCK_LIMIT, CaptureError, FRAME_LIMIT, RunError};
+use crate::{CaptureError, RunError};
 use std::alloc::{AllocError, Global};
 use std::test::Fail;
 
@@ -33,8 +31,8 @@ fn with_block(alloc: Global, kind: u32, len: u32, words: &[u32]) -> Result<Vec<u
 #[test]
 fn each_length(rt: HostRuntime) -> Result<(), Fail> {
     let bad = Err(RunError::Capture(CaptureError::BadBlock));
-    let most = FRAME_LIMIT as u32;
-    let limit = BLOCK_LIMIT as u32;
+    let too_long = Err(RunError::Capture(CaptureError::FrameTooLong(99_992)));
+    let block_too_long = Err(RunError::Capture(CaptureError::BlockTooLong(262_148)));
     for (kind, len, words, wanted, line_len) in [
         // The least that each kind has: 12 of any, 20 of an interface, 32 and 16 of packets; and 4 bytes less.
         (5, 12, [0u32, 0, 0, 0].as_slice(), Ok(()), 0),
@@ -51,12 +49,12 @@ fn each_length(rt: HostRuntime) -> Result<(), Fail> {
         (6, 36, [0, 0, 0, 4, 4, 0].as_slice(), Ok(()), 17),
         (6, 36, [0, 0, 0, 5, 5, 0].as_slice(), bad, 0),
         // As long as a line can hold, and one byte more.
-        (6, 100_024, [0, 0, 0, most, most].as_slice(), Ok(()), 199_991),
-        (6, 100_024, [0, 0, 0, most + 1, most + 1].as_slice(), Err(RunError::Capture(CaptureError::FrameTooLong(most + 1))), 0),
+        (6, 100_024, [0, 0, 0, 99_991, 99_991].as_slice(), Ok(()), 199_991),
+        (6, 100_024, [0, 0, 0, 99_992, 99_992].as_slice(), too_long, 0),
         // As long as a block may be, a word more, and no whole words.
-        (5, limit, [].as_slice(), Ok(()), 0),
-        (5, limit + 4, [].as_slice(), Err(RunError::Capture(CaptureError::BlockTooLong(limit + 4))), 0),
-        (5, limit + 5, [].as_slice(), bad, 0),
+        (5, 262_144, [].as_slice(), Ok(()), 0),
+        (5, 262_148, [].as_slice(), block_too_long, 0),
+        (5, 262_149, [].as_slice(), bad, 0),
     ] {
         let file = with_block(rt.alloc(), kind, len, words)?;
         let (result, lines) = lines_of(rt.alloc(), file.as_slice())?;

@@ -1,6 +1,6 @@
 //! Captures that are written of lines.
 use super::{LINES, lines_of};
-use crate::{FRAME_LIMIT, RunError, write_capture};
+use crate::{RunError, write_capture};
 use std::alloc::{AllocError, Global};
 use std::test::Fail;
 
@@ -20,6 +20,7 @@ fn lines_come_back(rt: HostRuntime) -> Result<(), Fail> {
     let alloc = rt.alloc();
     let (result, capture) = capture_of(alloc, LINES)?;
     assert_eq!(rt; result, Ok(()));
+    assert!(rt; capture.len() >= 40);
     assert_eq!(rt; &capture.as_slice()[..24], HEADER.as_slice());
     assert_eq!(rt; &capture.as_slice()[24..40], b"\0\0\0\0\0\0\0\0\x32\0\0\0\x32\0\0\0".as_slice());
     let (result, lines) = lines_of(alloc, capture.as_slice())?;
@@ -63,6 +64,7 @@ fn each_line(rt: HostRuntime) -> Result<(), Fail> {
     ] {
         let (result, capture) = capture_of(rt.alloc(), text)?;
         assert_eq!(rt; result, wanted);
+        assert!(rt; capture.len() >= 24);
         assert_eq!(rt; &capture.as_slice()[..24], HEADER.as_slice());
         assert_eq!(rt; &capture.as_slice()[24..], packets);
     }
@@ -81,10 +83,11 @@ fn long_line(alloc: Global, len: usize) -> Result<Vec<u8>, AllocError> {
 
 #[test]
 fn longest_frame(rt: HostRuntime) -> Result<(), Fail> {
+    let bad = Err(RunError::BadLine(1));
     for (len, wanted, size) in [
-        (FRAME_LIMIT, Ok(()), 24 + 16 + FRAME_LIMIT),
-        (FRAME_LIMIT + 1, Err(RunError::BadLine(1)), 24),
-        (2 * FRAME_LIMIT, Err(RunError::BadLine(1)), 24),
+        (99_991, Ok(()), 24 + 16 + 99_991),
+        (99_992, bad, 24),
+        (200_000, bad, 24),
     ] {
         let line = long_line(rt.alloc(), len)?;
         let (result, capture) = capture_of(rt.alloc(), line.as_slice())?;
