@@ -77,8 +77,7 @@ block_fits section order block after channel frame range bytes (Holds number hel
     let size = ap length becomes.2 in
     let most = becomes.3 in
     let in' = says.fits in
-    let held' : Bytes held = subst Bytes (sym says.bytes) (bytes_take (length held) (drop 28 block) (bytes_drop 28 block bytes)) in
-    (
+    let held' : Bytes held = subst Bytes (sym says.bytes) (bytes_take (length held) (drop 28 block) (bytes_drop 28 block bytes)) in (
       subst (λ (s : Section). s.first < 2 ^ 32) (sym becomes.0) range,
       fits_line channel frame (omega arith) (subst Bytes (sym becomes.2) held') (omega arith),
     )
@@ -87,8 +86,7 @@ block_fits section order block after channel frame range bytes (Holds number hel
     let size = ap length becomes.2 in
     let most = becomes.3 in
     let first = says.number in
-    let held' : Bytes held = subst Bytes (sym says.bytes) (bytes_take (length held) (drop 12 block) (bytes_drop 12 block bytes)) in
-    (
+    let held' : Bytes held = subst Bytes (sym says.bytes) (bytes_take (length held) (drop 12 block) (bytes_drop 12 block bytes)) in (
       subst (λ (s : Section). s.first < 2 ^ 32) (sym becomes.0) range,
       fits_line channel frame (omega arith) (subst Bytes (sym becomes.2) held') (omega arith),
     )

@@ -63,7 +63,7 @@ module _ {D : Type 0} (transition : D → Call → D → Type 0) where
       going_stops AreTold IsOutcome transition limit (s.came ++ piece) s.text (tells_end (Reads (Some piece))) (n + 1) old later new
       (going_read AreTold IsOutcome transition s.came s.text n old mid later s.going (state, rest, s.takes) piece call size) (omega arith) text e
       (λ front missing whole fault. stop_output e fault (s.came ++ piece) (s.text ++ front) missing state' rest' refusal
-        (subst (λ l. Takes Start (s.came ++ piece) state' rest' l refusal) (ap (λ l. s.text ++ l) whole ∙ sym (append_assoc s.text front missing)) all)) stops
+      (subst (λ l. Takes Start (s.came ++ piece) state' rest' l refusal) (ap (λ l. s.text ++ l) whole ∙ sym (append_assoc s.text front missing)) all)) stops
 
   -- a refusal ends a run
   refusal_ends : (limit : ℕ) (calls : List Call) (read written : List ℕ) (state : State) (rest : List ℕ) (error : CaptureError) → faults_of calls ≡ [] → bytes_read calls ≡ read
@@ -151,7 +151,6 @@ module _ {D : Type 0} (transition : D → Call → D → Type 0) where
   standing_all limit old new state rest s =
       let g = s.going in
       going_ends AreTold IsOutcome transition limit s.came s.text false limit old new g (Err TooManyReads) (omega arith) (g.faults, g.tells, g.reads) (state, rest, s.takes)
-
 
 -- nothing is called
 pub runs_nothing : {D : Type 0} (transition : D → Call → D → Type 0) (limit : ℕ) (old : D) → Runs transition limit old old (Err Memory)

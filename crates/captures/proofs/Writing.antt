@@ -119,8 +119,7 @@ module _ {D : Type 0} (transition : D → Call → D → Type 0) where
   writing_end limit count reads old mid later new rest text rest' written w g n fits t writes =
       let end = done count reads old mid later new rest text rest' written true w g n false t writes in
       let none = ended_rest rest g.piece text rest' n t.frames g.parts t.hands t.left.0 in
-      going_ends AreWritten IsWritten transition limit (w.came ++ g.piece) (w.text ++ written) true (reads + 1) old new end (Ok tt) (omega arith) (end.faults, end.tells)
-      (
+      going_ends AreWritten IsWritten transition limit (w.came ++ g.piece) (w.text ++ written) true (reads + 1) old new end (Ok tt) (omega arith) (end.faults, end.tells) (
         w.frames ++ t.frames,
         (count + n, subst (λ r. Hands (known_text true (w.came ++ g.piece)) (count + n) (w.frames ++ t.frames) r) none (lines count reads old mid later new rest text rest' written true w g n false t)),
         whole count reads old mid later new rest text rest' written true w g n false t,

@@ -1,4 +1,4 @@
-//! Capture files in and out: the packets of a capture as lines for `netlines`.
+//! Capture files in and out: the packets of a capture as lines for `netlines`, and a capture of such lines.
 #![tactic(auto)]
 
 mod block;
@@ -18,7 +18,6 @@ mod section_unit;
 mod state;
 mod unit;
 mod units;
-
 mod writer;
 
 pub use capture_error::CaptureError;

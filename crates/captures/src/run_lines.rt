@@ -122,11 +122,7 @@ struct Text {
 }
 
 // Reads behind the first `left` bytes, which begin a line. At the end that line is ended, if there is one.
-fn read_text<D: Device>(
-    device: &mut D,
-    input: &mut [u8],
-    left: usize,
-) -> Result<Text, RunError>
+fn read_text<D: Device>(device: &mut D, input: &mut [u8], left: usize) -> Result<Text, RunError>
     requires room { left < length input.old }
     requires size { length input.old ≡ INPUT_ROOM }
     ensures text { MatchResult result

@@ -26,7 +26,8 @@ impl<D: Device> Writer<D> {
         write_whole(&mut self.device, &FILE_HEADER)
     }
 
-    /// Writes a packet that is captured whole, with its time in seconds since 1970 and microseconds.
+    /// Writes a packet that is captured whole, with its time in seconds since 1970 and microseconds. A frame
+    /// of no bytes is a packet of which nothing was captured.
     pub fn write_packet(
         &mut self,
         seconds: u32,

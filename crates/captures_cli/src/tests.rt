@@ -29,7 +29,8 @@ const HEADER: &[u8; 24] = b"\
     \xd4\xc3\xb2\xa1\x02\x00\x04\x00\x00\x00\x00\x00\x00\x00\x00\x00\x00\x00\x04\x00\x01\x00\x00\x00";
 
 // A frame of two bytes, captured 1,700,000,000.25 seconds after 1970 began.
-const PACKET: &[u8; 18] = b"\x00\xf1\x53\x65\x90\xd0\x03\x00\x02\x00\x00\x00\x02\x00\x00\x00\x0a\xff";
+const PACKET: &[u8; 18] =
+    b"\x00\xf1\x53\x65\x90\xd0\x03\x00\x02\x00\x00\x00\x02\x00\x00\x00\x0a\xff";
 
 #[test]
 fn lines_are_made_a_capture_and_lines_again(rt: HostRuntime) -> Result<(), Fail> {
@@ -41,7 +42,10 @@ fn lines_are_made_a_capture_and_lines_again(rt: HostRuntime) -> Result<(), Fail>
     wanted.extend_from_slice(PACKET)?;
     assert_eq!(rt; capture.as_slice(), wanted.as_slice());
     let mut lines = Vec::new(alloc);
-    assert_eq!(rt; make(alloc, Mode::Lines, &mut capture.as_slice(), &mut lines), Ok(()));
+    assert_eq!(rt;
+        make(alloc, Mode::Lines, &mut capture.as_slice(), &mut lines),
+        Ok(())
+    );
     assert_eq!(rt; lines.as_slice(), b"frame 0 0aff\n".as_slice());
     Ok(())
 }
@@ -75,11 +79,31 @@ fn errors_have_messages_and_a_status(rt: HostRuntime) -> Result<(), Fail> {
         (RunError::Memory, "out of memory", 5),
         (RunError::TooManyReads, "too many reads", 5),
         (RunError::BadLine(7), "line 7 hands in no frame", 3),
-        (RunError::Capture(CaptureError::NotCapture), "no capture file", 3),
-        (RunError::Capture(CaptureError::LinkType(113)), "link type 113 is not Ethernet", 3),
-        (RunError::Capture(CaptureError::FrameTooLong(99_992)), "a packet of 99992 bytes is too long for a line", 3),
-        (RunError::Capture(CaptureError::CutOff), "the capture ends within a packet", 3),
-        (RunError::Capture(CaptureError::BadBlock), "a block is not well made", 3),
+        (
+            RunError::Capture(CaptureError::NotCapture),
+            "no capture file",
+            3,
+        ),
+        (
+            RunError::Capture(CaptureError::LinkType(113)),
+            "link type 113 is not Ethernet",
+            3,
+        ),
+        (
+            RunError::Capture(CaptureError::FrameTooLong(99_992)),
+            "a packet of 99992 bytes is too long for a line",
+            3,
+        ),
+        (
+            RunError::Capture(CaptureError::CutOff),
+            "the capture ends within a packet",
+            3,
+        ),
+        (
+            RunError::Capture(CaptureError::BadBlock),
+            "a block is not well made",
+            3,
+        ),
     ] {
         assert_eq!(rt; message(rt.alloc(), error)?.as_str(), text);
         assert_eq!(rt; exit_code(&rt, Err(error)), ExitCode::from(status));

@@ -49,8 +49,20 @@ fn each_length(rt: HostRuntime) -> Result<(), Fail> {
         (6, 36, [0, 0, 0, 4, 4, 0].as_slice(), Ok(()), 17),
         (6, 36, [0, 0, 0, 5, 5, 0].as_slice(), bad, 0),
         // As long as a line can hold, and one byte more.
-        (6, 100_024, [0, 0, 0, 99_991, 99_991].as_slice(), Ok(()), 199_991),
-        (6, 100_024, [0, 0, 0, 99_992, 99_992].as_slice(), too_long, 0),
+        (
+            6,
+            100_024,
+            [0, 0, 0, 99_991, 99_991].as_slice(),
+            Ok(()),
+            199_991,
+        ),
+        (
+            6,
+            100_024,
+            [0, 0, 0, 99_992, 99_992].as_slice(),
+            too_long,
+            0,
+        ),
         // As long as a block may be, a word more, and no whole words.
         (5, 262_144, [].as_slice(), Ok(()), 0),
         (5, 262_148, [].as_slice(), block_too_long, 0),

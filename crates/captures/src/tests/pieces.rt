@@ -78,14 +78,20 @@ fn reads_that_fail(rt: HostRuntime) -> Result<(), Fail> {
         rest: &LINES[..110],
         fails: true,
     };
-    assert_eq!(rt; write_capture(rt.alloc(), &mut reader, &mut capture), Err(RunError::Read));
+    assert_eq!(rt;
+        write_capture(rt.alloc(), &mut reader, &mut capture),
+        Err(RunError::Read)
+    );
     assert_eq!(rt; capture.len(), 90);
     let mut lines = Vec::new(rt.alloc());
     let mut reader = ByteReader {
         rest: capture.as_slice(),
         fails: true,
     };
-    assert_eq!(rt; run(rt.alloc(), &mut reader, &mut lines), Err(RunError::Read));
+    assert_eq!(rt;
+        run(rt.alloc(), &mut reader, &mut lines),
+        Err(RunError::Read)
+    );
     assert_eq!(rt; lines.as_slice(), &LINES[..109]);
     Ok(())
 }

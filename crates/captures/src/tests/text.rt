@@ -22,7 +22,10 @@ fn lines_come_back(rt: HostRuntime) -> Result<(), Fail> {
     assert_eq!(rt; result, Ok(()));
     assert!(rt; capture.len() >= 40);
     assert_eq!(rt; &capture.as_slice()[..24], HEADER.as_slice());
-    assert_eq!(rt; &capture.as_slice()[24..40], b"\0\0\0\0\0\0\0\0\x32\0\0\0\x32\0\0\0".as_slice());
+    assert_eq!(rt;
+        &capture.as_slice()[24..40],
+        b"\0\0\0\0\0\0\0\0\x32\0\0\0\x32\0\0\0".as_slice()
+    );
     let (result, lines) = lines_of(alloc, capture.as_slice())?;
     assert_eq!(rt; result, Ok(()));
     assert_eq!(rt; lines.as_slice(), LINES.as_slice());
@@ -36,10 +39,22 @@ fn each_line(rt: HostRuntime) -> Result<(), Fail> {
     for (text, wanted, packets) in [
         (b"".as_slice(), Ok(()), b"".as_slice()),
         // digits of either case, and a last line that nothing ends
-        (b"frame 0 0aFf", Ok(()), b"\0\0\0\0\0\0\0\0\x02\0\0\0\x02\0\0\0\x0a\xff"),
+        (
+            b"frame 0 0aFf",
+            Ok(()),
+            b"\0\0\0\0\0\0\0\0\x02\0\0\0\x02\0\0\0\x0a\xff",
+        ),
         // a time
-        (b"frame 4294967295 01 1700000000 250000\n", Ok(()), b"\x00\xf1\x53\x65\x90\xd0\x03\x00\x01\0\0\0\x01\0\0\0\x01"),
-        (b"frame 0 01 4294967295 999999\n", Ok(()), b"\xff\xff\xff\xff\x3f\x42\x0f\x00\x01\0\0\0\x01\0\0\0\x01"),
+        (
+            b"frame 4294967295 01 1700000000 250000\n",
+            Ok(()),
+            b"\x00\xf1\x53\x65\x90\xd0\x03\x00\x01\0\0\0\x01\0\0\0\x01",
+        ),
+        (
+            b"frame 0 01 4294967295 999999\n",
+            Ok(()),
+            b"\xff\xff\xff\xff\x3f\x42\x0f\x00\x01\0\0\0\x01\0\0\0\x01",
+        ),
         // a million microseconds, a second beyond 32 bits, half a time
         (b"frame 0 01 0 1000000\n", bad, b""),
         (b"frame 0 01 4294967296 0\n", bad, b""),
@@ -59,8 +74,16 @@ fn each_line(rt: HostRuntime) -> Result<(), Fail> {
         (b"Frame 0 01\n", bad, b""),
         (b"frame 0 01\r\n", bad, b""),
         // the packets before a bad line are written
-        (b"frame 0 01\nforget\nframe 0 02\n", Err(RunError::BadLine(2)), b"\0\0\0\0\0\0\0\0\x01\0\0\0\x01\0\0\0\x01"),
-        (b"frame 0 01\nframe 0 0", Err(RunError::BadLine(2)), b"\0\0\0\0\0\0\0\0\x01\0\0\0\x01\0\0\0\x01"),
+        (
+            b"frame 0 01\nforget\nframe 0 02\n",
+            Err(RunError::BadLine(2)),
+            b"\0\0\0\0\0\0\0\0\x01\0\0\0\x01\0\0\0\x01",
+        ),
+        (
+            b"frame 0 01\nframe 0 0",
+            Err(RunError::BadLine(2)),
+            b"\0\0\0\0\0\0\0\0\x01\0\0\0\x01\0\0\0\x01",
+        ),
     ] {
         let (result, capture) = capture_of(rt.alloc(), text)?;
         assert_eq!(rt; result, wanted);

@@ -17,8 +17,7 @@ returns-then-decode-clause-record c =
     let line = c.in_ok-line.line in
     let n = length line.digits.now / 2 in
     let found = decoded line.digits.now c.decode.new.bytes n c.decode.result (search rules) c.if-decode.true in
-    let time = line.time in
-    (
+    let time = line.time in (
       record { seconds = time.seconds; microseconds = time.microseconds; frame = c.decode.new.bytes },
       c.in_ok-line.ensures.frame ∙ ap (frame_at (Some time)) found.0 ∙ frame_is time c.decode.new.bytes (omega arith) (omega arith),
       record_put c.args.out.now c.append-start.new.out c.decode.new.bytes c.record_head-head.result c.args.used c.append-start.result n _ time (search rules) found.1 (omega arith)
