@@ -1,0 +1,3 @@
+pub mod Transport
+pub mod TransportChecksum
+pub mod TransportLends

@@ -1,0 +1,3 @@
+//! Why bytes are no packet, and why a packet has no checksum.
+
+pub mod packet;

@@ -1,0 +1,3 @@
+//! Laws: functions that do nothing, and whose contracts are what the definitions promise.
+
+pub mod traits;

@@ -1,0 +1,11 @@
+//! Packets of any of the protocols: what their layers have in common.
+#![tactic(auto)]
+
+pub mod err;
+pub mod laws;
+mod transport;
+
+pub use transport::{TransportHeader, TransportSlice};
+
+#[cfg(test)]
+mod tests;

@@ -1,0 +1,4 @@
+//! Tests of what no contract says.
+mod errors;
+mod transport_header;
+mod transport_slice;

@@ -1,0 +1,7 @@
+//! What the transport protocols have in common.
+
+mod transport_header;
+mod transport_slice;
+
+pub use transport_header::TransportHeader;
+pub use transport_slice::TransportSlice;
