@@ -2,13 +2,13 @@ pub mod CallLemmas
 pub mod CommandLaws
 pub mod CommandLemmas
 pub mod Feeding
+pub mod FrameLemmas
 pub mod Going
+pub mod Ipv6Lemmas
 pub mod JudgeLemmas
 pub mod KnownLemmas
 pub mod LineLemmas
 pub mod MemoryLemmas
-pub mod PacketLaws
-pub mod PacketLemmas
 pub mod PostLemmas
 pub mod PostedAnswer
 pub mod PostedClass

@@ -25,7 +25,7 @@ message_answer number verdict message =
     codes "message " ++ decimal number ++ codes " " ++ verdict_word verdict ++ codes " " ++ hex_word message
 
 abbrev pub class_answer : Class → List ℕ
-class_answer (Whole source destination number message) = message_answer number (verdict_of source destination message) message
+class_answer (Whole addresses number message) = message_answer number (verdict_of addresses number message) message
 class_answer Other = codes "other"
 class_answer Refused = codes "refused frame"
 

@@ -3,13 +3,13 @@ pub mod Calls
 pub mod Class
 pub mod Ethernet
 pub mod FrameClass
+pub mod Ipv6
 pub mod Known
 pub mod Letter
 pub mod Lines
-pub mod Packet
+pub mod Message
 pub mod PostRefusal
 pub mod Posted
 pub mod Runs
-pub mod Udp
 pub mod Verdict
 pub mod Writes

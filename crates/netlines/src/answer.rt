@@ -54,8 +54,8 @@ fn write_frame_answer(frame: &[u8], out: &mut [u8]) -> usize
 {
     match classify(frame) {
         FrameClass::Whole(datagram) => {
-            let verdict = judge(datagram.source, datagram.destination, &datagram.message);
-            write_message(datagram.number.0, verdict, datagram.message.bytes(), out)
+            let verdict = judge(&datagram.addresses, &datagram.message);
+            write_message(datagram.number.0, verdict, datagram.bytes, out)
         }
         FrameClass::Other => append(out, 0, b"other"),
         FrameClass::Refused => append(out, 0, b"refused frame"),

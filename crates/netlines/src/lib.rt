@@ -2,6 +2,7 @@
 //! lines hold.
 #![tactic(auto)]
 
+mod addresses;
 mod answer;
 mod command;
 pub mod device;
@@ -9,19 +10,18 @@ mod ethernet;
 mod frame;
 mod in_memory;
 mod ip_frag_version_spec_id;
-mod ipv4_packet;
 mod judge;
 pub mod laws;
 mod letter;
 mod limits;
 mod line_answerer;
+mod message;
 mod output;
 mod post_error;
 mod post_message;
 mod reply_buffer;
 mod run_error;
 mod run_lines;
-mod udp_message;
 
 pub use ep_tag::VlanId;
 pub use in_memory::answers;

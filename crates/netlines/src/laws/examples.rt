@@ -1,5 +1,5 @@
-//! Worked examples of the definitions. The answers were worked out by hand after RFC 768, 791 and
-//! 1071.
+//! Worked examples of the definitions. The answers were worked out by hand after RFC 768, 791, 1071,
+//! 8200 and 9293.
 ghost use Rattle.std.specs.Prelude.{◌≡◌, [], ◌∷◌, codes, Some, None};
 ghost use Rattle.netlines.specs.Answers.{answer_of, message_answer};
 ghost use Rattle.netlines.specs.PostRefusal.{bad_cut};
@@ -17,6 +17,31 @@ pub fn lines_have_answers()
     ensures other { answer_of (codes "frame 0 0200000000020200000000011234") ≡ codes "other" }
     ensures refused { answer_of (codes "frame 0 02000000000202000000000108") ≡ codes "refused frame" }
     ensures bad_line { answer_of (codes "frame 0 0") ≡ codes "bad line" }
+{}
+
+/// What lines with TCP are answered: a segment over IPv4 and one over IPv6, both with a right
+/// checksum, one whose checksum field is 0, which is a checksum as any other, and one whose data
+/// offset is 4.
+pub fn segments_have_answers()
+    ensures v4 { answer_of (codes "frame 0 02000000000202000000000108004500002800070000400666c70a0000010a0000020001000200000003000000005002040097da0000")
+        ≡ codes "message 6 good 0001000200000003000000005002040097da0000" }
+    ensures v6 { answer_of (codes "frame 0 02000000000202000000000186dd6000000000140640fd000000000000000000000000000001fd00000000000000000000000000000200010002000000030000000050020400b1d80000")
+        ≡ codes "message 6 good 00010002000000030000000050020400b1d80000" }
+    ensures zero { answer_of (codes "frame 0 02000000000202000000000108004500002800070000400666c70a0000010a0000020001000200000003000000005002040000000000")
+        ≡ codes "message 6 bad 0001000200000003000000005002040000000000" }
+    ensures refused { answer_of (codes "frame 0 02000000000202000000000108004500002800070000400666c70a0000010a0000020001000200000003000000004002040097da0000")
+        ≡ codes "refused frame" }
+{}
+
+/// What lines with IPv6 are answered: a UDP message behind destination options, the same in a
+/// fragment, and a packet that says it is longer than it is.
+pub fn ipv6_lines_have_answers()
+    ensures behind_options { answer_of (codes "frame 0 02000000000202000000000186dd6000000000183c40fd000000000000000000000000000001fd0000000000000000000000000000021100010400000000000100020010f5b20102030405060708")
+        ≡ codes "message 17 good 000100020010f5b20102030405060708" }
+    ensures fragment { answer_of (codes "frame 0 02000000000202000000000186dd6000000000182c40fd000000000000000000000000000001fd0000000000000000000000000000021100000100000007000100020010f5b20102030405060708")
+        ≡ codes "other" }
+    ensures cut_off { answer_of (codes "frame 0 02000000000202000000000186dd6000000000111140fd000000000000000000000000000001fd000000000000000000000000000002000100020010f5b20102030405060708")
+        ≡ codes "refused frame" }
 {}
 
 /// The answer with an empty message has a dash for it.
