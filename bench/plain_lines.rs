@@ -1,7 +1,8 @@
 //! The job of the program `netlines` in plain Rust, as a measure for its speed: reads lines
 //! `frame CHANNEL HEX` from standard input and writes the answer to each on standard output.
 //!
-//! It reads unfragmented UDP over IPv4. What else is no fault of the line or the frame is `other`.
+//! It reads unfragmented TCP and UDP over IPv4 and IPv6. What else is no fault of the line or the
+//! frame is `other`.
 
 use std::fs::File;
 use std::io::{self, BufRead, Read, Write};
@@ -13,7 +14,17 @@ const LONGEST_LINE: usize = 200_000;
 
 const ETHERNET_LEN: usize = 14;
 const IPV4_TYPE: [u8; 2] = [0x08, 0x00];
+const IPV6_TYPE: [u8; 2] = [0x86, 0xdd];
 const IPV4_MIN_LEN: usize = 20;
+const IPV6_LEN: usize = 40;
+const HOP_BY_HOP: u8 = 0;
+const ROUTING: u8 = 43;
+const FRAGMENT: u8 = 44;
+const AUTHENTICATION: u8 = 51;
+const DESTINATION: u8 = 60;
+const FRAGMENT_LEN: usize = 8;
+const TCP: u8 = 6;
+const TCP_MIN_LEN: usize = 20;
 const UDP: u8 = 17;
 const UDP_LEN: usize = 8;
 
@@ -35,16 +46,15 @@ enum Answer<'a> {
     BadLine,
     RefusedFrame,
     Other,
-    Udp(&'static str, &'a [u8]),
+    Message(u8, &'static str, &'a [u8]),
 }
 
-enum Packet<'a> {
-    Fragment,
-    Whole {
-        protocol: u8,
-        addresses: &'a [u8; 8],
-        payload: &'a [u8],
-    },
+struct Packet<'a> {
+    /// Source and destination.
+    addresses: &'a [u8],
+    is_fragment: bool,
+    protocol: u8,
+    payload: &'a [u8],
 }
 
 fn main() -> io::Result<()> {
@@ -112,8 +122,11 @@ fn append_answer(answers: &mut Vec<u8>, answer: &Answer) {
         Answer::BadLine => answers.extend_from_slice(b"bad line"),
         Answer::RefusedFrame => answers.extend_from_slice(b"refused frame"),
         Answer::Other => answers.extend_from_slice(b"other"),
-        Answer::Udp(verdict, message) => {
-            answers.extend_from_slice(b"message 17 ");
+        Answer::Message(protocol, verdict, message) => {
+            answers.extend_from_slice(match *protocol {
+                TCP => b"message 6 ".as_slice(),
+                _ => b"message 17 ",
+            });
             answers.extend_from_slice(verdict.as_bytes());
             answers.push(b' ');
             append_hex(answers, message);
@@ -184,17 +197,15 @@ fn answer_frame(frame: &[u8]) -> Answer<'_> {
     let Some((ethernet, rest)) = frame.split_at_checked(ETHERNET_LEN) else {
         return Answer::RefusedFrame;
     };
-    if ethernet[12..] != IPV4_TYPE {
-        return Answer::Other;
-    }
-    match read_ipv4(rest) {
+    let packet = match [ethernet[12], ethernet[13]] {
+        IPV4_TYPE => read_ipv4(rest),
+        IPV6_TYPE => read_ipv6(rest),
+        _ => return Answer::Other,
+    };
+    match packet {
         None => Answer::RefusedFrame,
-        Some(Packet::Whole {
-            protocol: UDP,
-            addresses,
-            payload,
-        }) => answer_udp(addresses, payload),
-        Some(_) => Answer::Other,
+        Some(packet) if packet.is_fragment => Answer::Other,
+        Some(packet) => answer_packet(&packet),
     }
 }
 
@@ -207,38 +218,114 @@ fn read_ipv4(bytes: &[u8]) -> Option<Packet<'_>> {
         return None;
     }
     // What lies behind the total length is padding.
-    let payload = bytes.get(header_len..total_len)?;
+    let body = bytes.get(header_len..total_len)?;
+    let (protocol, payload) = match header[9] {
+        AUTHENTICATION => (*body.first()?, body.get(authentication_len(body)?..)?),
+        protocol => (protocol, body),
+    };
     let more_and_offset = u16::from_be_bytes([header[6], header[7]]) & 0x3fff;
-    Some(if more_and_offset != 0 {
-        Packet::Fragment
-    } else {
-        Packet::Whole {
-            protocol: header[9],
-            addresses: header[12..].try_into().ok()?,
-            payload,
-        }
+    Some(Packet {
+        addresses: &bytes[12..IPV4_MIN_LEN],
+        is_fragment: more_and_offset != 0,
+        protocol,
+        payload,
     })
 }
 
-/// The answer to a datagram (RFC 768): refused where its length field isn't 0 and names too many
-/// or too few bytes.
-fn answer_udp<'a>(addresses: &[u8; 8], datagram: &'a [u8]) -> Answer<'a> {
-    if datagram.len() < UDP_LEN {
-        return Answer::RefusedFrame;
+/// The packet at the front (RFC 8200, 3 and 4).
+fn read_ipv6(bytes: &[u8]) -> Option<Packet<'_>> {
+    let (header, behind) = bytes.split_first_chunk::<IPV6_LEN>()?;
+    if header[0] >> 4 != 6 {
+        return None;
     }
-    let summed = match usize::from(u16::from_be_bytes([datagram[4], datagram[5]])) {
-        0 => datagram,
-        length if length < UDP_LEN || length > datagram.len() => return Answer::RefusedFrame,
-        length => &datagram[..length],
+    // What lies behind the payload length is padding. A length of 0 takes all.
+    let mut rest = match usize::from(u16::from_be_bytes([header[4], header[5]])) {
+        0 => behind,
+        len => behind.get(..len)?,
     };
-    let verdict = if datagram[6..UDP_LEN] == [0, 0] {
+    let mut protocol = header[6];
+    let mut is_first = true;
+    let mut is_fragment = false;
+    loop {
+        let len = match protocol {
+            HOP_BY_HOP if !is_first => return None,
+            HOP_BY_HOP | ROUTING | DESTINATION => 8 * (usize::from(*rest.get(1)?) + 1),
+            FRAGMENT => FRAGMENT_LEN,
+            AUTHENTICATION => authentication_len(rest)?,
+            _ => break,
+        };
+        let (extension, behind) = rest.split_at_checked(len)?;
+        if protocol == FRAGMENT {
+            is_fragment |= u16::from_be_bytes([extension[2], extension[3]]) & 0xfff9 != 0;
+        }
+        protocol = extension[0];
+        rest = behind;
+        is_first = false;
+    }
+    Some(Packet {
+        addresses: &bytes[8..IPV6_LEN],
+        is_fragment,
+        protocol,
+        payload: rest,
+    })
+}
+
+/// The length that an authentication header states (RFC 4302, 2.2).
+fn authentication_len(bytes: &[u8]) -> Option<usize> {
+    match *bytes.get(1)? {
+        0 => None,
+        words => Some(4 * (usize::from(words) + 2)),
+    }
+}
+
+fn answer_packet<'a>(packet: &Packet<'a>) -> Answer<'a> {
+    let verdict = match packet.protocol {
+        TCP => judge_tcp(packet),
+        UDP => judge_udp(packet),
+        _ => return Answer::Other,
+    };
+    match verdict {
+        None => Answer::RefusedFrame,
+        Some(verdict) => Answer::Message(packet.protocol, verdict, packet.payload),
+    }
+}
+
+/// The verdict on a segment (RFC 9293, 3.1), if its data offset fits.
+fn judge_tcp(packet: &Packet) -> Option<&'static str> {
+    let (header, _) = packet.payload.split_first_chunk::<TCP_MIN_LEN>()?;
+    let header_len = 4 * usize::from(header[12] >> 4);
+    if header_len < TCP_MIN_LEN || header_len > packet.payload.len() {
+        return None;
+    }
+    Some(judge_sum(packet, packet.payload))
+}
+
+/// The verdict on a datagram (RFC 768), if its length field is 0 or names neither too many nor too
+/// few bytes.
+fn judge_udp(packet: &Packet) -> Option<&'static str> {
+    let datagram = packet.payload;
+    let (header, _) = datagram.split_first_chunk::<UDP_LEN>()?;
+    let summed = match usize::from(u16::from_be_bytes([header[4], header[5]])) {
+        0 => datagram,
+        length if length < UDP_LEN => return None,
+        length => datagram.get(..length)?,
+    };
+    Some(if header[6..] == [0, 0] {
         "none"
-    } else if is_all_ones(total(addresses) + u64::from(UDP) + summed.len() as u64 + total(summed)) {
+    } else {
+        judge_sum(packet, summed)
+    })
+}
+
+/// The verdict on the sum of pseudo header and message. (Over IPv6 the length has two words, whose
+/// sum leaves the same rest as the length itself.)
+fn judge_sum(packet: &Packet, summed: &[u8]) -> &'static str {
+    let pseudo = total(packet.addresses) + u64::from(packet.protocol) + summed.len() as u64;
+    if is_all_ones(pseudo + total(summed)) {
         "good"
     } else {
         "bad"
-    };
-    Answer::Udp(verdict, datagram)
+    }
 }
 
 /// The sum of the 16-bit words, an odd last byte followed by a zero byte (RFC 1071).
