@@ -1,4 +1,4 @@
-use crate::{TcpHeader, TcpHeaderSlice, TcpSlice, UdpHeader};
+use crate::{TcpHeader, TcpHeaderSlice, TcpOptions, TcpSlice, UdpHeader, laws};
 use ep_base::err::{ValueTooBigError, ValueType};
 use ep_base::{IpNumber, Ipv6FlowLabel};
 use ep_ip::{Ipv4Header, Ipv4HeaderSlice, Ipv6Header, Ipv6HeaderSlice};
@@ -90,6 +90,72 @@ fn udp_payload_too_long(rt: HostRuntime) -> Result<(), Fail> {
         true
     );
     Ok(())
+}
+
+// The greatest payload, of zeros: other tools give ebe8 over IPv4 and 05e7 over IPv6.
+#[test]
+fn udp_greatest_payload(rt: HostRuntime) -> Result<(), Fail> {
+    let payload = vec![in rt.alloc(); 0; 65527]?;
+    let over_v4 = UdpHeader::with_ipv4_checksum(1, 2, &ipv4_header(IpNumber::UDP)?, &payload)?;
+    assert_eq!(rt; (over_v4.length, over_v4.checksum), (65535, 0xebe8));
+    let over_v6 = UdpHeader::with_ipv6_checksum(1, 2, &ipv6_header(IpNumber::UDP), &payload)?;
+    assert_eq!(rt; (over_v6.length, over_v6.checksum), (65535, 0x05e7));
+    Ok(())
+}
+
+// The header from port 1 to port 2 with the number 3 and the window 1024.
+fn tcp_header() -> TcpHeader {
+    TcpHeader::new(1, 2, 3, 1024)
+}
+
+fn too_long(actual: usize, max_allowed: usize) -> Option<ValueTooBigError<usize>> {
+    Some(ValueTooBigError {
+        actual,
+        max_allowed,
+        value_type: ValueType::TcpPayloadLengthIpv4,
+    })
+}
+
+// The greatest payload over IPv4, of ones, behind headers of 20 and of 60 bytes, and one byte more: other
+// tools give 217b and 817a. (Over IPv6 the limit is above 4 gigabytes; `laws::examples` has it.)
+#[test]
+fn tcp_greatest_payload(rt: HostRuntime) -> Result<(), Fail> {
+    let payload = vec![in rt.alloc(); 1; 65516]?;
+    let mut header = tcp_header();
+    let greatest = header.calc_checksum_ipv4_raw(V4.0, V4.1, &payload[1..])?;
+    assert_eq!(rt; greatest, 0x217b);
+    let more = header.calc_checksum_ipv4_raw(V4.0, V4.1, &payload);
+    assert_eq!(rt; more.err(), too_long(65516, 65515));
+    header.options = TcpOptions::from([1; 40]);
+    let greatest = header.calc_checksum_ipv4_raw(V4.0, V4.1, &payload[41..])?;
+    assert_eq!(rt; greatest, 0x817a);
+    let more = header.calc_checksum_ipv4_raw(V4.0, V4.1, &payload[40..]);
+    assert_eq!(rt; more.err(), too_long(65476, 65475));
+    let over_v6 = header.calc_checksum_ipv6_raw(V6.0, V6.1, &payload);
+    assert_eq!(rt; over_v6.is_ok(), true);
+    Ok(())
+}
+
+// The first segment below with its three reserved bits set: slices sum them as they stand, which gives
+// 89da over IPv4 and a3d8 over IPv6, and fields don't have them.
+#[test]
+fn tcp_reserved_bits_are_summed(rt: HostRuntime) -> Result<(), Fail> {
+    let mut bytes = SYN;
+    bytes[12] = 0x5e;
+    let segment = TcpSlice::from_slice(&bytes)?;
+    assert_eq!(rt; segment.calc_checksum_ipv4(V4.0, V4.1)?, 0x89da);
+    assert_eq!(rt; segment.calc_checksum_ipv6(V6.0, V6.1)?, 0xa3d8);
+    let header = TcpHeaderSlice::from_slice(&bytes)?;
+    assert_eq!(rt; header.calc_checksum_ipv4_raw(V4.0, V4.1, &[])?, 0x89da);
+    let fields = header.to_header();
+    assert_eq!(rt; fields.calc_checksum_ipv4_raw(V4.0, V4.1, &[])?, 0x97da);
+    Ok(())
+}
+
+#[test]
+fn laws_are_called() {
+    laws::examples::checksums();
+    laws::examples::greatest_lengths();
 }
 
 #[test]

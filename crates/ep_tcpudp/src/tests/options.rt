@@ -3,6 +3,7 @@ use crate::{
     TcpHeader, TcpOptionElement, TcpOptionReadError, TcpOptionWriteError, TcpOptions,
     TcpOptionsIterator, laws, tcp_option,
 };
+use std::process::Abort;
 use std::test::*;
 
 // What the options of these bytes begin with.
@@ -154,28 +155,44 @@ fn nothing_behind_the_end(rt: HostRuntime) {
     assert_eq!(rt; faulty.rest().len(), 0);
 }
 
-// Each kind that has one size: with a byte too few, and with a size that is one too great.
-#[test]
-fn sizes_of_kinds(rt: HostRuntime) {
-    for (kind, size) in [(2u8, 4u8), (3, 3), (4, 2), (8, 10)] {
-        let mut bytes = [0; 10];
-        bytes[0] = kind;
-        bytes[1] = size;
-        let want = TcpOptionReadError::UnexpectedEndOfSlice {
-            option_id: kind,
-            expected_len: size,
-            actual_len: usize::from(size) - 1,
-        };
-        assert_eq!(rt; first(&bytes[..usize::from(size) - 1]), Some(Err(want)));
-        bytes[1] = size + 1;
-        let wrong = TcpOptionReadError::UnexpectedSize {
-            option_id: kind,
-            size: size + 1,
-        };
-        assert_eq!(rt; first(&bytes), Some(Err(wrong)));
+// A kind that has one size: with each number of bytes too few, and with each wrong size.
+fn one_size(rt: &impl Abort, kind: u8, size: u8) {
+    let mut bytes = [0; 10];
+    bytes[0] = kind;
+    bytes[1] = size;
+    for len in 1..10usize {
+        if len < usize::from(size) {
+            let want = TcpOptionReadError::UnexpectedEndOfSlice {
+                option_id: kind,
+                expected_len: size,
+                actual_len: len,
+            };
+            assert_eq!(rt; first(&bytes[..len]), Some(Err(want)));
+        }
+    }
+    for wrong in 0..=255u8 {
+        if wrong != size {
+            bytes[1] = wrong;
+            let other = TcpOptionReadError::UnexpectedSize {
+                option_id: kind,
+                size: wrong,
+            };
+            assert_eq!(rt; first(&bytes), Some(Err(other)));
+        }
     }
 }
 
+// RFC 9293, section 3.2; RFC 7323, sections 2.2 and 3.2; RFC 2018, section 2.
+#[test]
+fn sizes_of_kinds(rt: HostRuntime) {
+    one_size(&rt, 2, 4);
+    one_size(&rt, 3, 3);
+    one_size(&rt, 4, 2);
+    one_size(&rt, 8, 10);
+}
+
+// Of a selective acknowledgement first the size is looked at, and then whether its bytes are there
+// (RFC 2018, section 3): with each wrong size, and each number of bytes too few.
 #[test]
 fn sizes_of_acknowledgements(rt: HostRuntime) {
     let end = |expected_len, actual_len| {
@@ -186,17 +203,71 @@ fn sizes_of_acknowledgements(rt: HostRuntime) {
         }))
     };
     assert_eq!(rt; first(&[5]), end(2, 1));
-    assert_eq!(rt; first(&[5, 10, 0]), end(10, 3));
-    assert_eq!(rt; first(&[5, 34, 0]), end(34, 3));
-    for size in [0u8, 2, 9, 11, 42] {
-        let wrong = TcpOptionReadError::UnexpectedSize { option_id: 5, size };
-        assert_eq!(rt; first(&[5, size]), Some(Err(wrong)));
+    let mut bytes = [0; 34];
+    bytes[0] = 5;
+    for size in 0..=255u8 {
+        bytes[1] = size;
+        if size == 10 || size == 18 || size == 26 || size == 34 {
+            for len in 2..34usize {
+                if len < usize::from(size) {
+                    assert_eq!(rt; first(&bytes[..len]), end(size, len));
+                }
+            }
+        } else {
+            let wrong = TcpOptionReadError::UnexpectedSize { option_id: 5, size };
+            assert_eq!(rt; first(&bytes[..2]), Some(Err(wrong)));
+        }
     }
 }
 
+// Every kind that the table of options doesn't have, with any size.
 #[test]
-fn law_is_called() {
+fn unknown_kinds(rt: HostRuntime) {
+    for kind in 6..=255u8 {
+        if kind != 8 {
+            let unknown = TcpOptionReadError::UnknownId(kind);
+            assert_eq!(rt; first(&[kind, 2, 0, 0]), Some(Err(unknown)));
+            assert_eq!(rt; first(&[kind]), Some(Err(unknown)));
+        }
+    }
+}
+
+// Options of two to ten words by value; of one word see above.
+#[test]
+fn options_of_words(rt: HostRuntime) {
+    let lengths = [
+        TcpOptions::from([1; 8]).len(),
+        TcpOptions::from([1; 12]).len(),
+        TcpOptions::from([1; 16]).len(),
+        TcpOptions::from([1; 20]).len(),
+        TcpOptions::from([1; 24]).len(),
+        TcpOptions::from([1; 28]).len(),
+        TcpOptions::from([1; 32]).len(),
+        TcpOptions::from([1; 36]).len(),
+        TcpOptions::from([1; 40]).len(),
+    ];
+    assert_eq!(rt; lengths, [8, 12, 16, 20, 24, 28, 32, 36, 40]);
+    assert_eq!(rt;
+        TcpOptions::from(FIRST_SEGMENT).as_slice(),
+        FIRST_SEGMENT.as_slice()
+    );
+}
+
+#[test]
+fn iterators_are_equal_by_what_is_left(rt: HostRuntime) {
+    let mut items = TcpOptionsIterator::from_slice(&[1, 1, 0]);
+    assert_eq!(rt; items == TcpOptionsIterator::from_slice(&[1, 0]), false);
+    items.next();
+    assert_eq!(rt; items == TcpOptionsIterator::from_slice(&[1, 0]), true);
+}
+
+#[test]
+fn laws_are_called() {
     laws::tcp::elements_come_back();
+    laws::tcp::items_are_elements();
+    laws::examples::options_read();
+    laws::examples::options_refused();
+    laws::examples::options_written();
 }
 
 #[test]
@@ -208,6 +279,14 @@ fn errors_as_text(rt: HostRuntime) -> Result<(), Fail> {
         option_id: 3,
         size: 4,
     };
+    let short = TcpOptionReadError::UnexpectedEndOfSlice {
+        option_id: 2,
+        expected_len: 4,
+        actual_len: 3,
+    };
+    let text = format!(in alloc; "{short}")?;
+    let wanted = "TCP option of kind 2: 4 byte(s) are needed, and 3 are left";
+    assert_eq!(rt; text.as_str(), wanted);
     let text = format!(in alloc; "{wrong}")?;
     let wanted = "TCP option of kind 3: the length byte is 4, which this kind doesn't have";
     assert_eq!(rt; text.as_str(), wanted);

@@ -176,11 +176,53 @@ fn faults_in_order(rt: HostRuntime) {
         TcpHeader::from_slice(&BYTES[..23]).err(),
         Some(too_short(24, 23))
     );
+}
+
+// Every data offset below 5, whatever the reserved bits and ns are.
+#[test]
+fn data_offsets_below_five(rt: HostRuntime) {
     let mut bytes = BYTES;
-    bytes[12] = 0x4f;
+    for data_offset in 0..5u8 {
+        let small = HeaderSliceError::Content(HeaderError::DataOffsetTooSmall { data_offset });
+        bytes[12] = data_offset * 16 + 15;
+        assert_eq!(rt; TcpSlice::from_slice(&bytes).err(), Some(small));
+        bytes[12] = data_offset * 16;
+        assert_eq!(rt; TcpHeaderSlice::from_slice(&bytes).err(), Some(small));
+    }
+}
+
+// Every data offset that says more than the 26 bytes that are there.
+#[test]
+fn data_offsets_above_the_bytes(rt: HostRuntime) {
+    let mut bytes = BYTES;
+    for data_offset in 7..16u8 {
+        let short = too_short(4 * usize::from(data_offset), 26);
+        bytes[12] = data_offset * 16;
+        assert_eq!(rt; TcpSlice::from_slice(&bytes).err(), Some(short));
+        assert_eq!(rt; TcpHeader::from_slice(&bytes).err(), Some(short));
+    }
+}
+
+// The place of a want of bytes moves; a fault of the content names none.
+#[test]
+fn errors_seen_from_further_out(rt: HostRuntime) {
+    let short = HeaderSliceError::Len(LenError {
+        required_len: 20,
+        len: 19,
+        len_source: LenSource::Slice,
+        layer: Layer::TcpHeader,
+        layer_start_offset: 0,
+    });
+    let moved = HeaderSliceError::Len(LenError {
+        required_len: 20,
+        len: 19,
+        len_source: LenSource::Slice,
+        layer: Layer::TcpHeader,
+        layer_start_offset: 34,
+    });
+    assert_eq!(rt; short.add_slice_offset(34), moved);
     let small = HeaderSliceError::Content(HeaderError::DataOffsetTooSmall { data_offset: 4 });
-    assert_eq!(rt; TcpSlice::from_slice(&bytes).err(), Some(small));
-    assert_eq!(rt; TcpHeaderSlice::from_slice(&bytes).err(), Some(small));
+    assert_eq!(rt; small.add_slice_offset(34), small);
 }
 
 #[test]
@@ -232,5 +274,8 @@ fn laws_are_called(rt: HostRuntime) -> Result<(), Fail> {
         Ordering::Less
     );
     laws::tcp::options_hash_as_bytes(&a, &mut FoldHasher::default());
+    laws::tcp::header_lengths();
+    laws::examples::tcp_fields();
+    laws::examples::tcp_headers_found();
     Ok(())
 }

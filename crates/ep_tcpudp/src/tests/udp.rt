@@ -99,8 +99,13 @@ fn lengths_of_datagrams(rt: HostRuntime) -> Result<(), Fail> {
     assert_eq!(rt; UdpSlice::from_slice(&datagram_of(10))?.payload().len(), 2);
     let beyond = want(11, 10, LenSource::Slice, Layer::UdpPayload);
     assert_eq!(rt; UdpSlice::from_slice(&datagram_of(11)).err(), Some(beyond));
-    let below = want(8, 7, LenSource::UdpHeaderLen, Layer::UdpHeader);
-    assert_eq!(rt; UdpSlice::from_slice(&datagram_of(7)).err(), Some(below));
+    for length in 1..8u8 {
+        let below = want(8, length.into(), LenSource::UdpHeaderLen, Layer::UdpHeader);
+        assert_eq!(rt;
+            UdpSlice::from_slice(&datagram_of(length)).err(),
+            Some(below)
+        );
+    }
     let short = want(8, 7, LenSource::Slice, Layer::UdpHeader);
     assert_eq!(rt; UdpSlice::from_slice(&[0; 7]).err(), Some(short));
     Ok(())
@@ -131,6 +136,10 @@ fn laws_are_called(rt: HostRuntime) -> Result<(), Fail> {
     assert_eq!(rt; header, fields());
     assert_eq!(rt; rest.len(), 10);
     laws::traits::copies_are_values();
+    laws::traits::copies_never_fail();
     laws::traits::equals_are_same();
+    laws::udp::header_lengths();
+    laws::examples::udp_datagrams();
+    laws::examples::udp_refused();
     Ok(())
 }
