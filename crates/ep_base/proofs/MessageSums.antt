@@ -1,8 +1,8 @@
 -- The sum of a message with a checksum in it.
-use Rattle.std.proofs.Common.{◌≡◌, ◌∙◌, ap, refl, ℕ, zero, suc, ◌+◌, ◌-◌, ◌%◌, ◌<◌, ◌≤◌, Bool, true, IsTrue, not, ◌&&◌, eqb, List, ◌++◌, length, arith}
+use Rattle.std.proofs.Common.{◌≡◌, ap, refl, ℕ, zero, suc, ◌+◌, ◌-◌, ◌%◌, ◌<◌, ◌≤◌, Bool, true, IsTrue, not, ◌&&◌, eqb, List, ◌++◌, length, arith}
 use Rattle.std.proofs.lemmas.Bool.{eq-eqb, ne_eqb}
 use Rattle.std.specs.Int.{w16, to_be_bytes}
-use Rattle.ep_base.specs.Sum.{all_ones, checksum, fold, no_zero, total}
+use Rattle.ep_base.specs.Sum.{fold, no_zero, total}
 use Rattle.ep_base.specs.MessageSum.{with_word, ChecksumSumsToAllOnes, NoZeroSumsToAllOnes}
 use Rattle.ep_base.proofs.Totals.{total-append}
 
@@ -34,6 +34,12 @@ total-with_word : (before after : List ℕ) (word : ℕ) → length before % 2 �
 unfolding total
 total-with_word before after word even small =
     omega (arith, total-append before (to_be_bytes w16 word ++ after) even, total-append before (to_be_bytes w16 0 ++ after) even)
+
+-- a word of zeros adds nothing
+pub total-zero_word : (before after : List ℕ) → length before % 2 ≡ 0 → total (before ++ after) ≡ total (with_word before 0 after)
+unfolding total
+total-zero_word before after even =
+    omega (arith, total-append before after even, total-append before (to_be_bytes w16 0 ++ after) even)
 
 pub checksum_sums : ChecksumSumsToAllOnes
 checksum_sums before after even =

@@ -1,6 +1,6 @@
 -- The Internet checksum of a message (RFC 1071; RFC 768; RFC 9293, section 3.1; RFC 4443, section
 -- 2.3): it covers a pseudo header, a header with its checksum as 0, and a payload.
-use Rattle.std.specs.Prelude.{◌≡◌, ℕ, ◌%◌, List, ◌∷◌, ◌++◌, length, IsTrue}
+use Rattle.std.specs.Prelude.{◌≡◌, ℕ, ◌%◌, List, ◌++◌, length, IsTrue}
 use Rattle.std.specs.Int.{w16, to_be_bytes}
 use Rattle.ep_base.specs.Sum.{all_ones, checksum, fold, no_zero, total}
 
