@@ -7,8 +7,8 @@ use Rattle.netlines.specs.Class.Class.{Whole, Other, Refused}
 use Rattle.netlines.specs.Lines.{Command, command_of, lines_of, ended_lines_of}
 use Rattle.netlines.specs.Lines.Command.{Frame, Bad}
 use Rattle.netlines.specs.Verdict.{verdict_of}
-use Rattle.netlines.specs.declared.judge.Verdict.{Verdict}
-use Rattle.netlines.specs.declared.judge.Verdict.TheVariants as verdict
+use Rattle.netlines.specs.declared.verdict.Verdict.{Verdict}
+use Rattle.netlines.specs.declared.verdict.Verdict.TheVariants as verdict
 
 abbrev pub verdict_word : Verdict → List ℕ
 verdict_word verdict.Good = codes "good"
@@ -25,7 +25,7 @@ message_answer number verdict message =
     codes "message " ++ decimal number ++ codes " " ++ verdict_word verdict ++ codes " " ++ hex_word message
 
 abbrev pub class_answer : Class → List ℕ
-class_answer (Whole addresses number message) = message_answer number (verdict_of addresses number message) message
+class_answer (Whole addresses number bytes message) = message_answer number (verdict_of addresses message) bytes
 class_answer Other = codes "other"
 class_answer Refused = codes "refused frame"
 

@@ -1,5 +1,6 @@
 pub mod Answers
 pub mod Calls
+pub mod ChangedWord
 pub mod Class
 pub mod Ethernet
 pub mod FrameClass
@@ -10,6 +11,8 @@ pub mod Lines
 pub mod Message
 pub mod PostRefusal
 pub mod Posted
+pub mod ReadMessage
 pub mod Runs
+pub mod Sealed
 pub mod Verdict
 pub mod Writes

@@ -1,38 +1,53 @@
--- Messages of the protocols that are read: TCP (RFC 9293) and UDP (RFC 768).
-use Rattle.std.specs.Prelude.{◌≡◌, ℕ, ◌||◌, ◌==◌, is_ok, Bool, true, if◌then◌else◌, List}
+-- Messages of the protocols that are read: ICMP (RFC 792, RFC 4443), TCP (RFC 9293) and UDP (RFC 768).
+use Rattle.std.specs.Prelude.{ℕ, ◌==◌, is_ok, Bool, if◌then◌else◌, List, Result, Ok, Err}
+use Rattle.ep_icmp.specs.Icmpv4Fault as icmpv4_fault
+use Rattle.ep_icmp.specs.Icmpv6Fault as icmpv6_fault
+use Rattle.ep_packet.specs.declared.err.packet.slice_error.SliceError.{SliceError}
+use Rattle.ep_packet.specs.declared.err.packet.slice_error.SliceError.TheVariants as slice_error
 use Rattle.ep_tcpudp.specs.TcpFault.{segment_at}
-use Rattle.ep_tcpudp.specs.Udp.{ReadableUdp, summed_udp}
 use Rattle.ep_tcpudp.specs.UdpFault.{udp_at}
-use Rattle.netlines.specs.declared.message.Message.{Message}
-use Rattle.netlines.specs.declared.message.Message.TheVariants.{Tcp, Udp}
+use Rattle.ep_tcpudp.specs.declared.err.tcp.header_slice_error.HeaderSliceError.{HeaderSliceError}
+use Rattle.ep_tcpudp.specs.declared.err.tcp.header_slice_error.HeaderSliceError.TheVariants as tcp_error
 
--- their numbers
+-- their numbers, over both IP versions
+abbrev pub icmpv4 : ℕ
+icmpv4 = 1
+
 abbrev pub tcp : ℕ
 tcp = 6
 
 abbrev pub udp : ℕ
 udp = 17
 
-abbrev pub is_read : ℕ → Bool
-is_read number = (number == tcp) || (number == udp)
+abbrev pub icmpv6 : ℕ
+icmpv6 = 58
 
--- a whole TCP header is there, or a UDP header whose length field is 0 or fits; nothing is asked of
--- other messages
+-- a message as it is read: the bytes of it that its protocol counts as its own, which of a UDP
+-- datagram are those that its length field counts. Of any other protocol nothing is known.
+pub data ReadMessage : Type 0 where
+  Icmpv4 : List ℕ → ReadMessage
+  Tcp : List ℕ → ReadMessage
+  Udp : List ℕ → ReadMessage
+  Icmpv6 : List ℕ → ReadMessage
+  Raw : List ℕ → ReadMessage
+
+-- what is read of bytes, or the fault among those of all layers
+abbrev pub read_as : {E : Type 0} → (List ℕ → ReadMessage) → (E → SliceError) → Result (List ℕ) E → Result ReadMessage SliceError
+read_as message fault (Ok bytes) = Ok (message bytes)
+read_as message fault (Err e) = Err (fault e)
+
+abbrev pub tcp_fault : HeaderSliceError → SliceError
+tcp_fault (tcp_error.Len e) = slice_error.Len e
+tcp_fault (tcp_error.Content e) = slice_error.Tcp e
+
+-- the message that bytes with this number are, or why they are none; nothing is asked of messages
+-- with other numbers
+abbrev pub message_at : ℕ → List ℕ → Result ReadMessage SliceError
+message_at number bytes =
+    if number == icmpv4 then read_as (λ m. Icmpv4 m) (λ e. slice_error.Len e) (icmpv4_fault.message_at bytes)
+    else (if number == tcp then read_as (λ m. Tcp m) tcp_fault (segment_at bytes)
+    else (if number == udp then read_as (λ m. Udp m) (λ e. slice_error.Len e) (udp_at bytes)
+    else (if number == icmpv6 then read_as (λ m. Icmpv6 m) (λ e. slice_error.Len e) (icmpv6_fault.message_at bytes) else Ok (Raw bytes))))
+
 abbrev pub is_readable : ℕ → List ℕ → Bool
-is_readable number message =
-    if number == tcp then is_ok (segment_at message) else (if number == udp then is_ok (udp_at message) else true)
-
--- the number and the bytes of a message that was read: of a UDP datagram those that its length field
--- counts
-abbrev pub number_in : Message → ℕ
-number_in (Tcp segment) = tcp
-number_in (Udp datagram) = udp
-
-abbrev pub bytes_in : Message → List ℕ
-bytes_in (Tcp segment) = segment
-bytes_in (Udp datagram) = datagram
-
--- bytes with this number are read as this message
-abbrev pub IsReadAs : ℕ → List ℕ → Message → Type 0
-IsReadAs number bytes (Tcp segment) = (number ≡ tcp) × (segment ≡ bytes)
-IsReadAs number bytes (Udp datagram) = (number ≡ udp) × ReadableUdp bytes × (datagram ≡ summed_udp bytes)
+is_readable number bytes = is_ok (message_at number bytes)

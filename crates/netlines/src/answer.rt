@@ -3,11 +3,10 @@ ghost use Rattle.std.specs.Prelude.{◌≡◌, ◌+◌, ◌*◌, ◌≤◌, ◌<
 ghost use Rattle.netlines.specs.Answers.{answer_of, class_answer, message_answer, reply_of, verdict_word};
 ghost use Rattle.netlines.specs.Class.{class_of};
 
-use crate::LINE_LIMIT;
 use crate::command::frame_line;
 use crate::frame::{FrameClass, classify};
-use crate::judge::{Verdict, judge};
 use crate::output::{append, append_decimal, append_hex};
+use crate::{LINE_LIMIT, Verdict, judge};
 
 /// The bytes of a line's frame at most.
 pub const FRAME_ROOM: usize = LINE_LIMIT / 2;

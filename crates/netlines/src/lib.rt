@@ -10,7 +10,6 @@ mod ethernet;
 mod frame;
 mod in_memory;
 mod ip_frag_version_spec_id;
-mod judge;
 pub mod laws;
 mod letter;
 mod limits;
@@ -22,16 +21,24 @@ mod post_message;
 mod reply_buffer;
 mod run_error;
 mod run_lines;
+mod seal_error;
+mod sealed_message;
+mod verdict;
 
+pub use addresses::Addresses;
 pub use ep_tag::VlanId;
 pub use in_memory::answers;
 pub use ip_frag_version_spec_id::IpFragVersionSpecId;
 pub use letter::Letter;
 pub use limits::{LINE_LIMIT, READ_COUNT_LIMIT, READ_SIZE_LIMIT};
+pub use message::{Message, read_message};
 pub use post_error::PostError;
 pub use post_message::post;
 pub use run_error::RunError;
 pub use run_lines::{run, run_over};
+pub use seal_error::SealError;
+pub use sealed_message::seal_message;
+pub use verdict::{Verdict, judge};
 
 #[cfg(test)]
 mod tests;

@@ -1,11 +1,55 @@
 //! Messages that are read.
+ghost use Rattle.std.specs.Prelude.{◌≡◌};
+ghost use Rattle.netlines.specs.Message.{message_at};
+ghost use Rattle.netlines.specs.ReadMessage.{as_answer};
+
+use ep_base::IpNumber;
+use ep_icmp::{Icmpv4Slice, Icmpv6Slice};
+use ep_packet::err::packet::SliceError;
+use ep_tcpudp::err::tcp::HeaderSliceError;
 use ep_tcpudp::{TcpSlice, UdpSlice};
 
-/// A message of a protocol that is read.
-#[derive(Drop)]
+/// A message of a transport protocol, borrowed. A contract sees the bytes that are read of it
+/// (`as_read`).
+#[derive(Clone, Debug, PartialEq, Eq, Drop)]
 pub enum Message<'m> {
+    /// A message of ICMP over IPv4.
+    Icmpv4(Icmpv4Slice<'m>),
     /// A TCP segment.
     Tcp(TcpSlice<'m>),
     /// A UDP datagram, up to where its length field says that it ends.
     Udp(UdpSlice<'m>),
+    /// A message of ICMP over IPv6.
+    Icmpv6(Icmpv6Slice<'m>),
+    /// A message of any other protocol.
+    Raw(&'m [u8]),
+}
+
+/// Reads a message with this number, whichever IP version it came over: 1, 6, 17 and 58 as ICMPv4,
+/// TCP, UDP and ICMPv6, any other as it is.
+///
+/// The error is that of the protocol's slice, with places counted from the front of the message.
+pub fn read_message(ip_number: IpNumber, message: &[u8]) -> Result<Message<'_>, SliceError>
+    ensures { as_answer result ≡ message_at ip_number.0 message.now }
+{
+    match ip_number {
+        IpNumber::ICMP => match Icmpv4Slice::from_slice(message) {
+            Ok(message) => Ok(Message::Icmpv4(message)),
+            Err(error) => Err(SliceError::Len(error)),
+        },
+        IpNumber::TCP => match TcpSlice::from_slice(message) {
+            Ok(segment) => Ok(Message::Tcp(segment)),
+            Err(HeaderSliceError::Len(error)) => Err(SliceError::Len(error)),
+            Err(HeaderSliceError::Content(error)) => Err(SliceError::Tcp(error)),
+        },
+        IpNumber::UDP => match UdpSlice::from_slice(message) {
+            Ok(datagram) => Ok(Message::Udp(datagram)),
+            Err(error) => Err(SliceError::Len(error)),
+        },
+        IpNumber::IPV6_ICMP => match Icmpv6Slice::from_slice(message) {
+            Ok(message) => Ok(Message::Icmpv6(message)),
+            Err(error) => Err(SliceError::Len(error)),
+        },
+        _ => Ok(Message::Raw(message)),
+    }
 }

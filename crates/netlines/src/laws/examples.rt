@@ -3,7 +3,7 @@
 ghost use Rattle.std.specs.Prelude.{◌≡◌, [], ◌∷◌, codes, Some, None};
 ghost use Rattle.netlines.specs.Answers.{answer_of, message_answer};
 ghost use Rattle.netlines.specs.PostRefusal.{bad_cut};
-ghost use Rattle.netlines.specs.declared.judge.Verdict.TheVariants as verdict;
+ghost use Rattle.netlines.specs.declared.verdict.Verdict.TheVariants as verdict;
 
 /// What these lines are answered: a UDP message with a right checksum, with a wrong one and with
 /// none, a frame of another ether type, a frame of 13 bytes, and a frame with half a byte.

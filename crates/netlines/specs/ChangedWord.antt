@@ -1,0 +1,33 @@
+-- Two texts that differ in one 16-bit word, as a checksum counts words (RFC 1071, section 1): an odd
+-- last byte is a word with a zero byte behind it.
+use Rattle.std.specs.Prelude.{◌≡◌, ◌≢◌, ◌⊎◌, ℕ, ◌%◌, ◌==◌, ◌&&◌, ◌||◌, not, Bool, if◌then◌else◌, List, [], ◌++◌, length}
+use Rattle.ep_base.specs.Bytes.{IsBytes}
+use Rattle.ep_base.specs.Sum.{total}
+use Rattle.netlines.specs.declared.verdict.Verdict.{Verdict}
+use Rattle.netlines.specs.declared.verdict.Verdict.TheVariants as verdict
+
+pub record DifferInOneWord (old new : List ℕ) : Type 0 where
+  pub front : List ℕ
+  pub old_word : List ℕ
+  pub new_word : List ℕ
+  pub rest : List ℕ
+  pub old_is : old ≡ front ++ old_word ++ rest
+  pub new_is : new ≡ front ++ new_word ++ rest
+  -- the word begins where a word begins
+  pub aligned : length front % 2 ≡ 0
+  -- two bytes, or the last one
+  pub size : (length old_word ≡ 2) ⊎ ((length old_word ≡ 1) × (rest ≡ []))
+  pub same_size : length new_word ≡ length old_word
+  pub old_bytes : IsBytes old_word
+  pub new_bytes : IsBytes new_word
+  pub differ : total old_word ≢ total new_word
+
+-- one of the two words is 0000 and the other ffff
+abbrev pub is_exchange : (old new : ℕ) → Bool
+is_exchange old new = ((old == 0) && (new == 65535)) || ((old == 65535) && (new == 0))
+
+-- what is told of a text that summed to all ones before the word was changed: the two words that a
+-- ones-complement sum can't tell apart leave it as it was, but where nothing but zeros is summed
+abbrev pub verdict_after : (old_word new_word text : List ℕ) → Verdict
+verdict_after old_word new_word text =
+    if is_exchange (total old_word) (total new_word) && not (total text == 0) then verdict.Good else verdict.Bad

@@ -1,0 +1,72 @@
+-- Messages with the length and the checksum that belong to them (RFC 768; RFC 792; RFC 4443, section
+-- 2.3; RFC 9293, section 3.1; RFC 8200, section 8.1).
+use Rattle.std.specs.Prelude.{◌≡◌, ℕ, ⊤, ◌+◌, nat_lt, Bool, true, false, if◌then◌else◌, List, ◌++◌, length, Option, Some, None}
+use Rattle.ep_icmp.specs.Icmpv4 as icmpv4_spec
+use Rattle.ep_icmp.specs.Icmpv6 as icmpv6_spec
+use Rattle.ep_icmp.specs.declared.transport.icmpv6_type.Icmpv6Type.{Icmpv6Type}
+use Rattle.ep_packet.specs.Transport.{transport_len, transport_spelling}
+use Rattle.ep_packet.specs.declared.transport.transport_header.TransportHeader.{TransportHeader}
+use Rattle.ep_packet.specs.declared.transport.transport_header.TransportHeader.TheVariants.{Udp, Tcp, Icmpv4, Icmpv6}
+use Rattle.ep_tcpudp.specs.Tcp.{header_len}
+use Rattle.ep_tcpudp.specs.TcpChecksum as tcp_checksum
+use Rattle.ep_tcpudp.specs.TcpOptions.{IsTcpOptions}
+use Rattle.ep_tcpudp.specs.UdpChecksum as udp_checksum
+use Rattle.netlines.specs.Message.{icmpv4, icmpv6, tcp, udp}
+use Rattle.netlines.specs.Verdict.{pseudo}
+use Rattle.netlines.specs.declared.addresses.Addresses.{Addresses}
+use Rattle.netlines.specs.declared.addresses.Addresses.TheVariants.{V4, V6}
+use Rattle.netlines.specs.declared.ip_frag_version_spec_id.IpFragVersionSpecId.{IpFragVersionSpecId}
+use Rattle.netlines.specs.declared.ip_frag_version_spec_id.IpFragVersionSpecId.TheVariants.{Ipv4, Ipv6}
+use Rattle.netlines.specs.declared.seal_error.SealError.{SealError}
+use Rattle.netlines.specs.declared.seal_error.SealError.TheVariants.{IcmpOfOtherVersion, TooLong}
+
+-- where the messages of a stream come from and go to
+abbrev pub addresses_of : IpFragVersionSpecId → Addresses
+addresses_of (Ipv4 source destination identification) = V4 source destination
+addresses_of (Ipv6 source destination identification) = V6 source destination
+
+-- the number of a header's protocol
+abbrev pub number_of : TransportHeader → ℕ
+number_of (Udp h) = udp
+number_of (Tcp h) = tcp
+number_of (Icmpv4 h) = icmpv4
+number_of (Icmpv6 h) = icmpv6
+
+-- a header of a length that its type has: options of TCP for which there is room, and 8 bytes of
+-- ICMPv6
+abbrev pub HeaderFits : TransportHeader → Type 0
+HeaderFits (Udp h) = ⊤
+HeaderFits (Tcp h) = IsTcpOptions h.options
+HeaderFits (Icmpv4 h) = ⊤
+HeaderFits (Icmpv6 h) = length (icmpv6_spec.spelling h) ≡ 8
+
+-- the header with the checksum that belongs to this payload between these addresses, and of UDP with
+-- the length. ICMPv6 has no checksum over IPv4.
+abbrev pub sealed_icmpv6 : Addresses → TransportHeader → Icmpv6Type → List ℕ → TransportHeader
+sealed_icmpv6 (V4 source destination) header kind payload = header
+sealed_icmpv6 (V6 source destination) header kind payload = Icmpv6 (icmpv6_spec.checked source destination kind payload)
+
+abbrev pub sealed_header : Addresses → TransportHeader → List ℕ → TransportHeader
+sealed_header addresses (Udp h) payload =
+    let header = record h { length = 8 + length payload } in
+    Udp (record header { checksum = udp_checksum.right_checksum (pseudo addresses udp (8 + length payload)) header payload })
+sealed_header addresses (Tcp h) payload =
+    Tcp (record h { checksum = tcp_checksum.right_checksum (pseudo addresses tcp (header_len h + length payload)) h payload })
+sealed_header addresses (Icmpv4 h) payload = Icmpv4 (icmpv4_spec.checked h.icmp_type payload)
+sealed_header addresses (Icmpv6 h) payload = sealed_icmpv6 addresses (Icmpv6 h) h.icmp_type payload
+
+-- the message's bytes
+abbrev pub sealed : IpFragVersionSpecId → TransportHeader → List ℕ → List ℕ
+sealed stream header payload = transport_spelling (sealed_header (addresses_of stream) header payload) ++ payload
+
+-- ICMP over the version that it isn't made for
+abbrev pub is_icmp_of_other_version : IpFragVersionSpecId → TransportHeader → Bool
+is_icmp_of_other_version (Ipv4 source destination identification) (Icmpv6 h) = true
+is_icmp_of_other_version (Ipv6 source destination identification) (Icmpv4 h) = true
+is_icmp_of_other_version stream header = false
+
+-- the first refusal, want of memory aside
+abbrev pub seal_refusal : IpFragVersionSpecId → TransportHeader → List ℕ → Option SealError
+seal_refusal stream header payload =
+    if is_icmp_of_other_version stream header then Some IcmpOfOtherVersion
+    else (if nat_lt 65535 (transport_len header + length payload) then Some TooLong else None)
