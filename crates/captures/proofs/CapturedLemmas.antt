@@ -1,13 +1,11 @@
 -- Each packet of a capture has a line.
-use Rattle.std.proofs.Common.{◌≡◌, ◌∙◌, sym, ap, refl, subst, ℕ, zero, suc, ◌+◌, ◌^◌, ◌<◌, ◌≤◌, arith, List, [], ◌∷◌, ◌++◌, length, take, drop, inl, inr}
+use Rattle.std.proofs.Common.{◌≡◌, sym, ap, subst, ℕ, zero, suc, ◌^◌, ◌<◌, ◌≤◌, arith, List, [], ◌∷◌, ◌++◌, length, take, drop, inl, inr}
 use Rattle.std.specs.List.{AllByRecursion}
-use Rattle.std.proofs.lemmas.List.{drop_at}
 use Rattle.hex.specs.Hex.{IsBytes}
 use Rattle.captures.specs.ComeBack.{HasLine, CapturedPacketsHaveLines}
 use Rattle.captures.specs.Lines.{Packet, packets_of}
 use Rattle.captures.specs.Pcapng.{Content, Says, Becomes}
 use Rattle.captures.specs.Pcapng.Content.{Opens, Describes, Holds, Nothing}
-use Rattle.captures.specs.Runs.{IsCapture}
 use Rattle.captures.specs.Units.{IsUnit, IsBlockUnit, Row, joined, no_section}
 use Rattle.captures.specs.declared.byte_order.ByteOrder.{ByteOrder}
 use Rattle.captures.specs.declared.limits.TheConstants.{FRAME_LIMIT}

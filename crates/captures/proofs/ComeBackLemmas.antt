@@ -1,21 +1,20 @@
 -- What is written of the lines of packets.
-use Rattle.std.proofs.Common.{◌≡◌, ◌∙◌, sym, ap, refl, subst, ℕ, zero, suc, ◌+◌, ◌*◌, ◌^◌, ◌<◌, ◌≤◌, ◌==◌, ◌&&◌, Bool, true, false, List, [], ◌∷◌, ◌++◌, length, take, drop, map, Option, Some, None, Result, Ok, Err, nat_eq, append_assoc, append-nil, length-append, arith}
+use Rattle.std.proofs.Common.{◌≡◌, ◌∙◌, sym, ap, refl, subst, ℕ, ◌+◌, ◌^◌, ◌<◌, ◌≤◌, ◌==◌, Bool, true, false, List, [], ◌∷◌, ◌++◌, length, drop, map, Some, None, append_assoc, append-nil, length-append, arith}
 use Rattle.std.specs.Prelude.{nat_le, codes, decimal, position, if◌then◌else◌}
 use Rattle.std.specs.Char.{is_ascii_digit}
-use Rattle.std.specs.List.{AllByRecursion, list_all, position_or_len, flat_map}
-use Rattle.std.specs.Str.Parse.{digits_value}
+use Rattle.std.specs.List.{AllByRecursion, list_all, position_or_len}
 use Rattle.std.proofs.lemmas.Bool.{and_parts, leb-true, le-leb, lt-ltb, le-ltb, ne_eqb}
 use Rattle.std.proofs.lemmas.Fmt.{decimal_is_IsNumeral, length-decimal-le}
 use Rattle.std.proofs.lemmas.List.{take_at, drop_at}
 use Rattle.std.proofs.lemmas.List.Sums.{list_all-from_AllPass}
-use Rattle.hex.specs.Hex.{encode_lower, decode_of, is_hex_digit, IsBytes}
+use Rattle.hex.specs.Hex.{encode_lower, is_hex_digit, IsBytes}
 use Rattle.hex.proofs.HexLemmas.{decode_of-ok, decode_of-encode_lower}
 use Rattle.captures.specs.ComeBack.{HasLine, at_no_time, on_one_channel, LinesComeBack}
-use Rattle.captures.specs.FrameLines.{is_space, is_number, number_of, no_time, frame_at, frame_before, frame_behind, frame_with, frame_on, frame_in, frame_of}
+use Rattle.captures.specs.FrameLines.{is_space, number_of, no_time, frame_at, frame_before, frame_behind, frame_with, frame_on, frame_in, frame_of}
 use Rattle.captures.specs.Lines.{Packet, packets_of, line_of, lines_of}
 use Rattle.captures.specs.Runs.{IsCapture}
-use Rattle.captures.specs.Spelling.{TimedFrame, capture_of, packets_in}
-use Rattle.captures.specs.Texts.{is_newline, HasNoNewline, ended, HandIn, Hands, IsText, closed}
+use Rattle.captures.specs.Spelling.{capture_of, packets_in}
+use Rattle.captures.specs.Texts.{is_newline, HasNoNewline, ended, HandIn, IsText, closed}
 use Rattle.captures.specs.declared.limits.TheConstants.{FRAME_LIMIT}
 use Rattle.captures.proofs.NumberLemmas.{decimals}
 use Rattle.captures.proofs.RecordLemmas.{frame_is}

@@ -1,6 +1,6 @@
 -- Decimal numbers in a line.
-use Rattle.std.proofs.Common.{◌≡◌, ◌∙◌, sym, ap, refl, ℕ, ◌<◌, ◌≤◌, ◌^◌, zero, suc, true, List, [], ◌∷◌, length, Option, Some, None, Result, Ok, Err, arith, inl, inr, rules}
-use Rattle.std.specs.Prelude.{nat_le, if◌then◌else◌, MatchResult}
+use Rattle.std.proofs.Common.{◌≡◌, ◌∙◌, sym, ap, refl, ℕ, ◌<◌, ◌≤◌, ◌^◌, zero, suc, true, List, [], ◌∷◌, length, Some, None, Result, Ok, Err, arith, inl, inr, rules}
+use Rattle.std.specs.Prelude.{nat_le, MatchResult}
 use Rattle.std.specs.Char.{is_ascii_digit}
 use Rattle.std.specs.List.{list_all}
 use Rattle.std.specs.Result.{result_ok}

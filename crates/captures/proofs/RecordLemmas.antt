@@ -1,5 +1,5 @@
 -- The record of the frame that a line hands in.
-use Rattle.std.proofs.Common.{◌≡◌, ◌∙◌, sym, ap, refl, subst, ℕ, ◌+◌, ◌-◌, ◌*◌, ◌/◌, ◌<◌, ◌≤◌, Bool, true, false, List, [], ◌∷◌, ◌++◌, length, take, drop, Option, Some, None, Result, Ok, Err, append_assoc, arith, inl, inr, nat_eq}
+use Rattle.std.proofs.Common.{◌≡◌, ◌∙◌, sym, ap, refl, ℕ, ◌+◌, ◌/◌, ◌<◌, ◌≤◌, Bool, true, false, List, [], ◌∷◌, ◌++◌, length, take, drop, Some, None, Result, Ok, Err, append_assoc, arith, inl, inr, nat_eq}
 use Rattle.std.specs.Prelude.{◌⊎◌, codes, MatchResult}
 use Rattle.std.specs.List.{starts_with}
 use Rattle.std.proofs.Math.Seq.{take-append-add, take-append_seam}
@@ -10,7 +10,7 @@ use Rattle.hex.specs.Hex.{decode_of, decode_sized}
 use Rattle.hex.specs.declared.error.FromHexError.{FromHexError}
 use Rattle.hex.proofs.HexLemmas.{decode_of-ok, decode_sized-ok, decode_sized-twice}
 use Rattle.captures.specs.FrameLines.{frame_at, frame_in, frame_of}
-use Rattle.captures.specs.Spelling.{TimedFrame, record_head, record_of}
+use Rattle.captures.specs.Spelling.{record_head, record_of}
 use Rattle.captures.specs.declared.frame_line.Time.{Time}
 use Rattle.captures.specs.declared.limits.TheConstants.{FRAME_LIMIT}
 

@@ -1,10 +1,10 @@
 -- A run from captures to lines, call by call.
-use Rattle.std.proofs.Common.{◌≡◌, ◌≢◌, ◌∙◌, sym, ap, refl, subst, ℕ, zero, suc, ◌+◌, ◌<◌, ◌≤◌, arith, Bool, true, false, List, [], ◌∷◌, ◌++◌, length, Option, Some, None, Result, Ok, Err, append_assoc, append-nil, inl, inr, ltb-true, ltb-false}
+use Rattle.std.proofs.Common.{◌≡◌, ◌≢◌, ◌∙◌, sym, ap, refl, subst, ℕ, ◌+◌, ◌<◌, ◌≤◌, arith, Bool, true, false, List, [], ◌∷◌, ◌++◌, length, Option, Some, None, Result, Ok, Err, append_assoc, append-nil, inl, inr, ltb-true, ltb-false}
 use Rattle.std.specs.Prelude.{◌⊎◌, nat_lt, if◌then◌else◌}
 use Rattle.captures.specs.declared.capture_error.CaptureError.{CaptureError}
 use Rattle.captures.specs.declared.capture_error.CaptureError.TheVariants.{NotCapture, LinkType, FrameTooLong, CutOff, BlockTooLong, BadBlock}
 use Rattle.captures.specs.declared.run_error.RunError.{RunError}
-use Rattle.captures.specs.declared.run_error.RunError.TheVariants.{Read, Write, WriteZero, Memory, TooManyReads, Capture}
+use Rattle.captures.specs.declared.run_error.RunError.TheVariants.{Read, Memory, TooManyReads, Capture}
 use Rattle.captures.specs.declared.limits.TheConstants.{INPUT_ROOM, FIRST_UNIT_LEN}
 use Rattle.captures.specs.declared.state.State.{State}
 use Rattle.captures.specs.declared.state.State.TheVariants.{Start, Classic, Pcapng}

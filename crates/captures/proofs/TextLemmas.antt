@@ -1,6 +1,6 @@
 -- Lines at the front of a text.
-use Rattle.std.proofs.Common.{◌≡◌, ◌∙◌, sym, ap, refl, subst, ℕ, zero, suc, ◌+◌, ◌-◌, ◌<◌, ◌≤◌, ◌==◌, Bool, true, false, List, [], ◌∷◌, ◌++◌, length, take, drop, get_or, Option, Some, None, append_assoc, append-nil, length-append, arith, inl, inr, eqb-true, ltb-true, ltb-false}
-use Rattle.std.specs.Prelude.{position, nat_lt, if◌then◌else◌}
+use Rattle.std.proofs.Common.{◌≡◌, ◌∙◌, sym, ap, refl, subst, ℕ, suc, ◌+◌, ◌-◌, ◌<◌, ◌≤◌, Bool, true, false, List, [], ◌∷◌, ◌++◌, length, take, drop, get_or, Some, None, append_assoc, append-nil, length-append, arith, inl, inr, eqb-true, ltb-true, ltb-false}
+use Rattle.std.specs.Prelude.{position, nat_lt}
 use Rattle.std.specs.List.{flat_map, position_or_len, before_first, after_first}
 use Rattle.std.proofs.lemmas.Bool.{lt-ltb, le-ltb, cases_lt}
 use Rattle.std.proofs.lemmas.List.{take_rest, drop-drop}
@@ -9,7 +9,7 @@ use Rattle.std.proofs.lemmas.List.Concat.{flat_map-append}
 use Rattle.captures.specs.FrameLines.{frame_of}
 use Rattle.captures.specs.declared.limits.TheConstants.{LINE_LIMIT}
 use Rattle.captures.specs.Spelling.{TimedFrame, record_of}
-use Rattle.captures.specs.Texts.{is_newline, HasNoNewline, ended, HandIn, Hands, TakesLines, ends_line, closed, known_text, coming, IsLeftLine}
+use Rattle.captures.specs.Texts.{is_newline, HasNoNewline, ended, HandIn, Hands, ends_line, closed, known_text, coming, IsLeftLine}
 
 -- ---- the first 0a
 

@@ -1,12 +1,11 @@
 -- A run from lines to a capture, call by call.
-use Rattle.std.proofs.Common.{◌≡◌, ◌∙◌, sym, ap, refl, subst, ℕ, ◌+◌, ◌<◌, ◌≤◌, arith, Bool, true, false, List, [], ◌∷◌, ◌++◌, length, Option, Some, None, Result, Ok, Err, append_assoc, append-nil, inl, inr}
+use Rattle.std.proofs.Common.{◌≡◌, ◌∙◌, sym, ap, refl, subst, ℕ, ◌+◌, ◌<◌, arith, Bool, true, false, List, [], ◌∷◌, ◌++◌, length, Some, None, Ok, Err, append_assoc, inl, inr}
 use Rattle.std.specs.List.{flat_map}
 use Rattle.captures.specs.declared.run_error.RunError.{RunError}
-use Rattle.captures.specs.declared.run_error.RunError.TheVariants.{Read, Write, WriteZero, Memory, TooManyReads, BadLine}
-use Rattle.captures.specs.declared.limits.TheConstants.{INPUT_ROOM}
+use Rattle.captures.specs.declared.run_error.RunError.TheVariants.{Read, Memory, TooManyReads, BadLine}
 use Rattle.captures.specs.Calls.{Call, Reads, tells_end}
 use Rattle.captures.specs.Spelling.{TimedFrame, file_header, record_of, capture_of}
-use Rattle.captures.specs.Texts.{HasNoNewline, Hands, IsBegunLine, BeginsBadLine, TakesLines, known_text, coming, AreWritten, IsWritten, WritesCapture, GivesText}
+use Rattle.captures.specs.Texts.{Hands, IsBegunLine, TakesLines, known_text, coming, AreWritten, IsWritten, WritesCapture, GivesText}
 use Rattle.captures.specs.Writes.{Written, Stops}
 use Rattle.captures.proofs.Going.{Going, IsWriteFault, going_start, may_read, going_read, going_write, going_ends, going_fails, going_stops, goes_nothing}
 use Rattle.captures.proofs.TextLemmas.{hands_start, hands_more, known_is, ended_rest, records-append}

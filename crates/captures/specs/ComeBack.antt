@@ -1,5 +1,5 @@
 -- Lines that `run` wrote are lines of which a capture is written, and what is written is a capture of the same frames.
-use Rattle.std.specs.Prelude.{◌≡◌, ℕ, ◌^◌, ◌<◌, ◌≤◌, List, length, map}
+use Rattle.std.specs.Prelude.{ℕ, ◌^◌, ◌<◌, ◌≤◌, List, length, map}
 use Rattle.std.specs.List.{AllByRecursion}
 use Rattle.hex.specs.Hex.{IsBytes}
 use Rattle.captures.specs.Lines.{Packet, lines_of}

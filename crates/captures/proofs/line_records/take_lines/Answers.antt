@@ -1,8 +1,7 @@
 use Rattle.std.proofs.Common.{rules, arith, ◌≡◌, ◌∙◌, ◌+◌, ◌-◌, ◌<◌, sym, ap, subst, refl, length, take, drop, ℕ, List, Some, None}
-use Rattle.std.proofs.lemmas.List.{take_rest, length-take-le, length-drop}
+use Rattle.std.proofs.lemmas.List.{length-drop}
 use Rattle.captures.specs.FrameLines.{frame_of}
-use Rattle.captures.specs.Texts.{HasNoNewline}
-use Rattle.captures.proofs.TextLemmas.{Taking, taking_start, taking_line, found_line, none_found, left_line, left_bad, after_line}
+use Rattle.captures.proofs.TextLemmas.{taking_line, found_line, none_found, left_line, left_bad, after_line}
 use Rattle.captures.proofs.line_records.take_lines.Goals as goal
 
 pub returns-in_default-append_record-clause-takes : goal.returns-in_default-append_record-clause-takes

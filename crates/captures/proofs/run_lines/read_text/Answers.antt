@@ -1,4 +1,4 @@
-use Rattle.std.proofs.Common.{rules, arith, ◌≡◌, ◌+◌, ◌-◌, ◌<◌, length, take, drop, length-take}
+use Rattle.std.proofs.Common.{rules, arith, ◌≡◌, ◌-◌, ◌<◌, length, take, drop, length-take}
 use Rattle.captures.proofs.BufferLemmas.{read_front}
 use Rattle.captures.proofs.Writing.{some_tells}
 use Rattle.captures.proofs.run_lines.read_text.Goals as goal

@@ -1,6 +1,6 @@
-use Rattle.std.proofs.Common.{rules, arith, ◌≡◌, ◌<◌, ◌≤◌, ◌+◌, ◌-◌, sym, subst, List, ℕ, take, drop, length, length-take, true, false}
+use Rattle.std.proofs.Common.{rules, arith, ◌≡◌, ◌≤◌, ◌+◌, sym, subst, List, ℕ, take, length, length-take}
 use Rattle.std.proofs.lemmas.Result.{err_from_is_err_and}
-use Rattle.captures.specs.Texts.{GivesText, TakesLines, ended}
+use Rattle.captures.specs.Texts.{ended}
 use Rattle.captures.proofs.BufferLemmas.{moved_front}
 use Rattle.captures.proofs.Writing.{Writing, writing_start, header_stops, writing_stops, writing_bad, writing_more, writing_end, writing_fails, writing_all}
 use Rattle.captures.proofs.run_lines.write_frames.Goals as goal
