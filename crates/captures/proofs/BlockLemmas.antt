@@ -1,15 +1,15 @@
 -- What a block can't say.
-use Rattle.std.proofs.Common.{◌≡◌, ◌∙◌, ap, refl, ℕ, ◌+◌, ◌≤◌, List, ◌++◌, length, inl, inr, arith}
-use Rattle.std.proofs.lemmas.List.{get_or_append_left}
+use Rattle.std.proofs.Common.{◌≡◌, ◌∙◌, sym, ap, refl, ℕ, ◌+◌, ◌≤◌, List, ◌++◌, length, inl, inr, arith}
+use Rattle.std.specs.Prelude.{slice_index}
+use Rattle.std.proofs.lemmas.List.{get_or_append_left, get_or-append-add}
 use Rattle.captures.specs.Numbers.{word}
-use Rattle.captures.specs.Pcapng.{Content, Says, IsEnhancedPacket, enhanced_packet, HasOrder, IsBlock, RefusesBlock}
+use Rattle.captures.specs.Pcapng.{Content, Says, IsEnhancedPacket, enhanced_packet, HasOrder, IsBlock, IsSkipped, IsTaken, RefusesBlock}
 use Rattle.captures.specs.Units.{RefusesAt}
 use Rattle.captures.specs.declared.byte_order.ByteOrder.TheVariants.{Big, Little}
 use Rattle.captures.specs.declared.capture_error.CaptureError.{CaptureError}
 use Rattle.captures.specs.declared.capture_error.CaptureError.TheVariants.{NotCapture, LinkType, FrameTooLong, CutOff, BlockTooLong, BadBlock}
 use Rattle.captures.specs.Pcapng.Content.{Opens, Describes, Holds, Nothing}
 use Rattle.captures.specs.declared.byte_order.ByteOrder.{ByteOrder}
-use Rattle.captures.specs.declared.limits.TheConstants.{BLOCK_LIMIT}
 use Rattle.captures.specs.declared.section.Section.{Section}
 
 -- where it holds no enhanced packet and is of that kind
@@ -35,8 +35,36 @@ pub order_of : (order order' : ByteOrder) (bytes front rest : List ℕ) → byte
 order_of order order' bytes front rest parts size (inl h) = inl (rw (word_of Big bytes front rest 0 parts (omega arith)) at h.0, h.1)
 order_of order order' bytes front rest parts size (inr h) = inr (rw (word_of Big bytes front rest 0 parts (omega arith)) at h.0, rw (word_of order' bytes front rest 8 parts (omega arith)) at h.1)
 
+-- a number behind the front
+byte_back : (front rest : List ℕ) (i : ℕ) → slice_index (front ++ rest) (length front + i) ≡ slice_index rest i
+byte_back front rest i = get_or-append-add front rest i 0
+
+first_back : (front rest : List ℕ) → slice_index (front ++ rest) (length front) ≡ slice_index rest 0
+first_back front rest = let at : length front ≡ length front + 0 = omega arith in ap (slice_index (front ++ rest)) at ∙ byte_back front rest 0
+
+pub word_back : (order : ByteOrder) (front rest : List ℕ) → word order (front ++ rest) (length front) ≡ word order rest 0
+word_back Big front rest = rw (first_back front rest, byte_back front rest 1, byte_back front rest 2, byte_back front rest 3) refl
+word_back Little front rest = rw (first_back front rest, byte_back front rest 1, byte_back front rest 2, byte_back front rest 3) refl
+
+-- what the front tells is so of more bytes
+pub skipped_front : (order : ByteOrder) (bytes front rest : List ℕ) → bytes ≡ front ++ rest → 4 ≤ length front → IsSkipped order front → IsSkipped order bytes
+skipped_front order bytes front rest parts size skipped =
+    let big = word_of Big bytes front rest 0 parts size in
+    let own = word_of order bytes front rest 0 parts size in
+    (λ e. skipped.0 (sym big ∙ e), (λ e. skipped.1.0 (sym own ∙ e), λ e. skipped.1.1 (sym own ∙ e), λ e. skipped.1.2 (sym own ∙ e), λ e. skipped.1.3 (sym own ∙ e)))
+
+pub skipped_of : (order : ByteOrder) (bytes front rest : List ℕ) → bytes ≡ front ++ rest → 4 ≤ length front → IsSkipped order bytes → IsSkipped order front
+skipped_of order bytes front rest parts size skipped =
+    let big = word_of Big bytes front rest 0 parts size in
+    let own = word_of order bytes front rest 0 parts size in
+    (λ e. skipped.0 (big ∙ e), (λ e. skipped.1.0 (own ∙ e), λ e. skipped.1.1 (own ∙ e), λ e. skipped.1.2 (own ∙ e), λ e. skipped.1.3 (own ∙ e)))
+
+pub taken_of : (order : ByteOrder) (bytes block rest : List ℕ) (len : ℕ) → bytes ≡ block ++ rest → 4 ≤ length block → length block ≡ len → IsTaken order bytes len → IsTaken order block (length block)
+taken_of order bytes block rest len parts size whole (inl few) = inl (omega arith)
+taken_of order bytes block rest len parts size whole (inr skipped) = inr (skipped_of order bytes block rest parts size skipped)
+
 -- a whole block is refused
-pub refused_at : (section : Section) (order : ByteOrder) (bytes block rest : List ℕ) (error : CaptureError) → bytes ≡ block ++ rest → length block ≤ BLOCK_LIMIT → HasOrder section.order block order → IsBlock order block
+pub refused_at : (section : Section) (order : ByteOrder) (bytes block rest : List ℕ) (error : CaptureError) → bytes ≡ block ++ rest → IsTaken order block (length block) → HasOrder section.order block order → IsBlock order block
     → 12 ≤ length bytes → RefusesBlock section order block error → RefusesAt section bytes error
 refused_at section order bytes block rest NotCapture parts fits has_order is_block size refused = refused
 refused_at section order bytes block rest (LinkType number) parts fits has_order is_block size refused =

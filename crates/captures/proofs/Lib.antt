@@ -7,6 +7,7 @@ pub mod Going
 pub mod KnownLemmas
 pub mod NumberLemmas
 pub mod RecordLemmas
+pub mod SkipLemmas
 pub mod SpellingLemmas
 pub mod Standing
 pub mod TextLemmas

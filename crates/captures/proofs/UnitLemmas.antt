@@ -1,14 +1,13 @@
 -- Units in a row.
-use Rattle.std.proofs.Common.{◌≡◌, ◌∙◌, sym, ap, refl, subst, ℕ, ◌==◌, true, false, ◌<◌, ◌≤◌, arith, List, [], ◌∷◌, ◌++◌, length, take, append_assoc, append-nil, inl, inr, length-append, eqb-true, Option, None}
+use Rattle.std.proofs.Common.{◌≡◌, ◌∙◌, sym, ap, refl, subst, ℕ, ◌==◌, true, false, ◌<◌, arith, List, [], ◌∷◌, ◌++◌, length, take, append_assoc, append-nil, inl, inr, length-append, eqb-true, Option, None}
 use Rattle.std.proofs.Math.Seq.{take-append_seam}
 use Rattle.std.proofs.lemmas.List.Concat.{flat_map-append}
 use Rattle.captures.specs.Lines.{Packet, packets_of, line_of, lines_of}
-use Rattle.captures.specs.Units.{IsUnit, Row, joined, Passes, HasUnit, IsBegun, IsShortBlock, IsNoCapture, Takes, no_section}
-use Rattle.captures.specs.declared.section.Section.{Section}
+use Rattle.captures.specs.Units.{IsUnit, Row, joined, Passes, HasUnit, IsNoCapture, Takes}
 use Rattle.captures.specs.declared.capture_error.CaptureError.{CaptureError}
 use Rattle.captures.specs.declared.state.State.{State}
 use Rattle.captures.specs.declared.state.State.TheVariants.{Start, Classic, Pcapng}
-use Rattle.captures.specs.declared.limits.TheConstants.{INPUT_ROOM, FIRST_UNIT_LEN}
+use Rattle.captures.specs.declared.limits.TheConstants.{FIRST_UNIT_LEN}
 
 -- bytes with so many in front have that front
 pub front_is : (bytes header rest front : List ℕ) (n : ℕ) → bytes ≡ header ++ rest → front ≡ take n bytes → length header ≡ n → front ≡ header
@@ -59,27 +58,6 @@ passes_more state mid after bytes piece rest rest' ps qs p q = record {
       ap (λ l. l ++ piece) p.parts ∙ append_assoc (joined p.units) rest piece ∙ ap (λ l. joined p.units ++ l) q.parts
       ∙ sym (append_assoc (joined p.units) (joined q.units) rest') ∙ ap (λ l. l ++ rest') (sym (joined-append p.units q.units));
 }
-
-short_block_room : (section : Section) (bytes : List ℕ) → IsShortBlock section bytes → length bytes < INPUT_ROOM
-short_block_room section bytes h =
-    let short = h.short in
-    let fits = h.fits in
-    omega arith
-
--- what is begun leaves room for more
-pub begun_room : (state : State) (bytes : List ℕ) → IsBegun state bytes → length bytes < INPUT_ROOM
-begun_room Start bytes (inl h) = omega arith
-begun_room Start bytes (inr h) = short_block_room no_section bytes h.1
-begun_room (Classic order) bytes (inl h) = omega arith
-begun_room (Classic order) bytes (inr h) =
-    let size = ap length h.parts in
-    let parts = length-append h.head h.body in
-    let head = h.size in
-    let short = h.short in
-    let fits = h.fits in
-    omega arith
-begun_room (Pcapng section) bytes (inl h) = omega arith
-begun_room (Pcapng section) bytes (inr h) = short_block_room section bytes h
 
 -- units are passed, and their packets are told
 pub record Told (state : State) (bytes : List ℕ) (after : State) (rest text : List ℕ) : Type 0 where
@@ -149,10 +127,3 @@ takes_more state mid after bytes piece rest rest' text text' refusal p q = recor
   told = ap (λ l. l ++ text') p.told ∙ ap (λ l. lines_of p.packets ++ l) q.told ∙ sym (lines_of-append p.packets q.packets);
   left = q.left;
 }
-
--- what is left is no more than there was
-pub rest_size : (state : State) (bytes : List ℕ) (after : State) (rest text : List ℕ) (refusal : Option CaptureError) → Takes state bytes after rest text refusal → length rest ≤ length bytes
-rest_size state bytes after rest text refusal t =
-    let parts = ap length t.passes.parts in
-    let both = length-append (joined t.passes.units) rest in
-    omega arith

@@ -1,6 +1,7 @@
 pub mod Calls
 pub mod ComeBack
 pub mod Courses
+pub mod Dropped
 pub mod FrameLines
 pub mod Known
 pub mod Lines

@@ -6,7 +6,7 @@ use Rattle.captures.specs.declared.byte_order.ByteOrder.{ByteOrder}
 use Rattle.captures.specs.declared.byte_order.ByteOrder.TheVariants.{Big}
 use Rattle.captures.specs.declared.capture_error.CaptureError.{CaptureError}
 use Rattle.captures.specs.declared.capture_error.CaptureError.TheVariants.{NotCapture, LinkType, FrameTooLong, CutOff, BlockTooLong, BadBlock}
-use Rattle.captures.specs.declared.limits.TheConstants.{FRAME_LIMIT}
+use Rattle.captures.specs.declared.limits.TheConstants.{FRAME_LIMIT, BLOCK_LIMIT}
 use Rattle.captures.specs.declared.section.Section.{Section}
 use Rattle.captures.specs.declared.section.TheConstants.{ETHERNET}
 
@@ -67,6 +67,20 @@ pub record IsSimplePacket (section : Section) (order : ByteOrder) (block : List 
   pub captured : captured_len section.snap_len (word order block 8) ≡ length frame
   pub bytes : frame ≡ take (length frame) (drop 12 block)
 
+-- a block of another kind
+abbrev pub IsOther : ByteOrder → List ℕ → Type 0
+IsOther order block =
+    (word order block 0 ≢ section_header) × (word order block 0 ≢ interface_description)
+    × (word order block 0 ≢ enhanced_packet) × (word order block 0 ≢ simple_packet)
+
+-- a block that is skipped: another one than those that are read here, and a section header is one in either byte order
+abbrev pub IsSkipped : ByteOrder → List ℕ → Type 0
+IsSkipped order block = (word Big block 0 ≢ section_header) × IsOther order block
+
+-- a run takes a block of this length: one that is skipped may have any, and those that are read have so many bytes at most
+abbrev pub IsTaken : ByteOrder → List ℕ → ℕ → Type 0
+IsTaken order block len = (len ≤ BLOCK_LIMIT) ⊎ IsSkipped order block
+
 abbrev pub Says : Section → ByteOrder → List ℕ → Content → Type 0
 Says section order block (Opens first) =
     (word order block 0 ≡ section_header) × (28 ≤ length block) × (half order block 12 ≡ 1)
@@ -75,9 +89,7 @@ Says section order block (Describes link_type snap_len) =
     (word order block 0 ≡ interface_description) × (20 ≤ length block) × (half order block 8 ≡ link_type)
     × (word order block 12 ≡ snap_len) × (section.interfaces + 1 < 2 ^ 32)
 Says section order block (Holds channel frame) = IsEnhancedPacket section order block channel frame ⊎ IsSimplePacket section order block channel frame
-Says section order block Nothing =
-    (word order block 0 ≢ section_header) × (word order block 0 ≢ interface_description)
-    × (word order block 0 ≢ enhanced_packet) × (word order block 0 ≢ simple_packet)
+Says section order block Nothing = IsOther order block
 
 -- the section, and the packet, after a block that says this: links are Ethernet, and a line can hold the frame
 abbrev pub Becomes : Section → ByteOrder → Content → Section → ℕ → List ℕ → Type 0

@@ -7,12 +7,12 @@ use Rattle.captures.specs.declared.byte_order.ByteOrder.{ByteOrder}
 use Rattle.captures.specs.declared.byte_order.ByteOrder.TheVariants.{Big}
 use Rattle.captures.specs.declared.capture_error.CaptureError.{CaptureError}
 use Rattle.captures.specs.declared.capture_error.CaptureError.TheVariants.{NotCapture, LinkType, FrameTooLong, CutOff, BlockTooLong, BadBlock}
-use Rattle.captures.specs.declared.limits.TheConstants.{FRAME_LIMIT, BLOCK_LIMIT, FIRST_UNIT_LEN}
+use Rattle.captures.specs.declared.limits.TheConstants.{FRAME_LIMIT, FIRST_UNIT_LEN}
 use Rattle.captures.specs.declared.state.State.{State}
 use Rattle.captures.specs.declared.section.Section.{Section}
 use Rattle.captures.specs.declared.section.TheConstants.{ETHERNET}
 use Rattle.captures.specs.declared.state.State.TheVariants.{Start, Classic, Pcapng}
-use Rattle.captures.specs.Pcapng.{HasOrder, IsBlock, Reads, RefusesBlock, section_header, byte_order_magic}
+use Rattle.captures.specs.Pcapng.{HasOrder, IsBlock, IsTaken, Reads, RefusesBlock, section_header, byte_order_magic}
 
 -- a file header of Ethernet frames, after which packet records follow
 pub record OpensFile (unit : List ℕ) (after : State) : Type 0 where
@@ -25,12 +25,12 @@ pub record OpensFile (unit : List ℕ) (after : State) : Type 0 where
 abbrev pub no_section : Section
 no_section = record { order = Big; first = 0; interfaces = 0; snap_len = 0 }
 
--- a block of a section, whole and no longer than a run can hold, after which the section has come to this
+-- a block of a section, whole and of a length that is taken, after which the section has come to this
 pub record IsBlockUnit (section : Section) (unit : List ℕ) (after : State) (channel : ℕ) (frame : List ℕ) : Type 0 where
   pub order : ByteOrder
   pub has_order : HasOrder section.order unit order
   pub block : IsBlock order unit
-  pub fits : length unit ≤ BLOCK_LIMIT
+  pub fits : IsTaken order unit (length unit)
   pub next : Section
   pub reads : Reads section order unit next channel frame
   pub becomes : after ≡ Pcapng next
@@ -71,22 +71,22 @@ pub record IsShortRecord (order : ByteOrder) (bytes : List ℕ) : Type 0 where
   pub short : length body < word order head 8
   pub fits : word order head 8 ≤ FRAME_LIMIT
 
--- the front of a block that a run can hold, with fewer bytes than its length tells
+-- the front of a block of a length that is taken, with fewer bytes than it tells
 pub record IsShortBlock (section : Section) (bytes : List ℕ) : Type 0 where
   pub order : ByteOrder
   pub has_order : HasOrder section.order bytes order
   pub size : 12 ≤ length bytes
   pub words : word order bytes 4 % 4 ≡ 0
   pub short : length bytes < word order bytes 4
-  pub fits : word order bytes 4 ≤ BLOCK_LIMIT
+  pub fits : IsTaken order bytes (word order bytes 4)
 
--- a whole block that a run can hold and that ends with another length
+-- a whole block of a length that is taken, which ends with another length
 pub record HasOtherBack (order : ByteOrder) (bytes : List ℕ) : Type 0 where
   pub block : List ℕ
   pub rest : List ℕ
   pub parts : bytes ≡ block ++ rest
   pub size : length block ≡ word order bytes 4
-  pub fits : length block ≤ BLOCK_LIMIT
+  pub fits : IsTaken order block (length block)
   pub other : word order block (length block - 4) ≢ length block
 
 -- bytes that may become a unit and are too few for one
@@ -111,24 +111,24 @@ pub record HasBadLength (section : Section) (bytes : List ℕ) : Type 0 where
   pub has_order : HasOrder section.order bytes order
   pub bad : (word order bytes 4 < 12) ⊎ ((word order bytes 4 % 4 ≢ 0) ⊎ HasOtherBack order bytes)
 
--- the bytes begin with a whole block that a run can hold, and that is refused for what it says
+-- the bytes begin with a whole block of a length that is taken, and that is refused for what it says
 pub record HasRefusedBlock (section : Section) (bytes : List ℕ) (error : CaptureError) : Type 0 where
   pub order : ByteOrder
   pub block : List ℕ
   pub rest : List ℕ
   pub parts : bytes ≡ block ++ rest
-  pub fits : length block ≤ BLOCK_LIMIT
+  pub fits : IsTaken order block (length block)
   pub has_order : HasOrder section.order block order
   pub is_block : IsBlock order block
   pub refused : RefusesBlock section order block error
 
--- the bytes begin with a block of so many bytes, whole words and more than a run can hold
+-- the bytes begin with a block of so many bytes, whole words and more than a run takes of such a block
 pub record HasLongBlock (section : Section) (bytes : List ℕ) (len : ℕ) : Type 0 where
   pub order : ByteOrder
   pub has_order : HasOrder section.order bytes order
   pub told : word order bytes 4 ≡ len
   pub words : len % 4 ≡ 0
-  pub long : BLOCK_LIMIT < len
+  pub long : IsTaken order bytes len → ⊥
 
 -- why no block can follow in a section, whatever comes after these bytes
 abbrev pub RefusesAt : Section → List ℕ → CaptureError → Type 0

@@ -1,7 +1,7 @@
 //! What a whole block of a pcapng file says.
-ghost use Rattle.std.specs.Prelude.{◌≡◌, ◌≤◌, ◌+◌, ◌==◌, if◌then◌else◌, ℕ, List, length, IfOk, IfErr, IfSome, MatchOption};
+ghost use Rattle.std.specs.Prelude.{◌≡◌, ◌≤◌, ◌+◌, ◌==◌, if◌then◌else◌, ◌↔◌, IsTrue, ℕ, List, length, IfOk, IfErr, IfSome, MatchOption};
 ghost use Rattle.captures.specs.Numbers.{word};
-ghost use Rattle.captures.specs.Pcapng.{section_header, interface_description, enhanced_packet, simple_packet, captured_len, IsEnhancedPacket, IsSimplePacket, Reads, RefusesBlock};
+ghost use Rattle.captures.specs.Pcapng.{section_header, interface_description, enhanced_packet, simple_packet, captured_len, IsOther, IsSkipped, IsEnhancedPacket, IsSimplePacket, Reads, RefusesBlock};
 
 use crate::CaptureError;
 use crate::byte_order::ByteOrder;
@@ -17,6 +17,25 @@ const INTERFACE_DESCRIPTION: u32 = 1;
 const SIMPLE_PACKET: u32 = 3;
 
 const ENHANCED_PACKET: u32 = 6;
+
+/// Whether a block with this front is skipped, whatever it holds.
+pub(crate) fn is_skipped(order: ByteOrder, front: &[u8]) -> bool
+    requires { 12 ≤ length front.now }
+    ensures { IsTrue result ↔ IsSkipped order front.now }
+{
+    ByteOrder::Big.word(front, 0) != SECTION_HEADER && is_other(order, front)
+}
+
+fn is_other(order: ByteOrder, front: &[u8]) -> bool
+    requires { 12 ≤ length front.now }
+    ensures { IsTrue result ↔ IsOther order front.now }
+{
+    let kind = order.word(front, 0);
+    kind != SECTION_HEADER
+        && kind != INTERFACE_DESCRIPTION
+        && kind != ENHANCED_PACKET
+        && kind != SIMPLE_PACKET
+}
 
 /// What is known after a block, and the frame in it: no bytes where there is none.
 #[derive(Drop)]

@@ -16,7 +16,8 @@ pub enum CaptureError {
     /// The capture ends within a packet, or within another block.
     #[error("the capture ends within a packet")]
     CutOff,
-    /// A block of a pcapng file has so many bytes, which is more than [`BLOCK_LIMIT`](crate::BLOCK_LIMIT).
+    /// A block of a pcapng file that is read, as a section header, an interface description or a packet,
+    /// has so many bytes, which is more than [`BLOCK_LIMIT`](crate::BLOCK_LIMIT).
     #[error("a block of {0} bytes is too long")]
     BlockTooLong(u32),
     /// A block of a pcapng file isn't well made: its two lengths differ, or have no whole words of 4

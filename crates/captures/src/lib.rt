@@ -10,6 +10,8 @@ pub mod laws;
 mod limits;
 mod line;
 mod line_records;
+mod long_block;
+mod progress;
 mod run_captures;
 mod run_error;
 mod run_lines;

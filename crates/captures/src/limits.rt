@@ -11,7 +11,8 @@ pub const LINE_LIMIT: usize = 200_021;
 /// The bytes of the shortest capture there is: a file header.
 pub const FIRST_UNIT_LEN: usize = 24;
 
-/// The bytes of a block of a pcapng file at most.
+/// The bytes at most of a block of a pcapng file that is read: a section header, an interface description
+/// or a packet. Any other block is skipped, whatever its length.
 pub const BLOCK_LIMIT: usize = INPUT_ROOM;
 
 /// The bytes that a run holds at most of what it has read.

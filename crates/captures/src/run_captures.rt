@@ -1,14 +1,16 @@
 //! A run: reads, and the lines of the packets that they give.
-ghost use Rattle.std.specs.Prelude.{◌≡◌, ◌≤◌, ℕ, List, length, OnOk, IfOk, IfSome, IsErrOf, vec_len};
+ghost use Rattle.std.specs.Prelude.{◌≡◌, ◌≤◌, ◌+◌, ℕ, List, length, OnOk, IfOk, IfSome, IsErrOf, vec_len};
 ghost use Rattle.std.specs.Io.KnownBytes.{Appends, IsAtEnd};
+ghost use Rattle.captures.specs.Dropped.{IsDropped};
 ghost use Rattle.captures.specs.Known.{KnownCall, Transfers, known_of};
 ghost use Rattle.captures.specs.Lines.{Packet, lines_of};
 ghost use Rattle.captures.specs.Runs.{Runs, IsCapture, IsOutcome, result_at_end};
 
 use crate::device::{Device, ReaderWriter, write_whole};
 use crate::limits::{FIRST_UNIT_LEN, INPUT_ROOM, OUTPUT_ROOM};
+use crate::long_block::LongBlock;
+use crate::progress::take_piece;
 use crate::state::State;
-use crate::units::take_units;
 use crate::{CaptureError, READ_COUNT_LIMIT, RunError};
 use std::alloc::{AllocError, Global};
 use std::io::{Read, Write};
@@ -81,20 +83,23 @@ fn tell_packets<D: Device>(
     ensures { Runs D.transition reads device.old device.new result }
 {
     let mut state = State::Start;
-    // The bytes in front of `input` that begin a unit.
+    // A long block that is begun, of which nothing is held.
+    let mut begun = None;
+    // The bytes in front of `input` that are left to take.
     let mut left = 0;
     'reads: for _ in 0..reads {
         let given = match device.read_some(&mut input[left..]) {
-            Ok(0) => return end(state, left),
+            Ok(0) => return end(state, begun, left),
             Ok(n) => n,
             Err(_) => return Err(RunError::Read),
         };
-        let taken = take_units(state, &input[..left + given], output);
+        let taken = take_piece(state, begun, &input[..left + given], output);
         write_whole(device, &output[..taken.used])?;
         if let Some(refusal) = taken.refusal {
             return Err(RunError::Capture(refusal));
         }
         state = taken.after;
+        begun = taken.begun;
         let kept = taken.rest.len();
         input.copy_within(left + given - kept..left + given, 0);
         left = kept;
@@ -102,9 +107,12 @@ fn tell_packets<D: Device>(
     Err(RunError::TooManyReads)
 }
 
-fn end(state: State, left: usize) -> Result<(), RunError>
-    ensures { result ≡ result_at_end state left }
+fn end(state: State, begun: Option<LongBlock>, left: usize) -> Result<(), RunError>
+    ensures { (dropped : List ℕ) → IsDropped state begun dropped → result ≡ result_at_end state (length dropped + left) }
 {
+    if begun.is_some() {
+        return Err(RunError::Capture(CaptureError::CutOff));
+    }
     match state {
         State::Start if left < FIRST_UNIT_LEN => Err(RunError::Capture(CaptureError::NotCapture)),
         State::Start => Err(RunError::Capture(CaptureError::CutOff)),

@@ -1,12 +1,12 @@
 //! The block at the front of some bytes of a section.
-ghost use Rattle.std.specs.Prelude.{◌≡◌, ◌≤◌, ◌+◌, length, IfOk, IfErr, IfSome, MatchOption};
-ghost use Rattle.captures.specs.Pcapng.{HasOrder};
+ghost use Rattle.std.specs.Prelude.{◌≡◌, ◌≤◌, ◌+◌, ◌↔◌, IsTrue, length, IfOk, IfErr, IfSome, MatchOption};
+ghost use Rattle.captures.specs.Pcapng.{HasOrder, IsTaken};
 ghost use Rattle.captures.specs.Units.{IsBegun, RefusesAt, HasUnit};
 ghost use Rattle.captures.specs.declared.byte_order.ByteOrder.{ByteOrder};
 ghost use Rattle.captures.specs.declared.state.State.TheVariants.{Pcapng};
 
 use crate::CaptureError;
-use crate::block::{BYTE_ORDER_MAGIC, SECTION_HEADER, read_block};
+use crate::block::{BYTE_ORDER_MAGIC, SECTION_HEADER, is_skipped, read_block};
 use crate::byte_order::ByteOrder;
 use crate::limits::BLOCK_LIMIT;
 use crate::section::Section;
@@ -14,7 +14,7 @@ use crate::state::State;
 use crate::unit::Unit;
 
 /// The bytes of the shortest block.
-const BLOCK_MIN_LEN: usize = 12;
+pub(crate) const BLOCK_MIN_LEN: usize = 12;
 
 /// The block at the front of the bytes. There is none where more bytes are wanted.
 pub(crate) fn section_unit(section: Section, bytes: &[u8]) -> Result<Option<Unit<'_>>, CaptureError>
@@ -33,7 +33,7 @@ pub(crate) fn section_unit(section: Section, bytes: &[u8]) -> Result<Option<Unit
     if len < 12 || len % 4 != 0 {
         return Err(CaptureError::BadBlock);
     }
-    if len as usize > BLOCK_LIMIT {
+    if !is_taken(order, bytes, len) {
         return Err(CaptureError::BlockTooLong(len));
     }
     if bytes.len() < len as usize {
@@ -68,4 +68,12 @@ fn block_order(order: ByteOrder, bytes: &[u8]) -> Option<ByteOrder>
     } else {
         None
     }
+}
+
+// Whether a block of this length is taken.
+fn is_taken(order: ByteOrder, bytes: &[u8], len: u32) -> bool
+    requires { 12 ≤ length bytes.now }
+    ensures { IsTrue result ↔ IsTaken order bytes.now len }
+{
+    len as usize <= BLOCK_LIMIT || is_skipped(order, bytes)
 }

@@ -5,6 +5,7 @@ use std::alloc::{AllocError, Global};
 mod blocks;
 mod classic;
 mod limits;
+mod long_blocks;
 mod pieces;
 mod text;
 mod written;

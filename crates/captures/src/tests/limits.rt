@@ -63,9 +63,14 @@ fn each_length(rt: HostRuntime) -> Result<(), Fail> {
             too_long,
             0,
         ),
-        // As long as a block may be, a word more, and no whole words.
+        // As long as a block that is read may be, and a word more.
+        (1, 262_144, [1].as_slice(), Ok(()), 0),
+        (1, 262_148, [1].as_slice(), block_too_long, 0),
+        (3, 262_144, [1].as_slice(), Ok(()), 11),
+        (3, 262_148, [1].as_slice(), block_too_long, 0),
+        // Any other may be longer, but has whole words.
         (5, 262_144, [].as_slice(), Ok(()), 0),
-        (5, 262_148, [].as_slice(), block_too_long, 0),
+        (5, 262_148, [].as_slice(), Ok(()), 0),
         (5, 262_149, [].as_slice(), bad, 0),
     ] {
         let file = with_block(rt.alloc(), kind, len, words)?;
