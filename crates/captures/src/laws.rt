@@ -1,8 +1,9 @@
 //! Laws of captures: the contract of each function is the law, and its body is empty.
 
-ghost use Rattle.std.specs.Prelude.{◌≡◌, ◌≤◌, ◌<◌, ◌^◌, List, [], ◌∷◌, codes, length};
+ghost use Rattle.std.specs.Prelude.{◌≡◌, ◌≤◌, ◌<◌, ◌^◌, ℕ, List, [], ◌∷◌, codes, length};
 ghost use Rattle.std.specs.List.{AllByRecursion};
 ghost use Rattle.ep_base.specs.Traits.{CopyIsValue, CopyNeverFails, EqualIsSame};
+ghost use Rattle.hex.specs.Hex.{IsBytes};
 ghost use Rattle.captures.specs.ComeBack.{CapturedPacketsHaveLines, LinesComeBack};
 ghost use Rattle.captures.specs.Lines.{Packet, line_of};
 ghost use Rattle.captures.specs.Runs.{IsCapture};
@@ -18,6 +19,12 @@ use crate::{CaptureError, RunError};
 pub fn written_frames_are_read()
     ensures { (frames : List TimedFrame) → AllByRecursion (λ timed. length timed.frame ≤ FRAME_LIMIT) frames
         → IsCapture (capture_of frames) (packets_in frames) }
+{}
+
+/// The packets of a capture are known by its bytes.
+pub fn capture_is_alone()
+    ensures { (bytes : List ℕ) (packets packets' : List Packet) → IsBytes bytes → IsCapture bytes packets → IsCapture bytes packets'
+        → packets ≡ packets' }
 {}
 
 /// Each packet of a capture has a byte at least, no more than a line can hold, and a channel of 32 bits.
