@@ -22,16 +22,16 @@ use Rattle.captures.proofs.BlockLemmas.{word_of}
 -- ---- parts of the same bytes
 
 -- fronts of the same length are the same,
-front_same : (bytes u r u' r' : List ℕ) → bytes ≡ u ++ r → bytes ≡ u' ++ r' → length u ≡ length u' → u ≡ u'
+pub front_same : (bytes u r u' r' : List ℕ) → bytes ≡ u ++ r → bytes ≡ u' ++ r' → length u ≡ length u' → u ≡ u'
 front_same bytes u r u' r' parts parts' size =
     sym (take-append_seam u r) ∙ ap (take (length u)) (sym parts) ∙ ap (λ n. take n bytes) size ∙ ap (take (length u')) parts' ∙ take-append_seam u' r'
 
 -- and so is what follows them
-rest_same : (bytes u r u' r' : List ℕ) → bytes ≡ u ++ r → bytes ≡ u' ++ r' → length u ≡ length u' → r ≡ r'
+pub rest_same : (bytes u r u' r' : List ℕ) → bytes ≡ u ++ r → bytes ≡ u' ++ r' → length u ≡ length u' → r ≡ r'
 rest_same bytes u r u' r' parts parts' size =
     sym (drop-append_seam u r) ∙ ap (drop (length u)) (sym parts) ∙ ap (λ n. drop n bytes) size ∙ ap (drop (length u')) parts' ∙ drop-append_seam u' r'
 
-bytes_behind : (u r : List ℕ) → IsBytes (u ++ r) → IsBytes r
+pub bytes_behind : (u r : List ℕ) → IsBytes (u ++ r) → IsBytes r
 bytes_behind u r all i = subst (λ (b : ℕ). b < 256) (get_or-append-add u r i 0) (all (length u + i))
 
 -- ---- a number in one byte order, and another in the other
@@ -55,14 +55,14 @@ order_by_magic Big Little bytes all m m' = absurd (magic_once bytes all m m')
 order_by_magic Little Big bytes all m m' = absurd (magic_once bytes all m' m)
 order_by_magic Little Little bytes all m m' = refl
 
-order_alone : (order o o' : ByteOrder) (bytes : List ℕ) → IsBytes bytes → HasOrder order bytes o → HasOrder order bytes o' → o ≡ o'
+pub order_alone : (order o o' : ByteOrder) (bytes : List ℕ) → IsBytes bytes → HasOrder order bytes o → HasOrder order bytes o' → o ≡ o'
 order_alone order o o' bytes all (inl h) (inl h') = h.1 ∙ sym h'.1
 order_alone order o o' bytes all (inl h) (inr h') = absurd (h.0 h'.0)
 order_alone order o o' bytes all (inr h) (inl h') = absurd (h'.0 h.0)
 order_alone order o o' bytes all (inr h) (inr h') = order_by_magic o o' bytes all h.1 h'.1
 
 -- the order of a front is that of the bytes
-order_more : (order o : ByteOrder) (bytes front rest : List ℕ) → bytes ≡ front ++ rest → 12 ≤ length front → HasOrder order front o → HasOrder order bytes o
+pub order_more : (order o : ByteOrder) (bytes front rest : List ℕ) → bytes ≡ front ++ rest → 12 ≤ length front → HasOrder order front o → HasOrder order bytes o
 order_more order o bytes front rest parts size (inl h) = inl (λ e. h.0 (sym (word_of Big bytes front rest 0 parts (omega arith)) ∙ e), h.1)
 order_more order o bytes front rest parts size (inr h) = inr (word_of Big bytes front rest 0 parts (omega arith) ∙ h.0, word_of o bytes front rest 8 parts (omega arith) ∙ h.1)
 
@@ -79,13 +79,13 @@ file_once bytes all (inl big) (inr little) = let first = spelled_twice bytes 0 0
 file_once bytes all (inr big) (inl little) = let first = spelled_twice bytes 0 0xa1b23c4d 0xa1b2c3d4 all big little in absurd (omega arith)
 file_once bytes all (inr big) (inr little) = let first = spelled_twice bytes 0 0xa1b23c4d 0xa1b23c4d all big little in absurd (omega arith)
 
-file_order : (o o' : ByteOrder) (bytes : List ℕ) → IsBytes bytes → IsTrue (is_magic (word o bytes 0)) → IsTrue (is_magic (word o' bytes 0)) → o ≡ o'
+pub file_order : (o o' : ByteOrder) (bytes : List ℕ) → IsBytes bytes → IsTrue (is_magic (word o bytes 0)) → IsTrue (is_magic (word o' bytes 0)) → o ≡ o'
 file_order Big Big bytes all m m' = refl
 file_order Big Little bytes all m m' = absurd (file_once bytes all (is_one (word Big bytes 0) m) (is_one (word Little bytes 0) m'))
 file_order Little Big bytes all m m' = absurd (file_once bytes all (is_one (word Big bytes 0) m') (is_one (word Little bytes 0) m))
 file_order Little Little bytes all m m' = refl
 
-no_section_in : (o : ByteOrder) (bytes : List ℕ) → IsBytes bytes → IsTrue (is_magic (word o bytes 0)) → word Big bytes 0 ≡ section_header → ⊥
+pub no_section_in : (o : ByteOrder) (bytes : List ℕ) → IsBytes bytes → IsTrue (is_magic (word o bytes 0)) → word Big bytes 0 ≡ section_header → ⊥
 no_section_in Big bytes all m big = absurd (elim (is_one (word Big bytes 0) m) [
   | inl e ↦ omega arith
   | inr e ↦ omega arith
@@ -199,7 +199,7 @@ module _ (bytes u r u' r' : List ℕ) (all : IsBytes bytes) (parts : bytes ≡ u
       let size = o.header.size in
       no_section_in o.order bytes all (subst (λ (n : ℕ). IsTrue (is_magic n)) (sym (word_of o.order bytes u r 0 parts (omega arith))) o.header.magic) (word_of Big bytes u' r' 0 parts' (omega arith) ∙ kind)
 
-unit_alone : (state : State) (bytes u r u' r' : List ℕ) (all : IsBytes bytes) (parts : bytes ≡ u ++ r) (parts' : bytes ≡ u' ++ r') (after after' : State) (channel channel' : ℕ) (frame frame' : List ℕ)
+pub unit_alone : (state : State) (bytes u r u' r' : List ℕ) (all : IsBytes bytes) (parts : bytes ≡ u ++ r) (parts' : bytes ≡ u' ++ r') (after after' : State) (channel channel' : ℕ) (frame frame' : List ℕ)
     → IsUnit state u after channel frame → IsUnit state u' after' channel' frame' → (u ≡ u') × (after ≡ after') × (packets_of channel frame ≡ packets_of channel' frame')
 unit_alone Start bytes u r u' r' all parts parts' after after' channel channel' frame frame' (inl i) (inl i') =
     file_alone bytes u r u' r' all parts parts' after after' channel channel' frame frame' i.0 i.1 i'.0 i'.1

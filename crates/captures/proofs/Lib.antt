@@ -11,6 +11,7 @@ pub mod RecordLemmas
 pub mod SkipLemmas
 pub mod SpellingLemmas
 pub mod Standing
+pub mod StopLemmas
 pub mod TextLemmas
 pub mod UnitLemmas
 pub mod WriteLemmas

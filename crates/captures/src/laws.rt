@@ -1,12 +1,16 @@
 //! Laws of captures: the contract of each function is the law, and its body is empty.
 
-ghost use Rattle.std.specs.Prelude.{◌≡◌, ◌≤◌, ◌<◌, ◌^◌, ℕ, List, [], ◌∷◌, codes, length};
+ghost use Rattle.std.specs.Prelude.{◌≡◌, ◌≤◌, ◌<◌, ◌^◌, ℕ, List, [], ◌∷◌, codes, length, Option};
 ghost use Rattle.std.specs.List.{AllByRecursion};
 ghost use Rattle.ep_base.specs.Traits.{CopyIsValue, CopyNeverFails, EqualIsSame};
 ghost use Rattle.hex.specs.Hex.{IsBytes};
 ghost use Rattle.captures.specs.ComeBack.{CapturedPacketsHaveLines, LinesComeBack};
 ghost use Rattle.captures.specs.Lines.{Packet, line_of};
 ghost use Rattle.captures.specs.Runs.{IsCapture};
+ghost use Rattle.captures.specs.Units.{Takes};
+ghost use Rattle.captures.specs.declared.capture_error.CaptureError.{CaptureError};
+ghost use Rattle.captures.specs.declared.state.State.{State};
+ghost use Rattle.captures.specs.declared.state.State.TheVariants.{Start};
 ghost use Rattle.captures.specs.Spelling.{TimedFrame, capture_of, packets_in};
 
 use crate::limits::{
@@ -25,6 +29,12 @@ pub fn written_frames_are_read()
 pub fn capture_is_alone()
     ensures { (bytes : List ℕ) (packets packets' : List Packet) → IsBytes bytes → IsCapture bytes packets → IsCapture bytes packets'
         → packets ≡ packets' }
+{}
+
+/// What is told of any bytes, whether more are wanted behind them or they are refused, is known by them.
+pub fn told_is_alone()
+    ensures { (bytes rest rest' text text' : List ℕ) (state state' : State) (refusal refusal' : Option CaptureError) → IsBytes bytes
+        → Takes Start bytes state rest text refusal → Takes Start bytes state' rest' text' refusal' → text ≡ text' }
 {}
 
 /// Each packet of a capture has a byte at least, no more than a line can hold, and a channel of 32 bits.
