@@ -8,6 +8,7 @@ mod limits;
 mod long_blocks;
 mod pieces;
 mod text;
+mod writes;
 mod written;
 
 // The packets that the files hold.

@@ -8,9 +8,9 @@ use std::test::Fail;
 
 // Gives a byte a read, and then the end or a fault.
 #[derive(Drop)]
-struct ByteReader<'a> {
-    rest: &'a [u8],
-    fails: bool,
+pub(super) struct ByteReader<'a> {
+    pub rest: &'a [u8],
+    pub fails: bool,
 }
 
 impl<'a> Read for ByteReader<'a> {

@@ -1,4 +1,5 @@
 //! Captures that are written of lines.
+use super::pieces::ByteReader;
 use super::{LINES, lines_of};
 use crate::{RunError, write_capture};
 use std::alloc::{AllocError, Global};
@@ -90,6 +91,53 @@ fn each_line(rt: HostRuntime) -> Result<(), Fail> {
         assert!(rt; capture.len() >= 24);
         assert_eq!(rt; &capture.as_slice()[..24], HEADER.as_slice());
         assert_eq!(rt; &capture.as_slice()[24..], packets);
+    }
+    Ok(())
+}
+
+// The lines end at 17 and 28. What is left of a line at the end is one too, where it hands a frame in: behind
+// each pair of digits, or a whole time.
+const TWO_LINES: &[u8; 28] = b"frame 7 0aff 5 6\nframe 0 01\n";
+
+// The result for a front of the two lines, and what follows the file header.
+fn front_of_two(n: usize) -> (Result<(), RunError>, &'static [u8]) {
+    match n {
+        0 => (Ok(()), b""),
+        10 => (Ok(()), b"\0\0\0\0\0\0\0\0\x01\0\0\0\x01\0\0\0\x0a"),
+        12 => (Ok(()), b"\0\0\0\0\0\0\0\0\x02\0\0\0\x02\0\0\0\x0a\xff"),
+        1..=15 => (Err(RunError::BadLine(1)), b""),
+        16 | 17 => (Ok(()), b"\x05\0\0\0\x06\0\0\0\x02\0\0\0\x02\0\0\0\x0a\xff"),
+        18..=26 => (
+            Err(RunError::BadLine(2)),
+            b"\x05\0\0\0\x06\0\0\0\x02\0\0\0\x02\0\0\0\x0a\xff",
+        ),
+        _ => (
+            Ok(()),
+            b"\x05\0\0\0\x06\0\0\0\x02\0\0\0\x02\0\0\0\x0a\xff\
+            \0\0\0\0\0\0\0\0\x01\0\0\0\x01\0\0\0\x01",
+        ),
+    }
+}
+
+#[test]
+fn each_front_of_a_text(rt: HostRuntime) -> Result<(), Fail> {
+    for n in 0..=28 {
+        let (wanted, packets) = front_of_two(n);
+        let (result, capture) = capture_of(rt.alloc(), &TWO_LINES[..n])?;
+        assert_eq!(rt; result, wanted);
+        assert!(rt; capture.len() >= 24);
+        assert_eq!(rt; &capture.as_slice()[..24], HEADER.as_slice());
+        assert_eq!(rt; &capture.as_slice()[24..], packets);
+        let mut bytewise = Vec::new(rt.alloc());
+        let mut reader = ByteReader {
+            rest: &TWO_LINES[..n],
+            fails: false,
+        };
+        assert_eq!(rt;
+            write_capture(rt.alloc(), &mut reader, &mut bytewise),
+            wanted
+        );
+        assert_eq!(rt; bytewise.as_slice(), capture.as_slice());
     }
     Ok(())
 }
