@@ -33,10 +33,9 @@ fn main(rt: HostRuntime) -> anyhow::Result<ExitCode> {
             return Ok(ExitCode::from(error.exit_code() as u8));
         }
     };
-    match matches.subcommand() {
-        Some(("lines", words)) => make_of_file(&rt, Mode::Lines, words),
-        Some(("capture", words)) => make_of_file(&rt, Mode::Capture, words),
-        _ => Ok(ExitCode::SUCCESS),
+    match asked_for(&matches) {
+        Some(asked) => make_of_file(&rt, asked.mode, asked.name),
+        None => Ok(ExitCode::SUCCESS),
     }
 }
 
@@ -62,8 +61,26 @@ fn file<'a>(alloc: Global) -> Arg<'a> {
         .default_value("-")
 }
 
-fn make_of_file(rt: &HostRuntime, mode: Mode, words: &ArgMatches) -> anyhow::Result<ExitCode> {
-    let name = words.get_str("FILE").unwrap_or("-");
+// What the words ask for, of the file with this name.
+#[derive(Drop)]
+struct Asked<'m> {
+    mode: Mode,
+    name: &'m str,
+}
+
+fn asked_for<'m>(matches: &'m ArgMatches) -> Option<Asked<'m>> {
+    let (mode, words) = match matches.subcommand() {
+        Some(("lines", words)) => (Mode::Lines, words),
+        Some(("capture", words)) => (Mode::Capture, words),
+        _ => return None,
+    };
+    Some(Asked {
+        mode,
+        name: words.get_str("FILE").unwrap_or("-"),
+    })
+}
+
+fn make_of_file(rt: &HostRuntime, mode: Mode, name: &str) -> anyhow::Result<ExitCode> {
     let mut output = rt.stdout();
     let made = if name == "-" {
         make(rt.alloc(), mode, &mut rt.stdin(), &mut output)

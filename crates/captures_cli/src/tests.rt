@@ -1,6 +1,6 @@
 //! What is made of an input, the flush, the status and what is told of an error.
 use crate::modes::Mode;
-use crate::{exit_code, make};
+use crate::{asked_for, command, exit_code, make};
 use captures::{CaptureError, RunError};
 use std::alloc::Global;
 use std::io::{self, ErrorKind, Write};
@@ -47,6 +47,43 @@ fn lines_are_made_a_capture_and_lines_again(rt: HostRuntime) -> Result<(), Fail>
         Ok(())
     );
     assert_eq!(rt; lines.as_slice(), b"frame 0 0aff\n".as_slice());
+    Ok(())
+}
+
+// The frames of a file that scapy 2.5.0 wrote, and when they were captured.
+const LINES: &[u8; 238] =
+    b"frame 0 02000000000202000000000108004500002400010000401166c60a0000010a000002000100020010dbb40102030405060708 1700000000 250000\n\
+    frame 0 ffffffffffff020000000001080600010800060400010200000000010a0000010000000000000a000002 1700000001 250000\n";
+
+// That file, but for its snap length, 65,535, in place of which stands 262,144.
+const CAPTURE: &[u8; 148] = b"\
+    \xd4\xc3\xb2\xa1\x02\x00\x04\x00\x00\x00\x00\x00\x00\x00\x00\x00\x00\x00\x04\x00\
+    \x01\x00\x00\x00\x00\xf1\x53\x65\x90\xd0\x03\x00\x32\x00\x00\x00\x32\x00\x00\x00\
+    \x02\x00\x00\x00\x00\x02\x02\x00\x00\x00\x00\x01\x08\x00\x45\x00\x00\x24\x00\x01\
+    \x00\x00\x40\x11\x66\xc6\x0a\x00\x00\x01\x0a\x00\x00\x02\x00\x01\x00\x02\x00\x10\
+    \xdb\xb4\x01\x02\x03\x04\x05\x06\x07\x08\x01\xf1\x53\x65\x90\xd0\x03\x00\x2a\x00\
+    \x00\x00\x2a\x00\x00\x00\xff\xff\xff\xff\xff\xff\x02\x00\x00\x00\x00\x01\x08\x06\
+    \x00\x01\x08\x00\x06\x04\x00\x01\x02\x00\x00\x00\x00\x01\x0a\x00\x00\x01\x00\x00\
+    \x00\x00\x00\x00\x0a\x00\x00\x02\
+";
+
+// The stored run is one of the other mode.
+#[test]
+fn the_word_capture_makes_a_capture(rt: HostRuntime) -> Result<(), Fail> {
+    let words = ["captures_cli", "capture", "-"];
+    let Ok(matches) = command(rt.alloc())?.try_get_matches_from(&words) else {
+        panic!(rt; "refused");
+    };
+    let Some(asked) = asked_for(&matches) else {
+        panic!(rt; "no mode");
+    };
+    assert_eq!(rt; asked.name, "-");
+    let mut capture = Vec::new(rt.alloc());
+    assert_eq!(rt;
+        make(rt.alloc(), asked.mode, &mut LINES.as_slice(), &mut capture),
+        Ok(())
+    );
+    assert_eq!(rt; capture.as_slice(), CAPTURE.as_slice());
     Ok(())
 }
 
