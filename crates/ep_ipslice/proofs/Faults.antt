@@ -1,20 +1,13 @@
 -- Bytes that begin with no packet have one first fault.
-use Rattle.std.proofs.Common.{◌≡◌, ◌≢◌, ℕ, ◌<◌, ◌≤◌, ◌-◌, List, [], ◌∷◌, length, take, drop, get_or, Option, Some, Result, Ok, Err, refl, sym, ap, ◌∙◌, subst, arith}
+use Rattle.std.proofs.Common.{◌≡◌, ℕ, ◌<◌, ◌≤◌, ◌-◌, List, [], ◌∷◌, length, take, drop, Option, Some, Result, Ok, Err, refl, sym, ap, ◌∙◌, subst, arith}
 use Rattle.ep_ip.specs.Ipv4.{version_of}
 use Rattle.ep_ip.specs.Ipv6.{next_header_of}
-use Rattle.ep_ip.specs.Ipv6Fault.{header_at}
-use Rattle.ep_ip.specs.declared.err.ipv6.header_slice_error.HeaderSliceError.{HeaderSliceError as HeaderFault}
 use Rattle.ep_ext.specs.Chain.{Chain, Fault, fault_of}
-use Rattle.ep_ext.specs.Value.{Piece}
 use Rattle.ep_ipslice.specs.IpSlice.{IsIpFault, NoBytes, OtherVersion, OfIpv4, OfIpv6, ipv4_fault, ipv6_fault}
-use Rattle.ep_ipslice.specs.Ipv4Packet.{ipv4_packet_at}
 use Rattle.ep_ipslice.specs.Ipv6Exts.{view_order}
 use Rattle.ep_ipslice.specs.Ipv6Fault.{IsCutOff, IsIpv6Fault, IsRowFault, OfHeader, OfLength, OfExtensions, not_whole, of_exts_fault, of_header_fault}
-use Rattle.ep_ipslice.specs.Packet.{Ipv4Packet, body_len, body_source}
-use Rattle.ep_ipslice.specs.declared.err.ip.headers_error.HeadersError.TheVariants.{Ip}
-use Rattle.ep_ipslice.specs.declared.err.ip.header_error.HeaderError.TheVariants.{UnsupportedIpVersion}
+use Rattle.ep_ipslice.specs.Packet.{body_len, body_source}
 use Rattle.ep_ipslice.specs.declared.err.ip.slice_error.SliceError.{SliceError as IpFault}
-use Rattle.ep_ipslice.specs.declared.err.ipv4.slice_error.SliceError.{SliceError as Ipv4Fault}
 use Rattle.ep_ipslice.specs.declared.err.ipv6.slice_error.SliceError.{SliceError}
 use Rattle.ep_ipslice.specs.declared.err.ipv6.slice_error.SliceError.TheVariants.{Len}
 use Rattle.ep_ipslice.proofs.IpParts.{four_six}

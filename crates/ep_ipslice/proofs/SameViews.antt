@@ -3,9 +3,9 @@ use Rattle.std.proofs.Common.{◌≡◌, ℕ, zero, suc, ◌+◌, Bool, true, fa
 use Rattle.std.specs.Cmp.Lexicographic.{pointwise, bytes_decides}
 use Rattle.std.specs.Cmp.Derive.{both_true}
 use Rattle.ep_base.specs.declared.net.ip_number.IpNumber.{IpNumber}
-use Rattle.ep_ipslice.specs.Compared.{auth_code, bool_place, compared_as, number_place, ordered_as}
+use Rattle.ep_ipslice.specs.Compared.{auth_code, compared_as, number_place, ordered_as}
 use Rattle.ep_ipslice.specs.Ipv6Exts.{Ipv6Exts}
-use Rattle.ep_ipslice.specs.Packet.{IpPayload, Ipv4Packet, Ipv6Packet}
+use Rattle.ep_ipslice.specs.Packet.{Ipv4Packet, Ipv6Packet}
 use Rattle.ep_ipslice.proofs.SamePayloads.{bool_again, bool_at, payload_same}
 
 number_at : ℕ → Option IpNumber

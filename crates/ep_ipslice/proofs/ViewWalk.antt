@@ -1,16 +1,12 @@
 -- The walk of a view over extension headers in a row.
-use Rattle.std.proofs.Common.{◌≡◌, ℕ, ◌+◌, ◌-◌, ◌<◌, ◌^◌, ◌==◌, Bool, true, false, cond, ◌||◌, List, [], ◌∷◌, ◌++◌, length, take, Option, Some, None, Result, Ok, Err, Bor, arith, refl, sym, ap, ◌∙◌, subst, length-append, append_assoc}
+use Rattle.std.proofs.Common.{◌≡◌, ℕ, ◌-◌, Bool, true, false, ◌||◌, List, [], ◌∷◌, ◌++◌, length, take, Option, Some, None, Err, Bor, arith, refl, sym, ap, ◌∙◌, subst, length-append, append_assoc}
 use Rattle.std.proofs.lemmas.List.{take_at}
 use Rattle.std.proofs.lemmas.List.Folds.{list_any-append}
 use Rattle.ep_base.specs.Bytes.{num}
 use Rattle.ep_base.specs.declared.err.layer.Layer.{Layer}
 use Rattle.ep_base.specs.declared.net.ip_number.IpNumber.{IpNumber}
 use Rattle.ep_ext.specs.Chain.{Chain, Fault, IsEnd, IsPiece, Row, fault_at, fault_in, fault_of, front_of, layer_of}
-use Rattle.ep_ext.specs.Moved.{CanMove, moved}
-use Rattle.ep_ext.proofs.Fronts.{fault_moves}
-use Rattle.ep_ext.specs.declared.err.ipv6_exts.header_error.HeaderError.TheVariants.{HopByHopNotAtStart}
-use Rattle.ep_ext.specs.declared.err.ipv6_exts.header_slice_error.HeaderSliceError.TheVariants.{Len, Content}
-use Rattle.ep_base.specs.declared.err.layer.Layer.TheVariants.{Ipv6HopByHopHeader}
+use Rattle.ep_ext.specs.Moved.{moved}
 use Rattle.ep_ext.specs.Place.{Order}
 use Rattle.ep_ext.specs.Value.{Piece, bytes_of, places}
 use Rattle.ep_ext.specs.declared.err.ipv6_exts.header_slice_error.HeaderSliceError.{HeaderSliceError}
@@ -154,31 +150,3 @@ stops_same alone first bytes p q m n r s answer chain other stops =
       left = stops.left ∙ same.2;
       fault = stops.fault ∙ (λ i. fault_of view_order (same.0 i) (same.1 i) (same.2 i));
     }
-
--- a fault at the front, moved by so many bytes, can be moved on
-moved_on : (place : Ipv6ExtPlace) (rest : List ℕ) (e : HeaderSliceError) (offset n : ℕ) → front_of place rest ≡ Err e → offset + n < 2 ^ 64 → CanMove (moved e offset) n
-moved_on place rest (Len e) offset n is fits = omega (arith, fault_moves place rest (Len e) (offset + n) is fits)
-moved_on place rest (Content e) offset n is fits = tt
-
-fault_in_moves : (place : Ipv6ExtPlace) (rest : List ℕ) (layer : Layer) (offset n : ℕ) (r : Result (List ℕ) HeaderSliceError) (fault : Fault) →
-    front_of place rest ≡ r → fault_in layer offset r ≡ Some fault → offset + n < 2 ^ 64 → CanMove fault.0 n
-fault_in_moves place rest layer offset n (Ok header) fault is found fits = cc
-fault_in_moves place rest layer offset n (Err e) fault is found fits =
-    let same : (moved e offset, layer) ≡ fault = cc in
-    subst (λ (f : Fault). CanMove f.0 n) same (moved_on place rest e offset n is fits)
-
-misplaced_moves : (b : Bool) (n : ℕ) (fault : Fault) → cond b (Some (Content HopByHopNotAtStart, Ipv6HopByHopHeader)) None ≡ Some fault → CanMove fault.0 n
-misplaced_moves true n fault found =
-    let same : (Content HopByHopNotAtStart, Ipv6HopByHopHeader) ≡ fault = cc in
-    subst (λ (f : Fault). CanMove f.0 n) same tt
-misplaced_moves false n fault found = cc
-
-fault_at_moves : (offset n : ℕ) (place : Option Ipv6ExtPlace) (last : ℕ) (rest : List ℕ) (fault : Fault) → fault_at offset place last rest ≡ Some fault → offset + n < 2 ^ 64 → CanMove fault.0 n
-fault_at_moves offset n (Some place) last rest fault found fits = fault_in_moves place rest (layer_of place) offset n (front_of place rest) fault refl found fits
-fault_at_moves offset n None last rest fault found fits = misplaced_moves (last == 0) n fault found
-
--- the fault of a row lies within its bytes
-pub fault_within : (order : Order) (first : ℕ) (bytes : List ℕ) (pieces : List Piece) (last : ℕ) (rest : List ℕ) (fault : Fault) (n : ℕ) →
-    Chain order first bytes pieces last rest → fault_of order pieces last rest ≡ Some fault → length bytes + n < 2 ^ 64 → CanMove fault.0 n
-fault_within order first bytes pieces last rest fault n chain found fits =
-    fault_at_moves (length (bytes_of pieces)) n (order (places pieces) last) last rest fault found (omega (arith, ap length chain.cut, length-append (bytes_of pieces) rest))

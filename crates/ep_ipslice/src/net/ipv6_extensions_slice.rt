@@ -6,7 +6,7 @@ ghost use Rattle.std.specs.Cmp.Rules.{comparing};
 ghost use Rattle.std.specs.Ordering.{on};
 ghost use Rattle.std.proofs.Common.{rules};
 ghost use Rattle.ep_ipslice.specs.Compared.{compared_as};
-ghost use Rattle.ep_ext.specs.Chain.{Chain, Row, fault_at, layer_of};
+ghost use Rattle.ep_ext.specs.Chain.{Chain, Row, fault_at};
 ghost use Rattle.ep_ext.specs.Moved.{CanMove};
 ghost use Rattle.ep_ext.specs.Value.{Piece, bytes_of, piece_at};
 ghost use Rattle.ep_ext.specs.declared.net.ipv6_ext_place.Ipv6ExtPlace.TheVariants as place;
@@ -60,6 +60,7 @@ impl<'a> Ipv6ExtensionsSlice<'a> {
         ensures place { IfErr result (λ e. (n : ℕ) → length slice.now + n < 2 ^ 64 → CanMove e n) }
     {
         laws::chain_is_alone();
+        laws::faults_can_be_moved();
         match Self::walk(first, slice) {
             (extensions, number, rest, None) => Ok((extensions, number, rest)),
             (_, _, _, Some((error, _))) => Err(error),
@@ -99,6 +100,7 @@ impl<'a> Ipv6ExtensionsSlice<'a> {
     {
         laws::row_grows_by_a_header();
         laws::row_ends_where_none_is_taken();
+        laws::faults_can_be_moved();
         let mut begun = false;
         let mut number = first;
         let mut fragmented = false;
@@ -115,7 +117,7 @@ impl<'a> Ipv6ExtensionsSlice<'a> {
                 Err(error) => {
                     let offset = slice.len() - rest.len();
                     let extensions = Self::of_parts(first, begun, fragmented, &slice[..offset]);
-                    let fault = (error.add_slice_offset(offset), layer_of(place));
+                    let fault = (error.add_slice_offset(offset), place.layer());
                     return (extensions, number, rest, Some(fault));
                 }
             }
@@ -254,17 +256,4 @@ fn misplaced(number: IpNumber) -> Option<(HeaderSliceError, Layer)>
         return Some((error, Layer::Ipv6HopByHopHeader));
     }
     None
-}
-
-// The layer of a header.
-fn layer_of(place: Ipv6ExtPlace) -> Layer
-    ensures { result ≡ layer_of place }
-{
-    match place {
-        Ipv6ExtPlace::HopByHop => Layer::Ipv6HopByHopHeader,
-        Ipv6ExtPlace::Routing => Layer::Ipv6RouteHeader,
-        Ipv6ExtPlace::Fragment => Layer::Ipv6FragHeader,
-        Ipv6ExtPlace::Authentication => Layer::IpAuthHeader,
-        Ipv6ExtPlace::Destination | Ipv6ExtPlace::FinalDestination => Layer::Ipv6DestOptionsHeader,
-    }
 }

@@ -1,5 +1,5 @@
 use Rattle.std.proofs.Common.{◌∙◌, sym}
-use Rattle.ep_ipslice.proofs.ViewWalk.{fault_within, stops_same}
+use Rattle.ep_ipslice.proofs.ViewWalk.{stops_same}
 use Rattle.ep_ipslice.specs.Ipv6Exts.{view_order}
 use Rattle.ep_ipslice.proofs.net.ipv6_extensions_slice.Ipv6ExtensionsSlice.from_slice.Goals as goal
 
@@ -18,5 +18,5 @@ returns-in_default-default-default-Some-clause-only c = λ pieces last rest chai
 pub returns-in_default-default-default-Some-clause-place : goal.returns-in_default-default-default-Some-clause-place
 returns-in_default-default-default-Some-clause-place c = λ n fits.
     let found = c.walk.ensures in
-    fault_within view_order c.args.first.0 c.args.slice.now found.0 found.1 found.2 (c.in_default-default-default-Some.error, c.in_default-default-default-Some.field-0-1-3) n found.3
+    c.faults_can_be_moved.ensures.row view_order c.args.first.0 c.args.slice.now found.0 found.1 found.2 (c.in_default-default-default-Some.error, c.in_default-default-default-Some.field-0-1-3) n found.3
     (sym found.4.fault ∙ c.in_default-default-default-Some.is-3) fits

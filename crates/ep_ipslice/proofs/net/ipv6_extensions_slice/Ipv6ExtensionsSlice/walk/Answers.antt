@@ -1,5 +1,4 @@
 use Rattle.std.proofs.Common.{◌∙◌, ◌-◌, ◌||◌, ℕ, Bool, List, get_or, length, sym, ap, refl, arith}
-use Rattle.ep_ext.proofs.Fronts.{fault_moves}
 use Rattle.ep_ipslice.specs.Ipv6Ext.{piece_of}
 use Rattle.ep_ipslice.proofs.Cuts.{split_front, split_back}
 use Rattle.ep_ipslice.proofs.ViewWalk.{kept_more, found_closed, found_fault, passed_bytes}
@@ -20,16 +19,16 @@ headers-preserved c =
 
 pub add_slice_offset-requires : goal.add_slice_offset-requires
 add_slice_offset-requires c =
-    fault_moves c.in-Some.place c.headers.rest.now c.in-Err.error (length c.args.slice.now - length c.headers.rest.now) c.in-Err.ensures.err (omega arith)
+    c.faults_can_be_moved.ensures.front c.in-Some.place c.headers.rest.now c.in-Err.error (length c.args.slice.now - length c.headers.rest.now) c.in-Err.ensures.err (omega arith)
 
 pub returns-in-Err : goal.returns-in-Err
 returns-in-Err c =
     let kept = c.headers.invariant in
     found_fault c.row_ends_where_none_is_taken.ensures.fault c.args.first.0 c.args.slice.now c.headers.begun c.headers.fragmented c.headers.number c.headers.rest c.of_parts-extensions.result
-    c.in-Some.place c.in-Err.error c.add_slice_offset.result (length c.args.slice.now - length c.headers.rest.now) c.layer_of.result kept
+    c.in-Some.place c.in-Err.error c.add_slice_offset.result (length c.args.slice.now - length c.headers.rest.now) c.layer.result kept
     (sym c.place_of.ensures ∙ c.in-Some.is)
     (c.of_parts-extensions.ensures kept.pieces (passed_bytes c.args.first.0 c.args.slice.now c.headers.begun c.headers.fragmented c.headers.number.0 c.headers.rest.now kept _ refl) kept.started kept.parted)
-    c.in-Err.ensures.err refl c.add_slice_offset.ensures c.layer_of.ensures
+    c.in-Err.ensures.err refl c.add_slice_offset.ensures c.layer.ensures
 
 pub returns : goal.returns
 returns c =
