@@ -1,16 +1,16 @@
 -- The headers that are left to go over.
-use Rattle.std.proofs.Common.{◌≡◌, ℕ, suc, zero, ◌≤◌, ◌==◌, Bool, true, false, cond, List, [], ◌∷◌, ◌++◌, length, drop, Option, Some, None, Result, Ok, refl, sym, ap, ◌∙◌, subst, length-append, arith}
-use Rattle.std.proofs.lemmas.List.{drop_at}
+use Rattle.std.proofs.Common.{◌≡◌, ℕ, ◌+◌, ◌*◌, suc, zero, ◌≤◌, ◌==◌, Bool, true, false, cond, List, [], ◌∷◌, ◌++◌, length, drop, Option, Some, None, Ok, refl, sym, ap, ◌∙◌, subst, length-append, arith}
+use Rattle.std.proofs.lemmas.List.{drop_at, get_or_append_left}
 use Rattle.ep_base.specs.Bytes.{num}
 use Rattle.ep_base.specs.declared.net.ip_number.IpNumber.{IpNumber}
+use Rattle.ep_ext.specs.Auth.{IsAuth, auth_len}
 use Rattle.ep_ext.specs.Chain.{IsPiece, Row, front_of}
 use Rattle.ep_ext.specs.Place.{Order, in_front}
+use Rattle.ep_ext.specs.Raw.{IsRawExt, raw_len}
 use Rattle.ep_ext.specs.Value.{Piece, bytes_of}
 use Rattle.ep_ext.specs.declared.net.ipv6_ext_place.Ipv6ExtPlace.{Ipv6ExtPlace}
 use Rattle.ep_ext.specs.declared.net.ipv6_ext_place.Ipv6ExtPlace.TheVariants.{HopByHop, Destination, Routing, Fragment, Authentication, FinalDestination}
-use Rattle.ep_ext.specs.declared.err.ipv6_exts.header_slice_error.HeaderSliceError.{HeaderSliceError}
-use Rattle.ep_ipslice.specs.declared.net.ipv6_extension_slice.Ipv6ExtensionSlice.{Ipv6ExtensionSlice}
-use Rattle.ep_ipslice.specs.Ipv6Ext.{ext_at, ext_of, piece_of, some_ext}
+use Rattle.ep_ipslice.specs.Ipv6Ext.{ext_len, ext_of, piece_of}
 use Rattle.ep_ipslice.specs.Ipv6Exts.{Ipv6Exts, IsView, exts_of, first_header_of, place_behind, view_order}
 use Rattle.ep_ipslice.specs.Ipv6Walk.{IsLeft, any_order, front_piece, piece_then, pieces_left, pieces_within, whole_piece}
 
@@ -96,9 +96,27 @@ first_of number bytes left some = first_in number bytes left.0 left.1 left.2 lef
 pub first_placed : (number : ℕ) (bytes : List ℕ) (first : First number bytes) → place_behind false number ≡ Some first.piece.0
 first_placed number bytes first = any_step (number == 0) first.passed _ first.piece.0 first.row.0
 
-pub first_front : IsFound → (number : ℕ) (bytes : List ℕ) (first : First number bytes) → ext_at first.piece.0 bytes ≡ Ok (ext_of first.piece.0 first.piece.1)
-first_front found number bytes first =
-    ap (ext_at first.piece.0) first.cut ∙ ap (some_ext first.piece.0) (found first.piece.0 first.piece.1 (bytes_of first.pieces) first.row.1)
+len_raw : (header rest : List ℕ) → IsRawExt header → raw_len (header ++ rest) ≡ length header
+len_raw header rest raw = ap (λ (n : ℕ). (n + 1) * 8) (get_or_append_left header rest 0 1 (omega (arith, raw.least))) ∙ sym raw.whole
+
+len_auth : (header rest : List ℕ) → IsAuth header → auth_len (header ++ rest) ≡ length header
+len_auth header rest auth = ap (λ (n : ℕ). (n + 2) * 4) (get_or_append_left header rest 0 1 (omega (arith, auth.least))) ∙ sym auth.whole
+
+-- a whole header has the length that its own field says, whatever follows it
+len_again : (place : Ipv6ExtPlace) (header rest : List ℕ) → IsPiece place header → ext_len place (header ++ rest) ≡ length header
+len_again HopByHop header rest piece = len_raw header rest piece
+len_again Destination header rest piece = len_raw header rest piece
+len_again Routing header rest piece = len_raw header rest piece
+len_again Fragment header rest piece = sym piece.whole
+len_again Authentication header rest piece = len_auth header rest piece
+len_again FinalDestination header rest piece = len_raw header rest piece
+
+pub first_len : (number : ℕ) (bytes : List ℕ) (first : First number bytes) → ext_len first.piece.0 bytes ≡ length first.piece.1
+first_len number bytes first = ap (ext_len first.piece.0) first.cut ∙ len_again first.piece.0 first.piece.1 (bytes_of first.pieces) first.row.1
+
+-- of the bytes that are left, the first header is a part
+pub first_fits : (number : ℕ) (bytes : List ℕ) (first : First number bytes) → length first.piece.1 ≤ length bytes
+first_fits number bytes first = omega (arith, ap length first.cut, length-append first.piece.1 (bytes_of first.pieces))
 
 same_piece_at : (front routing fragment auth destination : Bool) (place : Ipv6ExtPlace) (header : List ℕ) →
     cond front (Some HopByHop) (cond routing (Some Routing) (cond fragment (Some Fragment) (cond auth (Some Authentication) (cond destination (Some Destination) None)))) ≡ Some place →
@@ -131,9 +149,6 @@ none_left number bytes len = ap (λ (n : ℕ). pieces_within n any_order [] numb
 
 pub some_place : (x y : Ipv6ExtPlace) → ◌≡◌ {A = Option Ipv6ExtPlace} (Some x) (Some y) → x ≡ y
 some_place x y h = cc
-
-pub ok_ext : (x y : Ipv6ExtensionSlice) → ◌≡◌ {A = Result Ipv6ExtensionSlice HeaderSliceError} (Ok x) (Ok y) → x ≡ y
-ok_ext x y h = cc
 
 -- behind the first of the headers that are left stand the others
 pub left_behind : IsFound → HasLeast → (number : ℕ) (bytes : List ℕ) (first : First number bytes) (piece : Piece) (next : ℕ) (behind : List ℕ) →

@@ -1,6 +1,8 @@
 -- One extension header of an IPv6 packet, as a piece of the row of headers that it stands in.
 use Rattle.std.specs.Prelude.{ℕ, List, Result, Ok, Err}
+use Rattle.ep_ext.specs.Auth.{auth_len}
 use Rattle.ep_ext.specs.Chain.{front_of}
+use Rattle.ep_ext.specs.Raw.{raw_len}
 use Rattle.ep_ext.specs.Value.{Piece}
 use Rattle.ep_ext.specs.declared.err.ipv6_exts.header_slice_error.HeaderSliceError.{HeaderSliceError}
 use Rattle.ep_ext.specs.declared.net.ipv6_ext_place.Ipv6ExtPlace.{Ipv6ExtPlace}
@@ -24,6 +26,15 @@ ext_of place.Routing header = Routing header
 ext_of place.Fragment header = Fragment header
 ext_of place.Authentication header = Authentication header
 ext_of place.FinalDestination header = DestinationOptions header
+
+-- how many bytes the header of a place has that begins the bytes, by its own length field
+abbrev pub ext_len : Ipv6ExtPlace → List ℕ → ℕ
+ext_len place.HopByHop bytes = raw_len bytes
+ext_len place.Destination bytes = raw_len bytes
+ext_len place.Routing bytes = raw_len bytes
+ext_len place.Fragment bytes = 8
+ext_len place.Authentication bytes = auth_len bytes
+ext_len place.FinalDestination bytes = raw_len bytes
 
 abbrev pub some_ext : Ipv6ExtPlace → Result (List ℕ) HeaderSliceError → Result Ipv6ExtensionSlice HeaderSliceError
 some_ext place (Ok header) = Ok (ext_of place header)

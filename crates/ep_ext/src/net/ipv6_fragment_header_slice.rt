@@ -63,8 +63,8 @@ impl<'a> Ipv6FragmentHeaderSlice<'a> {
         Ok((Self::of_bytes(front), rest))
     }
 
-    // These bytes, which are a header.
-    pub(crate) fn of_bytes(header: &'a [u8]) -> Self
+    /// The header that these bytes are, for a caller who has tested them: nothing is tested again.
+    pub fn of_bytes(header: &'a [u8]) -> Self
         requires { IsFragment header.now }
         ensures { result ≡ header.now }
     {

@@ -50,6 +50,14 @@ impl<'a> Ipv6RawExtHeaderSlice<'a> {
         }
     }
 
+    /// The header that these bytes are, for a caller who has tested them: nothing is tested again.
+    pub fn of_bytes(header: &'a [u8]) -> Self
+        requires { IsRawExt header.now }
+        ensures { result ≡ header.now }
+    {
+        Ipv6RawExtHeaderSlice { slice: header }
+    }
+
     /// The header's bytes.
     pub fn slice(&self) -> &'a [u8]
         ensures bytes { result.now ≡ self.now }

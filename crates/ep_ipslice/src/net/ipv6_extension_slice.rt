@@ -1,13 +1,16 @@
 //! One extension header of an IPv6 packet.
 
-ghost use Rattle.std.specs.Prelude.{◌≡◌, List, ℕ, ◌++◌, IfOk, IfErr, Err};
+ghost use Rattle.std.specs.Prelude.{◌≡◌, ◌<◌, List, ℕ, ◌++◌, length, IfOk, IfErr, Err};
 ghost use Rattle.ep_ext.specs.Chain.{IsPiece, front_of};
-ghost use Rattle.ep_ipslice.specs.Ipv6Ext.{ext_at, piece_of};
+ghost use Rattle.ep_ipslice.specs.Ipv6Ext.{ext_at, ext_len, ext_of, piece_of};
 ghost use Rattle.ep_ipslice.specs.Ipv6Exts.{is_fragmenting_piece};
 
 use ep_ext::err::ip_auth;
 use ep_ext::err::ipv6_exts::{HeaderError, HeaderSliceError};
-use ep_ext::{IpAuthHeaderSlice, Ipv6ExtPlace, Ipv6FragmentHeaderSlice, Ipv6RawExtHeaderSlice};
+use ep_ext::{
+    IpAuthHeaderSlice, Ipv6ExtPlace, Ipv6FragmentHeader, Ipv6FragmentHeaderSlice,
+    Ipv6RawExtHeaderSlice,
+};
 
 /// One extension header of an IPv6 packet (RFC 8200, section 4), borrowed.
 #[derive(Clone, Debug, PartialEq, Eq, Drop)]
@@ -66,6 +69,30 @@ impl<'a> Ipv6ExtensionSlice<'a> {
         }
     }
 
+    // The header of this place that these bytes are.
+    pub(super) fn of_bytes(place: Ipv6ExtPlace, header: &'a [u8]) -> Ipv6ExtensionSlice<'a>
+        requires { IsPiece place header.now }
+        ensures { result ≡ ext_of place header.now }
+    {
+        match place {
+            Ipv6ExtPlace::HopByHop => {
+                Ipv6ExtensionSlice::HopByHop(Ipv6RawExtHeaderSlice::of_bytes(header))
+            }
+            Ipv6ExtPlace::Routing => {
+                Ipv6ExtensionSlice::Routing(Ipv6RawExtHeaderSlice::of_bytes(header))
+            }
+            Ipv6ExtPlace::Fragment => {
+                Ipv6ExtensionSlice::Fragment(Ipv6FragmentHeaderSlice::of_bytes(header))
+            }
+            Ipv6ExtPlace::Destination | Ipv6ExtPlace::FinalDestination => {
+                Ipv6ExtensionSlice::DestinationOptions(Ipv6RawExtHeaderSlice::of_bytes(header))
+            }
+            Ipv6ExtPlace::Authentication => {
+                Ipv6ExtensionSlice::Authentication(IpAuthHeaderSlice::of_bytes(header))
+            }
+        }
+    }
+
     // The bytes of the header.
     pub(crate) fn bytes(&self) -> &'a [u8]
         ensures { result.now ≡ (piece_of self.now).1 }
@@ -87,5 +114,17 @@ impl<'a> Ipv6ExtensionSlice<'a> {
             Ipv6ExtensionSlice::Fragment(header) => header.is_fragmenting_payload(),
             _ => false,
         }
+    }
+}
+
+// How many bytes the header of this place has that begins the slice, by its own length field.
+pub(super) fn ext_len(place: Ipv6ExtPlace, slice: &[u8]) -> usize
+    requires { 1 < length slice.now }
+    ensures { result ≡ ext_len place slice.now }
+{
+    match place {
+        Ipv6ExtPlace::Fragment => Ipv6FragmentHeader::LEN,
+        Ipv6ExtPlace::Authentication => (usize::from(slice[1]) + 2) * 4,
+        _ => (usize::from(slice[1]) + 1) * 8,
     }
 }

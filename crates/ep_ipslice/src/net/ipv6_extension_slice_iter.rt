@@ -8,6 +8,7 @@ ghost use Rattle.ep_ipslice.specs.Ipv6Ext.{piece_of};
 ghost use Rattle.ep_ipslice.specs.Ipv6Walk.{IsLeft, pieces_left};
 
 use super::Ipv6ExtensionSlice;
+use super::ipv6_extension_slice::ext_len;
 use super::ipv6_extensions_slice::place_of;
 use ep_base::IpNumber;
 use ep_ext::laws;
@@ -85,7 +86,7 @@ fn first_header(number: IpNumber, rest: &[u8]) -> Option<(Ipv6ExtensionSlice<'_>
         return None;
     }
     let place = place_of(false, number).unwrap();
-    let header = Ipv6ExtensionSlice::from_slice(place, rest).unwrap();
-    let (front, behind) = rest.split_at(header.bytes().len());
+    let (front, behind) = rest.split_at(ext_len(place, rest));
+    let header = Ipv6ExtensionSlice::of_bytes(place, front);
     Some((header, IpNumber(front[0]), behind))
 }
