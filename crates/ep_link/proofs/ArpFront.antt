@@ -4,7 +4,7 @@ use Rattle.std.proofs.lemmas.Bool.{le-ltb, ltb-false}
 use Rattle.std.proofs.lemmas.List.{get_or-take, get_or_append_left, length-take-le, length-append, take-append-drop, take_at}
 use Rattle.ep_base.specs.declared.err.len_error.LenError.{LenError}
 use Rattle.ep_link.specs.Arp.{IsArpPacket, packet_at, packet_len_of}
-use Rattle.ep_tag.proofs.Front.{guard_ok, ok_same}
+use Rattle.ep_link.proofs.Front.{guard_ok, ok_same}
 
 -- the first bytes of a packet say what the packet says
 pub front_is : (bytes : List ℕ) → 8 ≤ length bytes → packet_len_of bytes ≤ length bytes → IsArpPacket (take (packet_len_of bytes) bytes)

@@ -4,7 +4,7 @@ use Rattle.std.proofs.lemmas.List.{length-append, length-drop, length-take-le, t
 use Rattle.ep_base.specs.Bytes.{IsBytes}
 use Rattle.ep_base.proofs.Cells.{drop-cells}
 use Rattle.ep_link.specs.Arp.{ArpFields, IsArp, IsArpPacket, Fits, addresses_of, behind_sender, behind_sender_hw, behind_target_hw, fields_of, hw_len_of, proto_len_of, sender_hw_of, sender_proto_of, spelling, target_hw_of, target_proto_of}
-use Rattle.ep_tag.proofs.Numbers.{high_of, joined, low_of}
+use Rattle.ep_link.proofs.Numbers.{high_of, joined, low_of}
 
 -- how many bytes of the addresses are left behind each
 pub record Lens (bytes : List ℕ) : Type 0 where

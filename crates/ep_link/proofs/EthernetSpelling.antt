@@ -5,7 +5,7 @@ use Rattle.ep_base.specs.Bytes.{IsBytes}
 use Rattle.ep_base.proofs.Cells.{cells, take-drop-cells}
 use Rattle.ep_link.specs.Ethernet.{ethernet_len, header_of, spelling, Fits}
 use Rattle.ep_link.specs.declared.link.ethernet2_header.Ethernet2Header.{Ethernet2Header}
-use Rattle.ep_tag.proofs.Numbers.{as_cells, high_of, joined, low_of}
+use Rattle.ep_link.proofs.Numbers.{as_cells, high_of, joined, low_of}
 
 -- what is read from 14 bytes is spelled by them
 pub spelling-header_of : (frame : List ℕ) → length frame ≡ ethernet_len → IsBytes frame → spelling (header_of frame) ≡ frame

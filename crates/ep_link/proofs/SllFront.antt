@@ -5,7 +5,7 @@ use Rattle.std.proofs.lemmas.List.{get_or-take, get_or_append_left, length-take-
 use Rattle.ep_link.specs.declared.err.linux_sll.header_slice_error.HeaderSliceError.{HeaderSliceError}
 use Rattle.ep_link.specs.Sll.{IsSllHeader, greatest_packet_type, packet_type_of, sll_len}
 use Rattle.ep_link.specs.SllFault.{header_at}
-use Rattle.ep_tag.proofs.Front.{guard_ok, ok_same}
+use Rattle.ep_link.proofs.Front.{guard_ok, ok_same}
 
 -- the first bytes of a header say what the header says
 pub front_is : (bytes : List ℕ) → sll_len ≤ length bytes → packet_type_of bytes ≤ greatest_packet_type → IsSllHeader (take sll_len bytes)

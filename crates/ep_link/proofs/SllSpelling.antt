@@ -8,7 +8,7 @@ use Rattle.ep_link.specs.declared.link.arp_hardware_id.ArpHardwareId.{ArpHardwar
 use Rattle.ep_link.specs.declared.link.linux_sll_header.LinuxSllHeader.{LinuxSllHeader}
 use Rattle.ep_link.specs.declared.link.linux_sll_protocol_type.LinuxSllProtocolType.TheVariants as protocol
 use Rattle.ep_link.proofs.EthernetSpelling.{at_behind}
-use Rattle.ep_tag.proofs.Numbers.{as_cells, high_of, joined, low_of}
+use Rattle.ep_link.proofs.Numbers.{as_cells, high_of, joined, low_of}
 
 number_kept : (a b c d : Bool) (n : ℕ) →
     number_of (cond a (protocol.NetlinkProtocolType n) (cond b (protocol.GenericRoutingEncapsulationProtocolType n)

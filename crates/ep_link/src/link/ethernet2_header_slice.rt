@@ -10,6 +10,7 @@ use super::Ethernet2Header;
 use super::front::too_short;
 use ep_base::EtherType;
 use ep_base::err::{Layer, LenError};
+use ep_tag::laws::front::front_is_taken;
 use std::marker::Model;
 
 /// The 14 bytes of an Ethernet II header (RFC 894), borrowed. A contract sees the value as those
@@ -38,6 +39,7 @@ impl<'a> Ethernet2HeaderSlice<'a> {
         ensures exact { result ≡ front_at layer.Ethernet2Header ethernet_len slice.now }
         ensures place { IfErr result (λ e. e.layer_start_offset ≡ 0) }
     {
+        front_is_taken();
         Self::taken(slice)
     }
 

@@ -1,6 +1,6 @@
 use Rattle.std.proofs.Common.{arith, ap, ◌∙◌}
 use Rattle.ep_link.specs.Arp.{spelling}
-use Rattle.ep_tag.proofs.Front.{front_fits}
+use Rattle.ep_link.proofs.Front.{front_fits}
 use Rattle.ep_link.proofs.ArpSpelling.{spelling-fields_of}
 use Rattle.ep_link.proofs.link.arp_packet.ArpPacket.from_slice.Goals as goal
 

@@ -1,6 +1,6 @@
 use Rattle.std.proofs.Common.{arith, ap, ◌∙◌}
 use Rattle.ep_link.specs.Ethernet.{header_of, spelling, ethernet_len}
-use Rattle.ep_tag.proofs.Front.{ok_same, front_fits, rest_of}
+use Rattle.ep_link.proofs.Front.{ok_same, front_fits, rest_of}
 use Rattle.ep_link.proofs.EthernetSpelling.{spelling-header_of}
 use Rattle.ep_link.proofs.link.ethernet2_header.Ethernet2Header.from_slice.Goals as goal
 

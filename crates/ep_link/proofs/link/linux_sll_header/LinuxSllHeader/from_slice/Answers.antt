@@ -1,6 +1,6 @@
 use Rattle.std.proofs.Common.{arith, ap, ◌∙◌}
 use Rattle.ep_link.specs.Sll.{header_of, sll_len, spelling}
-use Rattle.ep_tag.proofs.Front.{ok_same, front_fits, rest_of}
+use Rattle.ep_link.proofs.Front.{ok_same, front_fits, rest_of}
 use Rattle.ep_link.proofs.SllSpelling.{spelling-header_of}
 use Rattle.ep_link.proofs.link.linux_sll_header.LinuxSllHeader.from_slice.Goals as goal
 
