@@ -5,6 +5,7 @@ use crate::{
     EtherPayloadSlice, MacsecAn, MacsecHeader, MacsecHeaderSlice, MacsecPType, MacsecPayloadSlice,
     MacsecShortLen, MacsecSlice, SingleVlanSlice,
 };
+use arrayvec::ArrayVec;
 use ep_base::err::{Layer, LenError};
 use ep_base::{EtherType, LenSource};
 use std::test::Fail;
@@ -14,6 +15,14 @@ use std::test::Fail;
 const BYTES: [u8; 18] = [
     0x7a, 0xc3, 1, 2, 3, 4, 0xa, 0xb, 0xc, 0xd, 0xe, 0xf, 0x10, 0x11, 21, 22, 23, 24,
 ];
+
+// The header, with both unused bits 0.
+const WRITTEN: [u8; 14] = [
+    0x7a, 3, 1, 2, 3, 4, 0xa, 0xb, 0xc, 0xd, 0xe, 0xf, 0x10, 0x11,
+];
+
+// Unmodified, a short length of 4 that leaves two bytes of a VLAN tag, and a byte behind them.
+const CUT_TAG: [u8; 11] = [0, 4, 0, 0, 0, 1, 0x81, 0, 0, 5, 0xff];
 
 fn want(required_len: usize, len: usize, layer: Layer) -> HeaderSliceError {
     HeaderSliceError::Len(LenError {
@@ -37,109 +46,204 @@ fn header() -> Result<MacsecHeader, Fail> {
     })
 }
 
-#[test]
-fn a_header_both_ways(rt: HostRuntime) -> Result<(), Fail> {
-    let bytes = BYTES;
-    let header = header()?;
-    let Ok((read, rest)) = MacsecHeader::from_slice(&bytes) else {
-        panic!(rt; "no header");
-    };
-    assert_eq!(rt; read, header);
-    assert_eq!(rt; rest, [21, 22, 23, 24].as_slice());
-    let mut written = BYTES;
-    written[1] = 3;
-    assert_eq!(rt; header.to_bytes().as_slice(), &written[..14]);
-    assert_eq!(rt; header.header_len(), 14);
-    assert_eq!(rt; header.next_ether_type(), None);
-    assert_eq!(rt; header.expected_payload_len(), Some(3));
-    Ok(())
+// The readers below answer what a test compares and no more: a slice that a test held would bring its
+// contract into the proof of everything behind it.
+
+fn header_slice(bytes: &[u8]) -> Option<MacsecHeaderSlice<'_>> {
+    MacsecHeaderSlice::from_slice(bytes).ok()
+}
+
+fn macsec_slice(bytes: &[u8]) -> Option<MacsecSlice<'_>> {
+    MacsecSlice::from_slice(bytes).ok()
+}
+
+fn read_header(bytes: &[u8]) -> Option<MacsecHeader> {
+    match MacsecHeader::from_slice(bytes) {
+        Ok((header, _)) => Some(header),
+        Err(_) => None,
+    }
+}
+
+fn rest_behind(bytes: &[u8]) -> Option<&[u8]> {
+    match MacsecHeader::from_slice(bytes) {
+        Ok((_, rest)) => Some(rest),
+        Err(_) => None,
+    }
+}
+
+fn header_refusal(bytes: &[u8]) -> Option<HeaderSliceError> {
+    match MacsecHeader::from_slice(bytes) {
+        Ok(_) => None,
+        Err(error) => Some(error),
+    }
+}
+
+fn header_slice_refusal(bytes: &[u8]) -> Option<HeaderSliceError> {
+    MacsecHeaderSlice::from_slice(bytes).err()
+}
+
+fn refusal(bytes: &[u8]) -> Option<HeaderSliceError> {
+    MacsecSlice::from_slice(bytes).err()
+}
+
+fn spelled(header: &MacsecHeader) -> ArrayVec<u8, 16> {
+    header.to_bytes()
+}
+
+// The length of the header, the ether type and the length that the short length leaves.
+fn lengths(header: &MacsecHeader) -> (usize, Option<EtherType>, Option<usize>) {
+    (
+        header.header_len(),
+        header.next_ether_type(),
+        header.expected_payload_len(),
+    )
 }
 
 #[test]
-fn flags_of_a_header_slice(rt: HostRuntime) -> Result<(), Fail> {
-    let bytes = BYTES;
-    let header = MacsecHeaderSlice::from_slice(&bytes)?;
-    assert!(rt; header.endstation_id());
-    assert!(rt; header.sci_present());
-    assert!(rt; header.scb());
-    assert!(rt; header.tci_scb());
-    assert!(rt; header.encrypted());
-    assert!(rt; !header.userdata_changed());
-    assert!(rt; !header.is_unmodified());
-    assert_eq!(rt; header.ptype(), MacsecPType::EncryptedUnmodified);
+fn a_header_both_ways(rt: HostRuntime) -> Result<(), Fail> {
+    assert_eq!(rt; read_header(&BYTES), Some(header()?));
+    assert_eq!(rt; rest_behind(&BYTES), Some([21, 22, 23, 24].as_slice()));
+    assert_eq!(rt; spelled(&header()?).as_slice(), WRITTEN.as_slice());
+    assert_eq!(rt; lengths(&header()?), (14, None, Some(3)));
     Ok(())
+}
+
+// ES, SC, SCB by both names, E, C, and whether neither E nor C is set.
+fn flags(bytes: &[u8]) -> Option<[bool; 7]> {
+    let header = header_slice(bytes)?;
+    Some([
+        header.endstation_id(),
+        header.sci_present(),
+        header.scb(),
+        header.tci_scb(),
+        header.encrypted(),
+        header.userdata_changed(),
+        header.is_unmodified(),
+    ])
+}
+
+fn ptype(bytes: &[u8]) -> Option<MacsecPType> {
+    Some(header_slice(bytes)?.ptype())
+}
+
+fn association(bytes: &[u8]) -> Option<u8> {
+    Some(header_slice(bytes)?.an().value())
+}
+
+#[test]
+fn flags_of_a_header_slice(rt: HostRuntime) {
+    let told = [true, true, true, true, true, false, false];
+    assert_eq!(rt; flags(&BYTES), Some(told));
+    assert_eq!(rt; ptype(&BYTES), Some(MacsecPType::EncryptedUnmodified));
 }
 
 // The flag of an end station alone, and that of single copy broadcast alone.
 #[test]
-fn each_flag_alone(rt: HostRuntime) -> Result<(), Fail> {
+fn each_flag_alone(rt: HostRuntime) {
     let bytes = [0x41, 0, 0, 0, 0, 7, 8, 0];
-    let header = MacsecHeaderSlice::from_slice(&bytes)?;
-    assert_eq!(rt; (header.endstation_id(), header.scb()), (true, false));
-    assert_eq!(rt; header.an().value(), 1);
+    let told = [true, false, false, false, false, false, true];
+    assert_eq!(rt; flags(&bytes), Some(told));
+    assert_eq!(rt; association(&bytes), Some(1));
     let bytes = [0x12, 0, 0, 0, 0, 7, 8, 0];
-    let header = MacsecHeaderSlice::from_slice(&bytes)?;
-    assert_eq!(rt; (header.endstation_id(), header.scb()), (false, true));
-    assert_eq!(rt; header.an().value(), 2);
-    Ok(())
+    let told = [false, false, true, true, false, false, true];
+    assert_eq!(rt; flags(&bytes), Some(told));
+    assert_eq!(rt; association(&bytes), Some(2));
+}
+
+fn header_bytes(bytes: &[u8]) -> Option<&[u8]> {
+    Some(header_slice(bytes)?.slice())
+}
+
+fn fields(bytes: &[u8]) -> Option<MacsecHeader> {
+    Some(header_slice(bytes)?.to_header())
+}
+
+// Short length, packet number and secure channel identifier.
+fn numbers(bytes: &[u8]) -> Option<(u8, u32, Option<u64>)> {
+    let header = header_slice(bytes)?;
+    Some((header.short_len().value(), header.packet_nr(), header.sci()))
+}
+
+fn slice_lengths(bytes: &[u8]) -> Option<(usize, Option<EtherType>, Option<usize>)> {
+    let header = header_slice(bytes)?;
+    Some((
+        header.header_len(),
+        header.next_ether_type(),
+        header.expected_payload_len(),
+    ))
 }
 
 #[test]
 fn numbers_of_a_header_slice(rt: HostRuntime) -> Result<(), Fail> {
-    let bytes = BYTES;
-    let slice = MacsecHeaderSlice::from_slice(&bytes)?;
-    assert_eq!(rt; slice.slice(), &BYTES[..14]);
-    assert_eq!(rt; slice.header_len(), 14);
-    assert_eq!(rt; slice.an().value(), 2);
-    assert_eq!(rt; slice.short_len().value(), 3);
-    assert_eq!(rt; slice.packet_nr(), 0x01020304);
-    assert_eq!(rt; slice.sci(), Some(0x0a0b0c0d0e0f1011));
-    assert_eq!(rt; slice.next_ether_type(), None);
-    assert_eq!(rt; slice.expected_payload_len(), Some(3));
-    assert_eq!(rt; slice.to_header(), header()?);
+    let sci = Some(0x0a0b0c0d0e0f1011);
+    assert_eq!(rt; numbers(&BYTES), Some((3, 0x01020304, sci)));
+    assert_eq!(rt; association(&BYTES), Some(2));
+    assert_eq!(rt; header_bytes(&BYTES), Some(&BYTES[..14]));
+    assert_eq!(rt; slice_lengths(&BYTES), Some((14, None, Some(3))));
+    assert_eq!(rt; fields(&BYTES), Some(header()?));
     Ok(())
 }
 
-#[test]
-fn an_unmodified_payload(rt: HostRuntime) -> Result<(), Fail> {
-    // A short length of 4, and a byte behind the payload.
-    let bytes = [0, 4, 0, 0, 0, 1, 0x81, 0, 0, 5, 0xff];
-    let macsec = MacsecSlice::from_slice(&bytes)?;
-    assert_eq!(rt; macsec.header_len(), 8);
-    assert_eq!(rt;
-        macsec.next_ether_type(),
-        Some(EtherType::VLAN_TAGGED_FRAME)
-    );
-    let Some(payload) = macsec.ether_payload() else {
-        panic!(rt; "no payload");
-    };
-    assert_eq!(rt; payload.payload, [0, 5].as_slice());
-    assert_eq!(rt; payload.len_source, LenSource::MacsecShortLength);
-    let header = macsec.to_header();
-    assert_eq!(rt;
-        header.next_ether_type(),
-        Some(EtherType::VLAN_TAGGED_FRAME)
-    );
-    assert_eq!(rt; header.expected_payload_len(), Some(2));
-    assert_eq!(rt; header.to_bytes().as_slice(), &bytes[..8]);
-    Ok(())
-}
+// What a payload is read as: the ether type and what bounds it, where it is unmodified, and its bytes.
+type Payload<'a> = (Option<(EtherType, LenSource)>, &'a [u8]);
 
-#[test]
-fn a_modified_payload(rt: HostRuntime) -> Result<(), Fail> {
-    let bytes = BYTES;
-    let macsec = MacsecSlice::from_slice(&bytes)?;
-    assert_eq!(rt; payload_of(&macsec), [21, 22, 23].as_slice());
-    assert_eq!(rt; macsec.next_ether_type(), None);
-    assert!(rt; macsec.ether_payload().is_none());
-    Ok(())
-}
-
-fn payload_of<'a>(macsec: &MacsecSlice<'a>) -> &'a [u8] {
+fn payload_of<'a>(macsec: &MacsecSlice<'a>) -> Payload<'a> {
     match &macsec.payload {
-        MacsecPayloadSlice::Unmodified(payload) => payload.payload,
-        MacsecPayloadSlice::Modified(bytes) => bytes,
+        MacsecPayloadSlice::Unmodified(payload) => {
+            (
+                Some((payload.ether_type, payload.len_source)),
+                payload.payload,
+            )
+        }
+        MacsecPayloadSlice::Modified(bytes) => (None, bytes),
     }
+}
+
+fn payload(bytes: &[u8]) -> Option<Payload<'_>> {
+    Some(payload_of(&macsec_slice(bytes)?))
+}
+
+fn ether_payload(bytes: &[u8]) -> Option<Option<EtherPayloadSlice<'_>>> {
+    Some(macsec_slice(bytes)?.ether_payload())
+}
+
+// The length of the header, and the ether type of what stands behind it.
+fn behind(bytes: &[u8]) -> Option<(usize, Option<EtherType>)> {
+    let macsec = macsec_slice(bytes)?;
+    Some((macsec.header_len(), macsec.next_ether_type()))
+}
+
+fn macsec_header(bytes: &[u8]) -> Option<MacsecHeader> {
+    Some(macsec_slice(bytes)?.to_header())
+}
+
+#[test]
+fn an_unmodified_payload(rt: HostRuntime) {
+    let tag = Some(EtherType::VLAN_TAGGED_FRAME);
+    assert_eq!(rt; behind(&CUT_TAG), Some((8, tag)));
+    let packet = EtherPayloadSlice {
+        ether_type: EtherType::VLAN_TAGGED_FRAME,
+        len_source: LenSource::MacsecShortLength,
+        payload: &[0, 5],
+    };
+    assert_eq!(rt; ether_payload(&CUT_TAG), Some(Some(packet)));
+}
+
+#[test]
+fn the_header_of_an_unmodified_payload(rt: HostRuntime) {
+    let Some(header) = macsec_header(&CUT_TAG) else {
+        panic!(rt; "no header");
+    };
+    let tag = Some(EtherType::VLAN_TAGGED_FRAME);
+    assert_eq!(rt; lengths(&header), (8, tag, Some(2)));
+    assert_eq!(rt; spelled(&header).as_slice(), &CUT_TAG[..8]);
+}
+
+#[test]
+fn a_modified_payload(rt: HostRuntime) {
+    assert_eq!(rt; payload(&BYTES), Some((None, [21, 22, 23].as_slice())));
+    assert_eq!(rt; behind(&BYTES), Some((14, None)));
+    assert_eq!(rt; ether_payload(&BYTES), Some(None));
 }
 
 // Of 80 bytes: the flags E, C and SC of the first one, the length of the header, what its payload is,
@@ -206,41 +310,48 @@ fn numbered(first: u8, short_len: u8) -> [u8; 80] {
     bytes
 }
 
+const SHORT_LENS: [u8; 6] = [0, 1, 2, 3, 47, 63];
+
+// What the header says of the payload, and the payload.
+type Told<'a> = Result<(MacsecPType, Payload<'a>), HeaderSliceError>;
+
+fn told(bytes: &[u8]) -> Told<'_> {
+    let macsec = MacsecSlice::from_slice(bytes)?;
+    Ok((macsec.header.ptype(), payload_of(&macsec)))
+}
+
+// What `BY_FLAGS` says of a header that its payload stands behind.
+fn expected(
+    bytes: &[u8],
+    header_len: u8,
+    ptype: MacsecPType,
+    short_len: u8,
+    payload_len: Option<u8>,
+) -> Told<'_> {
+    let Some(payload_len) = payload_len else {
+        return Err(HeaderError::InvalidUnmodifiedShortLen.into());
+    };
+    let start = usize::from(header_len);
+    let payload = bytes.get(start..start + usize::from(payload_len));
+    let len_source = if short_len == 0 {
+        LenSource::Slice
+    } else {
+        LenSource::MacsecShortLength
+    };
+    let named = match ptype {
+        MacsecPType::Unmodified(ether_type) => Some((ether_type, len_source)),
+        _ => None,
+    };
+    Ok((ptype, (named, payload.unwrap_or(&[]))))
+}
+
 #[test]
 fn every_flag_and_short_length(rt: HostRuntime) {
     for (flags, header_len, ptype, payload_lens) in BY_FLAGS {
-        for (short_len, payload_len) in [0u8, 1, 2, 3, 47, 63].into_iter().zip(payload_lens) {
+        for (short_len, payload_len) in SHORT_LENS.into_iter().zip(payload_lens) {
             let bytes = numbered(flags, short_len);
-            let answer = MacsecSlice::from_slice(&bytes);
-            let Some(payload_len) = payload_len else {
-                let error = HeaderError::InvalidUnmodifiedShortLen.into();
-                assert_eq!(rt; answer.err(), Some(error));
-                continue;
-            };
-            let Ok(macsec) = answer else {
-                panic!(rt; "no header");
-            };
-            assert_eq!(rt; macsec.header.ptype(), ptype);
-            let start = usize::from(header_len);
-            let Some(payload) = bytes.get(start..start + usize::from(payload_len)) else {
-                panic!(rt; "too few bytes");
-            };
-            let told = match ptype {
-                MacsecPType::Unmodified(ether_type) => {
-                    let len_source = if short_len == 0 {
-                        LenSource::Slice
-                    } else {
-                        LenSource::MacsecShortLength
-                    };
-                    MacsecPayloadSlice::Unmodified(EtherPayloadSlice {
-                        ether_type,
-                        len_source,
-                        payload,
-                    })
-                }
-                _ => MacsecPayloadSlice::Modified(payload),
-            };
-            assert_eq!(rt; macsec.payload, told);
+            let expected = expected(&bytes, header_len, ptype, short_len, payload_len);
+            assert_eq!(rt; told(&bytes), expected);
         }
     }
 }
@@ -248,34 +359,42 @@ fn every_flag_and_short_length(rt: HostRuntime) {
 #[test]
 fn every_flag_and_short_length_of_version_1(rt: HostRuntime) {
     for (flags, _, _, _) in BY_FLAGS {
-        for short_len in [0, 1, 2, 3, 47, 63] {
-            let bytes = numbered(0x80 | flags, short_len);
-            let error = Some(HeaderError::UnexpectedVersion.into());
-            assert_eq!(rt; MacsecSlice::from_slice(&bytes).err(), error);
+        for short_len in SHORT_LENS {
+            let error = HeaderError::UnexpectedVersion.into();
+            assert_eq!(rt; refusal(&numbered(0x80 | flags, short_len)), Some(error));
         }
     }
 }
 
-// One byte fewer than header and payload.
+// The refusal of one byte fewer than header and payload, and what it is to be.
+fn one_byte_fewer(
+    flags: u8,
+    header_len: u8,
+    short_len: u8,
+    payload_len: Option<u8>,
+) -> Option<(Option<HeaderSliceError>, HeaderSliceError)> {
+    let header_len = usize::from(header_len);
+    let whole_len = header_len + usize::from(payload_len.unwrap_or(0));
+    let (required_len, layer) = if whole_len == header_len {
+        (header_len, Layer::MacsecHeader)
+    } else {
+        (whole_len, Layer::MacsecPacket)
+    };
+    let bytes = numbered(flags, short_len);
+    let len = whole_len.saturating_sub(1);
+    Some((refusal(bytes.get(..len)?), want(required_len, len, layer)))
+}
+
 #[test]
 fn every_flag_and_short_length_of_too_few_bytes(rt: HostRuntime) {
     for (flags, header_len, _, payload_lens) in BY_FLAGS {
         let [_, _, two, three, forty_seven, greatest] = payload_lens;
         for (short_len, payload_len) in [(2, two), (3, three), (47, forty_seven), (63, greatest)] {
-            let header_len = usize::from(header_len);
-            let whole_len = header_len + usize::from(payload_len.unwrap_or(0));
-            let (required_len, layer) = if whole_len == header_len {
-                (header_len, Layer::MacsecHeader)
-            } else {
-                (whole_len, Layer::MacsecPacket)
-            };
-            let bytes = numbered(flags, short_len);
-            let len = whole_len.saturating_sub(1);
-            let Some(front) = bytes.get(..len) else {
+            let Some((refused, error)) = one_byte_fewer(flags, header_len, short_len, payload_len)
+            else {
                 panic!(rt; "too few bytes");
             };
-            let error = Some(want(required_len, len, layer));
-            assert_eq!(rt; MacsecSlice::from_slice(front).err(), error);
+            assert_eq!(rt; refused, Some(error));
         }
     }
 }
@@ -298,85 +417,69 @@ fn every_front_of_a_header_with_its_payload(rt: HostRuntime) {
     for (flags, short_len, header_len, whole_len) in [(0x28, 3, 14, 17), (0x20, 7, 16, 21)] {
         let bytes = numbered(flags, short_len);
         for len in 0..whole_len {
-            let error = front_refused(len, header_len, whole_len);
+            let error = Some(front_refused(len, header_len, whole_len));
             let front = &bytes[..len];
-            assert_eq!(rt; MacsecSlice::from_slice(front).err(), Some(error));
+            assert_eq!(rt; refusal(front), error);
             if len < header_len {
-                assert_eq!(rt; MacsecHeader::from_slice(front), Err(error));
-                assert_eq!(rt; MacsecHeaderSlice::from_slice(front).err(), Some(error));
+                assert_eq!(rt; header_refusal(front), error);
+                assert_eq!(rt; header_slice_refusal(front), error);
             }
         }
-        assert!(rt; MacsecSlice::from_slice(&bytes[..whole_len]).is_ok());
+        assert_eq!(rt; refusal(&bytes[..whole_len]), None);
     }
 }
 
 // Row `every_frame`: an unmodified IPv4 packet behind a MACsec header, the same bytes as a changed
 // payload, version 1, and a short length of 1.
 #[test]
-fn a_packet_behind_a_header(rt: HostRuntime) -> Result<(), Fail> {
-    let mut bytes = [0, 0, 0, 0, 0, 1, 8, 0, 0x45, 0, 0, 0x24];
+fn a_packet_behind_a_header(rt: HostRuntime) {
     let packet = EtherPayloadSlice {
         ether_type: EtherType::IPV4,
         len_source: LenSource::Slice,
         payload: &[0x45, 0, 0, 0x24],
     };
-    assert_eq!(rt;
-        MacsecSlice::from_slice(&bytes)?.ether_payload(),
-        Some(packet)
-    );
-    bytes[0] = 0x0c;
-    assert_eq!(rt; MacsecSlice::from_slice(&bytes)?.ether_payload(), None);
-    bytes[0] = 0x80;
-    let error = Some(HeaderError::UnexpectedVersion.into());
-    assert_eq!(rt; MacsecSlice::from_slice(&bytes).err(), error);
-    bytes[0] = 0;
-    bytes[1] = 1;
-    let error = Some(HeaderError::InvalidUnmodifiedShortLen.into());
-    assert_eq!(rt; MacsecSlice::from_slice(&bytes).err(), error);
-    Ok(())
+    let bytes = [0, 0, 0, 0, 0, 1, 8, 0, 0x45, 0, 0, 0x24];
+    assert_eq!(rt; ether_payload(&bytes), Some(Some(packet)));
+    let bytes = [0x0c, 0, 0, 0, 0, 1, 8, 0, 0x45, 0, 0, 0x24];
+    assert_eq!(rt; ether_payload(&bytes), Some(None));
+    let bytes = [0x80, 0, 0, 0, 0, 1, 8, 0, 0x45, 0, 0, 0x24];
+    let error = HeaderError::UnexpectedVersion.into();
+    assert_eq!(rt; refusal(&bytes), Some(error));
+    let bytes = [0, 1, 0, 0, 0, 1, 8, 0, 0x45, 0, 0, 0x24];
+    let error = HeaderError::InvalidUnmodifiedShortLen.into();
+    assert_eq!(rt; refusal(&bytes), Some(error));
 }
 
-// The short length leaves two bytes of a VLAN tag. The header stands behind 14 bytes of Ethernet II.
+// The refusal of a VLAN tag behind a MACsec header that stands behind 14 bytes of Ethernet II.
+fn refusal_behind(bytes: &[u8]) -> Option<LenError> {
+    let macsec = macsec_slice(bytes)?;
+    let tag = macsec.ether_payload()?;
+    let error = SingleVlanSlice::from_slice(tag.payload).err()?;
+    Some(error.add_offset(14 + macsec.header_len()))
+}
+
 #[test]
-fn a_tag_cut_by_a_short_length(rt: HostRuntime) -> Result<(), Fail> {
-    let bytes = [0, 4, 0, 0, 0, 1, 0x81, 0, 0, 5, 0xff];
-    let macsec = MacsecSlice::from_slice(&bytes)?;
-    let Some(tag) = macsec.ether_payload() else {
-        panic!(rt; "no payload");
+fn a_tag_cut_by_a_short_length(rt: HostRuntime) {
+    let error = LenError {
+        required_len: 4,
+        len: 2,
+        len_source: LenSource::Slice,
+        layer: Layer::VlanHeader,
+        layer_start_offset: 22,
     };
-    assert_eq!(rt; tag.ether_type, EtherType::VLAN_TAGGED_FRAME);
-    let Err(error) = SingleVlanSlice::from_slice(tag.payload) else {
-        panic!(rt; "a whole tag");
-    };
-    assert_eq!(rt;
-        error.add_offset(14 + macsec.header_len()),
-        LenError {
-            required_len: 4,
-            len: 2,
-            len_source: LenSource::Slice,
-            layer: Layer::VlanHeader,
-            layer_start_offset: 22,
-        }
-    );
-    Ok(())
+    assert_eq!(rt; refusal_behind(&CUT_TAG), Some(error));
 }
 
 #[test]
 fn the_order_of_refusals(rt: HostRuntime) {
     // Version 1 and a short length of 1, in too few bytes for the identifier.
     let bytes = [0xa0, 1, 0, 0, 0, 1];
-    assert_eq!(rt;
-        MacsecHeader::from_slice(&bytes[..5]),
-        Err(want(6, 5, Layer::MacsecHeader))
-    );
-    assert_eq!(rt;
-        MacsecHeader::from_slice(&bytes),
-        Err(HeaderError::UnexpectedVersion.into())
-    );
-    assert_eq!(rt;
-        MacsecHeader::from_slice(&[0x20, 1, 0, 0, 0, 1]),
-        Err(HeaderError::InvalidUnmodifiedShortLen.into())
-    );
+    let error = want(6, 5, Layer::MacsecHeader);
+    assert_eq!(rt; header_refusal(&bytes[..5]), Some(error));
+    let error = HeaderError::UnexpectedVersion.into();
+    assert_eq!(rt; header_refusal(&bytes), Some(error));
+    let error = HeaderError::InvalidUnmodifiedShortLen.into();
+    assert_eq!(rt; header_refusal(&[0x20, 1, 0, 0, 0, 1]), Some(error));
 }
 
 #[test]
@@ -415,11 +518,9 @@ fn a_header_behind_a_byte_that_is_there(rt: HostRuntime) -> Result<(), Fail> {
     let mut buffer = Vec::new(rt.alloc());
     buffer.push(9)?;
     header()?.write(&mut buffer)?;
-    let mut written = BYTES;
-    written[1] = 3;
-    assert_eq!(rt; buffer.len(), 15);
-    assert_eq!(rt; buffer[0], 9);
-    assert_eq!(rt; &buffer[1..], &written[..14]);
+    let mut written = [9; 15];
+    written[1..].copy_from_slice(&WRITTEN);
+    assert_eq!(rt; buffer.as_slice(), written.as_slice());
     Ok(())
 }
 

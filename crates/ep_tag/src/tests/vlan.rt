@@ -1,4 +1,5 @@
 //! VLAN tags (IEEE 802.1Q, section 9.6).
+use crate::laws::front::front_is_taken;
 use crate::laws::vlan::*;
 use crate::{
     DoubleVlanHeader, DoubleVlanSlice, EtherPayloadSlice, SingleVlanHeader, SingleVlanHeaderSlice,
@@ -30,149 +31,303 @@ fn too_short(len: usize) -> LenError {
     }
 }
 
+// The readers below answer what a test compares and no more: a tag that a test held would bring its
+// contract into the proof of everything behind it.
+
+fn header_slice(bytes: &[u8]) -> Option<SingleVlanHeaderSlice<'_>> {
+    SingleVlanHeaderSlice::from_slice(bytes).ok()
+}
+
+fn vlan_slice(bytes: &[u8]) -> Option<SingleVlanSlice<'_>> {
+    SingleVlanSlice::from_slice(bytes).ok()
+}
+
+fn read_header(bytes: &[u8]) -> Option<SingleVlanHeader> {
+    match SingleVlanHeader::from_slice(bytes) {
+        Ok((header, _)) => Some(header),
+        Err(_) => None,
+    }
+}
+
+fn rest_behind(bytes: &[u8]) -> Option<&[u8]> {
+    match SingleVlanHeader::from_slice(bytes) {
+        Ok((_, rest)) => Some(rest),
+        Err(_) => None,
+    }
+}
+
+fn spelled(header: &SingleVlanHeader) -> [u8; 4] {
+    header.to_bytes()
+}
+
 #[test]
 fn a_header_both_ways(rt: HostRuntime) -> Result<(), Fail> {
-    let bytes = BYTES;
-    let header = header()?;
-    let Ok((read, rest)) = SingleVlanHeader::from_slice(&bytes) else {
-        panic!(rt; "no tag");
-    };
-    assert_eq!(rt; read, header);
-    assert_eq!(rt; rest, [7, 8].as_slice());
-    assert_eq!(rt;
-        SingleVlanHeader::from_bytes([0xb1, 0x23, 0x86, 0xdd]),
-        header
-    );
-    assert_eq!(rt; header.to_bytes(), [0xb1, 0x23, 0x86, 0xdd]);
-    assert_eq!(rt; header.header_len(), 4);
-    assert_eq!(rt; SingleVlanHeader::default().to_bytes(), [0; 4]);
+    assert_eq!(rt; read_header(&BYTES), Some(header()?));
+    assert_eq!(rt; rest_behind(&BYTES), Some([7, 8].as_slice()));
+    let bytes = [0xb1, 0x23, 0x86, 0xdd];
+    assert_eq!(rt; SingleVlanHeader::from_bytes(bytes), header()?);
+    assert_eq!(rt; spelled(&header()?), bytes);
+    assert_eq!(rt; header()?.header_len(), 4);
+    assert_eq!(rt; spelled(&SingleVlanHeader::default()), [0; 4]);
     Ok(())
+}
+
+// Priority, drop eligible, identifier and ether type.
+type Fields = (u8, bool, u16, EtherType);
+
+fn fields_of_header_slice(bytes: &[u8]) -> Option<Fields> {
+    let tag = header_slice(bytes)?;
+    Some((
+        tag.priority_code_point().value(),
+        tag.drop_eligible_indicator(),
+        tag.vlan_identifier().value(),
+        tag.ether_type(),
+    ))
+}
+
+fn bytes_of_header_slice(bytes: &[u8]) -> Option<&[u8]> {
+    Some(header_slice(bytes)?.slice())
+}
+
+fn header_of_header_slice(bytes: &[u8]) -> Option<SingleVlanHeader> {
+    Some(header_slice(bytes)?.to_header())
 }
 
 #[test]
 fn fields_of_a_header_slice(rt: HostRuntime) -> Result<(), Fail> {
-    let bytes = BYTES;
-    let tag = SingleVlanHeaderSlice::from_slice(&bytes)?;
-    assert_eq!(rt; tag.slice(), &BYTES[..4]);
-    assert_eq!(rt; tag.priority_code_point().value(), 5);
-    assert!(rt; tag.drop_eligible_indicator());
-    assert_eq!(rt; tag.vlan_identifier().value(), 0x123);
-    assert_eq!(rt; tag.ether_type(), EtherType::IPV6);
-    assert_eq!(rt; tag.to_header(), header()?);
+    let fields = Some((5, true, 0x123, EtherType::IPV6));
+    assert_eq!(rt; fields_of_header_slice(&BYTES), fields);
+    assert_eq!(rt; bytes_of_header_slice(&BYTES), Some(&BYTES[..4]));
+    assert_eq!(rt; header_of_header_slice(&BYTES), Some(header()?));
     Ok(())
+}
+
+fn fields_of_slice(bytes: &[u8]) -> Option<Fields> {
+    let tag = vlan_slice(bytes)?;
+    Some((
+        tag.priority_code_point().value(),
+        tag.drop_eligible_indicator(),
+        tag.vlan_identifier().value(),
+        tag.ether_type(),
+    ))
+}
+
+// All bytes, those of the header, their number, and those behind them.
+fn parts_of_slice(bytes: &[u8]) -> Option<(&[u8], &[u8], usize, &[u8])> {
+    let tag = vlan_slice(bytes)?;
+    Some((
+        tag.slice(),
+        tag.header_slice(),
+        tag.header_len(),
+        tag.payload_slice(),
+    ))
+}
+
+fn header_of_slice(bytes: &[u8]) -> Option<SingleVlanHeader> {
+    Some(vlan_slice(bytes)?.to_header())
 }
 
 #[test]
 fn fields_of_a_slice(rt: HostRuntime) -> Result<(), Fail> {
-    let bytes = BYTES;
-    let tag = SingleVlanSlice::from_slice(&bytes)?;
-    assert_eq!(rt; tag.slice(), bytes.as_slice());
-    assert_eq!(rt; tag.header_slice(), &BYTES[..4]);
-    assert_eq!(rt; tag.header_len(), 4);
-    assert_eq!(rt; tag.priority_code_point().value(), 5);
-    assert!(rt; tag.drop_eligible_indicator());
-    assert_eq!(rt; tag.vlan_identifier().value(), 0x123);
-    assert_eq!(rt; tag.payload_slice(), [7, 8].as_slice());
-    assert_eq!(rt; tag.to_header(), header()?);
+    let fields = Some((5, true, 0x123, EtherType::IPV6));
+    assert_eq!(rt; fields_of_slice(&BYTES), fields);
+    let parts = (BYTES.as_slice(), &BYTES[..4], 4, &BYTES[4..]);
+    assert_eq!(rt; parts_of_slice(&BYTES), Some(parts));
+    assert_eq!(rt; header_of_slice(&BYTES), Some(header()?));
     Ok(())
 }
 
+// The drop bit, the greatest priority and the greatest identifier.
 #[test]
-fn a_payload_names_its_ether_type(rt: HostRuntime) -> Result<(), Fail> {
-    let bytes = BYTES;
-    let payload = SingleVlanSlice::from_slice(&bytes)?.payload();
-    assert_eq!(rt; payload.ether_type, EtherType::IPV6);
-    assert_eq!(rt; payload.len_source, LenSource::Slice);
-    assert_eq!(rt; payload.payload, [7, 8].as_slice());
+fn each_field_alone(rt: HostRuntime) {
+    for (first, second, pcp, drop_eligible, id) in [
+        (0x10, 0, 0, true, 0),
+        (0xe0, 0, 7, false, 0),
+        (0x0f, 0xff, 0, false, 0xfff),
+    ] {
+        let bytes = [first, second, 8, 0];
+        let fields = Some((pcp, drop_eligible, id, EtherType::IPV4));
+        assert_eq!(rt; fields_of_header_slice(&bytes), fields);
+        assert_eq!(rt; fields_of_slice(&bytes), fields);
+    }
+}
+
+fn payload_of_slice(bytes: &[u8]) -> Option<EtherPayloadSlice<'_>> {
+    Some(vlan_slice(bytes)?.payload())
+}
+
+#[test]
+fn a_payload_names_its_ether_type(rt: HostRuntime) {
+    let payload = EtherPayloadSlice {
+        ether_type: EtherType::IPV6,
+        len_source: LenSource::Slice,
+        payload: &[7, 8],
+    };
+    assert_eq!(rt; payload_of_slice(&BYTES), Some(payload));
+}
+
+#[test]
+fn payloads_in_order(rt: HostRuntime) {
+    let payload = EtherPayloadSlice {
+        ether_type: EtherType::IPV6,
+        len_source: LenSource::Slice,
+        payload: &[7, 8],
+    };
     let bounded = EtherPayloadSlice {
         ether_type: EtherType::IPV6,
         len_source: LenSource::MacsecShortLength,
-        payload: &bytes[..0],
+        payload: &[],
     };
     assert!(rt; payload < bounded);
     assert!(rt; payload != bounded);
-    Ok(())
+}
+
+fn header_refusal(bytes: &[u8]) -> Option<LenError> {
+    match SingleVlanHeader::from_slice(bytes) {
+        Ok(_) => None,
+        Err(error) => Some(error),
+    }
+}
+
+fn header_slice_refusal(bytes: &[u8]) -> Option<LenError> {
+    SingleVlanHeaderSlice::from_slice(bytes).err()
+}
+
+fn refusal(bytes: &[u8]) -> Option<LenError> {
+    SingleVlanSlice::from_slice(bytes).err()
 }
 
 #[test]
 fn every_front_of_a_tag(rt: HostRuntime) {
     let bytes = BYTES;
     for len in 0..4 {
-        let error = too_short(len);
-        assert_eq!(rt; SingleVlanHeader::from_slice(&bytes[..len]), Err(error));
-        assert_eq!(rt;
-            SingleVlanHeaderSlice::from_slice(&bytes[..len]).err(),
-            Some(error)
-        );
-        assert_eq!(rt;
-            SingleVlanSlice::from_slice(&bytes[..len]).err(),
-            Some(error)
-        );
+        let error = Some(too_short(len));
+        assert_eq!(rt; header_refusal(&bytes[..len]), error);
+        assert_eq!(rt; header_slice_refusal(&bytes[..len]), error);
+        assert_eq!(rt; refusal(&bytes[..len]), error);
     }
-    assert!(rt; SingleVlanSlice::from_slice(&bytes[..4]).is_ok());
+    assert_eq!(rt; refusal(&bytes[..4]), None);
+}
+
+const TWO_TAGS: [u8; 10] = [0, 5, 0x81, 0, 0xb1, 0x23, 0x86, 0xdd, 7, 8];
+
+fn two_tags(bytes: &[u8]) -> Option<DoubleVlanSlice<'_>> {
+    let outer = vlan_slice(bytes)?;
+    let inner = vlan_slice(outer.payload_slice())?;
+    Some(DoubleVlanSlice { outer, inner })
+}
+
+// The length of the tags, the ether type of what stands behind them, and its bytes by both calls.
+fn parts_of_two(bytes: &[u8]) -> Option<(usize, EtherType, &[u8], &[u8])> {
+    let tags = two_tags(bytes)?;
+    let payload = tags.payload();
+    Some((
+        tags.header_len(),
+        payload.ether_type,
+        payload.payload,
+        tags.payload_slice(),
+    ))
+}
+
+fn parts_of_either(slice: &VlanSlice<'_>) -> (usize, EtherType) {
+    (slice.header_len(), slice.payload().ether_type)
+}
+
+fn bytes_behind<'a>(slice: &VlanSlice<'a>) -> &'a [u8] {
+    slice.payload().payload
 }
 
 #[test]
-fn two_tags(rt: HostRuntime) -> Result<(), Fail> {
-    let bytes = [0, 5, 0x81, 0, 0xb1, 0x23, 0x86, 0xdd, 7, 8];
-    let outer = SingleVlanSlice::from_slice(&bytes)?;
-    let inner = SingleVlanSlice::from_slice(outer.payload_slice())?;
-    let tags = DoubleVlanSlice { outer, inner };
-    assert_eq!(rt; tags.header_len(), 8);
-    assert_eq!(rt; tags.payload_slice(), [7, 8].as_slice());
-    assert_eq!(rt; tags.payload().ether_type, EtherType::IPV6);
+fn two_tags_and_what_is_behind(rt: HostRuntime) {
+    let behind = [7, 8].as_slice();
+    let parts = (8, EtherType::IPV6, behind, behind);
+    assert_eq!(rt; parts_of_two(&TWO_TAGS), Some(parts));
+    let Some(tags) = two_tags(&TWO_TAGS) else {
+        panic!(rt; "no tags");
+    };
     let slice = VlanSlice::DoubleVlan(tags);
-    assert_eq!(rt; slice.header_len(), 8);
-    assert_eq!(rt; slice.payload().payload, [7, 8].as_slice());
-    Ok(())
+    assert_eq!(rt; parts_of_either(&slice), (8, EtherType::IPV6));
+    assert_eq!(rt; bytes_behind(&slice), behind);
+}
+
+// The identifier of the tag in front, the ether type behind it, and what follows.
+fn one_tag(bytes: &[u8]) -> Option<(u16, EtherType, &[u8])> {
+    let tag = vlan_slice(bytes)?;
+    let payload = tag.payload();
+    Some((
+        tag.vlan_identifier().value(),
+        payload.ether_type,
+        payload.payload,
+    ))
 }
 
 // Four tags behind a frame's ether type 8100, and nothing behind the last: each names the next.
 #[test]
-fn four_tags(rt: HostRuntime) -> Result<(), Fail> {
+fn four_tags(rt: HostRuntime) {
     let bytes = [0, 1, 0x81, 0, 0, 2, 0x81, 0, 0, 3, 0x81, 0, 0, 4, 8, 0];
     let mut rest = bytes.as_slice();
     for (id, next) in [(1, 0x8100), (2, 0x8100), (3, 0x8100), (4, 0x0800)] {
-        let tag = SingleVlanSlice::from_slice(rest)?;
-        assert_eq!(rt; tag.vlan_identifier(), VlanId::try_new(id)?);
-        let payload = tag.payload();
-        assert_eq!(rt; payload.ether_type, EtherType(next));
-        rest = payload.payload;
+        let Some((identifier, ether_type, behind)) = one_tag(rest) else {
+            panic!(rt; "no tag");
+        };
+        assert_eq!(rt; (identifier, ether_type.0), (id, next));
+        rest = behind;
     }
     assert!(rt; rest.is_empty());
-    Ok(())
+}
+
+// The header of both tags, its length and its bytes.
+fn header_of_two(bytes: &[u8]) -> Option<DoubleVlanHeader> {
+    Some(two_tags(bytes)?.to_header())
+}
+
+fn spelled_twice(header: &DoubleVlanHeader) -> (usize, [u8; 8]) {
+    (header.header_len(), header.to_bytes())
+}
+
+fn header_of_either(bytes: &[u8]) -> Option<VlanHeader> {
+    Some(VlanSlice::DoubleVlan(two_tags(bytes)?).to_header())
 }
 
 #[test]
-fn fields_of_two_tags(rt: HostRuntime) -> Result<(), Fail> {
-    let bytes = [0, 5, 0x81, 0, 0xb1, 0x23, 0x86, 0xdd, 7, 8];
-    let outer = SingleVlanSlice::from_slice(&bytes)?;
-    let inner = SingleVlanSlice::from_slice(&bytes[4..])?;
-    let tags = DoubleVlanSlice { outer, inner };
-    assert_eq!(rt; tags.to_header().header_len(), 8);
-    let written = tags.to_header().to_bytes();
-    assert_eq!(rt; written.as_slice(), &bytes[..8]);
-    let header = VlanHeader::Double(tags.to_header());
-    assert_eq!(rt; VlanSlice::DoubleVlan(tags).to_header(), header);
-    Ok(())
+fn fields_of_two_tags(rt: HostRuntime) {
+    let Some(header) = header_of_two(&TWO_TAGS) else {
+        panic!(rt; "no tags");
+    };
+    let bytes = [0, 5, 0x81, 0, 0xb1, 0x23, 0x86, 0xdd];
+    assert_eq!(rt; spelled_twice(&header), (8, bytes));
+    let header = Some(VlanHeader::Double(header));
+    assert_eq!(rt; header_of_either(&TWO_TAGS), header);
+}
+
+fn one_or_two(bytes: &[u8]) -> Option<VlanSlice<'_>> {
+    Some(VlanSlice::SingleVlan(vlan_slice(bytes)?))
+}
+
+fn length_and_type(header: &VlanHeader) -> (usize, EtherType) {
+    (header.header_len(), header.next_header())
 }
 
 #[test]
 fn one_tag_or_two(rt: HostRuntime) -> Result<(), Fail> {
-    let bytes = BYTES;
-    let slice = VlanSlice::SingleVlan(SingleVlanSlice::from_slice(&bytes)?);
-    assert_eq!(rt; slice.header_len(), 4);
-    assert_eq!(rt; slice.payload().payload, [7, 8].as_slice());
-    let single = slice.to_header();
-    assert_eq!(rt; single, VlanHeader::Single(header()?));
-    assert_eq!(rt; single.next_header(), EtherType::IPV6);
-    assert_eq!(rt; single.header_len(), 4);
+    let Some(slice) = one_or_two(&BYTES) else {
+        panic!(rt; "no tag");
+    };
+    assert_eq!(rt; parts_of_either(&slice), (4, EtherType::IPV6));
+    assert_eq!(rt; bytes_behind(&slice), [7, 8].as_slice());
+    assert_eq!(rt; slice.to_header(), VlanHeader::Single(header()?));
+    Ok(())
+}
+
+#[test]
+fn headers_of_one_tag_or_two(rt: HostRuntime) -> Result<(), Fail> {
+    let single = VlanHeader::Single(header()?);
+    assert_eq!(rt; length_and_type(&single), (4, EtherType::IPV6));
     let double = VlanHeader::Double(DoubleVlanHeader {
         outer: SingleVlanHeader::default(),
         inner: header()?,
     });
-    assert_eq!(rt; double.next_header(), EtherType::IPV6);
-    assert_eq!(rt; double.header_len(), 8);
+    assert_eq!(rt; length_and_type(&double), (8, EtherType::IPV6));
     Ok(())
 }
 
@@ -201,5 +356,6 @@ fn laws(rt: HostRuntime) -> Result<(), Fail> {
     headers_are_their_bytes(&header()?);
     assert!(rt; header_is_read_again(&header()?, &bytes).is_ok());
     fields_by_hand();
+    front_is_taken();
     Ok(())
 }
