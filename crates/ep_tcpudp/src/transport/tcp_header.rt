@@ -17,7 +17,7 @@ use crate::{
 };
 use arrayvec::ArrayVec;
 use ep_base::IpNumber;
-use ep_base::checksum::Sum16BitWords;
+use ep_base::checksum::{Sum16BitWords, message_sum};
 use ep_base::err::{ValueTooBigError, ValueType};
 use ep_ip::checksum::{pseudo_sum_v4, pseudo_sum_v6};
 use ep_ip::{Ipv4Header, Ipv6Header};
@@ -366,10 +366,7 @@ impl TcpHeader {
         ensures { (front : List ℕ) → SumsWords pseudo front
             → result ≡ fold (total (front ++ spelling (record self.now { checksum = 0 }) ++ payload.now)) }
     {
-        pseudo
-            .add_slice(&self.fixed_bytes_with(0))
-            .add_slice(self.options.as_slice())
-            .add_slice(payload)
+        message_sum(pseudo, &self.fixed_bytes_with(0), self.options.as_slice()).add_slice(payload)
     }
 }
 

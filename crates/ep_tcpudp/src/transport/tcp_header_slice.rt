@@ -17,7 +17,7 @@ ghost use Rattle.ep_tcpudp.specs.TcpOptions.{IsTcpOptions};
 use super::limit::at_most;
 use crate::err::tcp::{HeaderError, HeaderSliceError};
 use crate::{TcpHeader, TcpOptions, TcpOptionsIterator};
-use ep_base::checksum::Sum16BitWords;
+use ep_base::checksum::{Sum16BitWords, message_sum};
 use ep_base::err::{Layer, LenError, ValueTooBigError, ValueType};
 use ep_base::{IpNumber, LenSource};
 use ep_ip::checksum::{pseudo_sum_v4, pseudo_sum_v6};
@@ -343,10 +343,7 @@ impl<'a> TcpHeaderSlice<'a> {
         ensures { (front : List ℕ) → SumsWords pseudo front
             → result ≡ fold (total (front ++ with_checksum (self.now ++ payload.now) 0)) }
     {
-        pseudo
-            .add_slice(&self.slice[..16])
-            .add_slice(&self.slice[18..])
-            .add_slice(payload)
+        message_sum(pseudo, &self.slice[..16], &self.slice[18..]).add_slice(payload)
     }
 }
 

@@ -17,7 +17,7 @@ use super::tcp_header_slice::too_short;
 use crate::err::tcp::{HeaderError, HeaderSliceError};
 use crate::{TcpHeader, TcpOptions, TcpOptionsIterator};
 use ep_base::IpNumber;
-use ep_base::checksum::Sum16BitWords;
+use ep_base::checksum::{Sum16BitWords, message_sum};
 use ep_base::err::{ValueTooBigError, ValueType};
 use ep_ip::checksum::{pseudo_sum_v4, pseudo_sum_v6};
 use std::marker::Model;
@@ -318,9 +318,7 @@ impl<'a> TcpSlice<'a> {
         ensures { (front : List ℕ) → SumsWords pseudo front
             → result ≡ fold (total (front ++ with_checksum self.now 0)) }
     {
-        pseudo
-            .add_slice(&self.slice[..16])
-            .add_slice(&self.slice[18..])
+        message_sum(pseudo, &self.slice[..16], &self.slice[18..])
     }
 }
 

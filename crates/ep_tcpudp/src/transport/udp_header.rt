@@ -11,7 +11,7 @@ ghost use Rattle.ep_tcpudp.specs.UdpFault.{header_at};
 use super::limit::at_most;
 use crate::UdpHeaderSlice;
 use ep_base::IpNumber;
-use ep_base::checksum::Sum16BitWords;
+use ep_base::checksum::{Sum16BitWords, message_sum};
 use ep_base::err::{LenError, ValueTooBigError, ValueType};
 use ep_ip::checksum::{pseudo_sum_v4, pseudo_sum_v6};
 use ep_ip::{Ipv4Header, Ipv6Header};
@@ -211,7 +211,7 @@ impl UdpHeader {
         ensures { (front : List ℕ) → SumsWords pseudo front
             → result ≡ fold (total (front ++ spelling (record self.now { checksum = 0 }) ++ payload.now)) }
     {
-        pseudo.add_8bytes(self.spelled_with(0)).add_slice(payload)
+        message_sum(pseudo, &self.spelled_with(0), payload)
     }
 
     /// The header at the front of the slice, and the bytes behind it. A slice of fewer than 8 bytes

@@ -7,7 +7,7 @@ use Rattle.ep_tcpudp.proofs.transport.tcp_header_slice.TcpHeaderSlice.sum_behind
 pub returns : goal.returns
 returns c = λ front sums.
     let header = subst IsTcpHeader c.self.view_is c.self.invariant in
-    header_added _ _ _ _ front c.args.self.now c.args.payload.now _ _ sums (omega (arith, header.minimum, header.whole)) (omega (arith, header.whole))
-    (ap (λ (xs : List ℕ). take 16 xs) c.self.view_is)
-    (take_rest c.self.inside.slice.now 18 ∙ ap (λ (xs : List ℕ). drop 18 xs) c.self.view_is)
-    c.add_slice.ensures.text c.add_slice-2.ensures.text c.add_slice-3.ensures.text
+    let before = ap (λ (xs : List ℕ). take 16 xs) c.self.view_is in
+    let behind = take_rest c.self.inside.slice.now 18 ∙ ap (λ (xs : List ℕ). drop 18 xs) c.self.view_is in
+    header_added _ _ front c.args.self.now c.args.payload.now sums.whole (omega (arith, header.minimum, header.whole)) (omega (arith, header.whole))
+    (rw (before, behind) at (c.message_sum.ensures.around front sums)) c.add_slice.ensures.text
