@@ -1,6 +1,6 @@
 -- The bytes of fields.
 use Rattle.std.proofs.Common.{◌≡◌, ◌∙◌, ap, sym, ℕ, ◌+◌, List, [], ◌++◌, length, take, drop, arith}
-use Rattle.std.proofs.lemmas.List.{append-nil, drop_at, length-append, take-append-drop, take_all}
+use Rattle.std.proofs.lemmas.List.{append-nil, drop_at, length-append, take-append-drop}
 use Rattle.ep_base.proofs.Cells.{cells, take-drop-cells}
 use Rattle.ep_icmp.specs.Layout.{Fields, all, written}
 
@@ -11,12 +11,7 @@ pub four_cells : (bytes : List ℕ) → length bytes ≡ 4 → cells 4 0 bytes �
 four_cells bytes four =
     sym (ap (take 4) (written-all bytes) ∙ take-drop-cells 4 0 bytes (omega (arith, four)))
 
--- four bytes, where nothing stands behind them
-pub four_written : (fields : Fields) (bytes : List ℕ) → bytes ≡ take 4 (written fields) → drop 4 (written fields) ≡ [] → length bytes ≡ 4 → written fields ≡ cells 4 0 bytes
-four_written fields bytes is none four =
-    sym (take-append-drop 4 (written fields)) ∙ ap (λ (xs : List ℕ). take 4 (written fields) ++ xs) none ∙ append-nil (take 4 (written fields))
-    ∙ sym is ∙ sym (take_all 4 bytes (omega (arith, four))) ∙ take-drop-cells 4 0 bytes (omega (arith, four))
-
+-- fields of four bytes, where nothing stands behind them
 pub written_four : (fields : Fields) → drop 4 (written fields) ≡ [] → written fields ≡ take 4 (written fields)
 written_four fields none =
     sym (take-append-drop 4 (written fields)) ∙ ap (λ (xs : List ℕ). take 4 (written fields) ++ xs) none ∙ append-nil (take 4 (written fields))

@@ -33,6 +33,10 @@ layout type_u8 code_u8 fields = record { type_u8 = type_u8; code_u8 = code_u8; f
 abbrev pub written : Fields → List ℕ
 written fields = replicate fields.before 0 ++ fields.field ++ replicate fields.behind 0
 
+-- the first eight bytes of the header, with this checksum
+abbrev pub front : Layout → ℕ → List ℕ
+front l checksum = l.type_u8 ∷ l.code_u8 ∷ to_be_bytes w16 checksum ++ take 4 (written l.fields)
+
 -- the header with this checksum
 abbrev pub spelled : Layout → ℕ → List ℕ
 spelled l checksum = l.type_u8 ∷ l.code_u8 ∷ to_be_bytes w16 checksum ++ written l.fields

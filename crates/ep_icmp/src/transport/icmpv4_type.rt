@@ -1,9 +1,9 @@
 //! The kinds of ICMPv4 messages.
-ghost use Rattle.std.specs.Prelude.{◌≡◌, length, take};
+ghost use Rattle.std.specs.Prelude.{◌≡◌, ◌++◌, length, take};
 ghost use Rattle.std.specs.Option.{option_copied};
-ghost use Rattle.ep_base.specs.MessageSum.{SumsWords};
+ghost use Rattle.ep_base.specs.Sum.{fold, total};
 ghost use Rattle.ep_icmp.specs.Icmpv4.{FieldsFit, Fits, fixed_payload_size, header_len, layout_of, right_checksum, timestamp_of};
-ghost use Rattle.ep_icmp.specs.Layout.{spelled, written};
+ghost use Rattle.ep_icmp.specs.Layout.{front, spelled, written};
 
 use super::icmpv4::{
     DestUnreachableHeader, ParameterProblemHeader, RedirectHeader, TimeExceededCode,
@@ -11,7 +11,7 @@ use super::icmpv4::{
 };
 use super::{IcmpEchoHeader, Icmpv4Header};
 use arrayvec::ArrayVec;
-use ep_base::checksum::Sum16BitWords;
+use ep_base::checksum::{Sum16BitWords, message_sum};
 
 /// The kind of an ICMPv4 message: its type, its code and what stands in its header behind the
 /// checksum (RFC 792).
@@ -73,23 +73,32 @@ impl Icmpv4Type {
     pub fn calc_checksum(&self, payload: &[u8]) -> u16
         ensures { result ≡ right_checksum self.now payload.now }
     {
-        self.header_sum()
-            .add_slice(payload)
-            .ones_complement()
-            .swap_bytes()
+        self.sum_with(payload).ones_complement().swap_bytes()
     }
 
-    // The sum of the header with its checksum as 0.
-    fn header_sum(&self) -> Sum16BitWords
-        ensures { SumsWords result (spelled (layout_of self.now) 0) }
+    // The sum of the message with this payload, its checksum as 0.
+    fn sum_with(&self, payload: &[u8]) -> Sum16BitWords
+        ensures { result ≡ fold (total (spelled (layout_of self.now) 0 ++ payload.now)) }
     {
-        let sum = Sum16BitWords::new()
-            .add_4bytes([self.type_u8(), self.code_u8(), 0, 0])
-            .add_4bytes(self.bytes5to8());
+        let front = self.front_with(0);
         match self.timestamp() {
-            Some(message) => sum.add_slice(&message.to_bytes()[4..]),
-            None => sum,
+            Some(message) => message_sum(
+                Sum16BitWords::new(),
+                &front,
+                &message.to_bytes()[4..],
+            ).add_slice(payload),
+            None => message_sum(Sum16BitWords::new(), &front, payload),
         }
+    }
+
+    // The first eight bytes of the header, with this checksum.
+    fn front_with(&self, checksum: u16) -> [u8; 8]
+        ensures bytes { result ≡ front (layout_of self.now) checksum }
+        ensures fits { Fits self.now }
+    {
+        let [c0, c1] = checksum.to_be_bytes();
+        let [b0, b1, b2, b3] = self.bytes5to8();
+        [self.type_u8(), self.code_u8(), c0, c1, b0, b1, b2, b3]
     }
 
     // The header with this checksum.
@@ -98,11 +107,10 @@ impl Icmpv4Type {
         ensures len { length result.items ≡ header_len self.now }
         ensures fits { Fits self.now }
     {
-        let [c0, c1] = checksum.to_be_bytes();
-        let [b0, b1, b2, b3] = self.bytes5to8();
-        let front = [self.type_u8(), self.code_u8(), c0, c1, b0, b1, b2, b3];
         let mut bytes = ArrayVec::new();
-        bytes.try_extend_from_slice(&front).unwrap();
+        bytes
+            .try_extend_from_slice(&self.front_with(checksum))
+            .unwrap();
         if let Some(message) = self.timestamp() {
             bytes
                 .try_extend_from_slice(&message.to_bytes()[4..])

@@ -108,20 +108,10 @@ impl Icmpv6Header {
         ensures len { length result.items ≡ 8 }
         ensures fits { HeaderFits self.now }
     {
-        let [c0, c1] = self.checksum.to_be_bytes();
-        let [b0, b1, b2, b3] = self.icmp_type.bytes5to8();
-        let header = [
-            self.icmp_type.type_u8(),
-            self.icmp_type.code_u8(),
-            c0,
-            c1,
-            b0,
-            b1,
-            b2,
-            b3,
-        ];
         let mut bytes = ArrayVec::new();
-        bytes.try_extend_from_slice(&header).unwrap();
+        bytes
+            .try_extend_from_slice(&self.icmp_type.spelled_with(self.checksum))
+            .unwrap();
         bytes
     }
 

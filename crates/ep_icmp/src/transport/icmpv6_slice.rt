@@ -15,6 +15,7 @@ use super::icmpv6::{
 };
 use super::len_errors::want_of_bytes;
 use super::{IcmpEchoHeader, Icmpv6Header, Icmpv6Type};
+use ep_base::checksum::message_sum;
 use ep_base::err::{Layer, LenError};
 use ep_base::ip_number;
 use ep_ip::checksum::pseudo_sum_v6;
@@ -94,10 +95,9 @@ impl<'a> Icmpv6Slice<'a> {
         ensures { result ≡ all_ones (pseudo source destination (length self.now) ++ self.now) }
     {
         let len = (self.slice.len() % (1 << 32)) as u32;
-        pseudo_sum_v6(source, destination, ip_number::IPV6_ICMP, len)
-            .add_slice(self.slice)
-            .ones_complement()
-            == 0
+        let pseudo = pseudo_sum_v6(source, destination, ip_number::IPV6_ICMP, len);
+        let (header, payload) = self.slice.split_at(Icmpv6Header::MIN_LEN);
+        message_sum(pseudo, header, payload).ones_complement() == 0
     }
 
     /// Bytes 5 to 8, whatever the type says of them.

@@ -2,13 +2,14 @@
 ghost use Rattle.std.specs.Prelude.{◌≡◌, ℕ, ◌++◌, List, MatchResult, None, Ok, length};
 ghost use Rattle.ep_base.specs.Bounded.{too_big};
 ghost use Rattle.ep_base.specs.MessageSum.{SumsWords};
+ghost use Rattle.ep_base.specs.Sum.{fold, total};
 ghost use Rattle.ep_icmp.specs.Icmpv6.{FieldsFit, Fits, checked, layout_of, pseudo, right_checksum};
 ghost use Rattle.ep_icmp.specs.Layout.{spelled, written};
 ghost use Rattle.ep_icmp.specs.Limit.{IsWithin};
 
 use super::icmpv6::{DestUnreachableCode, ParameterProblemHeader, TimeExceededCode};
 use super::{IcmpEchoHeader, Icmpv6Header};
-use ep_base::checksum::Sum16BitWords;
+use ep_base::checksum::{Sum16BitWords, message_sum};
 use ep_base::err::{ValueTooBigError, ValueType};
 use ep_base::ip_number;
 use ep_ip::checksum::pseudo_sum_v6;
@@ -112,17 +113,27 @@ impl Icmpv6Type {
         }
         let len = (self.header_len() + payload.len()) as u32;
         let pseudo = pseudo_sum_v6(source, destination, ip_number::IPV6_ICMP, len);
-        let sum = self.header_sum(pseudo).add_slice(payload);
+        let sum = self.sum_behind(pseudo, payload);
         Ok(sum.ones_complement().swap_bytes())
     }
 
-    // The sum of the header with its checksum as 0, behind a pseudo header with this sum.
-    fn header_sum(&self, pseudo: Sum16BitWords) -> Sum16BitWords
-        ensures { (front : List ℕ) → SumsWords pseudo front → SumsWords result (front ++ spelled (layout_of self.now) 0) }
+    // The sum of the message with this payload, its checksum as 0, behind a pseudo header with this
+    // sum.
+    fn sum_behind(&self, pseudo: Sum16BitWords, payload: &[u8]) -> Sum16BitWords
+        ensures { (front : List ℕ) → SumsWords pseudo front
+            → result ≡ fold (total (front ++ spelled (layout_of self.now) 0 ++ payload.now)) }
     {
-        pseudo
-            .add_4bytes([self.type_u8(), self.code_u8(), 0, 0])
-            .add_4bytes(self.bytes5to8())
+        message_sum(pseudo, &self.spelled_with(0), payload)
+    }
+
+    // The header with this checksum.
+    pub(crate) fn spelled_with(&self, checksum: u16) -> [u8; 8]
+        ensures bytes { result ≡ spelled (layout_of self.now) checksum }
+        ensures fits { Fits self.now }
+    {
+        let [c0, c1] = checksum.to_be_bytes();
+        let [b0, b1, b2, b3] = self.bytes5to8();
+        [self.type_u8(), self.code_u8(), c0, c1, b0, b1, b2, b3]
     }
 
     /// The header of this kind with the checksum that belongs to these addresses and this payload.
@@ -139,7 +150,7 @@ impl Icmpv6Type {
     }
 
     // What stands behind the checksum.
-    pub(crate) fn bytes5to8(&self) -> [u8; 4]
+    fn bytes5to8(&self) -> [u8; 4]
         ensures bytes { result ≡ written (layout_of self.now).fields }
         ensures fits { FieldsFit self.now }
     {

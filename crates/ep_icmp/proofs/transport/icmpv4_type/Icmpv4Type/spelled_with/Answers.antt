@@ -1,10 +1,10 @@
 use Rattle.std.proofs.Common.{rules, sym}
 use Rattle.ep_icmp.specs.Icmpv4.{layout_of}
 use Rattle.ep_icmp.proofs.Icmpv4Behind.{behind_none}
-use Rattle.ep_icmp.proofs.Layouts.{four_written}
+use Rattle.ep_icmp.proofs.Layouts.{written_four}
 use Rattle.ep_icmp.proofs.transport.icmpv4_type.Icmpv4Type.spelled_with.Goals as goal
 
 pub returns-in_default-clause-bytes : goal.returns-in_default-clause-bytes
 returns-in_default-clause-bytes c =
-    let none = behind_none c.args.self.now c.bytes5to8.ensures.fits (sym c.in_default.ensures) in
-    rw (four_written (layout_of c.args.self.now).fields c.bytes5to8.result c.bytes5to8.ensures.bytes none (search rules)) (search rules)
+    let none = behind_none c.args.self.now c.front_with.ensures.fits.fields (sym c.in_default.ensures) in
+    rw (written_four (layout_of c.args.self.now).fields none) (search rules)
