@@ -80,6 +80,30 @@ fn every_front_of_timestamp_messages(rt: HostRuntime) {
     is_refused(&rt, &reply, 20, Layer::Icmpv4TimestampReply);
 }
 
+fn is_taken_from_eight_bytes_on(rt: &impl Abort, bytes: &[u8; 12]) {
+    for len in 0..8usize {
+        is_refused(rt, &bytes[..len], 8, Layer::Icmpv4);
+    }
+    for len in 8..13usize {
+        is_taken(rt, &bytes[..len]);
+    }
+}
+
+// Every type with each code that has a variant, and one above them: each kind but the timestamp messages.
+#[test]
+fn every_front_of_every_other_kind(rt: HostRuntime) {
+    let mut bytes = [0xa1; 12];
+    for type_u8 in 0..=255u8 {
+        bytes[0] = type_u8;
+        for code_u8 in 0..17u8 {
+            bytes[1] = code_u8;
+            if code_u8 != 0 || type_u8 != 13 && type_u8 != 14 {
+                is_taken_from_eight_bytes_on(&rt, &bytes);
+            }
+        }
+    }
+}
+
 #[test]
 fn timestamp_types_of_another_code(rt: HostRuntime) {
     let mut bytes = TIMESTAMP;

@@ -44,6 +44,29 @@ fn every_front_of_a_message(rt: HostRuntime) {
     }
 }
 
+fn is_taken_from_eight_bytes_on(rt: &impl Abort, bytes: &[u8; 12]) {
+    for len in 0..8usize {
+        is_refused(rt, &bytes[..len]);
+    }
+    for len in 8..13usize {
+        assert!(rt; Icmpv6Slice::from_slice(&bytes[..len]).is_ok());
+        assert!(rt; Icmpv6Header::from_slice(&bytes[..len]).is_ok());
+    }
+}
+
+// Every type with each code that has a variant, and one above them.
+#[test]
+fn every_front_of_every_kind(rt: HostRuntime) {
+    let mut bytes = [0xa1; 12];
+    for type_u8 in 0..=255u8 {
+        bytes[0] = type_u8;
+        for code_u8 in 0..12u8 {
+            bytes[1] = code_u8;
+            is_taken_from_eight_bytes_on(&rt, &bytes);
+        }
+    }
+}
+
 #[test]
 fn parts_of_a_message(rt: HostRuntime) -> Result<(), Fail> {
     let bytes = TOO_BIG;
