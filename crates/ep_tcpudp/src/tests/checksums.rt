@@ -30,26 +30,36 @@ fn ipv6_header(next_header: IpNumber) -> Ipv6Header {
     }
 }
 
+fn udp_over_ipv4(header: &UdpHeader, payload: &[u8]) -> Result<[u16; 2], Fail> {
+    let ipv4 = ipv4_header(IpNumber::UDP)?;
+    Ok([
+        header.calc_checksum_ipv4(&ipv4, payload)?,
+        header.calc_checksum_ipv4_raw(V4.0, V4.1, payload)?,
+    ])
+}
+
+fn udp_over_ipv6(header: &UdpHeader, payload: &[u8]) -> Result<[u16; 2], Fail> {
+    let ipv6 = ipv6_header(IpNumber::UDP);
+    Ok([
+        header.calc_checksum_ipv6(&ipv6, payload)?,
+        header.calc_checksum_ipv6_raw(V6.0, V6.1, payload)?,
+    ])
+}
+
 // Ports 1 and 2 and the payload 1 to 8: other tools give dbb4 over IPv4 and f5b2 over IPv6.
 #[test]
-fn udp_checksums(rt: HostRuntime) -> Result<(), Fail> {
-    let ipv4 = ipv4_header(IpNumber::UDP)?;
-    let over_v4 = UdpHeader::with_ipv4_checksum(1, 2, &ipv4, &PAYLOAD)?;
-    assert_eq!(rt; over_v4.length, 16);
-    assert_eq!(rt; over_v4.checksum, 0xdbb4);
-    assert_eq!(rt; over_v4.calc_checksum_ipv4(&ipv4, &PAYLOAD)?, 0xdbb4);
-    assert_eq!(rt;
-        over_v4.calc_checksum_ipv4_raw(V4.0, V4.1, &PAYLOAD)?,
-        0xdbb4
-    );
-    let ipv6 = ipv6_header(IpNumber::UDP);
-    let over_v6 = UdpHeader::with_ipv6_checksum(1, 2, &ipv6, &PAYLOAD)?;
-    assert_eq!(rt; over_v6.checksum, 0xf5b2);
-    assert_eq!(rt; over_v6.calc_checksum_ipv6(&ipv6, &PAYLOAD)?, 0xf5b2);
-    assert_eq!(rt;
-        over_v6.calc_checksum_ipv6_raw(V6.0, V6.1, &PAYLOAD)?,
-        0xf5b2
-    );
+fn udp_checksums_over_ipv4(rt: HostRuntime) -> Result<(), Fail> {
+    let header = UdpHeader::with_ipv4_checksum(1, 2, &ipv4_header(IpNumber::UDP)?, &PAYLOAD)?;
+    assert_eq!(rt; (header.length, header.checksum), (16, 0xdbb4));
+    assert_eq!(rt; udp_over_ipv4(&header, &PAYLOAD)?, [0xdbb4, 0xdbb4]);
+    Ok(())
+}
+
+#[test]
+fn udp_checksums_over_ipv6(rt: HostRuntime) -> Result<(), Fail> {
+    let header = UdpHeader::with_ipv6_checksum(1, 2, &ipv6_header(IpNumber::UDP), &PAYLOAD)?;
+    assert_eq!(rt; header.checksum, 0xf5b2);
+    assert_eq!(rt; udp_over_ipv6(&header, &PAYLOAD)?, [0xf5b2, 0xf5b2]);
     Ok(())
 }
 
@@ -136,19 +146,123 @@ fn tcp_greatest_payload(rt: HostRuntime) -> Result<(), Fail> {
     Ok(())
 }
 
+// Checksums over IPv4 and IPv6 between these addresses: of a whole segment, ..
+fn of_segment(
+    bytes: &[u8],
+    v4: ([u8; 4], [u8; 4]),
+    v6: ([u8; 16], [u8; 16]),
+) -> Result<[u16; 2], Fail> {
+    let segment = TcpSlice::from_slice(bytes)?;
+    Ok([
+        segment.calc_checksum_ipv4(v4.0, v4.1)?,
+        segment.calc_checksum_ipv6(v6.0, v6.1)?,
+    ])
+}
+
+// .. of the fields of its header, and a payload, ..
+fn of_fields(
+    header: &TcpHeader,
+    payload: &[u8],
+    v4: ([u8; 4], [u8; 4]),
+    v6: ([u8; 16], [u8; 16]),
+) -> Result<[u16; 2], Fail> {
+    Ok([
+        header.calc_checksum_ipv4_raw(v4.0, v4.1, payload)?,
+        header.calc_checksum_ipv6_raw(v6.0, v6.1, payload)?,
+    ])
+}
+
+// .. and of the bytes of its header, with no payload.
+fn of_header(bytes: &[u8]) -> Result<[u16; 2], Fail> {
+    let header = TcpHeaderSlice::from_slice(bytes)?;
+    Ok([
+        header.calc_checksum_ipv4_raw(V4.0, V4.1, &[])?,
+        header.calc_checksum_ipv6_raw(V6.0, V6.1, &[])?,
+    ])
+}
+
+// The same with the addresses of IP headers.
+fn of_fields_in_packets(header: &TcpHeader) -> Result<[u16; 2], Fail> {
+    Ok([
+        header.calc_checksum_ipv4(&ipv4_header(IpNumber::TCP)?, &[])?,
+        header.calc_checksum_ipv6(&ipv6_header(IpNumber::TCP), &[])?,
+    ])
+}
+
+fn of_header_in_ipv4(bytes: &[u8]) -> Result<u16, Fail> {
+    let ipv4 = ipv4_header(IpNumber::TCP)?.to_bytes();
+    let ipv4 = Ipv4HeaderSlice::from_slice(&ipv4)?;
+    Ok(TcpHeaderSlice::from_slice(bytes)?.calc_checksum_ipv4(&ipv4, &[])?)
+}
+
+fn of_header_in_ipv6(bytes: &[u8]) -> Result<u16, Fail> {
+    let ipv6 = ipv6_header(IpNumber::TCP).to_bytes();
+    let ipv6 = Ipv6HeaderSlice::from_slice(&ipv6)?;
+    Ok(TcpHeaderSlice::from_slice(bytes)?.calc_checksum_ipv6(&ipv6, &[])?)
+}
+
 // The first segment below with its three reserved bits set: slices sum them as they stand, which gives
 // 89da over IPv4 and a3d8 over IPv6, and fields don't have them.
 #[test]
 fn tcp_reserved_bits_are_summed(rt: HostRuntime) -> Result<(), Fail> {
     let mut bytes = SYN;
     bytes[12] = 0x5e;
-    let segment = TcpSlice::from_slice(&bytes)?;
-    assert_eq!(rt; segment.calc_checksum_ipv4(V4.0, V4.1)?, 0x89da);
-    assert_eq!(rt; segment.calc_checksum_ipv6(V6.0, V6.1)?, 0xa3d8);
-    let header = TcpHeaderSlice::from_slice(&bytes)?;
-    assert_eq!(rt; header.calc_checksum_ipv4_raw(V4.0, V4.1, &[])?, 0x89da);
-    let fields = header.to_header();
-    assert_eq!(rt; fields.calc_checksum_ipv4_raw(V4.0, V4.1, &[])?, 0x97da);
+    assert_eq!(rt; of_segment(&bytes, V4, V6)?, [0x89da, 0xa3d8]);
+    assert_eq!(rt; of_header(&bytes)?, [0x89da, 0xa3d8]);
+    let fields = TcpHeaderSlice::from_slice(&bytes)?.to_header();
+    assert_eq!(rt; of_fields(&fields, &[], V4, V6)?, [0x97da, 0xb1d8]);
+    Ok(())
+}
+
+// The checksum over IPv4 of a segment, and of its header and its payload apart.
+fn whole(segment: &[u8]) -> Result<Result<u16, ValueTooBigError<usize>>, Fail> {
+    Ok(TcpSlice::from_slice(segment)?.calc_checksum_ipv4(V4.0, V4.1))
+}
+
+fn in_parts(segment: &[u8]) -> Result<Result<u16, ValueTooBigError<usize>>, Fail> {
+    let payload = TcpSlice::from_slice(segment)?.payload();
+    let header = TcpHeaderSlice::from_slice(segment)?;
+    Ok(header.calc_checksum_ipv4_raw(V4.0, V4.1, payload))
+}
+
+// At most so many bytes from the front.
+fn front(bytes: &[u8], len: usize) -> &[u8] {
+    if len < bytes.len() {
+        &bytes[..len]
+    } else {
+        bytes
+    }
+}
+
+// Segments of ones, but for the data offset, of 65534 and 65535 bytes, and one byte more: a program
+// apart gives 1e79 and 1d78, and with 40 bytes of options 7e78 and 7d77.
+#[test]
+fn tcp_greatest_segment(rt: HostRuntime) -> Result<(), Fail> {
+    let mut bytes = vec![in rt.alloc(); 1; 65536]?;
+    bytes[12] = 0x50;
+    assert_eq!(rt; whole(front(&bytes, 65534))?, Ok(0x1e79));
+    assert_eq!(rt; whole(front(&bytes, 65535))?, Ok(0x1d78));
+    assert_eq!(rt; whole(&bytes)?.err(), too_long(65536, 65535));
+    Ok(())
+}
+
+#[test]
+fn tcp_greatest_payload_of_a_header_slice(rt: HostRuntime) -> Result<(), Fail> {
+    let mut bytes = vec![in rt.alloc(); 1; 65536]?;
+    bytes[12] = 0x50;
+    assert_eq!(rt; in_parts(front(&bytes, 65534))?, Ok(0x1e79));
+    assert_eq!(rt; in_parts(front(&bytes, 65535))?, Ok(0x1d78));
+    assert_eq!(rt; in_parts(&bytes)?.err(), too_long(65516, 65515));
+    Ok(())
+}
+
+#[test]
+fn tcp_greatest_payload_behind_options(rt: HostRuntime) -> Result<(), Fail> {
+    let mut bytes = vec![in rt.alloc(); 1; 65536]?;
+    bytes[12] = 0xf0;
+    assert_eq!(rt; in_parts(front(&bytes, 65534))?, Ok(0x7e78));
+    assert_eq!(rt; in_parts(front(&bytes, 65535))?, Ok(0x7d77));
+    assert_eq!(rt; in_parts(&bytes)?.err(), too_long(65476, 65475));
     Ok(())
 }
 
@@ -164,14 +278,9 @@ fn tcp_zero_checksum(rt: HostRuntime) -> Result<(), Fail> {
     let mut bytes = vec![in rt.alloc();]?;
     header.write(&mut bytes)?;
     bytes.extend_from_slice(&PAYLOAD)?;
-    let segment = TcpSlice::from_slice(&bytes)?;
-    assert_eq!(rt; segment.calc_checksum_ipv4([0; 4], [0; 4])?, 0);
-    assert_eq!(rt; segment.calc_checksum_ipv6([0; 16], [0; 16])?, 0);
-    assert_eq!(rt; header.calc_checksum_ipv4_raw([0; 4], [0; 4], &PAYLOAD)?, 0);
-    assert_eq!(rt;
-        header.calc_checksum_ipv6_raw([0; 16], [0; 16], &PAYLOAD)?,
-        0
-    );
+    let nowhere = (([0; 4], [0; 4]), ([0; 16], [0; 16]));
+    assert_eq!(rt; of_segment(&bytes, nowhere.0, nowhere.1)?, [0, 0]);
+    assert_eq!(rt; of_fields(&header, &PAYLOAD, nowhere.0, nowhere.1)?, [0, 0]);
     Ok(())
 }
 
@@ -181,37 +290,19 @@ const SYN: [u8; 20] = [
 ];
 
 #[test]
-fn tcp_checksums_over_ipv4(rt: HostRuntime) -> Result<(), Fail> {
+fn tcp_checksums_between_addresses(rt: HostRuntime) -> Result<(), Fail> {
     let (header, _) = TcpHeader::from_slice(&SYN)?;
-    let ipv4 = ipv4_header(IpNumber::TCP)?;
-    assert_eq!(rt; header.calc_checksum_ipv4(&ipv4, &[])?, 0x97da);
-    let slice = TcpHeaderSlice::from_slice(&SYN)?;
-    let ipv4_bytes = ipv4.to_bytes();
-    let ipv4_slice = Ipv4HeaderSlice::from_slice(&ipv4_bytes)?;
-    assert_eq!(rt; slice.calc_checksum_ipv4(&ipv4_slice, &[])?, 0x97da);
-    assert_eq!(rt; slice.calc_checksum_ipv4_raw(V4.0, V4.1, &[])?, 0x97da);
-    assert_eq!(rt;
-        TcpSlice::from_slice(&SYN)?.calc_checksum_ipv4(V4.0, V4.1)?,
-        0x97da
-    );
+    assert_eq!(rt; of_fields(&header, &[], V4, V6)?, [0x97da, 0xb1d8]);
+    assert_eq!(rt; of_header(&SYN)?, [0x97da, 0xb1d8]);
+    assert_eq!(rt; of_segment(&SYN, V4, V6)?, [0x97da, 0xb1d8]);
     Ok(())
 }
 
 #[test]
-fn tcp_checksums_over_ipv6(rt: HostRuntime) -> Result<(), Fail> {
+fn tcp_checksums_in_packets(rt: HostRuntime) -> Result<(), Fail> {
     let (header, _) = TcpHeader::from_slice(&SYN)?;
-    let ipv6 = ipv6_header(IpNumber::TCP);
-    let wanted = 0xb1d8;
-    assert_eq!(rt; header.calc_checksum_ipv6(&ipv6, &[])?, wanted);
-    assert_eq!(rt; header.calc_checksum_ipv6_raw(V6.0, V6.1, &[])?, wanted);
-    let slice = TcpHeaderSlice::from_slice(&SYN)?;
-    let ipv6_bytes = ipv6.to_bytes();
-    let ipv6_slice = Ipv6HeaderSlice::from_slice(&ipv6_bytes)?;
-    assert_eq!(rt; slice.calc_checksum_ipv6(&ipv6_slice, &[])?, wanted);
-    assert_eq!(rt; slice.calc_checksum_ipv6_raw(V6.0, V6.1, &[])?, wanted);
-    assert_eq!(rt;
-        TcpSlice::from_slice(&SYN)?.calc_checksum_ipv6(V6.0, V6.1)?,
-        wanted
-    );
+    assert_eq!(rt; of_fields_in_packets(&header)?, [0x97da, 0xb1d8]);
+    assert_eq!(rt; of_header_in_ipv4(&SYN)?, 0x97da);
+    assert_eq!(rt; of_header_in_ipv6(&SYN)?, 0xb1d8);
     Ok(())
 }

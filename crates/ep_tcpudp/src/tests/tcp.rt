@@ -49,13 +49,18 @@ fn header_by_position(rt: HostRuntime) -> Result<(), Fail> {
     let (header, rest) = TcpHeader::from_slice(&BYTES)?;
     assert_eq!(rt; header, fields());
     assert_eq!(rt; rest, [0xaa, 0xbb].as_slice());
+    Ok(())
+}
+
+#[test]
+fn bytes_by_position(rt: HostRuntime) {
+    let header = fields();
     assert_eq!(rt; header.data_offset(), 6);
     assert_eq!(rt; header.header_len(), 24);
     assert_eq!(rt; header.options(), [1, 1, 1, 0].as_slice());
     // The reserved bits are 0.
     assert_eq!(rt; header.to_bytes()[12], 0x61);
     assert_eq!(rt; &header.to_bytes()[13..], &BYTES[13..24]);
-    Ok(())
 }
 
 #[test]
@@ -84,6 +89,48 @@ fn flags_of(header: &TcpHeaderSlice<'_>) -> [bool; 9] {
     ]
 }
 
+// Both ports, both numbers, the data offset, the window, the checksum and the urgent pointer.
+fn numbers_of(header: &TcpHeaderSlice<'_>) -> [u32; 8] {
+    [
+        header.source_port().into(),
+        header.destination_port().into(),
+        header.sequence_number(),
+        header.acknowledgment_number(),
+        header.data_offset().into(),
+        header.window_size().into(),
+        header.checksum().into(),
+        header.urgent_pointer().into(),
+    ]
+}
+
+// The same of a segment, and its flags in the order of `flags_of`.
+fn numbers_of_segment(segment: &TcpSlice<'_>) -> [u32; 8] {
+    [
+        segment.source_port().into(),
+        segment.destination_port().into(),
+        segment.sequence_number(),
+        segment.acknowledgment_number(),
+        segment.data_offset().into(),
+        segment.window_size().into(),
+        segment.checksum().into(),
+        segment.urgent_pointer().into(),
+    ]
+}
+
+fn flags_of_segment(segment: &TcpSlice<'_>) -> [bool; 9] {
+    [
+        segment.ns(),
+        segment.cwr(),
+        segment.ece(),
+        segment.urg(),
+        segment.ack(),
+        segment.psh(),
+        segment.rst(),
+        segment.syn(),
+        segment.fin(),
+    ]
+}
+
 // Each flag stands at its own bit (RFC 9293, section 3.1; RFC 3540; RFC 3168).
 #[test]
 fn flags_at_their_bits(rt: HostRuntime) -> Result<(), Fail> {
@@ -105,14 +152,7 @@ fn flags_at_their_bits(rt: HostRuntime) -> Result<(), Fail> {
 fn getters_of_the_header_slice(rt: HostRuntime) -> Result<(), Fail> {
     let header = TcpHeaderSlice::from_slice(&BYTES)?;
     assert_eq!(rt; header.slice(), &BYTES[..24]);
-    assert_eq!(rt; header.source_port(), 1);
-    assert_eq!(rt; header.destination_port(), 2);
-    assert_eq!(rt; header.sequence_number(), 3);
-    assert_eq!(rt; header.acknowledgment_number(), 4);
-    assert_eq!(rt; header.data_offset(), 6);
-    assert_eq!(rt; header.window_size(), 5);
-    assert_eq!(rt; header.checksum(), 6);
-    assert_eq!(rt; header.urgent_pointer(), 7);
+    assert_eq!(rt; numbers_of(&header), [1, 2, 3, 4, 6, 5, 6, 7]);
     assert_eq!(rt; header.options(), [1, 1, 1, 0].as_slice());
     assert_eq!(rt; header.options_iterator().rest().len(), 4);
     assert_eq!(rt; header.to_header(), fields());
@@ -120,40 +160,31 @@ fn getters_of_the_header_slice(rt: HostRuntime) -> Result<(), Fail> {
 }
 
 #[test]
-fn getters_of_the_segment(rt: HostRuntime) -> Result<(), Fail> {
+fn parts_of_the_segment(rt: HostRuntime) -> Result<(), Fail> {
     let segment = TcpSlice::from_slice(&BYTES)?;
     assert_eq!(rt; segment.slice(), BYTES.as_slice());
     assert_eq!(rt; segment.header_slice(), &BYTES[..24]);
     assert_eq!(rt; segment.payload(), [0xaa, 0xbb].as_slice());
     assert_eq!(rt; segment.header_len(), 24);
-    assert_eq!(rt; segment.data_offset(), 6);
-    assert_eq!(rt; segment.options(), [1, 1, 1, 0].as_slice());
-    assert_eq!(rt; segment.options_iterator().rest().len(), 4);
-    assert_eq!(rt; segment.to_header(), fields());
     Ok(())
 }
 
 #[test]
-fn numbers_and_flags_of_the_segment(rt: HostRuntime) -> Result<(), Fail> {
+fn options_of_the_segment(rt: HostRuntime) -> Result<(), Fail> {
     let segment = TcpSlice::from_slice(&BYTES)?;
-    assert_eq!(rt; (segment.source_port(), segment.destination_port()), (1, 2));
+    assert_eq!(rt; segment.options(), [1, 1, 1, 0].as_slice());
+    assert_eq!(rt; segment.options_iterator().rest().len(), 4);
+    Ok(())
+}
+
+#[test]
+fn fields_of_the_segment(rt: HostRuntime) -> Result<(), Fail> {
+    let segment = TcpSlice::from_slice(&BYTES)?;
+    assert_eq!(rt; segment.to_header(), fields());
+    assert_eq!(rt; numbers_of_segment(&segment), [1, 2, 3, 4, 6, 5, 6, 7]);
     assert_eq!(rt;
-        (segment.sequence_number(), segment.acknowledgment_number()),
-        (3, 4)
-    );
-    assert_eq!(rt; (segment.window_size(), segment.checksum()), (5, 6));
-    assert_eq!(rt; segment.urgent_pointer(), 7);
-    assert_eq!(rt;
-        (segment.ns(), segment.cwr(), segment.ece()),
-        (true, true, false)
-    );
-    assert_eq!(rt;
-        (segment.urg(), segment.ack(), segment.psh()),
-        (false, true, false)
-    );
-    assert_eq!(rt;
-        (segment.rst(), segment.syn(), segment.fin()),
-        (false, false, true)
+        flags_of_segment(&segment),
+        [true, true, false, false, true, false, false, false, true]
     );
     Ok(())
 }

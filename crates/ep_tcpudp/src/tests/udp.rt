@@ -32,6 +32,14 @@ fn header_by_position(rt: HostRuntime) -> Result<(), Fail> {
     let (header, rest) = UdpHeader::from_slice(&BYTES)?;
     assert_eq!(rt; header, fields());
     assert_eq!(rt; rest, &BYTES[8..]);
+    let short = want(8, 7, LenSource::Slice, Layer::UdpHeader);
+    assert_eq!(rt; UdpHeader::from_slice(&BYTES[..7]).err(), Some(short));
+    Ok(())
+}
+
+#[test]
+fn bytes_by_position(rt: HostRuntime) {
+    let header = fields();
     assert_eq!(rt; header.to_bytes().as_slice(), &BYTES[..8]);
     assert_eq!(rt;
         UdpHeader::from_bytes([0, 1, 0, 2, 0, 16, 0xdb, 0xb4]),
@@ -40,9 +48,6 @@ fn header_by_position(rt: HostRuntime) -> Result<(), Fail> {
     assert_eq!(rt; header.header_len(), 8);
     assert_eq!(rt; UdpHeader::LEN_U16, 8);
     assert_eq!(rt; UdpHeader::default().to_bytes(), [0; 8]);
-    let short = want(8, 7, LenSource::Slice, Layer::UdpHeader);
-    assert_eq!(rt; UdpHeader::from_slice(&BYTES[..7]).err(), Some(short));
-    Ok(())
 }
 
 #[test]
@@ -56,30 +61,49 @@ fn header_appended(rt: HostRuntime) -> Result<(), Fail> {
     Ok(())
 }
 
+// Both ports, the length and the checksum.
+fn numbers_of(header: &UdpHeaderSlice<'_>) -> [u16; 4] {
+    [
+        header.source_port(),
+        header.destination_port(),
+        header.length(),
+        header.checksum(),
+    ]
+}
+
+fn numbers_of_datagram(datagram: &UdpSlice<'_>) -> [u16; 4] {
+    [
+        datagram.source_port(),
+        datagram.destination_port(),
+        datagram.length(),
+        datagram.checksum(),
+    ]
+}
+
 #[test]
 fn getters_of_the_header_slice(rt: HostRuntime) -> Result<(), Fail> {
     let header = UdpHeaderSlice::from_slice(&BYTES)?;
     assert_eq!(rt; header.slice(), &BYTES[..8]);
-    assert_eq!(rt; header.source_port(), 1);
-    assert_eq!(rt; header.destination_port(), 2);
-    assert_eq!(rt; header.length(), 16);
-    assert_eq!(rt; header.checksum(), 0xdbb4);
+    assert_eq!(rt; numbers_of(&header), [1, 2, 16, 0xdbb4]);
     assert_eq!(rt; header.to_header(), fields());
     Ok(())
 }
 
 #[test]
-fn getters_of_the_datagram(rt: HostRuntime) -> Result<(), Fail> {
+fn parts_of_the_datagram(rt: HostRuntime) -> Result<(), Fail> {
     let datagram = UdpSlice::from_slice(&BYTES)?;
     assert_eq!(rt; datagram.slice(), &BYTES[..16]);
     assert_eq!(rt; datagram.header_slice(), &BYTES[..8]);
     assert_eq!(rt; datagram.payload(), &BYTES[8..16]);
+    Ok(())
+}
+
+#[test]
+fn fields_of_the_datagram(rt: HostRuntime) -> Result<(), Fail> {
+    let datagram = UdpSlice::from_slice(&BYTES)?;
     assert_eq!(rt; datagram.payload_len_source(), LenSource::UdpHeaderLen);
     assert_eq!(rt; datagram.header_len(), 8);
-    assert_eq!(rt; datagram.source_port(), 1);
-    assert_eq!(rt; datagram.destination_port(), 2);
-    assert_eq!(rt; datagram.length(), 16);
-    assert_eq!(rt; datagram.checksum(), 0xdbb4);
+    assert_eq!(rt; numbers_of_datagram(&datagram), [1, 2, 16, 0xdbb4]);
     assert_eq!(rt; datagram.to_header(), fields());
     Ok(())
 }
