@@ -23,6 +23,17 @@ pub fn copies_never_fail<'a>()
 
 /// Equal are the values that are the same: all fields of a header, all bytes of a slice.
 pub fn equals_are_same<'a>()
+    ensures transport_header { EqualIsSame ⟦<TransportHeader as PartialEq>⟧.eq }
     ensures transport_slice { EqualIsSame ⟦<TransportSlice<'a> as PartialEq>⟧.eq }
+    ensures slice_error { EqualIsSame ⟦<SliceError as PartialEq>⟧.eq }
     ensures transport_checksum_error { EqualIsSame ⟦<TransportChecksumError as PartialEq>⟧.eq }
-{}
+{
+    ep_base::laws::traits::equals_are_same();
+    ep_ext::laws::traits::equals_are_same();
+    ep_icmp::laws::traits::equals_are_same();
+    ep_ip::laws::traits::equals_are_same();
+    ep_ipslice::laws::traits::equals_are_same();
+    ep_link::laws::traits::equals_are_same();
+    ep_tag::laws::traits::equals_are_same();
+    ep_tcpudp::laws::traits::equals_are_same();
+}
