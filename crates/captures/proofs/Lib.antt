@@ -12,6 +12,7 @@ pub mod SkipLemmas
 pub mod SpellingLemmas
 pub mod Standing
 pub mod StopLemmas
+pub mod TextAloneLemmas
 pub mod TextLemmas
 pub mod UnitLemmas
 pub mod WriteLemmas

@@ -7,6 +7,7 @@ ghost use Rattle.hex.specs.Hex.{IsBytes};
 ghost use Rattle.captures.specs.ComeBack.{CapturedPacketsHaveLines, LinesComeBack};
 ghost use Rattle.captures.specs.Lines.{Packet, line_of};
 ghost use Rattle.captures.specs.Runs.{IsCapture};
+ghost use Rattle.captures.specs.Texts.{IsText};
 ghost use Rattle.captures.specs.Units.{Takes};
 ghost use Rattle.captures.specs.declared.capture_error.CaptureError.{CaptureError};
 ghost use Rattle.captures.specs.declared.state.State.{State};
@@ -35,6 +36,11 @@ pub fn capture_is_alone()
 pub fn told_is_alone()
     ensures { (bytes rest rest' text text' : List ℕ) (state state' : State) (refusal refusal' : Option CaptureError) → IsBytes bytes
         → Takes Start bytes state rest text refusal → Takes Start bytes state' rest' text' refusal' → text ≡ text' }
+{}
+
+/// The frames that a text of lines hands in are known by its bytes.
+pub fn text_is_alone()
+    ensures { (bytes : List ℕ) (frames frames' : List TimedFrame) → IsText bytes frames → IsText bytes frames' → frames ≡ frames' }
 {}
 
 /// Each packet of a capture has a byte at least, no more than a line can hold, and a channel of 32 bits.
