@@ -1,5 +1,6 @@
 //! The reader with a limit, and the words of errors.
 
+use super::exts_errors::reads_as;
 use super::piece_reader::{failing_reader, reader_of};
 use crate::err::io::LimitedReadError;
 use crate::err::ip_auth::{
@@ -104,7 +105,6 @@ const WANT: LenError = LenError {
 
 #[test]
 fn words_of_lengths(rt: HostRuntime) -> Result<(), Fail> {
-    let alloc = rt.alloc();
     for (error, words) in [
         (
             ExtPayloadLenError::TooSmall(5),
@@ -119,7 +119,7 @@ fn words_of_lengths(rt: HostRuntime) -> Result<(), Fail> {
             "raw extension header: a payload of 7 bytes, which is not 6 and a multiple of 8",
         ),
     ] {
-        assert_eq!(rt; format!(in alloc; "{error}")?.as_str(), words);
+        assert!(rt; reads_as(&rt, &error, words)?);
     }
     for (error, words) in [
         (
@@ -131,42 +131,40 @@ fn words_of_lengths(rt: HostRuntime) -> Result<(), Fail> {
             "authentication header: a check value of 5 byte(s), which is no multiple of 4",
         ),
     ] {
-        assert_eq!(rt; format!(in alloc; "{error}")?.as_str(), words);
+        assert!(rt; reads_as(&rt, &error, words)?);
     }
     Ok(())
 }
 
 #[test]
 fn words_of_faults(rt: HostRuntime) -> Result<(), Fail> {
-    let alloc = rt.alloc();
     let zero = "authentication header: the payload length is 0";
-    let want = format!(in alloc; "{WANT}")?;
+    let want = format!(in rt.alloc(); "{WANT}")?;
     let fault = HeaderError::ZeroPayloadLen;
-    assert_eq!(rt; format!(in alloc; "{fault}")?.as_str(), zero);
+    assert!(rt; reads_as(&rt, &fault, zero)?);
     let fault = HeaderSliceError::Content(HeaderError::ZeroPayloadLen);
-    assert_eq!(rt; format!(in alloc; "{fault}")?.as_str(), zero);
+    assert!(rt; reads_as(&rt, &fault, zero)?);
     let fault = HeaderSliceError::Len(WANT);
-    assert_eq!(rt; format!(in alloc; "{fault}")?.as_str(), want.as_str());
+    assert!(rt; reads_as(&rt, &fault, want.as_str())?);
     let fault = HeaderReadError::Content(HeaderError::ZeroPayloadLen);
-    assert_eq!(rt; format!(in alloc; "{fault}")?.as_str(), zero);
+    assert!(rt; reads_as(&rt, &fault, zero)?);
     let fault = HeaderLimitedReadError::Content(HeaderError::ZeroPayloadLen);
-    assert_eq!(rt; format!(in alloc; "{fault}")?.as_str(), zero);
+    assert!(rt; reads_as(&rt, &fault, zero)?);
     let fault = HeaderLimitedReadError::Len(WANT);
-    assert_eq!(rt; format!(in alloc; "{fault}")?.as_str(), want.as_str());
+    assert!(rt; reads_as(&rt, &fault, want.as_str())?);
     let fault = LimitedReadError::Len(WANT);
-    assert_eq!(rt; format!(in alloc; "{fault}")?.as_str(), want.as_str());
+    assert!(rt; reads_as(&rt, &fault, want.as_str())?);
     Ok(())
 }
 
 #[test]
 fn words_of_failed_reads(rt: HostRuntime) -> Result<(), Fail> {
-    let alloc = rt.alloc();
     let words = "permission denied";
     let fault = LimitedReadError::Io(ErrorKind::PermissionDenied.into());
-    assert_eq!(rt; format!(in alloc; "{fault}")?.as_str(), words);
+    assert!(rt; reads_as(&rt, &fault, words)?);
     let fault = HeaderReadError::Io(ErrorKind::PermissionDenied.into());
-    assert_eq!(rt; format!(in alloc; "{fault}")?.as_str(), words);
+    assert!(rt; reads_as(&rt, &fault, words)?);
     let fault = HeaderLimitedReadError::Io(ErrorKind::PermissionDenied.into());
-    assert_eq!(rt; format!(in alloc; "{fault}")?.as_str(), words);
+    assert!(rt; reads_as(&rt, &fault, words)?);
     Ok(())
 }
