@@ -293,16 +293,25 @@ fn an_authentication_header_is_appended(rt: HostRuntime) -> Result<(), Fail> {
     Ok(())
 }
 
+// Whether these are the bytes of the view.
+fn has_slice(view: &IpAuthHeaderSlice, bytes: &[u8]) -> bool {
+    view.slice() == bytes
+}
+
+// Whether this is the check value of the view and of its fields.
+fn has_check_value(view: &IpAuthHeaderSlice, icv: &[u8]) -> bool {
+    view.raw_icv() == icv && view.to_header().raw_icv() == icv
+}
+
 #[test]
 fn a_view_of_an_authentication_header(rt: HostRuntime) -> Result<(), Fail> {
     let bytes = AUTH;
     let view = IpAuthHeaderSlice::from_slice(&bytes)?;
-    assert_eq!(rt; view.slice(), &AUTH[..24]);
+    assert!(rt; has_slice(&view, &AUTH[..24]));
     assert_eq!(rt; view.next_header(), IpNumber::TCP);
     assert_eq!(rt; view.spi(), 0x0102_0304);
     assert_eq!(rt; view.sequence_number(), 0x0506_0708);
-    assert_eq!(rt; view.raw_icv(), &AUTH[12..24]);
-    assert_eq!(rt; view.to_header().raw_icv(), &AUTH[12..24]);
+    assert!(rt; has_check_value(&view, &AUTH[12..24]));
     assert!(rt; view == view.clone()?);
     Ok(())
 }

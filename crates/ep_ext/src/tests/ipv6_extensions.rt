@@ -4,7 +4,7 @@ ghost use Rattle.std.specs.Prelude.{◌≡◌};
 
 use crate::err::ip_auth;
 use crate::err::ipv6_exts::{HeaderError, HeaderSliceError};
-use crate::{Ipv6Extensions, laws};
+use crate::{Ipv6Extensions, Ipv6RawExtHeader, laws};
 use ep_base::err::{Layer, LenError};
 use ep_base::{IpNumber, LenSource};
 use ep_ip::Ipv6Header;
@@ -102,6 +102,10 @@ fn is_skipped_to_its_end(bytes: &[u8]) -> bool {
         && laws::skip_agrees_with_chain(IpNumber(0), bytes) == end
 }
 
+fn has_payload(header: &Ipv6RawExtHeader, payload: &[u8]) -> bool {
+    header.payload() == payload
+}
+
 #[test]
 fn all_six_headers(rt: HostRuntime) -> Result<(), Fail> {
     let bytes = CHAIN;
@@ -117,7 +121,7 @@ fn all_six_headers(rt: HostRuntime) -> Result<(), Fail> {
         panic!(rt; "no routing header");
     };
     assert_eq!(rt; routing.header_len(), 24);
-    assert_eq!(rt; routing.routing.payload(), &bytes[18..32]);
+    assert!(rt; has_payload(&routing.routing, &bytes[18..32]));
     assert!(rt; is_skipped_to_its_end(&bytes));
     Ok(())
 }
