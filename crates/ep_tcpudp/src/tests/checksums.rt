@@ -50,16 +50,16 @@ fn udp_over_ipv6(header: &UdpHeader, payload: &[u8]) -> Result<[u16; 2], Fail> {
 #[test]
 fn udp_checksums_over_ipv4(rt: HostRuntime) -> Result<(), Fail> {
     let header = UdpHeader::with_ipv4_checksum(1, 2, &ipv4_header(IpNumber::UDP)?, &PAYLOAD)?;
-    assert_eq!(rt; (header.length, header.checksum), (16, 0xdbb4));
-    assert_eq!(rt; udp_over_ipv4(&header, &PAYLOAD)?, [0xdbb4, 0xdbb4]);
+    assert!(rt; (header.length, header.checksum) == (16, 0xdbb4));
+    assert!(rt; udp_over_ipv4(&header, &PAYLOAD)? == [0xdbb4, 0xdbb4]);
     Ok(())
 }
 
 #[test]
 fn udp_checksums_over_ipv6(rt: HostRuntime) -> Result<(), Fail> {
     let header = UdpHeader::with_ipv6_checksum(1, 2, &ipv6_header(IpNumber::UDP), &PAYLOAD)?;
-    assert_eq!(rt; header.checksum, 0xf5b2);
-    assert_eq!(rt; udp_over_ipv6(&header, &PAYLOAD)?, [0xf5b2, 0xf5b2]);
+    assert!(rt; header.checksum == 0xf5b2);
+    assert!(rt; udp_over_ipv6(&header, &PAYLOAD)? == [0xf5b2, 0xf5b2]);
     Ok(())
 }
 
@@ -67,7 +67,7 @@ fn udp_checksums_over_ipv6(rt: HostRuntime) -> Result<(), Fail> {
 #[test]
 fn udp_zero_checksum(rt: HostRuntime) -> Result<(), Fail> {
     let header = UdpHeader::without_ipv4_checksum(0xffff - 17 - 8 - 8, 0, 0)?;
-    assert_eq!(rt; header.calc_checksum_ipv4_raw([0; 4], [0; 4], &[])?, 0xffff);
+    assert!(rt; header.calc_checksum_ipv4_raw([0; 4], [0; 4], &[])? == 0xffff);
     Ok(())
 }
 
@@ -83,22 +83,19 @@ fn udp_payload_too_long(rt: HostRuntime) -> Result<(), Fail> {
     };
     let header = UdpHeader::without_ipv4_checksum(1, 2, 65527)?;
     let over_v4 = header.calc_checksum_ipv4_raw(V4.0, V4.1, &payload);
-    assert_eq!(rt; over_v4.err(), refused(ValueType::UdpPayloadLengthIpv4));
-    assert_eq!(rt;
+    assert!(rt; over_v4.err() == refused(ValueType::UdpPayloadLengthIpv4));
+    assert!(rt;
         header
             .calc_checksum_ipv4_raw(V4.0, V4.1, &payload[1..])
-            .is_ok(),
-        true
+            .is_ok()
+            == true
     );
     let ipv4 = ipv4_header(IpNumber::UDP)?;
     let sealed = UdpHeader::with_ipv4_checksum(1, 2, &ipv4, &payload);
-    assert_eq!(rt; sealed.err(), refused(ValueType::UdpPayloadLengthIpv4));
+    assert!(rt; sealed.err() == refused(ValueType::UdpPayloadLengthIpv4));
     let sealed = UdpHeader::with_ipv6_checksum(1, 2, &ipv6_header(IpNumber::UDP), &payload);
-    assert_eq!(rt; sealed.err(), refused(ValueType::UdpPayloadLengthIpv6));
-    assert_eq!(rt;
-        header.calc_checksum_ipv6_raw(V6.0, V6.1, &payload).is_ok(),
-        true
-    );
+    assert!(rt; sealed.err() == refused(ValueType::UdpPayloadLengthIpv6));
+    assert!(rt; header.calc_checksum_ipv6_raw(V6.0, V6.1, &payload).is_ok());
     Ok(())
 }
 
@@ -107,9 +104,9 @@ fn udp_payload_too_long(rt: HostRuntime) -> Result<(), Fail> {
 fn udp_greatest_payload(rt: HostRuntime) -> Result<(), Fail> {
     let payload = vec![in rt.alloc(); 0; 65527]?;
     let over_v4 = UdpHeader::with_ipv4_checksum(1, 2, &ipv4_header(IpNumber::UDP)?, &payload)?;
-    assert_eq!(rt; (over_v4.length, over_v4.checksum), (65535, 0xebe8));
+    assert!(rt; (over_v4.length, over_v4.checksum) == (65535, 0xebe8));
     let over_v6 = UdpHeader::with_ipv6_checksum(1, 2, &ipv6_header(IpNumber::UDP), &payload)?;
-    assert_eq!(rt; (over_v6.length, over_v6.checksum), (65535, 0x05e7));
+    assert!(rt; (over_v6.length, over_v6.checksum) == (65535, 0x05e7));
     Ok(())
 }
 
@@ -133,16 +130,16 @@ fn tcp_greatest_payload(rt: HostRuntime) -> Result<(), Fail> {
     let payload = vec![in rt.alloc(); 1; 65516]?;
     let mut header = tcp_header();
     let greatest = header.calc_checksum_ipv4_raw(V4.0, V4.1, &payload[1..])?;
-    assert_eq!(rt; greatest, 0x217b);
+    assert!(rt; greatest == 0x217b);
     let more = header.calc_checksum_ipv4_raw(V4.0, V4.1, &payload);
-    assert_eq!(rt; more.err(), too_long(65516, 65515));
+    assert!(rt; more.err() == too_long(65516, 65515));
     header.options = TcpOptions::from([1; 40]);
     let greatest = header.calc_checksum_ipv4_raw(V4.0, V4.1, &payload[41..])?;
-    assert_eq!(rt; greatest, 0x817a);
+    assert!(rt; greatest == 0x817a);
     let more = header.calc_checksum_ipv4_raw(V4.0, V4.1, &payload[40..]);
-    assert_eq!(rt; more.err(), too_long(65476, 65475));
+    assert!(rt; more.err() == too_long(65476, 65475));
     let over_v6 = header.calc_checksum_ipv6_raw(V6.0, V6.1, &payload);
-    assert_eq!(rt; over_v6.is_ok(), true);
+    assert!(rt; over_v6.is_ok());
     Ok(())
 }
 
@@ -207,10 +204,10 @@ fn of_header_in_ipv6(bytes: &[u8]) -> Result<u16, Fail> {
 fn tcp_reserved_bits_are_summed(rt: HostRuntime) -> Result<(), Fail> {
     let mut bytes = SYN;
     bytes[12] = 0x5e;
-    assert_eq!(rt; of_segment(&bytes, V4, V6)?, [0x89da, 0xa3d8]);
-    assert_eq!(rt; of_header(&bytes)?, [0x89da, 0xa3d8]);
+    assert!(rt; of_segment(&bytes, V4, V6)? == [0x89da, 0xa3d8]);
+    assert!(rt; of_header(&bytes)? == [0x89da, 0xa3d8]);
     let fields = TcpHeaderSlice::from_slice(&bytes)?.to_header();
-    assert_eq!(rt; of_fields(&fields, &[], V4, V6)?, [0x97da, 0xb1d8]);
+    assert!(rt; of_fields(&fields, &[], V4, V6)? == [0x97da, 0xb1d8]);
     Ok(())
 }
 
@@ -240,9 +237,9 @@ fn front(bytes: &[u8], len: usize) -> &[u8] {
 fn tcp_greatest_segment(rt: HostRuntime) -> Result<(), Fail> {
     let mut bytes = vec![in rt.alloc(); 1; 65536]?;
     bytes[12] = 0x50;
-    assert_eq!(rt; whole(front(&bytes, 65534))?, Ok(0x1e79));
-    assert_eq!(rt; whole(front(&bytes, 65535))?, Ok(0x1d78));
-    assert_eq!(rt; whole(&bytes)?.err(), too_long(65536, 65535));
+    assert!(rt; whole(front(&bytes, 65534))? == Ok(0x1e79));
+    assert!(rt; whole(front(&bytes, 65535))? == Ok(0x1d78));
+    assert!(rt; whole(&bytes)?.err() == too_long(65536, 65535));
     Ok(())
 }
 
@@ -250,9 +247,9 @@ fn tcp_greatest_segment(rt: HostRuntime) -> Result<(), Fail> {
 fn tcp_greatest_payload_of_a_header_slice(rt: HostRuntime) -> Result<(), Fail> {
     let mut bytes = vec![in rt.alloc(); 1; 65536]?;
     bytes[12] = 0x50;
-    assert_eq!(rt; in_parts(front(&bytes, 65534))?, Ok(0x1e79));
-    assert_eq!(rt; in_parts(front(&bytes, 65535))?, Ok(0x1d78));
-    assert_eq!(rt; in_parts(&bytes)?.err(), too_long(65516, 65515));
+    assert!(rt; in_parts(front(&bytes, 65534))? == Ok(0x1e79));
+    assert!(rt; in_parts(front(&bytes, 65535))? == Ok(0x1d78));
+    assert!(rt; in_parts(&bytes)?.err() == too_long(65516, 65515));
     Ok(())
 }
 
@@ -260,9 +257,9 @@ fn tcp_greatest_payload_of_a_header_slice(rt: HostRuntime) -> Result<(), Fail> {
 fn tcp_greatest_payload_behind_options(rt: HostRuntime) -> Result<(), Fail> {
     let mut bytes = vec![in rt.alloc(); 1; 65536]?;
     bytes[12] = 0xf0;
-    assert_eq!(rt; in_parts(front(&bytes, 65534))?, Ok(0x7e78));
-    assert_eq!(rt; in_parts(front(&bytes, 65535))?, Ok(0x7d77));
-    assert_eq!(rt; in_parts(&bytes)?.err(), too_long(65476, 65475));
+    assert!(rt; in_parts(front(&bytes, 65534))? == Ok(0x7e78));
+    assert!(rt; in_parts(front(&bytes, 65535))? == Ok(0x7d77));
+    assert!(rt; in_parts(&bytes)?.err() == too_long(65476, 65475));
     Ok(())
 }
 
@@ -279,8 +276,8 @@ fn tcp_zero_checksum(rt: HostRuntime) -> Result<(), Fail> {
     header.write(&mut bytes)?;
     bytes.extend_from_slice(&PAYLOAD)?;
     let nowhere = (([0; 4], [0; 4]), ([0; 16], [0; 16]));
-    assert_eq!(rt; of_segment(&bytes, nowhere.0, nowhere.1)?, [0, 0]);
-    assert_eq!(rt; of_fields(&header, &PAYLOAD, nowhere.0, nowhere.1)?, [0, 0]);
+    assert!(rt; of_segment(&bytes, nowhere.0, nowhere.1)? == [0, 0]);
+    assert!(rt; of_fields(&header, &PAYLOAD, nowhere.0, nowhere.1)? == [0, 0]);
     Ok(())
 }
 
@@ -292,17 +289,17 @@ const SYN: [u8; 20] = [
 #[test]
 fn tcp_checksums_between_addresses(rt: HostRuntime) -> Result<(), Fail> {
     let (header, _) = TcpHeader::from_slice(&SYN)?;
-    assert_eq!(rt; of_fields(&header, &[], V4, V6)?, [0x97da, 0xb1d8]);
-    assert_eq!(rt; of_header(&SYN)?, [0x97da, 0xb1d8]);
-    assert_eq!(rt; of_segment(&SYN, V4, V6)?, [0x97da, 0xb1d8]);
+    assert!(rt; of_fields(&header, &[], V4, V6)? == [0x97da, 0xb1d8]);
+    assert!(rt; of_header(&SYN)? == [0x97da, 0xb1d8]);
+    assert!(rt; of_segment(&SYN, V4, V6)? == [0x97da, 0xb1d8]);
     Ok(())
 }
 
 #[test]
 fn tcp_checksums_in_packets(rt: HostRuntime) -> Result<(), Fail> {
     let (header, _) = TcpHeader::from_slice(&SYN)?;
-    assert_eq!(rt; of_fields_in_packets(&header)?, [0x97da, 0xb1d8]);
-    assert_eq!(rt; of_header_in_ipv4(&SYN)?, 0x97da);
-    assert_eq!(rt; of_header_in_ipv6(&SYN)?, 0xb1d8);
+    assert!(rt; of_fields_in_packets(&header)? == [0x97da, 0xb1d8]);
+    assert!(rt; of_header_in_ipv4(&SYN)? == 0x97da);
+    assert!(rt; of_header_in_ipv6(&SYN)? == 0xb1d8);
     Ok(())
 }

@@ -14,11 +14,8 @@ fn first(bytes: &[u8]) -> Option<Result<TcpOptionElement, TcpOptionReadError>> {
 #[test]
 fn option_lengths(rt: HostRuntime) -> Result<(), Fail> {
     let options = TcpOptions::try_from_elements(&[WindowScale(123), Noop, Noop])?;
-    assert_eq!(rt; options.as_slice(), [3, 3, 0x7b, 1, 1, 0, 0, 0].as_slice());
-    assert_eq!(rt;
-        (options.len(), options.len_u8(), options.is_empty()),
-        (8, 8, false)
-    );
+    assert!(rt; options.as_slice() == [3, 3, 0x7b, 1, 1, 0, 0, 0].as_slice());
+    assert!(rt; (options.len(), options.len_u8(), options.is_empty()) == (8, 8, false));
     Ok(())
 }
 
@@ -33,7 +30,7 @@ fn kinds_and_lengths(rt: HostRuntime) {
         tcp_option::KIND_SELECTIVE_ACK,
         tcp_option::KIND_TIMESTAMP,
     ];
-    assert_eq!(rt; kinds, [0, 1, 2, 3, 4, 5, 8]);
+    assert!(rt; kinds == [0, 1, 2, 3, 4, 5, 8]);
     let lengths = [
         tcp_option::LEN_END,
         tcp_option::LEN_NOOP,
@@ -42,7 +39,7 @@ fn kinds_and_lengths(rt: HostRuntime) {
         tcp_option::LEN_SELECTIVE_ACK_PERMITTED,
         tcp_option::LEN_TIMESTAMP,
     ];
-    assert_eq!(rt; lengths, [1, 1, 4, 3, 2, 10]);
+    assert!(rt; lengths == [1, 1, 4, 3, 2, 10]);
 }
 
 // The options of a first segment as Linux sends them: 1460, selective acknowledgements, timestamps, a
@@ -61,15 +58,15 @@ fn elements_of_a_first_segment(rt: HostRuntime) -> Result<(), Fail> {
         Noop,
         WindowScale(7),
     ])?;
-    assert_eq!(rt; header.options(), FIRST_SEGMENT.as_slice());
+    assert!(rt; header.options() == FIRST_SEGMENT.as_slice());
     let mut items = header.options_iterator();
-    assert_eq!(rt; items.next(), Some(Ok(MaximumSegmentSize(1460))));
-    assert_eq!(rt; items.next(), Some(Ok(SelectiveAcknowledgementPermitted)));
-    assert_eq!(rt; items.next(), Some(Ok(Timestamp(1, 0))));
-    assert_eq!(rt; items.rest(), [1, 3, 3, 7].as_slice());
-    assert_eq!(rt; items.next(), Some(Ok(Noop)));
-    assert_eq!(rt; items.next(), Some(Ok(WindowScale(7))));
-    assert_eq!(rt; items.next(), None);
+    assert!(rt; items.next() == Some(Ok(MaximumSegmentSize(1460))));
+    assert!(rt; items.next() == Some(Ok(SelectiveAcknowledgementPermitted)));
+    assert!(rt; items.next() == Some(Ok(Timestamp(1, 0))));
+    assert!(rt; items.rest() == [1, 3, 3, 7].as_slice());
+    assert!(rt; items.next() == Some(Ok(Noop)));
+    assert!(rt; items.next() == Some(Ok(WindowScale(7))));
+    assert!(rt; items.next() == None);
     Ok(())
 }
 
@@ -78,11 +75,11 @@ fn blocks_are_packed(rt: HostRuntime) -> Result<(), Fail> {
     let element = SelectiveAcknowledgement((1, 2), [None, Some((3, 4)), None]);
     let options = TcpOptions::try_from_elements(&[element])?;
     let bytes = [5, 18, 0, 0, 0, 1, 0, 0, 0, 2, 0, 0, 0, 3, 0, 0, 0, 4, 0, 0];
-    assert_eq!(rt; options.as_slice(), bytes.as_slice());
+    assert!(rt; options.as_slice() == bytes.as_slice());
     let packed = SelectiveAcknowledgement((1, 2), [Some((3, 4)), None, None]);
     let mut items = options.elements_iter();
-    assert_eq!(rt; items.next(), Some(Ok(packed)));
-    assert_eq!(rt; items.next(), None);
+    assert!(rt; items.next() == Some(Ok(packed)));
+    assert!(rt; items.next() == None);
     Ok(())
 }
 
@@ -90,17 +87,14 @@ fn blocks_are_packed(rt: HostRuntime) -> Result<(), Fail> {
 fn four_blocks(rt: HostRuntime) -> Result<(), Fail> {
     let element = SelectiveAcknowledgement((1, 2), [Some((3, 4)), Some((5, 6)), Some((7, 8))]);
     let options = TcpOptions::try_from_elements(&[element, Noop, Noop])?;
-    assert_eq!(rt; options.len(), 36);
-    assert_eq!(rt; options.elements_iter().next(), Some(Ok(element)));
+    assert!(rt; options.len() == 36);
+    assert!(rt; options.elements_iter().next() == Some(Ok(element)));
     Ok(())
 }
 
 #[test]
 fn room_for_forty_bytes(rt: HostRuntime) -> Result<(), Fail> {
-    assert_eq!(rt;
-        TcpOptions::try_from_elements(&[Timestamp(1, 2); 4])?.len(),
-        40
-    );
+    assert!(rt; TcpOptions::try_from_elements(&[Timestamp(1, 2); 4])?.len() == 40);
     let refused = TcpOptions::try_from_elements(&[
         Timestamp(1, 2),
         Timestamp(1, 2),
@@ -108,33 +102,21 @@ fn room_for_forty_bytes(rt: HostRuntime) -> Result<(), Fail> {
         Timestamp(1, 2),
         Noop,
     ]);
-    assert_eq!(rt;
-        refused.err(),
-        Some(TcpOptionWriteError::NotEnoughSpace(41))
-    );
+    assert!(rt; refused.err() == Some(TcpOptionWriteError::NotEnoughSpace(41)));
     let mut header = TcpHeader::new(1, 2, 3, 4);
     let refused = header.set_options(&[Noop; 41]);
-    assert_eq!(rt;
-        refused.err(),
-        Some(TcpOptionWriteError::NotEnoughSpace(41))
-    );
-    assert_eq!(rt; header, TcpHeader::new(1, 2, 3, 4));
+    assert!(rt; refused.err() == Some(TcpOptionWriteError::NotEnoughSpace(41)));
+    assert!(rt; header == TcpHeader::new(1, 2, 3, 4));
     Ok(())
 }
 
 #[test]
 fn options_of_bytes(rt: HostRuntime) -> Result<(), Fail> {
-    assert_eq!(rt; TcpOptions::try_from_slice(&[])?, TcpOptions::new());
-    assert_eq!(rt;
-        TcpOptions::try_from_slice(&[1])?.as_slice(),
-        [1, 0, 0, 0].as_slice()
-    );
-    assert_eq!(rt; TcpOptions::try_from([Noop].as_slice())?.len(), 4);
+    assert!(rt; TcpOptions::try_from_slice(&[])? == TcpOptions::new());
+    assert!(rt; TcpOptions::try_from_slice(&[1])?.as_slice() == [1, 0, 0, 0].as_slice());
+    assert!(rt; TcpOptions::try_from([Noop].as_slice())?.len() == 4);
     let refused = TcpOptions::try_from_slice(&[1; 41]);
-    assert_eq!(rt;
-        refused.err(),
-        Some(TcpOptionWriteError::NotEnoughSpace(41))
-    );
+    assert!(rt; refused.err() == Some(TcpOptionWriteError::NotEnoughSpace(41)));
     Ok(())
 }
 
@@ -142,8 +124,8 @@ fn options_of_bytes(rt: HostRuntime) -> Result<(), Fail> {
 fn options_changed_in_place(rt: HostRuntime) -> Result<(), Fail> {
     let mut options = TcpOptions::try_from([1, 1, 1, 1].as_slice())?;
     options.as_mut_slice()[3] = 0;
-    assert_eq!(rt; options, TcpOptions::from([1, 1, 1, 0]));
-    assert_eq!(rt; TcpOptions::default().is_empty(), true);
+    assert!(rt; options == TcpOptions::from([1, 1, 1, 0]));
+    assert!(rt; TcpOptions::default().is_empty());
     Ok(())
 }
 
@@ -151,13 +133,13 @@ fn options_changed_in_place(rt: HostRuntime) -> Result<(), Fail> {
 #[test]
 fn nothing_behind_the_end(rt: HostRuntime) {
     let mut ended = TcpOptionsIterator::from_slice(&[1, 0, 1, 1]);
-    assert_eq!(rt; ended.next(), Some(Ok(Noop)));
-    assert_eq!(rt; ended.next(), None);
-    assert_eq!(rt; ended.rest().len(), 0);
+    assert!(rt; ended.next() == Some(Ok(Noop)));
+    assert!(rt; ended.next() == None);
+    assert!(rt; ended.rest().len() == 0);
     let mut faulty = TcpOptionsIterator::from_slice(&[6, 1, 1, 1]);
-    assert_eq!(rt; faulty.next(), Some(Err(TcpOptionReadError::UnknownId(6))));
-    assert_eq!(rt; faulty.next(), None);
-    assert_eq!(rt; faulty.rest().len(), 0);
+    assert!(rt; faulty.next() == Some(Err(TcpOptionReadError::UnknownId(6))));
+    assert!(rt; faulty.next() == None);
+    assert!(rt; faulty.rest().len() == 0);
 }
 
 // A kind that has one size: with each number of bytes too few, and with each wrong size.
@@ -172,7 +154,7 @@ fn one_size(rt: &impl Abort, kind: u8, size: u8) {
                 expected_len: size,
                 actual_len: len,
             };
-            assert_eq!(rt; first(&bytes[..len]), Some(Err(want)));
+            assert!(rt; first(&bytes[..len]) == Some(Err(want)));
         }
     }
     for wrong in 0..=255u8 {
@@ -182,7 +164,7 @@ fn one_size(rt: &impl Abort, kind: u8, size: u8) {
                 option_id: kind,
                 size: wrong,
             };
-            assert_eq!(rt; first(&bytes), Some(Err(other)));
+            assert!(rt; first(&bytes) == Some(Err(other)));
         }
     }
 }
@@ -207,7 +189,7 @@ fn sizes_of_acknowledgements(rt: HostRuntime) {
             actual_len,
         }))
     };
-    assert_eq!(rt; first(&[5]), end(2, 1));
+    assert!(rt; first(&[5]) == end(2, 1));
     let mut bytes = [0; 34];
     bytes[0] = 5;
     for size in 0..=255u8 {
@@ -215,12 +197,12 @@ fn sizes_of_acknowledgements(rt: HostRuntime) {
         if size == 10 || size == 18 || size == 26 || size == 34 {
             for len in 2..34usize {
                 if len < usize::from(size) {
-                    assert_eq!(rt; first(&bytes[..len]), end(size, len));
+                    assert!(rt; first(&bytes[..len]) == end(size, len));
                 }
             }
         } else {
             let wrong = TcpOptionReadError::UnexpectedSize { option_id: 5, size };
-            assert_eq!(rt; first(&bytes[..2]), Some(Err(wrong)));
+            assert!(rt; first(&bytes[..2]) == Some(Err(wrong)));
         }
     }
 }
@@ -231,8 +213,8 @@ fn unknown_kinds(rt: HostRuntime) {
     for kind in 6..=255u8 {
         if kind != 8 {
             let unknown = TcpOptionReadError::UnknownId(kind);
-            assert_eq!(rt; first(&[kind, 2, 0, 0]), Some(Err(unknown)));
-            assert_eq!(rt; first(&[kind]), Some(Err(unknown)));
+            assert!(rt; first(&[kind, 2, 0, 0]) == Some(Err(unknown)));
+            assert!(rt; first(&[kind]) == Some(Err(unknown)));
         }
     }
 }
@@ -251,19 +233,16 @@ fn options_of_words(rt: HostRuntime) {
         TcpOptions::from([1; 36]).len(),
         TcpOptions::from([1; 40]).len(),
     ];
-    assert_eq!(rt; lengths, [8, 12, 16, 20, 24, 28, 32, 36, 40]);
-    assert_eq!(rt;
-        TcpOptions::from(FIRST_SEGMENT).as_slice(),
-        FIRST_SEGMENT.as_slice()
-    );
+    assert!(rt; lengths == [8, 12, 16, 20, 24, 28, 32, 36, 40]);
+    assert!(rt; TcpOptions::from(FIRST_SEGMENT).as_slice() == FIRST_SEGMENT.as_slice());
 }
 
 #[test]
 fn iterators_are_equal_by_what_is_left(rt: HostRuntime) {
     let mut items = TcpOptionsIterator::from_slice(&[1, 1, 0]);
-    assert_eq!(rt; items == TcpOptionsIterator::from_slice(&[1, 0]), false);
+    assert!(rt; items != TcpOptionsIterator::from_slice(&[1, 0]));
     items.next();
-    assert_eq!(rt; items == TcpOptionsIterator::from_slice(&[1, 0]), true);
+    assert!(rt; items == TcpOptionsIterator::from_slice(&[1, 0]));
 }
 
 #[test]
@@ -279,7 +258,7 @@ fn laws_are_called() {
 fn errors_as_text(rt: HostRuntime) -> Result<(), Fail> {
     let alloc = rt.alloc();
     let text = format!(in alloc; "{}", TcpOptionReadError::UnknownId(6))?;
-    assert_eq!(rt; text.as_str(), "TCP option of kind 6: the kind is unknown");
+    assert!(rt; text.as_str() == "TCP option of kind 6: the kind is unknown");
     let wrong = TcpOptionReadError::UnexpectedSize {
         option_id: 3,
         size: 4,
@@ -291,9 +270,9 @@ fn errors_as_text(rt: HostRuntime) -> Result<(), Fail> {
     };
     let text = format!(in alloc; "{short}")?;
     let wanted = "TCP option of kind 2: 4 byte(s) are needed, and 3 are left";
-    assert_eq!(rt; text.as_str(), wanted);
+    assert!(rt; text.as_str() == wanted);
     let text = format!(in alloc; "{wrong}")?;
     let wanted = "TCP option of kind 3: the length byte is 4, which this kind doesn't have";
-    assert_eq!(rt; text.as_str(), wanted);
+    assert!(rt; text.as_str() == wanted);
     Ok(())
 }

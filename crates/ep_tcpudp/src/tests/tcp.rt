@@ -47,20 +47,20 @@ fn too_short(required_len: usize, len: usize) -> HeaderSliceError {
 #[test]
 fn header_by_position(rt: HostRuntime) -> Result<(), Fail> {
     let (header, rest) = TcpHeader::from_slice(&BYTES)?;
-    assert_eq!(rt; header, fields());
-    assert_eq!(rt; rest, [0xaa, 0xbb].as_slice());
+    assert!(rt; header == fields());
+    assert!(rt; rest == [0xaa, 0xbb].as_slice());
     Ok(())
 }
 
 #[test]
 fn bytes_by_position(rt: HostRuntime) {
     let header = fields();
-    assert_eq!(rt; header.data_offset(), 6);
-    assert_eq!(rt; header.header_len(), 24);
-    assert_eq!(rt; header.options(), [1, 1, 1, 0].as_slice());
+    assert!(rt; header.data_offset() == 6);
+    assert!(rt; header.header_len() == 24);
+    assert!(rt; header.options() == [1, 1, 1, 0].as_slice());
     // The reserved bits are 0.
-    assert_eq!(rt; header.to_bytes()[12], 0x61);
-    assert_eq!(rt; &header.to_bytes()[13..], &BYTES[13..24]);
+    assert!(rt; header.to_bytes()[12] == 0x61);
+    assert!(rt; &header.to_bytes()[13..] == &BYTES[13..24]);
 }
 
 #[test]
@@ -70,8 +70,8 @@ fn header_appended(rt: HostRuntime) -> Result<(), Fail> {
     let bytes = [
         9, 0, 1, 0, 2, 0, 0, 0, 3, 0, 0, 0, 0, 0x50, 0, 0, 4, 0, 0, 0, 0,
     ];
-    assert_eq!(rt; buffer.as_slice(), bytes.as_slice());
-    assert_eq!(rt; TcpHeader::default(), TcpHeader::new(0, 0, 0, 0));
+    assert!(rt; buffer.as_slice() == bytes.as_slice());
+    assert!(rt; TcpHeader::default() == TcpHeader::new(0, 0, 0, 0));
     Ok(())
 }
 
@@ -141,9 +141,9 @@ fn flags_at_their_bits(rt: HostRuntime) -> Result<(), Fail> {
         bytes[13] = (bits & 0xff) as u8;
         let mut wanted = [false; 9];
         wanted[place] = true;
-        assert_eq!(rt; flags_of(&TcpHeaderSlice::from_slice(&bytes)?), wanted);
+        assert!(rt; flags_of(&TcpHeaderSlice::from_slice(&bytes)?) == wanted);
         let (header, _) = TcpHeader::from_slice(&bytes)?;
-        assert_eq!(rt; header.to_bytes().as_slice(), &bytes[..24]);
+        assert!(rt; header.to_bytes().as_slice() == &bytes[..24]);
     }
     Ok(())
 }
@@ -151,62 +151,49 @@ fn flags_at_their_bits(rt: HostRuntime) -> Result<(), Fail> {
 #[test]
 fn getters_of_the_header_slice(rt: HostRuntime) -> Result<(), Fail> {
     let header = TcpHeaderSlice::from_slice(&BYTES)?;
-    assert_eq!(rt; header.slice(), &BYTES[..24]);
-    assert_eq!(rt; numbers_of(&header), [1, 2, 3, 4, 6, 5, 6, 7]);
-    assert_eq!(rt; header.options(), [1, 1, 1, 0].as_slice());
-    assert_eq!(rt; header.options_iterator().rest().len(), 4);
-    assert_eq!(rt; header.to_header(), fields());
+    assert!(rt; header.slice() == &BYTES[..24]);
+    assert!(rt; numbers_of(&header) == [1, 2, 3, 4, 6, 5, 6, 7]);
+    assert!(rt; header.options() == [1, 1, 1, 0].as_slice());
+    assert!(rt; header.options_iterator().rest().len() == 4);
+    assert!(rt; header.to_header() == fields());
     Ok(())
 }
 
 #[test]
 fn parts_of_the_segment(rt: HostRuntime) -> Result<(), Fail> {
     let segment = TcpSlice::from_slice(&BYTES)?;
-    assert_eq!(rt; segment.slice(), BYTES.as_slice());
-    assert_eq!(rt; segment.header_slice(), &BYTES[..24]);
-    assert_eq!(rt; segment.payload(), [0xaa, 0xbb].as_slice());
-    assert_eq!(rt; segment.header_len(), 24);
+    assert!(rt; segment.slice() == BYTES.as_slice());
+    assert!(rt; segment.header_slice() == &BYTES[..24]);
+    assert!(rt; segment.payload() == [0xaa, 0xbb].as_slice());
+    assert!(rt; segment.header_len() == 24);
     Ok(())
 }
 
 #[test]
 fn options_of_the_segment(rt: HostRuntime) -> Result<(), Fail> {
     let segment = TcpSlice::from_slice(&BYTES)?;
-    assert_eq!(rt; segment.options(), [1, 1, 1, 0].as_slice());
-    assert_eq!(rt; segment.options_iterator().rest().len(), 4);
+    assert!(rt; segment.options() == [1, 1, 1, 0].as_slice());
+    assert!(rt; segment.options_iterator().rest().len() == 4);
     Ok(())
 }
 
 #[test]
 fn fields_of_the_segment(rt: HostRuntime) -> Result<(), Fail> {
     let segment = TcpSlice::from_slice(&BYTES)?;
-    assert_eq!(rt; segment.to_header(), fields());
-    assert_eq!(rt; numbers_of_segment(&segment), [1, 2, 3, 4, 6, 5, 6, 7]);
-    assert_eq!(rt;
-        flags_of_segment(&segment),
-        [true, true, false, false, true, false, false, false, true]
+    assert!(rt; segment.to_header() == fields());
+    assert!(rt; numbers_of_segment(&segment) == [1, 2, 3, 4, 6, 5, 6, 7]);
+    assert!(rt;
+        flags_of_segment(&segment) == [true, true, false, false, true, false, false, false, true]
     );
     Ok(())
 }
 
 #[test]
 fn faults_in_order(rt: HostRuntime) {
-    assert_eq!(rt;
-        TcpSlice::from_slice(&BYTES[..19]).err(),
-        Some(too_short(20, 19))
-    );
-    assert_eq!(rt;
-        TcpSlice::from_slice(&BYTES[..23]).err(),
-        Some(too_short(24, 23))
-    );
-    assert_eq!(rt;
-        TcpHeaderSlice::from_slice(&BYTES[..19]).err(),
-        Some(too_short(20, 19))
-    );
-    assert_eq!(rt;
-        TcpHeader::from_slice(&BYTES[..23]).err(),
-        Some(too_short(24, 23))
-    );
+    assert!(rt; TcpSlice::from_slice(&BYTES[..19]).err() == Some(too_short(20, 19)));
+    assert!(rt; TcpSlice::from_slice(&BYTES[..23]).err() == Some(too_short(24, 23)));
+    assert!(rt; TcpHeaderSlice::from_slice(&BYTES[..19]).err() == Some(too_short(20, 19)));
+    assert!(rt; TcpHeader::from_slice(&BYTES[..23]).err() == Some(too_short(24, 23)));
 }
 
 // Every data offset below 5, whatever the reserved bits and ns are.
@@ -216,9 +203,9 @@ fn data_offsets_below_five(rt: HostRuntime) {
     for data_offset in 0..5u8 {
         let small = HeaderSliceError::Content(HeaderError::DataOffsetTooSmall { data_offset });
         bytes[12] = data_offset * 16 + 15;
-        assert_eq!(rt; TcpSlice::from_slice(&bytes).err(), Some(small));
+        assert!(rt; TcpSlice::from_slice(&bytes).err() == Some(small));
         bytes[12] = data_offset * 16;
-        assert_eq!(rt; TcpHeaderSlice::from_slice(&bytes).err(), Some(small));
+        assert!(rt; TcpHeaderSlice::from_slice(&bytes).err() == Some(small));
     }
 }
 
@@ -229,8 +216,8 @@ fn data_offsets_above_the_bytes(rt: HostRuntime) {
     for data_offset in 7..16u8 {
         let short = too_short(4 * usize::from(data_offset), 26);
         bytes[12] = data_offset * 16;
-        assert_eq!(rt; TcpSlice::from_slice(&bytes).err(), Some(short));
-        assert_eq!(rt; TcpHeader::from_slice(&bytes).err(), Some(short));
+        assert!(rt; TcpSlice::from_slice(&bytes).err() == Some(short));
+        assert!(rt; TcpHeader::from_slice(&bytes).err() == Some(short));
     }
 }
 
@@ -251,9 +238,9 @@ fn errors_seen_from_further_out(rt: HostRuntime) {
         layer: Layer::TcpHeader,
         layer_start_offset: 34,
     });
-    assert_eq!(rt; short.add_slice_offset(34), moved);
+    assert!(rt; short.add_slice_offset(34) == moved);
     let small = HeaderSliceError::Content(HeaderError::DataOffsetTooSmall { data_offset: 4 });
-    assert_eq!(rt; small.add_slice_offset(34), small);
+    assert!(rt; small.add_slice_offset(34) == small);
 }
 
 #[test]
@@ -261,15 +248,9 @@ fn errors_as_text(rt: HostRuntime) -> Result<(), Fail> {
     let alloc = rt.alloc();
     let content = HeaderSliceError::from(HeaderError::DataOffsetTooSmall { data_offset: 4 });
     let text = format!(in alloc; "{content}")?;
-    assert_eq!(rt;
-        text.as_str(),
-        "TCP header: the data offset is 4 and below 5"
-    );
+    assert!(rt; text.as_str() == "TCP header: the data offset is 4 and below 5");
     let text = format!(in alloc; "{}", TcpOptionWriteError::NotEnoughSpace(41))?;
-    assert_eq!(rt;
-        text.as_str(),
-        "TCP options of 41 byte(s): a header has room for 40"
-    );
+    assert!(rt; text.as_str() == "TCP options of 41 byte(s): a header has room for 40");
     Ok(())
 }
 
@@ -277,15 +258,12 @@ fn errors_as_text(rt: HostRuntime) -> Result<(), Fail> {
 fn raw_options(rt: HostRuntime) -> Result<(), Fail> {
     let mut header = TcpHeader::new(1, 2, 3, 4);
     header.set_options_raw(&[1, 1, 1, 1, 1])?;
-    assert_eq!(rt; header.options(), [1, 1, 1, 1, 1, 0, 0, 0].as_slice());
+    assert!(rt; header.options() == [1, 1, 1, 1, 1, 0, 0, 0].as_slice());
     let refused = header.set_options_raw(&[1; 41]);
-    assert_eq!(rt;
-        refused.err(),
-        Some(TcpOptionWriteError::NotEnoughSpace(41))
-    );
-    assert_eq!(rt; header.header_len(), 28);
+    assert!(rt; refused.err() == Some(TcpOptionWriteError::NotEnoughSpace(41)));
+    assert!(rt; header.header_len() == 28);
     header.set_options_raw(&[1; 40])?;
-    assert_eq!(rt; header.data_offset(), TcpHeader::MAX_DATA_OFFSET);
+    assert!(rt; header.data_offset() == TcpHeader::MAX_DATA_OFFSET);
     Ok(())
 }
 
@@ -294,16 +272,13 @@ fn laws_are_called(rt: HostRuntime) -> Result<(), Fail> {
     laws::tcp::sealed_sums_to_all_ones();
     laws::tcp::headers_are_their_bytes(&fields());
     let (header, rest) = laws::tcp::header_is_read_again(&fields(), &BYTES)?;
-    assert_eq!(rt; header, fields());
-    assert_eq!(rt; rest.len(), 2);
+    assert!(rt; header == fields());
+    assert!(rt; rest.len() == 2);
     let (a, b) = (
         TcpOptions::from([1, 1, 1, 0]),
         TcpOptions::from([1, 1, 1, 1]),
     );
-    assert_eq!(rt;
-        laws::tcp::options_are_ordered_as_bytes(&a, &b),
-        Ordering::Less
-    );
+    assert!(rt; laws::tcp::options_are_ordered_as_bytes(&a, &b) == Ordering::Less);
     laws::tcp::options_hash_as_bytes(&a, &mut FoldHasher::default());
     laws::tcp::header_lengths();
     laws::examples::tcp_fields();
