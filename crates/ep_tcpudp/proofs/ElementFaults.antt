@@ -1,9 +1,9 @@
 -- What is wrong with an option that isn't read, and back.
-use Rattle.std.proofs.Common.{◌≡◌, ◌⊎◌, inl, inr, ⊎_elim, ℕ, ◌+◌, ◌*◌, ◌<◌, ◌≤◌, Bool, true, false, cond, eqb, ltb, not, List, [], ◌∷◌, length, Result, Ok, Err, arith, sym, refl, ap, ◌∙◌, subst}
-use Rattle.std.proofs.lemmas.Bool.{eqb-true, eqb-false, eq-eqb, ne_eqb, ltb-true, ltb-false, lt-ltb, le-ltb, not-true, not-false, or_cases, or_parts, or_left, or_right, true_from_ne_false, cases_Bool}
+use Rattle.std.proofs.Common.{◌≡◌, inl, inr, ⊎_elim, ℕ, ◌+◌, ◌*◌, ◌<◌, ◌≤◌, true, false, eqb, ltb, not, List, length, Result, Err, arith, sym, refl, ap, ◌∙◌, subst}
+use Rattle.std.proofs.lemmas.Bool.{eqb-true, eqb-false, ne_eqb, ltb-true, ltb-false, lt-ltb, le-ltb, not-true, not-false, or_cases, or_parts, true_from_ne_false, cases_Bool}
 use Rattle.ep_base.specs.Bytes.{num}
-use Rattle.ep_tcpudp.specs.Elements.{HasOneSize, HasOtherSize, IsFault, IsSizeOfBlocks, Needs}
-use Rattle.ep_tcpudp.specs.Options.{kind_at, of_size, is_size_of_blocks, acknowledgement_at, element_at, is_end}
+use Rattle.ep_tcpudp.specs.Elements.{HasOneSize, IsFault, IsSizeOfBlocks}
+use Rattle.ep_tcpudp.specs.Options.{kind_at, of_size, is_size_of_blocks, acknowledgement_at, element_at}
 use Rattle.ep_tcpudp.specs.declared.transport.tcp_option_element.TcpOptionElement.{TcpOptionElement}
 use Rattle.ep_tcpudp.specs.declared.transport.tcp_option_read_error.TcpOptionReadError.{TcpOptionReadError}
 use Rattle.ep_tcpudp.specs.declared.transport.tcp_option_read_error.TcpOptionReadError.TheVariants.{UnexpectedEndOfSlice, UnexpectedSize, UnknownId}

@@ -1,11 +1,11 @@
 -- The items of options are the elements that they spell, and the fault that ends them.
-use Rattle.std.proofs.Common.{◌≡◌, ◌⊎◌, inl, inr, ⊎_elim, ℕ, zero, suc, ◌+◌, ◌<◌, ◌≤◌, Bool, true, false, eqb, List, [], ◌∷◌, ◌++◌, length, drop, map, Option, Some, None, Result, Ok, Err, arith, sym, refl, ap, ◌∙◌, append_assoc}
-use Rattle.std.proofs.lemmas.Bool.{cases_Bool, eq-eqb, eqb-true, ne_eqb, or_parts}
+use Rattle.std.proofs.Common.{◌≡◌, inl, inr, ⊎_elim, ℕ, zero, suc, ◌≤◌, true, false, eqb, List, [], ◌∷◌, ◌++◌, length, drop, map, Option, Some, None, Result, Ok, Err, arith, sym, refl, ap, ◌∙◌, append_assoc}
+use Rattle.std.proofs.lemmas.Bool.{cases_Bool, eqb-true, ne_eqb, or_parts}
 use Rattle.std.proofs.lemmas.List.{append-nil, length-drop}
 use Rattle.std.proofs.lemmas.List.Concat.{flat_map-cons}
 use Rattle.std.proofs.lemmas.Simd.{map-map}
 use Rattle.ep_base.specs.Bytes.{IsBytes}
-use Rattle.ep_tcpudp.specs.Elements.{AreItems, Elements, EndsAs, IsFault, ItemsAreSpelled, NoOtherItems, items_and}
+use Rattle.ep_tcpudp.specs.Elements.{AreItems, EndsAs, IsFault, ItemsAreSpelled, NoOtherItems, items_and}
 use Rattle.ep_tcpudp.specs.Options.{kind_at, size_at, element_at, element_bytes, elements_bytes, is_end, items_of, packed_element, FitsElements}
 use Rattle.ep_tcpudp.specs.declared.transport.tcp_option_element.TcpOptionElement.{TcpOptionElement}
 use Rattle.ep_tcpudp.specs.declared.transport.tcp_option_read_error.TcpOptionReadError.{TcpOptionReadError}

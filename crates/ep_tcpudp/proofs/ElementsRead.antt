@@ -1,12 +1,11 @@
 -- An element that is read is spelled by the bytes that it is read from.
-use Rattle.std.proofs.Common.{◌≡◌, ◌⊎◌, ⊎_elim, ℕ, ◌+◌, ◌<◌, ◌≤◌, Bool, true, false, cond, eqb, ltb, List, [], ◌∷◌, ◌++◌, length, drop, Option, Some, None, Result, Ok, Err, arith, sym, refl, ap, ◌∙◌, subst, append_assoc}
+use Rattle.std.proofs.Common.{◌≡◌, ⊎_elim, ℕ, ◌+◌, ◌<◌, ◌≤◌, true, false, eqb, List, [], ◌∷◌, ◌++◌, length, drop, Option, Some, None, Ok, arith, sym, refl, ap, ◌∙◌, subst, append_assoc}
 use Rattle.std.proofs.lemmas.Bool.{eqb-true, ltb-false, not-false, or_cases}
 use Rattle.std.specs.Int.{w32, to_be_bytes}
 use Rattle.ep_base.specs.Bytes.{IsBytes, num}
-use Rattle.ep_tcpudp.specs.Options.{kind_at, size_at, of_size, block_at, block_bytes, blocks_bytes, block_within, blocks_at, is_size_of_blocks, acknowledgement_at, element_at, element_bytes, packed_element, FitsBlock, FitsElement}
+use Rattle.ep_tcpudp.specs.Options.{kind_at, size_at, of_size, block_at, block_bytes, blocks_at, is_size_of_blocks, acknowledgement_at, element_at, element_bytes, packed_element, FitsBlock, FitsElement}
 use Rattle.ep_tcpudp.specs.declared.transport.tcp_option_element.TcpOptionElement.{TcpOptionElement}
 use Rattle.ep_tcpudp.specs.declared.transport.tcp_option_element.TcpOptionElement.TheVariants.{Noop, MaximumSegmentSize, WindowScale, SelectiveAcknowledgementPermitted, SelectiveAcknowledgement, Timestamp}
-use Rattle.ep_tcpudp.specs.declared.transport.tcp_option_read_error.TcpOptionReadError.{TcpOptionReadError}
 use Rattle.ep_tcpudp.proofs.Guards.{by_test, guard_ok, ok_same}
 use Rattle.ep_tcpudp.proofs.Words.{byte_front, half_front, word_front, half_small, word_small}
 
