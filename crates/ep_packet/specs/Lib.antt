@@ -1,3 +1,4 @@
+pub mod Readable
 pub mod Transport
 pub mod TransportChecksum
 pub mod TransportLends

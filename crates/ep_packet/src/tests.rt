@@ -1,4 +1,5 @@
 //! Tests of what no contract says.
 mod errors;
+mod laws;
 mod transport_header;
 mod transport_slice;

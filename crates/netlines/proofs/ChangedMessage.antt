@@ -9,8 +9,8 @@ use Rattle.ep_packet.specs.declared.err.packet.slice_error.SliceError.TheVariant
 use Rattle.ep_tcpudp.specs.Udp.{checksum_of, length_of, summed_udp}
 use Rattle.ep_tcpudp.specs.UdpFault.{cut_off, no_header, too_short}
 use Rattle.netlines.specs.ChangedWord.{DifferInOneWord, verdict_after}
-use Rattle.netlines.specs.Message.{ReadMessage, message_at, read_as}
-use Rattle.netlines.specs.Message.ReadMessage.{Icmpv4, Tcp, Udp, Icmpv6, Raw}
+use Rattle.ep_packet.specs.Readable.{ReadMessage, message_at, read_as}
+use Rattle.ep_packet.specs.Readable.ReadMessage.{Icmpv4, Tcp, Udp, Icmpv6, Raw}
 use Rattle.netlines.specs.Verdict.{AddressesFit, is_unchecked, pseudo, pseudo_of, summed, summed_text, verdict_of}
 use Rattle.netlines.specs.declared.addresses.Addresses.{Addresses}
 use Rattle.netlines.specs.declared.verdict.Verdict.TheVariants as verdict

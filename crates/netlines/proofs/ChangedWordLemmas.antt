@@ -6,7 +6,7 @@ use Rattle.ep_base.specs.Bytes.{IsBytes}
 use Rattle.ep_base.specs.Sum.{all_ones, total}
 use Rattle.netlines.specs.ChangedWord.{DifferInOneWord, is_exchange, verdict_after}
 use Rattle.ep_tcpudp.specs.Udp.{checksum_of, length_of}
-use Rattle.netlines.specs.Message.{ReadMessage}
+use Rattle.ep_packet.specs.Readable.{ReadMessage}
 use Rattle.netlines.specs.Verdict.{is_unchecked, judged, pseudo, pseudo_of, summed, summed_text, verdict_of}
 use Rattle.netlines.specs.declared.addresses.Addresses.{Addresses}
 use Rattle.netlines.specs.declared.verdict.Verdict.{Verdict}

@@ -11,8 +11,8 @@ use Rattle.ep_tcpudp.specs.TcpFault.{too_short}
 use Rattle.ep_tcpudp.specs.declared.err.tcp.header_error.HeaderError.TheVariants.{DataOffsetTooSmall}
 use Rattle.ep_tcpudp.specs.declared.err.tcp.header_slice_error.HeaderSliceError.{HeaderSliceError}
 use Rattle.ep_tcpudp.specs.declared.err.tcp.header_slice_error.HeaderSliceError.TheVariants.{Len, Content}
-use Rattle.netlines.specs.Message.{ReadMessage, message_at, read_as, tcp_fault}
-use Rattle.netlines.specs.Message.ReadMessage.{Icmpv4, Tcp, Icmpv6}
+use Rattle.ep_packet.specs.Readable.{ReadMessage, message_at, read_as, tcp_fault}
+use Rattle.ep_packet.specs.Readable.ReadMessage.{Icmpv4, Tcp, Icmpv6}
 
 read_whole-one : (a : Bool) (e : LenError) (message : List ℕ → ReadMessage) (bytes : List ℕ) (read : ReadMessage)
     → read_as message (λ e. slice_error.Len e) (if a then Err e else Ok bytes) ≡ Ok read → read ≡ message bytes

@@ -18,9 +18,9 @@ use Rattle.ep_tcpudp.specs.UdpChecksum as udp_checksum
 use Rattle.ep_tcpudp.specs.UdpFault.{udp_at}
 use Rattle.ep_tcpudp.specs.declared.transport.tcp_header.TcpHeader.{TcpHeader}
 use Rattle.ep_tcpudp.specs.declared.transport.udp_header.UdpHeader.{UdpHeader}
-use Rattle.netlines.specs.Message.{ReadMessage, message_at, read_as}
+use Rattle.ep_packet.specs.Readable.{ReadMessage, message_at, read_as}
 use Rattle.netlines.proofs.ReadLemmas.{icmpv4_is, icmpv6_is, segment_is}
-use Rattle.netlines.specs.Message.ReadMessage.{Udp}
+use Rattle.ep_packet.specs.Readable.ReadMessage.{Udp}
 use Rattle.ep_icmp.specs.declared.transport.icmpv4_header.Icmpv4Header.{Icmpv4Header}
 use Rattle.ep_icmp.specs.declared.transport.icmpv6_header.Icmpv6Header.{Icmpv6Header}
 use Rattle.ep_packet.specs.Transport.{transport_spelling}

@@ -8,7 +8,6 @@ pub mod Ipv6
 pub mod Known
 pub mod Letter
 pub mod Lines
-pub mod Message
 pub mod PostRefusal
 pub mod Posted
 pub mod ReadMessage

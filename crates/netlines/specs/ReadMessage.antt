@@ -1,8 +1,8 @@
 -- What a contract sees of a message.
 use Rattle.std.specs.Prelude.{Result, Ok, Err}
 use Rattle.ep_packet.specs.declared.err.packet.slice_error.SliceError.{SliceError}
-use Rattle.netlines.specs.Message.{ReadMessage}
-use Rattle.netlines.specs.Message.ReadMessage.{Icmpv4, Tcp, Udp, Icmpv6, Raw}
+use Rattle.ep_packet.specs.Readable.{ReadMessage}
+use Rattle.ep_packet.specs.Readable.ReadMessage.{Icmpv4, Tcp, Udp, Icmpv6, Raw}
 use Rattle.netlines.specs.declared.message.Message.{Message}
 use Rattle.netlines.specs.declared.message.Message.TheVariants as variant
 

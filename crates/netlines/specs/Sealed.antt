@@ -11,7 +11,7 @@ use Rattle.ep_tcpudp.specs.Tcp.{header_len}
 use Rattle.ep_tcpudp.specs.TcpChecksum as tcp_checksum
 use Rattle.ep_tcpudp.specs.TcpOptions.{IsTcpOptions}
 use Rattle.ep_tcpudp.specs.UdpChecksum as udp_checksum
-use Rattle.netlines.specs.Message.{icmpv4, icmpv6, tcp, udp}
+use Rattle.ep_packet.specs.Readable.{icmpv4, icmpv6, tcp, udp}
 use Rattle.netlines.specs.Verdict.{pseudo}
 use Rattle.netlines.specs.declared.addresses.Addresses.{Addresses}
 use Rattle.netlines.specs.declared.addresses.Addresses.TheVariants.{V4, V6}

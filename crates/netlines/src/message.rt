@@ -1,6 +1,6 @@
 //! Messages that are read.
 ghost use Rattle.std.specs.Prelude.{◌≡◌};
-ghost use Rattle.netlines.specs.Message.{message_at};
+ghost use Rattle.ep_packet.specs.Readable.{message_at};
 ghost use Rattle.netlines.specs.ReadMessage.{as_answer};
 
 use ep_base::IpNumber;

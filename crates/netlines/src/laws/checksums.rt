@@ -1,7 +1,7 @@
 //! Laws of checksums.
 ghost use Rattle.std.specs.Prelude.{◌≡◌, ◌≢◌, ℕ, List, ◌++◌, length, None, Ok};
 ghost use Rattle.netlines.specs.ChangedWord.{DifferInOneWord, verdict_after};
-ghost use Rattle.netlines.specs.Message.{ReadMessage, message_at, udp as udp_number};
+ghost use Rattle.ep_packet.specs.Readable.{ReadMessage, message_at, udp as udp_number};
 ghost use Rattle.netlines.specs.Sealed.{HeaderFits, addresses_of, number_of, seal_refusal, sealed};
 ghost use Rattle.netlines.specs.Verdict.{AddressesFit, summed, summed_text, verdict_of};
 

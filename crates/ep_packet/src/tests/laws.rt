@@ -1,0 +1,11 @@
+//! Each law is called once.
+use crate::laws;
+
+#[test]
+fn laws_are_called() {
+    laws::readable_messages(&[]);
+    laws::messages_by_hand();
+    laws::traits::copies_are_values();
+    laws::traits::copies_never_fail();
+    laws::traits::equals_are_same();
+}
