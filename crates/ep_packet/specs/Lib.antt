@@ -1,3 +1,5 @@
+pub mod HeadersWriteError
+pub mod IpHeaders
 pub mod Readable
 pub mod Transport
 pub mod TransportChecksum

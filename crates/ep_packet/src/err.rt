@@ -1,3 +1,4 @@
-//! Why bytes are no packet, and why a packet has no checksum.
+//! Why bytes are no packet, and why headers have no checksum or are not written.
 
+pub mod ip;
 pub mod packet;

@@ -3,8 +3,10 @@
 
 pub mod err;
 pub mod laws;
+mod net;
 mod transport;
 
+pub use net::IpHeaders;
 pub use transport::{TransportHeader, TransportSlice};
 
 #[cfg(test)]

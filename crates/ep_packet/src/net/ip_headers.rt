@@ -1,0 +1,216 @@
+ghost use Rattle.std.specs.Prelude.{◌≡◌, ◌≤◌, ◌<◌, ◌+◌, ℕ, List, length, Ok, Err, IfOk, IfErr, vec_len, vec_capacity};
+ghost use Rattle.std.specs.Option.{option_map};
+ghost use Rattle.ep_ext.specs.Follow.{Follows, Names, header_len as exts_len};
+ghost use Rattle.ep_ext.specs.Ipv4Exts.{NamesBehind, ipv4_exts_spelling};
+ghost use Rattle.ep_ext.specs.Value.{Piece};
+ghost use Rattle.ep_ext.specs.declared.net.ipv4_extensions.Ipv4Extensions.{Ipv4Extensions};
+ghost use Rattle.ep_ext.specs.declared.net.ipv6_extensions.Ipv6Extensions.{Ipv6Extensions};
+ghost use Rattle.ep_ip.specs.Ipv4.{header_len};
+ghost use Rattle.ep_ip.specs.declared.net.ipv4_header.Ipv4Header.{Ipv4Header};
+ghost use Rattle.ep_ip.specs.declared.net.ipv6_header.Ipv6Header.{Ipv6Header};
+ghost use Rattle.ep_ipslice.specs.Ipv4Packet.{ipv4_packet_at};
+ghost use Rattle.ep_packet.specs.IpHeaders.{AppendsHeaders, AppendsIpv4, AppendsIpv6, IsLinked, ether_type_of, ip_headers_len, ipv4_in, ipv6_in, is_fragmenting, or_ipv4, or_ipv6, with_ipv4_headers, with_payload_len};
+ghost use Rattle.ep_packet.specs.declared.err.ip.headers_write_error.HeadersWriteError.TheVariants.{Memory};
+ghost use Rattle.ep_packet.specs.declared.net.ip_headers.IpHeaders.TheVariants as headers;
+
+use crate::err::ip::HeadersWriteError;
+use ep_base::err::ValueTooBigError;
+use ep_base::{EtherType, IpNumber};
+use ep_ext::err::ip_exts::ExtsWalkError;
+use ep_ext::{Ipv4Extensions, Ipv6Extensions};
+use ep_ip::{Ipv4Header, Ipv6Header};
+use ep_ipslice::err::ipv4;
+use ep_ipslice::{IpPayloadSlice, Ipv4Slice};
+
+/// The header of an IP packet of either version, and its extension headers.
+#[derive(Clone, Debug, PartialEq, Eq, Drop)]
+pub enum IpHeaders {
+    /// Of IPv4.
+    Ipv4(Ipv4Header, Ipv4Extensions),
+    /// Of IPv6.
+    Ipv6(Ipv6Header, Ipv6Extensions),
+}
+
+impl IpHeaders {
+    /// The greatest length in bytes, of an IPv6 header of 40 and extension headers of 9228.
+    pub const MAX_LEN: usize = 9268;
+
+    /// The headers of IPv4, where they are.
+    pub fn ipv4(&self) -> Option<(&Ipv4Header, &Ipv4Extensions)>
+        ensures { option_map (λ r. (r.0.now, r.1.now)) result ≡ ipv4_in self.now }
+    {
+        match self {
+            IpHeaders::Ipv4(header, extensions) => Some((header, extensions)),
+            IpHeaders::Ipv6(_, _) => None,
+        }
+    }
+
+    /// The headers of IPv6, where they are.
+    pub fn ipv6(&self) -> Option<(&Ipv6Header, &Ipv6Extensions)>
+        ensures { option_map (λ r. (r.0.now, r.1.now)) result ≡ ipv6_in self.now }
+    {
+        match self {
+            IpHeaders::Ipv4(_, _) => None,
+            IpHeaders::Ipv6(header, extensions) => Some((header, extensions)),
+        }
+    }
+
+    /// The headers of the IPv4 packet at the front of the slice, and its payload, without the padding
+    /// behind the total length. It is refused as by [`Ipv4Slice::from_slice`].
+    pub fn from_ipv4_slice(
+        slice: &[u8],
+    ) -> Result<(IpHeaders, IpPayloadSlice<'_>), ipv4::SliceError>
+        ensures { result ≡ with_ipv4_headers (ipv4_packet_at slice.now) }
+    {
+        let packet = Ipv4Slice::from_slice(slice)?;
+        let headers = IpHeaders::Ipv4(packet.header().to_header(), packet.extensions().to_header());
+        let payload = packet.payload();
+        Ok((
+            headers,
+            IpPayloadSlice {
+                ip_number: payload.ip_number,
+                fragmented: payload.fragmented,
+                len_source: payload.len_source,
+                payload: payload.payload,
+            },
+        ))
+    }
+
+    /// The length of all headers in bytes.
+    pub fn header_len(&self) -> usize
+        ensures { result ≡ ip_headers_len self.now }
+    {
+        match self {
+            IpHeaders::Ipv4(header, extensions) => header.header_len() + extensions.header_len(),
+            IpHeaders::Ipv6(header, extensions) => header.header_len() + extensions.header_len(),
+        }
+    }
+
+    /// The number behind the headers, where the header names the first extension header, each the
+    /// next, and all are reached; else the fault of the version's extension headers.
+    pub fn next_header(&self) -> Result<IpNumber, ExtsWalkError>
+        ensures ipv4 { (h : Ipv4Header) (e : Ipv4Extensions) → self.now ≡ headers.Ipv4 h e
+            → (r : _) × (result ≡ or_ipv4 r) × NamesBehind e h.protocol.0 r }
+        ensures ipv6 { (h : Ipv6Header) (e : Ipv6Extensions) → self.now ≡ headers.Ipv6 h e
+            → (r : _) × (result ≡ or_ipv6 r)
+            × ((pieces : List Piece) (last : ℕ) → Follows e h.next_header.0 pieces last → Names e pieces last r) }
+    {
+        match self {
+            IpHeaders::Ipv4(header, extensions) => extensions
+                .next_header(header.protocol)
+                .map_err(ExtsWalkError::Ipv4Exts),
+            IpHeaders::Ipv6(header, extensions) => extensions
+                .next_header(header.next_header)
+                .map_err(ExtsWalkError::Ipv6Exts),
+        }
+    }
+
+    /// Makes the headers name one another, and the last one this number, and answers the ether type of
+    /// the version.
+    pub fn set_next_headers(&mut self, last: IpNumber) -> EtherType
+        ensures ether_type { result.0 ≡ ether_type_of self.old }
+        ensures linked { IsLinked self.old last.0 self.new }
+    {
+        match self {
+            IpHeaders::Ipv4(header, extensions) => {
+                header.protocol = extensions.set_next_headers(last);
+                EtherType::IPV4
+            }
+            IpHeaders::Ipv6(header, extensions) => {
+                header.next_header = extensions.set_next_headers(last);
+                EtherType::IPV6
+            }
+        }
+    }
+
+    /// Sets the length field to that of extension headers and a payload of this many bytes, of IPv4 with
+    /// the header.
+    ///
+    /// Refused, with the headers unchanged, is what the 16 bits of the field can't say: over IPv4 with
+    /// the length of extension headers and payload and the greatest that there may be, over IPv6 the
+    /// same. (A sum that doesn't fit a `usize` is told as the greatest `usize`.)
+    pub fn set_payload_len(&mut self, len: usize) -> Result<(), ValueTooBigError<usize>>
+        ensures ok { IfOk (with_payload_len self.old len) (λ headers. (result ≡ Ok tt) × (self.new ≡ headers)) }
+        ensures err { IfErr (with_payload_len self.old len) (λ e. (result ≡ Err e) × (self.new ≡ self.old)) }
+    {
+        match self {
+            IpHeaders::Ipv4(header, extensions) => {
+                header.set_payload_len(len.saturating_add(extensions.header_len()))
+            }
+            IpHeaders::Ipv6(header, extensions) => {
+                header.set_payload_length(len.saturating_add(extensions.header_len()))
+            }
+        }
+    }
+
+    /// Appends the IP header, of IPv4 with the checksum that belongs to it, and the extension headers in
+    /// the order in which it and they name one another.
+    ///
+    /// What `next_header` refuses is refused before memory is asked for. On `Err` the buffer keeps its
+    /// bytes.
+    pub fn write(&self, buffer: &mut Vec<u8>) -> Result<(), HeadersWriteError>
+        ensures appends { AppendsHeaders self.now buffer.old.items buffer.new.items result }
+        // Memory is wanted only where room was missing, and room never shrinks.
+        ensures memory { result ≡ Err Memory → vec_capacity buffer.old < vec_len buffer.old + ip_headers_len self.now }
+        ensures capacity { vec_capacity buffer.old ≤ vec_capacity buffer.new }
+    {
+        match self {
+            IpHeaders::Ipv4(header, extensions) => write_ipv4(header, extensions, buffer),
+            IpHeaders::Ipv6(header, extensions) => write_ipv6(header, extensions, buffer),
+        }
+    }
+
+    /// Whether the payload is a part of a message, by the IPv4 header or the fragment header.
+    pub fn is_fragmenting_payload(&self) -> bool
+        ensures { result ≡ is_fragmenting self.now }
+    {
+        match self {
+            IpHeaders::Ipv4(header, _) => header.is_fragmenting_payload(),
+            IpHeaders::Ipv6(_, extensions) => extensions.is_fragmenting_payload(),
+        }
+    }
+}
+
+fn write_ipv4(
+    header: &Ipv4Header,
+    extensions: &Ipv4Extensions,
+    buffer: &mut Vec<u8>,
+) -> Result<(), HeadersWriteError>
+    ensures appends { AppendsIpv4 header.now extensions.now buffer.old.items buffer.new.items result }
+    ensures memory { result ≡ Err Memory → vec_capacity buffer.old
+        < vec_len buffer.old + (header_len header.now + length (ipv4_exts_spelling extensions.now)) }
+    ensures capacity { vec_capacity buffer.old ≤ vec_capacity buffer.new }
+{
+    if let Err(fault) = extensions.next_header(header.protocol) {
+        return Err(HeadersWriteError::Ipv4Exts(fault));
+    }
+    let len = header.header_len() + extensions.header_len();
+    if buffer.reserve(len).is_err() {
+        return Err(HeadersWriteError::Memory);
+    }
+    header.write(buffer).unwrap();
+    extensions.write(buffer, header.protocol).unwrap();
+    Ok(())
+}
+
+fn write_ipv6(
+    header: &Ipv6Header,
+    extensions: &Ipv6Extensions,
+    buffer: &mut Vec<u8>,
+) -> Result<(), HeadersWriteError>
+    ensures appends { AppendsIpv6 header.now extensions.now buffer.old.items buffer.new.items result }
+    ensures memory { result ≡ Err Memory → vec_capacity buffer.old
+        < vec_len buffer.old + (40 + exts_len extensions.now) }
+    ensures capacity { vec_capacity buffer.old ≤ vec_capacity buffer.new }
+{
+    if let Err(fault) = extensions.next_header(header.next_header) {
+        return Err(HeadersWriteError::Ipv6Exts(fault));
+    }
+    let len = header.header_len() + extensions.header_len();
+    if buffer.reserve(len).is_err() {
+        return Err(HeadersWriteError::Memory);
+    }
+    header.write(buffer).unwrap();
+    extensions.write(buffer, header.next_header).unwrap();
+    Ok(())
+}
