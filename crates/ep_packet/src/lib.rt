@@ -6,7 +6,7 @@ pub mod laws;
 mod net;
 mod transport;
 
-pub use net::IpHeaders;
+pub use net::{IpHeader, IpHeaders, NetHeaders, NetSlice};
 pub use transport::{TransportHeader, TransportSlice};
 
 #[cfg(test)]

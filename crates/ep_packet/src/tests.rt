@@ -2,5 +2,7 @@
 mod errors;
 mod ip_headers;
 mod laws;
+mod net_headers;
+mod net_slice;
 mod transport_header;
 mod transport_slice;

@@ -4,7 +4,7 @@ ghost use Rattle.ep_base.specs.Traits.{CopyIsValue, CopyNeverFails, EqualIsSame}
 
 use crate::err::ip::HeadersWriteError;
 use crate::err::packet::{SliceError, TransportChecksumError};
-use crate::{IpHeaders, TransportHeader, TransportSlice};
+use crate::{IpHeaders, NetHeaders, NetSlice, TransportHeader, TransportSlice};
 
 /// A copy is the value: of a header its fields, of a slice its bytes.
 pub fn copies_are_values<'a>()
@@ -23,11 +23,23 @@ pub fn copies_of_ip_headers_are_values()
     ep_ext::laws::traits::copies_are_values();
 }
 
+/// So is a copy of the headers, or of a packet, of the network layer.
+pub fn copies_of_net_are_values<'a>()
+    ensures headers { CopyIsValue ⟦<NetHeaders as Clone>⟧.is_clone }
+    ensures slice { CopyIsValue ⟦<NetSlice<'a> as Clone>⟧.is_clone }
+{
+    ep_ip::laws::traits::copies_are_values();
+    ep_ext::laws::traits::copies_are_values();
+    ep_link::laws::traits::copies_are_values();
+}
+
 /// To copy one of these takes no memory and doesn't fail.
 pub fn copies_never_fail<'a>()
     ensures ip_headers { CopyNeverFails ⟦<IpHeaders as Clone>⟧.is_infallible }
     ensures transport_header { CopyNeverFails ⟦<TransportHeader as Clone>⟧.is_infallible }
     ensures transport_slice { CopyNeverFails ⟦<TransportSlice<'a> as Clone>⟧.is_infallible }
+    ensures net_headers { CopyNeverFails ⟦<NetHeaders as Clone>⟧.is_infallible }
+    ensures net_slice { CopyNeverFails ⟦<NetSlice<'a> as Clone>⟧.is_infallible }
     ensures headers_write_error { CopyNeverFails ⟦<HeadersWriteError as Clone>⟧.is_infallible }
     ensures slice_error { CopyNeverFails ⟦<SliceError as Clone>⟧.is_infallible }
     ensures transport_checksum_error { CopyNeverFails ⟦<TransportChecksumError as Clone>⟧.is_infallible }

@@ -1,0 +1,9 @@
+use thiserror::Error;
+
+/// Why no number was set behind headers of the network layer.
+#[derive(Clone, Copy, Debug, PartialEq, Eq, Hash, Error)]
+pub enum NetSetNextHeaderError {
+    /// They are an ARP packet, which nothing follows.
+    #[error("an ARP packet names nothing that follows")]
+    ArpHeader,
+}

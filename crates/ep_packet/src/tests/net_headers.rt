@@ -1,0 +1,73 @@
+//! Headers of the network layer.
+use crate::err::net::NetSetNextHeaderError;
+use crate::{IpHeaders, NetHeaders};
+use ep_base::{EtherType, IpNumber};
+use ep_ext::{Ipv4Extensions, Ipv6Extensions};
+use ep_ip::{Ipv4Header, Ipv6Header};
+use ep_link::{ArpHardwareId, ArpOperation, ArpPacket};
+
+fn ipv4() -> NetHeaders {
+    NetHeaders::from(IpHeaders::Ipv4(Ipv4Header::default(), Ipv4Extensions { auth: None }))
+}
+
+fn ipv6() -> NetHeaders {
+    NetHeaders::from(IpHeaders::Ipv6(Ipv6Header::default(), Ipv6Extensions::default()))
+}
+
+// A request of Ethernet addresses for IPv4 ones.
+fn arp() -> Option<NetHeaders> {
+    let packet = ArpPacket::new(
+        ArpHardwareId::ETHERNET,
+        EtherType::IPV4,
+        ArpOperation::REQUEST,
+        &[2, 0, 0, 0, 0, 1],
+        &[10, 0, 0, 1],
+        &[0; 6],
+        &[10, 0, 0, 2],
+    );
+    Some(NetHeaders::from(packet.ok()?))
+}
+
+// Which tests say yes, whether there are headers of IPv4, of IPv6 and of ARP, and the length.
+fn told(headers: &NetHeaders) -> ([bool; 4], [bool; 3], usize) {
+    let kinds = [
+        headers.is_ip(),
+        headers.is_ipv4(),
+        headers.is_ipv6(),
+        headers.is_arp(),
+    ];
+    let parts = [
+        headers.ipv4_ref().is_some(),
+        headers.ipv6_ref().is_some(),
+        headers.arp_ref().is_some(),
+    ];
+    (kinds, parts, headers.header_len())
+}
+
+#[test]
+fn kinds_of_headers(rt: HostRuntime) {
+    assert_eq!(rt;
+        told(&ipv4()),
+        ([true, true, false, false], [true, false, false], 20)
+    );
+    assert_eq!(rt;
+        told(&ipv6()),
+        ([true, false, true, false], [false, true, false], 40)
+    );
+    let arp = arp().map(|headers| told(&headers));
+    assert_eq!(rt;
+        arp,
+        Some(([false, false, false, true], [false, false, true], 28))
+    );
+}
+
+fn set(mut headers: NetHeaders) -> Result<EtherType, NetSetNextHeaderError> {
+    headers.try_set_next_headers(IpNumber(6))
+}
+
+#[test]
+fn numbers_behind_headers(rt: HostRuntime) {
+    assert_eq!(rt; set(ipv4()), Ok(EtherType(0x0800)));
+    assert_eq!(rt; set(ipv6()), Ok(EtherType(0x86dd)));
+    assert_eq!(rt; arp().map(set), Some(Err(NetSetNextHeaderError::ArpHeader)));
+}

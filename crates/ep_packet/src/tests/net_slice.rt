@@ -1,0 +1,57 @@
+//! Packets of the network layer. The bytes were worked out by hand after RFC 791, 826 and 8200.
+use crate::NetSlice;
+use ep_ipslice::{IpSlice, Ipv4Slice, Ipv6Slice};
+use ep_link::ArpPacketSlice;
+use std::test::Fail;
+
+// An IPv4 packet with one byte of payload.
+const IPV4: [u8; 21] = [
+    0x45, 0, 0, 21, 0, 7, 0, 0, 64, 253, 0, 0, 10, 0, 0, 1, 10, 0, 0, 2, 9,
+];
+
+// An IPv6 packet without payload.
+const IPV6: [u8; 40] = [
+    0x60, 0, 0, 0, 0, 0, 253, 64, 0xfd, 0, 0, 0, 0, 0, 0, 0, 0, 0, 0, 0, 0, 0, 0, 1, 0xfd, 0, 0, 0,
+    0, 0, 0, 0, 0, 0, 0, 0, 0, 0, 0, 2,
+];
+
+// A request of Ethernet addresses for IPv4 ones.
+const ARP: [u8; 28] = [
+    0, 1, 8, 0, 6, 4, 0, 1, 2, 0, 0, 0, 0, 1, 10, 0, 0, 1, 0, 0, 0, 0, 0, 0, 10, 0, 0, 2,
+];
+
+// Which tests say yes, which parts are there, and the length of an IP payload.
+fn told(packet: &NetSlice<'_>) -> ([bool; 4], [bool; 3], Option<usize>) {
+    let kinds = [
+        packet.is_ip(),
+        packet.is_ipv4(),
+        packet.is_ipv6(),
+        packet.is_arp(),
+    ];
+    let parts = [
+        packet.ipv4_ref().is_some(),
+        packet.ipv6_ref().is_some(),
+        packet.arp_ref().is_some(),
+    ];
+    let payload = match packet.ip_payload_ref() {
+        Some(payload) => Some(payload.payload.len()),
+        None => None,
+    };
+    (kinds, parts, payload)
+}
+
+#[test]
+fn kinds_of_packets(rt: HostRuntime) -> Result<(), Fail> {
+    let ipv4 = ([true, true, false, false], [true, false, false], Some(1));
+    assert_eq!(rt; told(&NetSlice::from(Ipv4Slice::from_slice(&IPV4)?)), ipv4);
+    assert_eq!(rt; told(&NetSlice::from(IpSlice::from_slice(&IPV4)?)), ipv4);
+    let ipv6 = ([true, false, true, false], [false, true, false], Some(0));
+    assert_eq!(rt; told(&NetSlice::from(Ipv6Slice::from_slice(&IPV6)?)), ipv6);
+    assert_eq!(rt; told(&NetSlice::from(IpSlice::from_slice(&IPV6)?)), ipv6);
+    let arp = ([false, false, false, true], [false, false, true], None);
+    assert_eq!(rt;
+        told(&NetSlice::Arp(ArpPacketSlice::from_slice(&ARP)?)),
+        arp
+    );
+    Ok(())
+}
