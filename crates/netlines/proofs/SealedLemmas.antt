@@ -1,5 +1,5 @@
 -- What is told of a sealed message.
-use Rattle.std.proofs.Common.{◌≡◌, ◌∙◌, sym, ap, refl, ℕ, zero, suc, ◌+◌, ◌*◌, ◌/◌, ◌%◌, ◌≤◌, ◌==◌, Bool, true, false, IsTrue, List, [], ◌∷◌, ◌++◌, length, Ok, Some, None, arith, append_assoc, length-append}
+use Rattle.std.proofs.Common.{◌≡◌, ◌∙◌, sym, ap, refl, ℕ, zero, suc, ◌+◌, ◌%◌, ◌≤◌, ◌==◌, Bool, true, false, IsTrue, List, [], ◌∷◌, ◌++◌, length, Ok, Some, None, arith, append_assoc, length-append}
 use Rattle.std.specs.Prelude.{nat_lt, if◌then◌else◌}
 use Rattle.std.specs.Int.{w16, w32, to_be_bytes}
 use Rattle.std.proofs.lemmas.Bool.{le-ltb, ltb-false, ne_eqb}
@@ -19,6 +19,7 @@ use Rattle.ep_tcpudp.specs.UdpFault.{udp_at}
 use Rattle.ep_tcpudp.specs.declared.transport.tcp_header.TcpHeader.{TcpHeader}
 use Rattle.ep_tcpudp.specs.declared.transport.udp_header.UdpHeader.{UdpHeader}
 use Rattle.ep_packet.specs.Readable.{ReadMessage, message_at, read_as}
+use Rattle.netlines.proofs.PostedClass.{two_bytes}
 use Rattle.netlines.proofs.ReadLemmas.{icmpv4_is, icmpv6_is, segment_is}
 use Rattle.ep_packet.specs.Readable.ReadMessage.{Udp}
 use Rattle.ep_icmp.specs.declared.transport.icmpv4_header.Icmpv4Header.{Icmpv4Header}
@@ -43,10 +44,7 @@ good_where text is = rw is refl
 joined : (front header payload : List ℕ) → IsTrue (all_ones (front ++ header ++ payload)) → judged (front ++ (header ++ payload)) ≡ verdict.Good
 joined front header payload is = ap judged (sym (append_assoc front header payload)) ∙ good_where (front ++ header ++ payload) is
 
--- two bytes that spell a number
-two_bytes : (n : ℕ) → n ≤ 65535 → 256 * (n / 256 % 256) + n % 256 ≡ n
-two_bytes n small = omega arith
-
+-- a checksum where 0 says that there is none
 no_zero_fits : (n : ℕ) → n ≤ 65535 → (1 ≤ no_zero n) × (no_zero n ≤ 65535)
 no_zero_fits zero small = (omega arith, omega arith)
 no_zero_fits (suc n) small = (omega arith, small)

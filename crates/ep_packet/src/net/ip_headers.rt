@@ -126,9 +126,9 @@ impl IpHeaders {
     /// Sets the length field to that of extension headers and a payload of this many bytes, of IPv4 with
     /// the header.
     ///
-    /// Refused, with the headers unchanged, is what the 16 bits of the field can't say: over IPv4 with
-    /// the length of extension headers and payload and the greatest that there may be, over IPv6 the
-    /// same. (A sum that doesn't fit a `usize` is told as the greatest `usize`.)
+    /// Refused, with the headers unchanged, are extension headers and payload of more than 65535 bytes
+    /// together, of IPv4 less those of the header. The error tells that sum and the limit; a sum that
+    /// doesn't fit a `usize` is told as the greatest one.
     pub fn set_payload_len(&mut self, len: usize) -> Result<(), ValueTooBigError<usize>>
         ensures ok { IfOk (with_payload_len self.old len) (λ headers. (result ≡ Ok tt) × (self.new ≡ headers)) }
         ensures err { IfErr (with_payload_len self.old len) (λ e. (result ≡ Err e) × (self.new ≡ self.old)) }
