@@ -49,7 +49,7 @@ closed_back false false false true destination x none = cc
 closed_back false false false false true x none = cc
 closed_back false false false false false x none = refl
 
-none_left : (passed : List Ipv6ExtPlace) (last : ℕ) → has_place last ≡ false → view_order passed last ≡ None
+pub none_left : (passed : List Ipv6ExtPlace) (last : ℕ) → has_place last ≡ false → view_order passed last ≡ None
 none_left passed last none = closed_back (last == 0) (last == 43) (last == 44) (last == 51) (last == 60) _ none
 
 not_zero : (zero rest : Bool) → (zero || rest) ≡ false → zero ≡ false

@@ -1,5 +1,5 @@
 -- The headers that are left to go over.
-use Rattle.std.proofs.Common.{◌≡◌, ℕ, ◌+◌, ◌*◌, suc, zero, ◌≤◌, ◌==◌, Bool, true, false, cond, List, [], ◌∷◌, ◌++◌, length, drop, Option, Some, None, Ok, refl, sym, ap, ◌∙◌, subst, length-append, arith}
+use Rattle.std.proofs.Common.{◌≡◌, ℕ, ◌+◌, ◌*◌, suc, zero, ◌≤◌, ◌==◌, Bool, true, false, cond, List, [], ◌∷◌, ◌++◌, length, drop, Option, Some, None, Ok, refl, sym, ap, ◌∙◌, subst, append-nil, append_assoc, length-append, arith}
 use Rattle.std.proofs.lemmas.List.{drop_at, get_or_append_left}
 use Rattle.ep_base.specs.Bytes.{num}
 use Rattle.ep_base.specs.declared.net.ip_number.IpNumber.{IpNumber}
@@ -7,7 +7,7 @@ use Rattle.ep_ext.specs.Auth.{IsAuth, auth_len}
 use Rattle.ep_ext.specs.Chain.{IsPiece, Row, front_of}
 use Rattle.ep_ext.specs.Place.{Order, in_front}
 use Rattle.ep_ext.specs.Raw.{IsRawExt, raw_len}
-use Rattle.ep_ext.specs.Value.{Piece, bytes_of}
+use Rattle.ep_ext.specs.Value.{Piece, bytes_of, places}
 use Rattle.ep_ext.specs.declared.net.ipv6_ext_place.Ipv6ExtPlace.{Ipv6ExtPlace}
 use Rattle.ep_ext.specs.declared.net.ipv6_ext_place.Ipv6ExtPlace.TheVariants.{HopByHop, Destination, Routing, Fragment, Authentication, FinalDestination}
 use Rattle.ep_ipslice.specs.Ipv6Ext.{ext_len, ext_of, piece_of}
@@ -31,11 +31,11 @@ none_at_end (Some Fragment) = refl
 none_at_end (Some Authentication) = refl
 none_at_end (Some FinalDestination) = refl
 
-none_within : (most : ℕ) (order : Order) (passed : List Ipv6ExtPlace) (number : ℕ) → pieces_within most order passed number [] ≡ []
+no_more : (most : ℕ) (order : Order) (passed : List Ipv6ExtPlace) (number : ℕ) (rest : List ℕ) → front_piece (order passed number) rest ≡ None → pieces_within most order passed number rest ≡ []
 unfolding pieces_within
-none_within zero order passed number = refl
-none_within (suc most) order passed number =
-    ap (λ (p : Option Piece). piece_then p (λ (piece : Piece). pieces_within most order (passed ++ piece.0 ∷ []) (num piece.1 0 1) (drop (length piece.1) []))) (none_at_end (order passed number))
+no_more zero order passed number rest closed = refl
+no_more (suc most) order passed number rest closed =
+    ap (λ (p : Option Piece). piece_then p (λ (piece : Piece). pieces_within most order (passed ++ piece.0 ∷ []) (num piece.1 0 1) (drop (length piece.1) rest))) closed
 
 one_more : (most : ℕ) (order : Order) (passed : List Ipv6ExtPlace) (number : ℕ) (bytes : List ℕ) (piece : Piece) → front_piece (order passed number) bytes ≡ Some piece →
     pieces_within (suc most) order passed number bytes ≡ piece ∷ pieces_within most order (passed ++ piece.0 ∷ []) (num piece.1 0 1) (drop (length piece.1) bytes)
@@ -48,17 +48,21 @@ front_open : IsFound → (order : Order) (passed : List Ipv6ExtPlace) (number : 
 front_open found order passed number piece rest place whole =
     ap (λ (p : Option Ipv6ExtPlace). front_piece p (piece.1 ++ rest)) place ∙ ap (whole_piece piece.0) (found piece.0 piece.1 rest whole)
 
--- headers in a row are those that their bytes hold
-pub within_bytes : IsFound → HasLeast → (most : ℕ) (order : Order) (passed : List Ipv6ExtPlace) (number : ℕ) (pieces : List Piece) (last : ℕ) → Row order passed number pieces last →
-    length (bytes_of pieces) ≤ most → pieces_within most order passed number (bytes_of pieces) ≡ pieces
-within_bytes found least most order passed number [] last row fits = none_within most order passed number
-within_bytes found least zero order passed number (piece ∷ pieces) last row fits =
+-- headers in a row are those that the walk finds, where no header is found behind them
+pub walk_is : IsFound → HasLeast → (most : ℕ) (order : Order) (passed : List Ipv6ExtPlace) (number : ℕ) (pieces : List Piece) (last : ℕ) (rest : List ℕ) → Row order passed number pieces last →
+    length (bytes_of pieces) ≤ most → front_piece (order (passed ++ places pieces) last) rest ≡ None → pieces_within most order passed number (bytes_of pieces ++ rest) ≡ pieces
+walk_is found least most order passed number [] last rest row fits closed =
+    no_more most order passed number rest ((λ i. front_piece (order (sym (append-nil passed) i) (row i)) rest) ∙ closed)
+walk_is found least zero order passed number (piece ∷ pieces) last rest row fits closed =
     absurd (omega (arith, fits, length-append piece.1 (bytes_of pieces), least piece.0 piece.1 row.1))
-within_bytes found least (suc most) order passed number (piece ∷ pieces) last row fits =
-    one_more most order passed number (piece.1 ++ bytes_of pieces) piece (front_open found order passed number piece (bytes_of pieces) row.0 row.1)
-    ∙ ap (λ (xs : List ℕ). piece ∷ pieces_within most order (passed ++ piece.0 ∷ []) (num piece.1 0 1) xs) (drop_at piece.1 (bytes_of pieces) (length piece.1) refl)
+walk_is found least (suc most) order passed number (piece ∷ pieces) last rest row fits closed =
+    let shorter : length (bytes_of pieces) ≤ most = omega (arith, fits, length-append piece.1 (bytes_of pieces), least piece.0 piece.1 row.1) in
+    let passed_here : (passed ++ piece.0 ∷ []) ++ places pieces ≡ passed ++ piece.0 ∷ places pieces = append_assoc passed (piece.0 ∷ []) (places pieces) in
+    ap (pieces_within (suc most) order passed number) (append_assoc piece.1 (bytes_of pieces) rest)
+    ∙ one_more most order passed number (piece.1 ++ (bytes_of pieces ++ rest)) piece (front_open found order passed number piece (bytes_of pieces ++ rest) row.0 row.1)
+    ∙ ap (λ (xs : List ℕ). piece ∷ pieces_within most order (passed ++ piece.0 ∷ []) (num piece.1 0 1) xs) (drop_at piece.1 (bytes_of pieces ++ rest) (length piece.1) refl)
     ∙ ap (λ (ps : List Piece). piece ∷ ps)
-    (within_bytes found least most order (passed ++ piece.0 ∷ []) (num piece.1 0 1) pieces last row.2 (omega (arith, fits, length-append piece.1 (bytes_of pieces), least piece.0 piece.1 row.1)))
+    (walk_is found least most order (passed ++ piece.0 ∷ []) (num piece.1 0 1) pieces last rest row.2 shorter (ap (λ (ps : List Ipv6ExtPlace). front_piece (order ps last) rest) passed_here ∙ closed))
 
 any_step : (zero : Bool) (passed : List Ipv6ExtPlace) (r : Option Ipv6ExtPlace) (place : Ipv6ExtPlace) → cond zero (in_front passed) r ≡ Some place → cond zero (Some HopByHop) r ≡ Some place
 any_step true [] r place open_here = open_here
@@ -74,7 +78,9 @@ row_any passed other number (piece ∷ pieces) last row =
 -- what is left is the row whose bytes are left
 pub left_is : IsFound → HasLeast → (number : ℕ) (bytes : List ℕ) (left : IsLeft number bytes) → pieces_left number bytes ≡ left.1
 left_is found least number bytes left =
-    ap (pieces_left number) left.4 ∙ within_bytes found least (length (bytes_of left.1)) any_order [] number left.1 left.2 (row_any left.0 [] number left.1 left.2 left.3) (omega arith)
+    ap (pieces_left number) (left.4 ∙ sym (append-nil (bytes_of left.1)))
+    ∙ walk_is found least (length (bytes_of left.1 ++ [])) any_order [] number left.1 left.2 [] (row_any left.0 [] number left.1 left.2 left.3) (omega (arith, length-append (bytes_of left.1) []))
+    (none_at_end (any_order (places left.1) left.2))
 
 -- the first of the headers that are left
 pub record First (number : ℕ) (bytes : List ℕ) : Type 0 where

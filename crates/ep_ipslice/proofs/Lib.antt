@@ -1,8 +1,10 @@
 mod Cuts
+mod FaultPlaces
 mod Faults
 mod Fronts
 mod IpParts
 mod Ipv4Parts
+mod Ipv6At
 mod Ipv6Parts
 mod Left
 mod SamePayloads

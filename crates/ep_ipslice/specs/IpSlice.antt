@@ -1,5 +1,5 @@
 -- An IP packet of either version (RFC 791, section 3.1; RFC 8200, section 3).
-use Rattle.std.specs.Prelude.{◌≡◌, ◌≢◌, ◌<◌, ℕ, Bool, List, length, Option, Some, None, Err}
+use Rattle.std.specs.Prelude.{◌≡◌, ◌≢◌, ◌<◌, ◌==◌, ℕ, Bool, if◌then◌else◌, List, length, Option, Some, None, Result, Ok, Err}
 use Rattle.std.specs.Net.Addr.{ipv4_octets, ipv6_segments, segments_of}
 use Rattle.std.specs.declared.net.ip_addr.IpAddr.{IpAddr}
 use Rattle.std.specs.declared.net.ip_addr.IpAddr.TheVariants.{V4, V6}
@@ -12,6 +12,7 @@ use Rattle.ep_ip.specs.declared.err.ipv4.header_error.HeaderError.TheVariants as
 use Rattle.ep_ip.specs.declared.err.ipv6.header_error.HeaderError.TheVariants as v6_header
 use Rattle.ep_ipslice.specs.Ipv4Packet.{ipv4_packet_at}
 use Rattle.ep_ipslice.specs.Ipv6Fault.{IsIpv6Fault}
+use Rattle.ep_ipslice.specs.Ipv6Packet.{ipv6_packet_at}
 use Rattle.ep_ipslice.specs.Packet.{IpPayload, Ipv4Packet, Ipv6Packet, IsIpv4Packet, IsIpv6Packet, IsWholeIpv4, IsWholeIpv6, ipv4_payload}
 use Rattle.ep_ipslice.specs.declared.err.ip.header_error.HeaderError.TheVariants.{UnsupportedIpVersion, Ipv4HeaderLengthSmallerThanHeader}
 use Rattle.ep_ipslice.specs.declared.err.ip.headers_error.HeadersError.TheVariants as headers
@@ -85,3 +86,18 @@ pub data IsIpFault (bytes : List ℕ) (e : SliceError) : Type 0 where
   OtherVersion : 0 < length bytes → v4.version_of bytes ≢ 4 → v4.version_of bytes ≢ 6 → e ≡ IpHeaders (headers.Ip (UnsupportedIpVersion (v4.version_of bytes))) → IsIpFault bytes e
   OfIpv4 : (fault : Ipv4Fault) → v4.version_of bytes ≡ 4 → ipv4_packet_at bytes ≡ Err fault → e ≡ ipv4_fault fault → IsIpFault bytes e
   OfIpv6 : (fault : Ipv6Fault) → v4.version_of bytes ≡ 6 → IsIpv6Fault bytes fault → e ≡ ipv6_fault fault → IsIpFault bytes e
+
+abbrev pub with_ipv4 : Result Ipv4Packet Ipv4Fault → Result IpSlice SliceError
+with_ipv4 (Ok packet) = Ok (Ipv4 packet)
+with_ipv4 (Err e) = Err (ipv4_fault e)
+
+abbrev pub with_ipv6 : Result Ipv6Packet Ipv6Fault → Result IpSlice SliceError
+with_ipv6 (Ok packet) = Ok (Ipv6 packet)
+with_ipv6 (Err e) = Err (ipv6_fault e)
+
+-- the packet at the front of the bytes, of the version that they tell, or the first fault
+abbrev pub ip_packet_at : List ℕ → Result IpSlice SliceError
+ip_packet_at bytes =
+    if length bytes == 0 then Err (Len no_version)
+    else (if v4.version_of bytes == 4 then with_ipv4 (ipv4_packet_at bytes)
+    else (if v4.version_of bytes == 6 then with_ipv6 (ipv6_packet_at bytes) else Err (IpHeaders (headers.Ip (UnsupportedIpVersion (v4.version_of bytes))))))

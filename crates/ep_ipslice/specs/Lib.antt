@@ -1,5 +1,6 @@
 pub mod Compared
 pub mod Examples
+pub mod FaultPlace
 pub mod IpFault
 pub mod Ipv4Lax
 pub mod Ipv4Packet
@@ -7,6 +8,7 @@ pub mod Ipv6Ext
 pub mod Ipv6Exts
 pub mod IpSlice
 pub mod Ipv6Fault
+pub mod Ipv6Packet
 pub mod Ipv6Walk
 pub mod Packet
 pub mod PayloadHash

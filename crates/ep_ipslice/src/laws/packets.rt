@@ -1,13 +1,17 @@
 //! Laws of the definitions of IP packets.
-ghost use Rattle.std.specs.Prelude.{◌≡◌, ℕ, List, [], ◌∷◌, ◌++◌, None, Some, IsOkAnd, false, replicate};
+ghost use Rattle.std.specs.Prelude.{◌≡◌, ◌<◌, ◌+◌, ◌^◌, ℕ, List, [], ◌∷◌, ◌++◌, length, None, Some, Err, IsOkAnd, false, replicate};
 ghost use Rattle.std.specs.Option.{option_map};
 ghost use Rattle.ep_ip.specs.Ipv6.{next_header_of};
 ghost use Rattle.ep_ip.specs.Skip.{is_skipped};
 ghost use Rattle.ep_ext.specs.Place.{KeepsNumbers};
 ghost use Rattle.ep_ext.specs.declared.net.ipv6_ext_place.Ipv6ExtPlace.TheVariants as place;
+ghost use Rattle.ep_ipslice.specs.FaultPlace.{ip_place, ipv4_place, ipv6_place};
 ghost use Rattle.ep_ipslice.specs.IpSlice.{IsIpFault, IsWhole};
+ghost use Rattle.ep_ipslice.specs.Ipv4Packet.{ipv4_packet_at};
+ghost use Rattle.ep_ipslice.specs.Ipv6Packet.{extensions_in};
 ghost use Rattle.ep_ipslice.specs.Ipv6Fault.{IsIpv6Fault};
 ghost use Rattle.ep_ipslice.specs.declared.err.ip.slice_error.SliceError.{SliceError as IpFault};
+ghost use Rattle.ep_ipslice.specs.declared.err.ipv4.slice_error.SliceError.{SliceError as Ipv4Fault};
 ghost use Rattle.ep_ipslice.specs.declared.err.ipv6.slice_error.SliceError.{SliceError as Ipv6Fault};
 ghost use Rattle.ep_ipslice.specs.Ipv6Exts.{view_order};
 ghost use Rattle.ep_ipslice.specs.Packet.{Ipv4Packet, Ipv6Packet, IsIpv4Packet, IsIpv6Packet, body_len, fragment_fields, ipv4_fragment_fields, ipv6_fragment_fields};
@@ -40,6 +44,19 @@ pub fn faults_are_alone()
     ensures ip { (bytes : List ℕ) (e f : IpFault) → IsIpFault bytes e → IsIpFault bytes f → e ≡ f }
 {
     laws::chain_is_alone();
+}
+
+/// The place of a fault lies within the bytes, so that it can be moved by what stands in front of
+/// them.
+pub fn faults_can_be_moved()
+    ensures ipv4 { (bytes : List ℕ) (e : Ipv4Fault) → ipv4_packet_at bytes ≡ Err e
+        → (n : ℕ) → length bytes + n < 2 ^ 64 → ipv4_place e + n < 2 ^ 64 }
+    ensures ipv6 { (bytes : List ℕ) (e : Ipv6Fault) → IsIpv6Fault bytes e
+        → (n : ℕ) → length bytes + n < 2 ^ 64 → ipv6_place e + n < 2 ^ 64 }
+    ensures ip { (bytes : List ℕ) (e : IpFault) → IsIpFault bytes e
+        → (n : ℕ) → length bytes + n < 2 ^ 64 → ip_place e + n < 2 ^ 64 }
+{
+    laws::faults_can_be_moved();
 }
 
 /// Where an IPv6 packet's extension headers end at a number that the walk over all skipped headers
@@ -80,6 +97,13 @@ pub fn ip_packet_is_whole(packet: &IpSlice)
             let _extensions = packet.extensions();
         }
     }
+}
+
+/// The extension headers in an IPv6 packet's own bytes are those of its row.
+pub fn extensions_of_a_packet()
+    ensures { (bytes : List ℕ) (packet : Ipv6Packet) (is : IsIpv6Packet bytes packet) → extensions_in packet ≡ is.pieces }
+{
+    laws::whole_header_is_found();
 }
 
 /// What an IPv4 packet's getters tell of the message that its payload is a part of: identification,

@@ -4,7 +4,7 @@ ghost use Rattle.std.specs.Prelude.{◌≡◌, IfOk, IfErr, Ok};
 ghost use Rattle.std.specs.Option.{option_map};
 ghost use Rattle.ep_ipslice.specs.declared.net.ip_slice.IpSlice.{IpSlice};
 ghost use Rattle.ep_ipslice.specs.declared.net.ip_slice.IpSlice.TheVariants as view;
-ghost use Rattle.ep_ipslice.specs.IpSlice.{IsAddress, IsIpFault, IsIpPacket, destination_of, fragmented_of, ipv4_fault, ipv6_fault, ipv4_of, ipv6_of, payload_of, source_of};
+ghost use Rattle.ep_ipslice.specs.IpSlice.{IsAddress, IsIpFault, IsIpPacket, destination_of, fragmented_of, ip_packet_at, ipv4_fault, ipv6_fault, ipv4_of, ipv6_of, payload_of, source_of};
 
 use super::{IpPayloadSlice, Ipv4Slice, Ipv6Slice};
 use crate::err::ip::{HeaderError, HeadersError, SliceError};
@@ -33,6 +33,7 @@ impl<'a> IpSlice<'a> {
         ensures only { (packet : IpSlice) → IsIpPacket slice.now packet → result ≡ Ok packet }
         // Else it is the first fault.
         ensures refused { IfErr result (λ e. IsIpFault slice.now e) }
+        ensures exact { result ≡ ip_packet_at slice.now }
     {
         if slice.is_empty() {
             return Err(SliceError::Len(LenError {

@@ -9,6 +9,7 @@ ghost use Rattle.std.proofs.Common.{rules};
 ghost use Rattle.ep_ext.specs.Moved.{CanMove};
 ghost use Rattle.ep_ipslice.specs.Compared.{compared_as, ordered_as};
 ghost use Rattle.ep_ipslice.specs.Packet.{Ipv6Packet, IsIpv6Packet, IsWholeIpv6, body_len, body_source};
+ghost use Rattle.ep_ipslice.specs.Ipv6Packet.{ipv6_packet_at};
 ghost use Rattle.ep_ipslice.specs.Ipv6Fault.{IsCutOff, IsIpv6Fault, IsRowFault, of_exts_fault, of_header_fault};
 
 use super::{IpPayloadSlice, Ipv6ExtensionsSlice};
@@ -54,7 +55,9 @@ impl<'a> Ipv6Slice<'a> {
         ensures only { (packet : Ipv6Packet) → IsIpv6Packet slice.now packet → result ≡ Ok packet }
         // Else it is the first fault.
         ensures refused { IfErr result (λ e. IsIpv6Fault slice.now e) }
+        ensures exact { result ≡ ipv6_packet_at slice.now }
     {
+        laws::whole_header_is_found();
         match Ipv6HeaderSlice::from_slice(slice) {
             Ok(header) => Self::behind_header(header, slice),
             Err(error) => Err(header_fault(error)),
