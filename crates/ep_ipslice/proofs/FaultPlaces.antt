@@ -1,5 +1,5 @@
 -- The place of a fault lies within the bytes, so that it can be moved by what stands in front of them.
-use Rattle.std.proofs.Common.{◌≡◌, ◌∙◌, sym, ap, subst, refl, ℕ, ◌+◌, ◌-◌, ◌*◌, ◌<◌, ◌≤◌, ◌^◌, ◌==◌, Bool, true, false, cond, List, length, take, drop, Option, Some, None, Result, Ok, Err, IfOk, IfErr, not, length-append, take-append-drop, arith}
+use Rattle.std.proofs.Common.{◌≡◌, ◌∙◌, sym, ap, subst, refl, ℕ, ◌+◌, ◌-◌, ◌*◌, ◌<◌, ◌≤◌, ◌^◌, ◌==◌, Bool, true, false, cond, List, length, take, drop, Option, Some, Result, Ok, Err, IfOk, IfErr, not, length-append, take-append-drop, arith}
 use Rattle.std.specs.Prelude.{nat_lt}
 use Rattle.std.proofs.lemmas.Bool.{ltb-false}
 use Rattle.std.proofs.lemmas.List.{length-drop}
@@ -24,12 +24,11 @@ use Rattle.ep_ext.specs.declared.err.ipv6_exts.header_slice_error.HeaderSliceErr
 use Rattle.ep_ext.specs.declared.err.ipv6_exts.header_slice_error.HeaderSliceError.TheVariants as exts_fault
 use Rattle.ep_base.specs.declared.len_source.LenSource.{LenSource}
 use Rattle.ep_ipslice.specs.FaultPlace.{ip_place, ipv4_place, ipv6_place}
-use Rattle.ep_ipslice.specs.IpSlice.{IsIpFault, NoBytes, OtherVersion, OfIpv4, OfIpv6, ipv4_fault, ipv6_fault}
+use Rattle.ep_ipslice.specs.IpSlice.{IsIpFaultIn, NoBytes, OtherVersion, OfIpv4, OfIpv6, ipv4_fault, ipv6_fault}
 use Rattle.ep_ipslice.specs.Ipv4Packet.{body_of, ipv4_packet_at, of_auth_fault, of_header_fault, packet_behind, packet_with}
-use Rattle.ep_ipslice.specs.Ipv6Exts.{view_order}
 use Rattle.ep_ipslice.specs.Ipv6Fault as ipv6
-use Rattle.ep_ipslice.specs.Ipv6Fault.{IsIpv6Fault, OfHeader, OfLength, OfExtensions}
-use Rattle.ep_ipslice.specs.Packet.{Ipv4Packet, body_len}
+use Rattle.ep_ipslice.specs.Ipv6Fault.{IsFaultIn, OfHeader, OfLength, OfExtensions}
+use Rattle.ep_ipslice.specs.Packet.{body_len}
 use Rattle.ep_ipslice.specs.declared.err.ip.slice_error.SliceError.{SliceError}
 use Rattle.ep_ipslice.specs.declared.err.ipv4.slice_error.SliceError.{SliceError as Ipv4Fault}
 use Rattle.ep_ipslice.specs.declared.err.ipv4.slice_error.SliceError.TheVariants as ipv4
@@ -128,16 +127,16 @@ v6_enough_at false false bytes x y enough = enough refl
 v6_enough : (bytes : List ℕ) → IfOk (v6.header_at bytes) (λ header. 40 ≤ length bytes)
 v6_enough bytes = v6_enough_at (nat_lt (length bytes) 40) (not (ipv6_header.version_of bytes == 6)) bytes _ _ (λ few. ltb-false (length bytes) 40 few)
 
-pub ipv6_fits : RowMoves → (bytes : List ℕ) (e : Ipv6Fault) → IsIpv6Fault bytes e → Fits (ipv6_place e) bytes
-ipv6_fits moves bytes e (OfHeader fault is error) =
+pub ipv6_fits : RowMoves → (order : Order) (bytes : List ℕ) (e : Ipv6Fault) → IsFaultIn order bytes e → Fits (ipv6_place e) bytes
+ipv6_fits moves order bytes e (OfHeader fault is error) =
     at_front (ipv6_place e) bytes (ap ipv6_place error ∙ of_err (λ f. ipv6_place (ipv6.of_header_fault f) ≡ 0) (v6.header_at bytes) fault is (v6_front bytes))
-ipv6_fits moves bytes e (OfLength header is short) = at_front (ipv6_place e) bytes (ap ipv6_place short.error)
-ipv6_fits moves bytes e (OfExtensions header is row) =
+ipv6_fits moves order bytes e (OfLength header is short) = at_front (ipv6_place e) bytes (ap ipv6_place short.error)
+ipv6_fits moves order bytes e (OfExtensions header is row) =
     let enough : 40 ≤ length bytes = subst (λ (r : Result (List ℕ) Ipv6HeaderFault). IfOk r (λ h. 40 ≤ length bytes)) is (v6_enough bytes) in
     let body : List ℕ = take (body_len header (length bytes - 40)) (drop 40 bytes) in
     let size : length body ≤ length bytes - 40 = omega (arith, take_fits (body_len header (length bytes - 40)) (drop 40 bytes), length-drop 40 bytes) in
     subst (λ (f : Ipv6Fault). Fits (ipv6_place f) bytes) (sym row.error)
-    (exts_fits bytes _ row.fault.0 enough (λ n fits. moves view_order _ body row.pieces row.last row.rest row.fault n row.chain row.found (omega (arith, size, fits))))
+    (exts_fits bytes _ row.fault.0 enough (λ n fits. moves order _ body row.pieces row.last row.rest row.fault n row.chain row.found (omega (arith, size, fits))))
 
 -- the fault of a version is at the same place
 ipv4_same : (e : Ipv4Fault) → ip_place (ipv4_fault e) ≡ ipv4_place e
@@ -151,10 +150,10 @@ ipv6_same (ipv6_error.Len e) = refl
 ipv6_same (ipv6_error.Header (v6_header.UnexpectedVersion version)) = refl
 ipv6_same (ipv6_error.Exts e) = refl
 
-pub ip_fits : AuthMoves → RowMoves → (bytes : List ℕ) (e : SliceError) → IsIpFault bytes e → Fits (ip_place e) bytes
-ip_fits auths rows bytes e (NoBytes none error) n fits = at_front (ip_place e) bytes (ap ip_place error) n fits
-ip_fits auths rows bytes e (OtherVersion some four six error) n fits = at_front (ip_place e) bytes (ap ip_place error) n fits
-ip_fits auths rows bytes e (OfIpv4 fault version is error) n fits =
+pub ip_fits : AuthMoves → RowMoves → (order : Order) (bytes : List ℕ) (e : SliceError) → IsIpFaultIn order bytes e → Fits (ip_place e) bytes
+ip_fits auths rows order bytes e (NoBytes none error) n fits = at_front (ip_place e) bytes (ap ip_place error) n fits
+ip_fits auths rows order bytes e (OtherVersion some four six error) n fits = at_front (ip_place e) bytes (ap ip_place error) n fits
+ip_fits auths rows order bytes e (OfIpv4 fault version is error) n fits =
     omega (arith, ipv4_fits auths bytes fault is n fits, ap ip_place error ∙ ipv4_same fault)
-ip_fits auths rows bytes e (OfIpv6 fault version is error) n fits =
-    omega (arith, ipv6_fits rows bytes fault is n fits, ap ip_place error ∙ ipv6_same fault)
+ip_fits auths rows order bytes e (OfIpv6 fault version is error) n fits =
+    omega (arith, ipv6_fits rows order bytes fault is n fits, ap ip_place error ∙ ipv6_same fault)

@@ -1,5 +1,5 @@
 -- The IPv6 packet at the front of bytes is the one that stands there, and the fault is the first.
-use Rattle.std.proofs.Common.{◌≡◌, ◌∙◌, sym, ap, refl, ℕ, ◌+◌, ◌-◌, ◌≤◌, true, false, List, [], ◌∷◌, ◌++◌, length, take, drop, get_or, Option, Some, None, Result, Ok, Err, IfOk, IfErr, arith, append-nil, append_assoc, length-append}
+use Rattle.std.proofs.Common.{◌≡◌, ◌∙◌, sym, ap, refl, ℕ, ◌+◌, ◌-◌, true, false, List, [], ◌∷◌, ◌++◌, length, take, drop, get_or, Option, Some, None, Result, Ok, Err, IfOk, IfErr, arith, append-nil, append_assoc, length-append}
 use Rattle.std.specs.Prelude.{nat_lt}
 use Rattle.std.proofs.lemmas.Bool.{lt-ltb, le-ltb, eq-eqb}
 use Rattle.std.proofs.lemmas.List.{get_or_append_left, take_at, drop_at}
@@ -7,12 +7,11 @@ use Rattle.ep_base.specs.Bytes.{num}
 use Rattle.ep_ip.specs.Ipv6.{IsIpv6Header, next_header_of, version_of}
 use Rattle.ep_ip.specs.Ipv6Fault.{header_at}
 use Rattle.ep_ext.specs.Chain.{Fault, Row, fault_at, fault_in, fault_of, front_of, layer_of}
-use Rattle.ep_ext.specs.Follow.{has_place}
 use Rattle.ep_ext.specs.Value.{Piece, bytes_of, places}
 use Rattle.ep_base.specs.declared.err.layer.Layer.{Layer}
 use Rattle.ep_ext.specs.declared.err.ipv6_exts.header_slice_error.HeaderSliceError.{HeaderSliceError}
 use Rattle.ep_ext.specs.declared.net.ipv6_ext_place.Ipv6ExtPlace.{Ipv6ExtPlace}
-use Rattle.ep_ipslice.specs.Ipv6Exts.{Ipv6Exts, exts_of, is_any_fragmenting, view_order}
+use Rattle.ep_ipslice.specs.Ipv6Exts.{Ipv6Exts, is_any_fragmenting, view_order}
 use Rattle.ep_ipslice.specs.Ipv6Fault.{IsIpv6Fault, OfHeader, OfLength, OfExtensions, not_whole}
 use Rattle.ep_ipslice.specs.Ipv6Packet.{body_of, extensions_in, extensions_of, fault_behind, ipv6_packet_at, number_behind, packet_behind, packet_unless, packet_with, rest_behind}
 use Rattle.ep_ipslice.specs.Ipv6Walk.{front_piece, whole_piece}

@@ -1,6 +1,6 @@
 -- The parts of an IPv6 packet.
-use Rattle.std.proofs.Common.{◌≡◌, ℕ, ◌+◌, ◌-◌, ◌≤◌, ◌==◌, ◌||◌, ◌&&◌, nat_lt, Bool, true, false, cond, List, [], ◌∷◌, ◌++◌, length, take, drop, Option, Some, None, Result, Ok, Err, Bor, IfErr, IsOkAnd, ◌⊎◌, ⊎_elim, refl, sym, ap, ◌∙◌, subst, append_assoc, length-append, take-append-drop, arith}
-use Rattle.std.proofs.lemmas.List.{append-nil, drop_at, length-drop, length-take-le, take_at}
+use Rattle.std.proofs.Common.{◌≡◌, ℕ, ◌+◌, ◌-◌, ◌≤◌, ◌<◌, ◌==◌, ◌||◌, ◌&&◌, nat_lt, Bool, true, false, cond, List, [], ◌∷◌, ◌++◌, length, take, drop, Option, Some, None, Result, Ok, Err, Bor, IfOk, IfErr, IsOkAnd, refl, sym, ap, ◌∙◌, subst, append_assoc, length-append, take-append-drop, arith}
+use Rattle.std.proofs.lemmas.List.{append-nil, drop_at, length-take-le, take_at}
 use Rattle.ep_base.specs.declared.err.layer.Layer.{Layer}
 use Rattle.ep_base.specs.declared.len_source.LenSource.{LenSource}
 use Rattle.ep_base.specs.declared.len_source.LenSource.TheVariants.{Slice, Ipv6HeaderPayloadLen}
@@ -8,7 +8,7 @@ use Rattle.ep_base.specs.declared.net.ip_number.IpNumber.{IpNumber}
 use Rattle.ep_ip.specs.Ipv6.{IsIpv6Header, next_header_of, payload_length_of}
 use Rattle.ep_ip.specs.Ipv6Fault.{header_at}
 use Rattle.ep_ip.specs.declared.err.ipv6.header_slice_error.HeaderSliceError.{HeaderSliceError as HeaderFault}
-use Rattle.ep_ipslice.specs.Ipv6Fault.{IsCutOff, IsIpv6Fault, IsRowFault, OfLength, OfExtensions}
+use Rattle.ep_ipslice.specs.Ipv6Fault.{IsCutOff, IsFrontFault, IsIpv6Fault, IsRowFault, InHeader, InLength, OfHeader, OfLength, of_exts_fault}
 use Rattle.ep_ext.specs.Chain.{Chain, Fault, IsEnd, IsPiece, Row, fault_at, fault_in, fault_of, front_of, layer_of}
 use Rattle.ep_ext.specs.Follow.{has_place}
 use Rattle.ep_ext.specs.Place.{KeepsNumbers, in_front, number_of}
@@ -22,7 +22,7 @@ use Rattle.ep_ext.specs.declared.err.ipv6_exts.header_slice_error.HeaderSliceErr
 use Rattle.ep_ext.specs.declared.net.ipv6_ext_place.Ipv6ExtPlace.{Ipv6ExtPlace}
 use Rattle.ep_ext.specs.declared.net.ipv6_ext_place.Ipv6ExtPlace.TheVariants.{HopByHop, Destination, Routing, Fragment, Authentication}
 use Rattle.ep_ipslice.specs.Ipv6Exts.{Ipv6Exts, exts_of, is_any_fragmenting, view_order}
-use Rattle.ep_ipslice.specs.Packet.{IpPayload, Ipv6Packet, IsIpv6Packet, IsWholeIpv6, body_len, body_source, ipv6_bytes}
+use Rattle.ep_ipslice.specs.Packet.{IpPayload, Ipv6Packet, IsIpv6Body, IsIpv6Packet, IsWholeIpv6, body_len, body_source, ipv6_bytes}
 use Rattle.ep_ipslice.specs.declared.err.ipv6.slice_error.SliceError.{SliceError}
 use Rattle.ep_ipslice.proofs.Fronts.{front_begins}
 use Rattle.ep_ipslice.proofs.ViewWalk.{EndsClosed}
@@ -83,66 +83,116 @@ no_fault_of pieces last rest none =
     ap (λ (p : Option Ipv6ExtPlace). fault_at (length (bytes_of pieces)) p last rest) (none_left (places pieces) last none)
     ∙ ap (λ (b : Bool). cond b (Some (Content HopByHopNotAtStart, Ipv6HopByHopHeader)) None) (not_zero (last == 0) _ none)
 
--- a packet stands where its header, its payload length and its extension headers were found
-pub packet_found : (bytes header rest0 behind body : List ℕ) (first len : ℕ) (source : LenSource) (pieces : List Piece) (last : ℕ) (rest : List ℕ) →
+-- a header begins the bytes, and its body stands behind it
+pub body_parts : (bytes header : List ℕ) (source : LenSource) (body : List ℕ) (is : IsIpv6Body bytes header source body) → bytes ≡ header ++ (body ++ is.padding)
+body_parts bytes header source body is = is.cut ∙ append_assoc header body is.padding
+
+pub body_fits : (bytes header : List ℕ) (source : LenSource) (body : List ℕ) → IsIpv6Body bytes header source body → length body ≤ length bytes - 40
+body_fits bytes header source body is =
+    omega (arith, ap length (body_parts bytes header source body is), length-append header (body ++ is.padding), length-append body is.padding, is.whole.whole)
+
+body_cut : (bytes header : List ℕ) (source : LenSource) (body : List ℕ) → IsIpv6Body bytes header source body → take (body_len header (length bytes - 40)) (drop 40 bytes) ≡ body
+body_cut bytes header source body is =
+    ap (λ (xs : List ℕ). take (body_len header (length bytes - 40)) (drop 40 xs)) (body_parts bytes header source body is)
+    ∙ ap (take (body_len header (length bytes - 40))) (drop_at header (body ++ is.padding) 40 is.whole.whole) ∙ take_at body is.padding (body_len header (length bytes - 40)) is.size
+
+-- a header and its body stand where they were found
+pub body_found : (bytes header rest behind body : List ℕ) (n len : ℕ) (source : LenSource) → IsIpv6Header header → bytes ≡ header ++ rest → n ≡ length header → behind ≡ drop n bytes
+    → source ≡ body_source header (length behind) → len ≡ body_len header (length behind) → len ≤ length behind → body ≡ take len behind → IsIpv6Body bytes header source body
+body_found bytes header rest behind body n len source is parts n_is split bounded sized fits cut =
+    let behind_is : behind ≡ rest = split ∙ ap (λ (m : ℕ). drop m bytes) n_is ∙ ap (drop (length header)) parts ∙ drop_at header rest (length header) refl in
+    let all : length bytes ≡ length header + length rest = ap length parts ∙ length-append header rest in
+    let size : length behind ≡ length bytes - 40 = omega (arith, all, is.whole, ap length behind_is) in
+    record {
+      padding = drop len behind;
+      cut =
+          parts ∙ ap (λ (xs : List ℕ). header ++ xs) (sym behind_is ∙ sym (take-append-drop len behind) ∙ ap (λ (xs : List ℕ). xs ++ drop len behind) (sym cut))
+          ∙ sym (append_assoc header body (drop len behind));
+      whole = is;
+      size = ap length cut ∙ length-take-le len behind fits ∙ sized ∙ ap (body_len header) size;
+      bounded = bounded ∙ ap (body_source header) size;
+    }
+
+-- the bytes begin with one header and body at most
+pub body_alone : (bytes header other : List ℕ) (source bound : LenSource) (body rest : List ℕ) → header ≡ other → IsIpv6Body bytes header source body → IsIpv6Body bytes other bound rest →
+    (source ≡ bound) × (body ≡ rest)
+body_alone bytes header other source bound body rest same p q = (
+  p.bounded ∙ ap (λ (h : List ℕ). body_source h (length bytes - 40)) same ∙ sym q.bounded,
+  sym (body_cut bytes header source body p) ∙ ap (λ (h : List ℕ). take (body_len h (length bytes - 40)) (drop 40 bytes)) same ∙ body_cut bytes other bound rest q,
+)
+
+-- a body is not cut off
+pub body_whole : (bytes header other : List ℕ) (source : LenSource) (body : List ℕ) (e : SliceError) → header ≡ other → IsIpv6Body bytes other source body → IsCutOff bytes header e → ⊥
+body_whole bytes header other source body e same is cut =
+    let short : length bytes - 40 < body_len other (length bytes - 40) = subst (λ (h : List ℕ). length bytes - 40 < body_len h (length bytes - 40)) same cut.size in
+    omega (arith, body_fits bytes other source body is, is.size, short)
+
+-- a row of extension headers in a body that ends at a fault
+pub row_fault : (bytes header : List ℕ) (source : LenSource) (body : List ℕ) (pieces : List Piece) (last : ℕ) (rest : List ℕ) (first : ℕ) (fault : Fault) (e : SliceError) → IsIpv6Body bytes header source body →
+    first ≡ next_header_of header → Chain view_order first body pieces last rest → fault_of view_order pieces last rest ≡ Some fault → e ≡ of_exts_fault source fault.0 → IsRowFault view_order bytes header e
+row_fault bytes header source body pieces last rest first fault e is named chain found error = record {
+  pieces = pieces;
+  last = last;
+  rest = rest;
+  fault = fault;
+  size = omega (arith, body_fits bytes header source body is, is.size);
+  chain = subst (λ (xs : List ℕ). Chain view_order (next_header_of header) xs pieces last rest) (sym (body_cut bytes header source body is)) (subst (λ (n : ℕ). Chain view_order n body pieces last rest) named chain);
+  found = found;
+  error = error ∙ ap (λ (s : LenSource). of_exts_fault s fault.0) is.bounded;
+}
+
+-- a packet stands where its header, its body and its extension headers were found
+pub packet_found : (bytes header body : List ℕ) (first : ℕ) (source : LenSource) (pieces : List Piece) (last : ℕ) (rest : List ℕ) →
     (exts : Ipv6Exts) (number : IpNumber) (fragmented : Bool) (payload : List ℕ) →
-    IsIpv6Header header → bytes ≡ header ++ rest0 → behind ≡ drop (length header) bytes → first ≡ next_header_of header →
-    source ≡ body_source header (length behind) → len ≡ body_len header (length behind) → len ≤ length behind → body ≡ take len behind →
+    IsIpv6Body bytes header source body → first ≡ next_header_of header →
     Chain view_order first body pieces last rest → exts ≡ exts_of first pieces → number.0 ≡ last → payload ≡ rest → fault_of view_order pieces last rest ≡ None →
     fragmented ≡ exts.fragmented →
     IsIpv6Packet bytes (record { header = header; exts = exts; payload = record { ip_number = number; fragmented = fragmented; len_source = source; payload = payload } })
-packet_found bytes header rest0 behind body first len source pieces last rest exts number fragmented payload is parts split named bounded sized fits cut chain seen numbered left none parted =
-    let behind_is : behind ≡ rest0 = split ∙ ap (drop (length header)) parts ∙ drop_at header rest0 (length header) refl in
-    let all : length bytes ≡ length header + length rest0 = ap length parts ∙ length-append header rest0 in
-    let size : length bytes - 40 ≡ length behind = omega (arith, all, is.whole, ap length behind_is) in
-    let body_parts : body ≡ bytes_of pieces ++ payload = chain.cut ∙ ap (λ (xs : List ℕ). bytes_of pieces ++ xs) (sym left) in
-    let body_size : length (bytes_of pieces) + length payload ≡ len = sym (length-append (bytes_of pieces) payload) ∙ sym (ap length body_parts) ∙ ap length cut ∙ length-take-le len behind fits in
+packet_found bytes header body first source pieces last rest exts number fragmented payload is named chain seen numbered left none parted =
+    let parts : body ≡ bytes_of pieces ++ payload = chain.cut ∙ ap (λ (xs : List ℕ). bytes_of pieces ++ xs) (sym left) in
     let number_is : number ≡ record { 0 = last } = λ i. record { 0 = numbered i } in
     record {
       pieces = pieces;
       last = last;
-      padding = drop len behind;
-      cut =
-          parts ∙ ap (λ (xs : List ℕ). header ++ xs) (sym behind_is ∙ sym (take-append-drop len behind) ∙ ap (λ (xs : List ℕ). xs ++ drop len behind) (sym cut ∙ body_parts))
-          ∙ sym (append_assoc header (bytes_of pieces ++ payload) (drop len behind)) ∙ ap (λ (xs : List ℕ). xs ++ drop len behind) (sym (append_assoc header (bytes_of pieces) payload));
-      header = is;
+      padding = is.padding;
+      cut = is.cut ∙ ap (λ (xs : List ℕ). header ++ xs ++ is.padding) parts ∙ ap (λ (xs : List ℕ). xs ++ is.padding) (sym (append_assoc header (bytes_of pieces) payload));
+      header = is.whole;
       row = subst (λ (n : ℕ). Row view_order [] n pieces last) named chain.row;
       ended = ended_of pieces last rest chain.ended none;
-      size = body_size ∙ sized ∙ ap (body_len header) (sym size);
+      size = sym (length-append (bytes_of pieces) payload) ∙ sym (ap length parts) ∙ is.size;
       exts = seen ∙ ap (λ (n : ℕ). exts_of n pieces) named;
-      fields = λ i. record { ip_number = number_is i; fragmented = (parted ∙ ap (λ (e : Ipv6Exts). e.fragmented) seen) i; len_source = (bounded ∙ ap (body_source header) (sym size)) i; payload = payload };
+      fields = λ i. record { ip_number = number_is i; fragmented = (parted ∙ ap (λ (e : Ipv6Exts). e.fragmented) seen) i; len_source = is.bounded i; payload = payload };
     }
 
--- a packet's extension headers are a row in what its payload length gives it
-pub packet_chain : EndsClosed → (bytes behind body : List ℕ) (first len n : ℕ) (packet : Ipv6Packet) (is : IsIpv6Packet bytes packet) →
-    behind ≡ drop n bytes → n ≡ length packet.header → first ≡ next_header_of packet.header → len ≡ body_len packet.header (length behind) → body ≡ take len behind →
-    Chain view_order first body is.pieces is.last packet.payload.payload
-packet_chain ends bytes behind body first len n packet is split n_is named sized cut =
-    let exts : List ℕ = bytes_of is.pieces in
-    let payload : List ℕ = packet.payload.payload in
-    let parts : bytes ≡ packet.header ++ (exts ++ payload ++ is.padding) =
-    is.cut ∙ ap (λ (xs : List ℕ). xs ++ is.padding) (append_assoc packet.header exts payload) ∙ append_assoc packet.header (exts ++ payload) is.padding in
-    let behind_is : behind ≡ exts ++ payload ++ is.padding = split ∙ ap (drop n) parts ∙ drop_at packet.header (exts ++ payload ++ is.padding) n (sym n_is) in
-    let all : length bytes ≡ length packet.header + length (exts ++ payload ++ is.padding) = ap length parts ∙ length-append packet.header (exts ++ payload ++ is.padding) in
-    let size : length bytes - 40 ≡ length behind = omega (arith, all, is.header.whole, ap length behind_is) in
-    let len_is : len ≡ length (exts ++ payload) = sized ∙ ap (body_len packet.header) (sym size) ∙ sym is.size ∙ sym (length-append exts payload) in
-    record {
-      row = subst (λ (m : ℕ). Row view_order [] m is.pieces is.last) (sym named) is.row;
-      cut = cut ∙ ap (take len) behind_is ∙ take_at (exts ++ payload) is.padding len (sym len_is);
-      ended = ends view_order (places is.pieces) is.last payload (none_left (places is.pieces) is.last is.ended);
-    }
+-- a packet's header begins the bytes, and its extension headers and payload are the body
+pub packet_body : (bytes : List ℕ) (packet : Ipv6Packet) (is : IsIpv6Packet bytes packet) →
+    IsIpv6Body bytes packet.header (body_source packet.header (length bytes - 40)) (bytes_of is.pieces ++ packet.payload.payload)
+packet_body bytes packet is = record {
+  padding = is.padding;
+  cut = is.cut ∙ ap (λ (xs : List ℕ). xs ++ is.padding) (append_assoc packet.header (bytes_of is.pieces) packet.payload.payload);
+  whole = is.header;
+  size = length-append (bytes_of is.pieces) packet.payload.payload ∙ is.size;
+  bounded = refl;
+}
+
+-- a packet's extension headers are a row in its body
+pub packet_chain : EndsClosed → (bytes body : List ℕ) (first : ℕ) (header : List ℕ) (packet : Ipv6Packet) (is : IsIpv6Packet bytes packet) → header ≡ packet.header → first ≡ next_header_of header →
+    body ≡ bytes_of is.pieces ++ packet.payload.payload → Chain view_order first body is.pieces is.last packet.payload.payload
+packet_chain ends bytes body first header packet is same named cut = record {
+  row = subst (λ (m : ℕ). Row view_order [] m is.pieces is.last) (sym (named ∙ ap next_header_of same)) is.row;
+  cut = cut;
+  ended = ends view_order (places is.pieces) is.last packet.payload.payload (none_left (places is.pieces) is.last is.ended);
+}
 
 -- what the parts of a row tell is what the packet tells
-pub payload_same : (bytes behind header : List ℕ) (first n : ℕ) (source : LenSource) (exts : Ipv6Exts) (number : IpNumber) (fragmented : Bool) (payload : List ℕ) (packet : Ipv6Packet) (is : IsIpv6Packet bytes packet) →
-    header ≡ packet.header → behind ≡ drop n bytes → n ≡ length header → source ≡ body_source header (length behind) → exts ≡ exts_of first is.pieces → number.0 ≡ is.last →
+pub payload_same : (bytes : List ℕ) (first : ℕ) (source : LenSource) (exts : Ipv6Exts) (number : IpNumber) (fragmented : Bool) (payload : List ℕ) (packet : Ipv6Packet) (is : IsIpv6Packet bytes packet) →
+    source ≡ body_source packet.header (length bytes - 40) → exts ≡ exts_of first is.pieces → number.0 ≡ is.last →
     fragmented ≡ exts.fragmented → payload ≡ packet.payload.payload →
     record { ip_number = number; fragmented = fragmented; len_source = source; payload = payload } ≡ packet.payload
-payload_same bytes behind header first n source exts number fragmented payload packet is same split n_is bounded seen numbered parted left =
-    let size : length behind ≡ length bytes - 40 = omega (arith, ap length split, length-drop n bytes, n_is, ap length same, is.header.whole) in
+payload_same bytes first source exts number fragmented payload packet is bounded seen numbered parted left =
     let number_is : number ≡ record { 0 = is.last } = λ i. record { 0 = numbered i } in
-    let source_is : source ≡ body_source packet.header (length bytes - 40) = bounded ∙ ap (λ (h : List ℕ). body_source h (length behind)) same ∙ ap (body_source packet.header) size in
     let part_is : fragmented ≡ is_any_fragmenting is.pieces = parted ∙ ap (λ (e : Ipv6Exts). e.fragmented) seen in
-    (λ i. record { ip_number = number_is i; fragmented = part_is i; len_source = source_is i; payload = left i }) ∙ sym is.fields
+    (λ i. record { ip_number = number_is i; fragmented = part_is i; len_source = bounded i; payload = left i }) ∙ sym is.fields
 
 pub packet_same : (packet : Ipv6Packet) (header : List ℕ) (exts : Ipv6Exts) (payload : IpPayload) → header ≡ packet.header → exts ≡ packet.exts → payload ≡ packet.payload →
     ◌≡◌ {A = Result Ipv6Packet SliceError} (Ok (record { header = header; exts = exts; payload = payload })) (Ok packet)
@@ -155,11 +205,24 @@ none_some x h = cc
 pub never_refused : (pieces : List Piece) (last : ℕ) (rest : List ℕ) (fault : Fault) → has_place last ≡ false → fault_of view_order pieces last rest ≡ Some fault → ⊥
 never_refused pieces last rest fault none found = none_some fault (sym (no_fault_of pieces last rest none) ∙ found)
 
--- behind a header, the first fault is that of the length or of the extension headers
-pub refused_of : (bytes header : List ℕ) (r : Result Ipv6Packet SliceError) → header_at bytes ≡ Ok header →
-    IfErr r (λ e. IsCutOff bytes header e ⊎ IsRowFault bytes header e) → IfErr r (λ e. IsIpv6Fault bytes e)
-refused_of bytes header (Ok packet) is either = tt
-refused_of bytes header (Err e) is either = ⊎_elim (λ cut. OfLength header is cut) (λ row. OfExtensions header is row) either
+-- behind a header, the first fault is that of the length
+pub length_fault : (bytes header : List ℕ) (r : Result (List ℕ × LenSource × Bor (List ℕ)) SliceError) → header_at bytes ≡ Ok header →
+    IfErr r (λ e. IsCutOff bytes header e) → IfErr r (λ e. IsFrontFault bytes e)
+length_fault bytes header (Ok parts) is cut = tt
+length_fault bytes header (Err e) is cut = InLength header is cut
+
+-- a fault in front of the extension headers is the first one
+pub front_fault : (bytes : List ℕ) (e : SliceError) → IsFrontFault bytes e → IsIpv6Fault bytes e
+front_fault bytes e (InHeader fault is error) = OfHeader fault is error
+front_fault bytes e (InLength header is cut) = OfLength header is cut
+
+-- what a call that tells every fault takes is the only header with its body
+pub body_only : (bytes header : List ℕ) (r : Result (List ℕ × LenSource × Bor (List ℕ)) SliceError) → IfOk r (λ a. (a.0 ≡ header) × IsIpv6Body bytes header a.1 a.2.now) → IfErr r (λ e. IsCutOff bytes header e) →
+    (other : List ℕ) (source : LenSource) (body : List ℕ) → header ≡ other → IsIpv6Body bytes other source body → IsOkAnd r (λ a. (a.0 ≡ other) × (a.1 ≡ source) × (a.2.now ≡ body))
+body_only bytes header (Ok a) found refused other source body same is =
+    let alone = body_alone bytes header other a.1 source a.2.now body same found.1 is in
+    (found.0 ∙ same, alone.0, alone.1)
+body_only bytes header (Err e) found refused other source body same is = absurd (body_whole bytes header other source body e same is refused)
 
 pub header_same : (x y : List ℕ) → ◌≡◌ {A = Result (List ℕ) HeaderFault} (Ok x) (Ok y) → x ≡ y
 header_same x y h = cc

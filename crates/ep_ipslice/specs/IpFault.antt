@@ -3,6 +3,8 @@ use Rattle.std.specs.Prelude.{ℕ, ⊤}
 use Rattle.ep_base.specs.Moved as len
 use Rattle.ep_ipslice.specs.declared.err.ip.headers_slice_error.HeadersSliceError.{HeadersSliceError}
 use Rattle.ep_ipslice.specs.declared.err.ip.headers_slice_error.HeadersSliceError.TheVariants.{Len, Content}
+use Rattle.ep_ipslice.specs.declared.err.ip.slice_error.SliceError.{SliceError}
+use Rattle.ep_ipslice.specs.declared.err.ip.slice_error.SliceError.TheVariants as packet
 
 -- the offset fits a `usize`
 abbrev pub CanMove : HeadersSliceError → ℕ → Type 0
@@ -13,3 +15,8 @@ CanMove (Content e) n = ⊤
 abbrev pub moved : HeadersSliceError → ℕ → HeadersSliceError
 moved (Len e) n = Len (len.moved e n)
 moved (Content e) n = Content e
+
+-- a fault of a packet, as one of its headers
+abbrev pub headers_fault : SliceError → HeadersSliceError
+headers_fault (packet.Len e) = Len e
+headers_fault (packet.IpHeaders e) = Content e

@@ -11,7 +11,9 @@ use Rattle.ep_ip.specs.Ipv6 as v6
 use Rattle.ep_ip.specs.declared.err.ipv4.header_error.HeaderError.TheVariants as v4_header
 use Rattle.ep_ip.specs.declared.err.ipv6.header_error.HeaderError.TheVariants as v6_header
 use Rattle.ep_ipslice.specs.Ipv4Packet.{ipv4_packet_at}
-use Rattle.ep_ipslice.specs.Ipv6Fault.{IsIpv6Fault}
+use Rattle.ep_ext.specs.Place.{Order}
+use Rattle.ep_ipslice.specs.Ipv6Exts.{view_order}
+use Rattle.ep_ipslice.specs.Ipv6Fault.{IsFaultIn}
 use Rattle.ep_ipslice.specs.Ipv6Packet.{ipv6_packet_at}
 use Rattle.ep_ipslice.specs.Packet.{IpPayload, Ipv4Packet, Ipv6Packet, IsIpv4Packet, IsIpv6Packet, IsWholeIpv4, IsWholeIpv6, ipv4_payload}
 use Rattle.ep_ipslice.specs.declared.err.ip.header_error.HeaderError.TheVariants.{UnsupportedIpVersion, Ipv4HeaderLengthSmallerThanHeader}
@@ -79,13 +81,17 @@ ipv6_fault (v6_fault.Len e) = Len e
 ipv6_fault (v6_fault.Header (v6_header.UnexpectedVersion version)) = IpHeaders (headers.Ip (UnsupportedIpVersion version))
 ipv6_fault (v6_fault.Exts e) = IpHeaders (headers.Ipv6Ext e)
 
--- the first fault of the bytes: none are there, the version is neither 4 nor 6, or the first fault of
--- that version's packet
-pub data IsIpFault (bytes : List ℕ) (e : SliceError) : Type 0 where
-  NoBytes : length bytes ≡ 0 → e ≡ Len no_version → IsIpFault bytes e
-  OtherVersion : 0 < length bytes → v4.version_of bytes ≢ 4 → v4.version_of bytes ≢ 6 → e ≡ IpHeaders (headers.Ip (UnsupportedIpVersion (v4.version_of bytes))) → IsIpFault bytes e
-  OfIpv4 : (fault : Ipv4Fault) → v4.version_of bytes ≡ 4 → ipv4_packet_at bytes ≡ Err fault → e ≡ ipv4_fault fault → IsIpFault bytes e
-  OfIpv6 : (fault : Ipv6Fault) → v4.version_of bytes ≡ 6 → IsIpv6Fault bytes fault → e ≡ ipv6_fault fault → IsIpFault bytes e
+-- the first fault of the bytes, where extension headers of IPv6 stand in this order: none are there,
+-- the version is neither 4 nor 6, or the first fault of that version's packet
+pub data IsIpFaultIn (order : Order) (bytes : List ℕ) (e : SliceError) : Type 0 where
+  NoBytes : length bytes ≡ 0 → e ≡ Len no_version → IsIpFaultIn order bytes e
+  OtherVersion : 0 < length bytes → v4.version_of bytes ≢ 4 → v4.version_of bytes ≢ 6 → e ≡ IpHeaders (headers.Ip (UnsupportedIpVersion (v4.version_of bytes))) → IsIpFaultIn order bytes e
+  OfIpv4 : (fault : Ipv4Fault) → v4.version_of bytes ≡ 4 → ipv4_packet_at bytes ≡ Err fault → e ≡ ipv4_fault fault → IsIpFaultIn order bytes e
+  OfIpv6 : (fault : Ipv6Fault) → v4.version_of bytes ≡ 6 → IsFaultIn order bytes fault → e ≡ ipv6_fault fault → IsIpFaultIn order bytes e
+
+-- the first fault of the bytes as views read them
+abbrev pub IsIpFault : List ℕ → SliceError → Type 0
+IsIpFault bytes e = IsIpFaultIn view_order bytes e
 
 abbrev pub with_ipv4 : Result Ipv4Packet Ipv4Fault → Result IpSlice SliceError
 with_ipv4 (Ok packet) = Ok (Ipv4 packet)

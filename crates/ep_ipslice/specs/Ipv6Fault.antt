@@ -10,6 +10,7 @@ use Rattle.ep_ip.specs.Ipv6Fault.{header_at}
 use Rattle.ep_ip.specs.declared.err.ipv6.header_slice_error.HeaderSliceError.{HeaderSliceError as HeaderFault}
 use Rattle.ep_ip.specs.declared.err.ipv6.header_slice_error.HeaderSliceError.TheVariants as header_fault
 use Rattle.ep_ext.specs.Chain.{Chain, Fault, fault_of}
+use Rattle.ep_ext.specs.Place.{Order}
 use Rattle.ep_ext.specs.Value.{Piece}
 use Rattle.ep_ext.specs.declared.err.ipv6_exts.header_slice_error.HeaderSliceError.{HeaderSliceError as ExtsFault}
 use Rattle.ep_ext.specs.declared.err.ipv6_exts.header_slice_error.HeaderSliceError.TheVariants as exts_fault
@@ -36,20 +37,29 @@ pub record IsCutOff (bytes header : List ℕ) (e : SliceError) : Type 0 where
   pub size : length bytes - 40 < body_len header (length bytes - 40)
   pub error : e ≡ Len (not_whole header (length bytes))
 
--- the row of extension headers within the payload length ends at a fault
-pub record IsRowFault (bytes header : List ℕ) (e : SliceError) : Type 0 where
+-- the row of extension headers within the payload length, under this order, ends at a fault
+pub record IsRowFault (order : Order) (bytes header : List ℕ) (e : SliceError) : Type 0 where
   pub pieces : List Piece
   pub last : ℕ
   pub rest : List ℕ
   pub fault : Fault
   pub size : body_len header (length bytes - 40) ≤ length bytes - 40
-  pub chain : Chain view_order (next_header_of header) (take (body_len header (length bytes - 40)) (drop 40 bytes)) pieces last rest
-  pub found : fault_of view_order pieces last rest ≡ Some fault
+  pub chain : Chain order (next_header_of header) (take (body_len header (length bytes - 40)) (drop 40 bytes)) pieces last rest
+  pub found : fault_of order pieces last rest ≡ Some fault
   pub error : e ≡ of_exts_fault (body_source header (length bytes - 40)) fault.0
 
--- the first fault of the bytes: of the header, then of the length that it tells, then of the
--- extension headers
-pub data IsIpv6Fault (bytes : List ℕ) (e : SliceError) : Type 0 where
-  OfHeader : (fault : HeaderFault) → header_at bytes ≡ Err fault → e ≡ of_header_fault fault → IsIpv6Fault bytes e
-  OfLength : (header : List ℕ) → header_at bytes ≡ Ok header → IsCutOff bytes header e → IsIpv6Fault bytes e
-  OfExtensions : (header : List ℕ) → header_at bytes ≡ Ok header → IsRowFault bytes header e → IsIpv6Fault bytes e
+-- the first fault of a header and of the length that it tells
+pub data IsFrontFault (bytes : List ℕ) (e : SliceError) : Type 0 where
+  InHeader : (fault : HeaderFault) → header_at bytes ≡ Err fault → e ≡ of_header_fault fault → IsFrontFault bytes e
+  InLength : (header : List ℕ) → header_at bytes ≡ Ok header → IsCutOff bytes header e → IsFrontFault bytes e
+
+-- the first fault of the bytes, where extension headers stand in this order: of the header, then of
+-- the length that it tells, then of the extension headers
+pub data IsFaultIn (order : Order) (bytes : List ℕ) (e : SliceError) : Type 0 where
+  OfHeader : (fault : HeaderFault) → header_at bytes ≡ Err fault → e ≡ of_header_fault fault → IsFaultIn order bytes e
+  OfLength : (header : List ℕ) → header_at bytes ≡ Ok header → IsCutOff bytes header e → IsFaultIn order bytes e
+  OfExtensions : (header : List ℕ) → header_at bytes ≡ Ok header → IsRowFault order bytes header e → IsFaultIn order bytes e
+
+-- the first fault of the bytes as a view reads them
+abbrev pub IsIpv6Fault : List ℕ → SliceError → Type 0
+IsIpv6Fault bytes e = IsFaultIn view_order bytes e

@@ -111,6 +111,15 @@ body_len header behind = if is_open header behind then behind else v6.payload_le
 abbrev pub body_source : List ℕ → ℕ → LenSource
 body_source header behind = if is_open header behind then Slice else Ipv6HeaderPayloadLen
 
+-- the bytes begin with this header, and as many of those behind it as its payload length says are the
+-- body, extension headers and payload; padding may follow
+pub record IsIpv6Body (bytes header : List ℕ) (source : LenSource) (body : List ℕ) : Type 0 where
+  pub padding : List ℕ
+  pub cut : bytes ≡ header ++ body ++ padding
+  pub whole : v6.IsIpv6Header header
+  pub size : length body ≡ body_len header (length bytes - 40)
+  pub bounded : source ≡ body_source header (length bytes - 40)
+
 -- the bytes begin with this packet: behind the header stand its extension headers, in a row up to a
 -- number that names none, and its payload, and padding may follow
 pub record IsIpv6Packet (bytes : List ℕ) (packet : Ipv6Packet) : Type 0 where

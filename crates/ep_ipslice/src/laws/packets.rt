@@ -3,13 +3,13 @@ ghost use Rattle.std.specs.Prelude.{◌≡◌, ◌<◌, ◌+◌, ◌^◌, ℕ, L
 ghost use Rattle.std.specs.Option.{option_map};
 ghost use Rattle.ep_ip.specs.Ipv6.{next_header_of};
 ghost use Rattle.ep_ip.specs.Skip.{is_skipped};
-ghost use Rattle.ep_ext.specs.Place.{KeepsNumbers};
+ghost use Rattle.ep_ext.specs.Place.{KeepsNumbers, Order};
 ghost use Rattle.ep_ext.specs.declared.net.ipv6_ext_place.Ipv6ExtPlace.TheVariants as place;
 ghost use Rattle.ep_ipslice.specs.FaultPlace.{ip_place, ipv4_place, ipv6_place};
-ghost use Rattle.ep_ipslice.specs.IpSlice.{IsIpFault, IsWhole};
+ghost use Rattle.ep_ipslice.specs.IpSlice.{IsIpFault, IsIpFaultIn, IsWhole};
 ghost use Rattle.ep_ipslice.specs.Ipv4Packet.{ipv4_packet_at};
 ghost use Rattle.ep_ipslice.specs.Ipv6Packet.{extensions_in};
-ghost use Rattle.ep_ipslice.specs.Ipv6Fault.{IsIpv6Fault};
+ghost use Rattle.ep_ipslice.specs.Ipv6Fault.{IsFaultIn, IsIpv6Fault};
 ghost use Rattle.ep_ipslice.specs.declared.err.ip.slice_error.SliceError.{SliceError as IpFault};
 ghost use Rattle.ep_ipslice.specs.declared.err.ipv4.slice_error.SliceError.{SliceError as Ipv4Fault};
 ghost use Rattle.ep_ipslice.specs.declared.err.ipv6.slice_error.SliceError.{SliceError as Ipv6Fault};
@@ -38,10 +38,12 @@ pub fn ipv6_packet_is_alone(slice: &[u8])
 }
 
 /// Bytes that begin with no IPv6 packet have one first fault, and so have those that begin with no IP
-/// packet.
+/// packet, whatever the order in which extension headers stand.
 pub fn faults_are_alone()
-    ensures ipv6 { (bytes : List ℕ) (e f : Ipv6Fault) → IsIpv6Fault bytes e → IsIpv6Fault bytes f → e ≡ f }
-    ensures ip { (bytes : List ℕ) (e f : IpFault) → IsIpFault bytes e → IsIpFault bytes f → e ≡ f }
+    ensures ipv6 { (order : Order) (bytes : List ℕ) (e f : Ipv6Fault)
+        → IsFaultIn order bytes e → IsFaultIn order bytes f → e ≡ f }
+    ensures ip { (order : Order) (bytes : List ℕ) (e f : IpFault)
+        → IsIpFaultIn order bytes e → IsIpFaultIn order bytes f → e ≡ f }
 {
     laws::chain_is_alone();
 }
@@ -54,6 +56,11 @@ pub fn faults_can_be_moved()
     ensures ipv6 { (bytes : List ℕ) (e : Ipv6Fault) → IsIpv6Fault bytes e
         → (n : ℕ) → length bytes + n < 2 ^ 64 → ipv6_place e + n < 2 ^ 64 }
     ensures ip { (bytes : List ℕ) (e : IpFault) → IsIpFault bytes e
+        → (n : ℕ) → length bytes + n < 2 ^ 64 → ip_place e + n < 2 ^ 64 }
+    // The same under any order of extension headers.
+    ensures ipv6_in { (order : Order) (bytes : List ℕ) (e : Ipv6Fault) → IsFaultIn order bytes e
+        → (n : ℕ) → length bytes + n < 2 ^ 64 → ipv6_place e + n < 2 ^ 64 }
+    ensures ip_in { (order : Order) (bytes : List ℕ) (e : IpFault) → IsIpFaultIn order bytes e
         → (n : ℕ) → length bytes + n < 2 ^ 64 → ip_place e + n < 2 ^ 64 }
 {
     laws::faults_can_be_moved();

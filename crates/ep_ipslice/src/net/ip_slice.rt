@@ -4,11 +4,10 @@ ghost use Rattle.std.specs.Prelude.{◌≡◌, IfOk, IfErr, Ok};
 ghost use Rattle.std.specs.Option.{option_map};
 ghost use Rattle.ep_ipslice.specs.declared.net.ip_slice.IpSlice.{IpSlice};
 ghost use Rattle.ep_ipslice.specs.declared.net.ip_slice.IpSlice.TheVariants as view;
-ghost use Rattle.ep_ipslice.specs.IpSlice.{IsAddress, IsIpFault, IsIpPacket, destination_of, fragmented_of, ip_packet_at, ipv4_fault, ipv6_fault, ipv4_of, ipv6_of, payload_of, source_of};
+ghost use Rattle.ep_ipslice.specs.IpSlice.{IsAddress, IsIpFault, IsIpPacket, destination_of, fragmented_of, ip_packet_at, ipv4_of, ipv6_of, payload_of, source_of};
 
 use super::{IpPayloadSlice, Ipv4Slice, Ipv6Slice};
 use crate::err::ip::{HeaderError, HeadersError, SliceError};
-use crate::err::{ipv4, ipv6};
 use ep_base::err::{Layer, LenError};
 use ep_base::{IpNumber, LenSource};
 use std::net::{IpAddr, Ipv4Addr, Ipv6Addr};
@@ -48,13 +47,13 @@ impl<'a> IpSlice<'a> {
         if version_number == 4 {
             return match Ipv4Slice::from_slice(slice) {
                 Ok(packet) => Ok(IpSlice::Ipv4(packet)),
-                Err(error) => Err(ipv4_fault(error)),
+                Err(error) => Err(SliceError::of_ipv4(error)),
             };
         }
         if version_number == 6 {
             return match Ipv6Slice::from_slice(slice) {
                 Ok(packet) => Ok(IpSlice::Ipv6(packet)),
-                Err(error) => Err(ipv6_fault(error)),
+                Err(error) => Err(SliceError::of_ipv6(error)),
             };
         }
         Err(SliceError::IpHeaders(HeadersError::Ip(HeaderError::UnsupportedIpVersion {
@@ -146,38 +145,5 @@ impl<'a> From<Ipv6Slice<'a>> for IpSlice<'a> {
 
     fn from(packet: Ipv6Slice<'a>) -> Self {
         IpSlice::Ipv6(packet)
-    }
-}
-
-// The fault of a packet of version 4.
-fn ipv4_fault(error: ipv4::SliceError) -> SliceError
-    ensures { result ≡ ipv4_fault error }
-{
-    match error {
-        ipv4::SliceError::Len(error) => SliceError::Len(error),
-        ipv4::SliceError::Header(error) => SliceError::IpHeaders(HeadersError::Ip(match error {
-            ep_ip::err::ipv4::HeaderError::UnexpectedVersion { version_number } => {
-                HeaderError::UnsupportedIpVersion { version_number }
-            }
-            ep_ip::err::ipv4::HeaderError::HeaderLengthSmallerThanHeader { ihl } => {
-                HeaderError::Ipv4HeaderLengthSmallerThanHeader { ihl }
-            }
-        })),
-        ipv4::SliceError::Exts(error) => SliceError::IpHeaders(HeadersError::Ipv4Ext(error)),
-    }
-}
-
-// The fault of a packet of version 6.
-fn ipv6_fault(error: ipv6::SliceError) -> SliceError
-    ensures { result ≡ ipv6_fault error }
-{
-    match error {
-        ipv6::SliceError::Len(error) => SliceError::Len(error),
-        ipv6::SliceError::Header(
-            ep_ip::err::ipv6::HeaderError::UnexpectedVersion { version_number },
-        ) => SliceError::IpHeaders(HeadersError::Ip(HeaderError::UnsupportedIpVersion {
-            version_number,
-        })),
-        ipv6::SliceError::Exts(error) => SliceError::IpHeaders(HeadersError::Ipv6Ext(error)),
     }
 }

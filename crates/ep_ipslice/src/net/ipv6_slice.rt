@@ -1,24 +1,23 @@
 //! The IPv6 packet.
 
-ghost use Rattle.std.specs.Prelude.{◌≡◌, ◌⊎◌, ℕ, List, ◌++◌, IfOk, IfErr, Ok};
+ghost use Rattle.std.specs.Prelude.{◌≡◌, ℕ, List, ◌++◌, IfOk, IfErr, IsOkAnd, Ok};
 ghost use Rattle.std.specs.Prelude.{◌&&◌, nat_eq};
 ghost use Rattle.std.specs.Cmp.Lexicographic.{pointwise};
 ghost use Rattle.std.specs.Cmp.Rules.{comparing};
 ghost use Rattle.std.specs.Ordering.{on};
 ghost use Rattle.std.proofs.Common.{rules};
-ghost use Rattle.ep_ext.specs.Moved.{CanMove};
+ghost use Rattle.ep_base.specs.declared.len_source.LenSource.{LenSource};
+ghost use Rattle.ep_ip.specs.Ipv6Fault.{header_at};
 ghost use Rattle.ep_ipslice.specs.Compared.{compared_as, ordered_as};
-ghost use Rattle.ep_ipslice.specs.Packet.{Ipv6Packet, IsIpv6Packet, IsWholeIpv6, body_len, body_source};
+ghost use Rattle.ep_ipslice.specs.Packet.{Ipv6Packet, IsIpv6Body, IsIpv6Packet, IsWholeIpv6, body_len, body_source};
+ghost use Rattle.ep_ipslice.specs.Ipv6Fault.{IsCutOff, IsFrontFault, IsIpv6Fault};
 ghost use Rattle.ep_ipslice.specs.Ipv6Packet.{ipv6_packet_at};
-ghost use Rattle.ep_ipslice.specs.Ipv6Fault.{IsCutOff, IsIpv6Fault, IsRowFault, of_exts_fault, of_header_fault};
 
 use super::{IpPayloadSlice, Ipv6ExtensionsSlice};
 use crate::err::ipv6::SliceError;
 use ep_base::err::{Layer, LenError};
 use ep_base::{IpNumber, LenSource};
-use ep_ext::err::ipv6_exts::HeaderSliceError;
 use ep_ext::laws;
-use ep_ip::err::ipv6;
 use ep_ip::{Ipv6Header, Ipv6HeaderSlice};
 use std::marker::Model;
 
@@ -58,38 +57,11 @@ impl<'a> Ipv6Slice<'a> {
         ensures exact { result ≡ ipv6_packet_at slice.now }
     {
         laws::whole_header_is_found();
-        match Ipv6HeaderSlice::from_slice(slice) {
-            Ok(header) => Self::behind_header(header, slice),
-            Err(error) => Err(header_fault(error)),
-        }
-    }
-
-    // The packet of this header, which begins the slice.
-    fn behind_header(
-        header: Ipv6HeaderSlice<'a>,
-        slice: &'a [u8],
-    ) -> Result<Ipv6Slice<'a>, SliceError>
-        requires { (rest : List ℕ) × (slice.now ≡ header ++ rest) }
-        ensures found { IfOk result (λ packet. IsIpv6Packet slice.now packet) }
-        ensures only { (packet : Ipv6Packet) → IsIpv6Packet slice.now packet → header.entry ≡ packet.header
-            → result ≡ Ok packet }
-        ensures refused { IfErr result (λ e. IsCutOff slice.now header.entry e ⊎ IsRowFault slice.now header.entry e) }
-    {
         laws::row_ends_where_none_is_taken();
-        // The header that begins the slice has its 40 bytes.
-        let header_len = header.slice().len();
-        let (_, behind) = slice.split_at(header_len);
-        let (len_source, body_len) = body(&header, behind.len());
-        if behind.len() < body_len {
-            return Err(SliceError::Len(LenError {
-                required_len: Ipv6Header::LEN + body_len,
-                len: slice.len(),
-                len_source: LenSource::Slice,
-                layer: Layer::Ipv6Packet,
-                layer_start_offset: 0,
-            }));
-        }
-        let (body, _padding) = behind.split_at(body_len);
+        let (header, len_source, body) = match Self::header_and_body(slice) {
+            Ok(parts) => parts,
+            Err(error) => return Err(error),
+        };
         match Ipv6ExtensionsSlice::from_slice(header.next_header(), body) {
             Ok((exts, ip_number, payload)) => {
                 let fragmented = exts.is_fragmenting_payload();
@@ -104,8 +76,55 @@ impl<'a> Ipv6Slice<'a> {
                     },
                 })
             }
-            Err(error) => Err(exts_fault(error, len_source)),
+            Err(error) => Err(SliceError::of_extensions(error, len_source)),
         }
+    }
+
+    /// The header at the front of the slice, and the bytes behind it that are extension headers and
+    /// payload, with what their length came from. Refused are, in this order, what
+    /// [`Ipv6HeaderSlice::from_slice`] refuses, and a payload length above the bytes that are there.
+    pub fn header_and_body(
+        slice: &'a [u8],
+    ) -> Result<(Ipv6HeaderSlice<'a>, LenSource, &'a [u8]), SliceError>
+        // The slice begins with what is taken.
+        ensures found { IfOk result (λ r. IsIpv6Body slice.now r.0 r.1 r.2.now) }
+        ensures header { IfOk result (λ r. header_at slice.now ≡ Ok r.0) }
+        // A header and a body that the slice begins with are taken.
+        ensures only { (header body : List ℕ) (source : LenSource) → IsIpv6Body slice.now header source body
+            → IsOkAnd result (λ r. (r.0 ≡ header) × (r.1 ≡ source) × (r.2.now ≡ body)) }
+        // Else it is the first fault.
+        ensures refused { IfErr result (λ e. IsFrontFault slice.now e) }
+    {
+        match Ipv6HeaderSlice::from_slice(slice) {
+            Ok(header) => Self::body_behind(header, slice),
+            Err(error) => Err(SliceError::of_header(error)),
+        }
+    }
+
+    // This header, which begins the slice, and what its payload length gives it.
+    fn body_behind(
+        header: Ipv6HeaderSlice<'a>,
+        slice: &'a [u8],
+    ) -> Result<(Ipv6HeaderSlice<'a>, LenSource, &'a [u8]), SliceError>
+        requires { (rest : List ℕ) × (slice.now ≡ header ++ rest) }
+        ensures found { IfOk result (λ r. (r.0 ≡ header.entry) × IsIpv6Body slice.now header.entry r.1 r.2.now) }
+        ensures refused { IfErr result (λ e. IsCutOff slice.now header.entry e) }
+    {
+        // The header that begins the slice has its 40 bytes.
+        let header_len = header.slice().len();
+        let (_, behind) = slice.split_at(header_len);
+        let (len_source, body_len) = body(&header, behind.len());
+        if behind.len() < body_len {
+            return Err(SliceError::Len(LenError {
+                required_len: Ipv6Header::LEN + body_len,
+                len: slice.len(),
+                len_source: LenSource::Slice,
+                layer: Layer::Ipv6Packet,
+                layer_start_offset: 0,
+            }));
+        }
+        let (body, _padding) = behind.split_at(body_len);
+        Ok((header, len_source, body))
     }
 
     /// The header.
@@ -172,29 +191,5 @@ fn body(header: &Ipv6HeaderSlice<'_>, behind: usize) -> (LenSource, usize)
         (LenSource::Slice, behind)
     } else {
         (LenSource::Ipv6HeaderPayloadLen, usize::from(payload_length))
-    }
-}
-
-// A fault of the header.
-fn header_fault(error: ipv6::HeaderSliceError) -> SliceError
-    ensures { result ≡ of_header_fault error }
-{
-    match error {
-        ipv6::HeaderSliceError::Len(error) => SliceError::Len(error),
-        ipv6::HeaderSliceError::Content(error) => SliceError::Header(error),
-    }
-}
-
-// A fault of the extension headers, which stand behind the header, in what this source bounds.
-fn exts_fault(error: HeaderSliceError, len_source: LenSource) -> SliceError
-    requires { CanMove error 40 }
-    ensures { result ≡ of_exts_fault len_source error }
-{
-    match error {
-        HeaderSliceError::Len(error) => SliceError::Len(LenError {
-            len_source,
-            ..error.add_offset(Ipv6Header::LEN)
-        }),
-        HeaderSliceError::Content(error) => SliceError::Exts(error),
     }
 }

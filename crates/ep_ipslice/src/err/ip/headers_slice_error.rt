@@ -1,7 +1,7 @@
 ghost use Rattle.std.specs.Prelude.{◌≡◌};
-ghost use Rattle.ep_ipslice.specs.IpFault.{CanMove, moved};
+ghost use Rattle.ep_ipslice.specs.IpFault.{CanMove, headers_fault, moved};
 
-use super::HeadersError;
+use super::{HeadersError, SliceError};
 use ep_base::err::LenError;
 use thiserror::Error;
 
@@ -17,6 +17,16 @@ pub enum HeadersSliceError {
 }
 
 impl HeadersSliceError {
+    /// The fault of headers that have this fault as a packet.
+    pub fn of_packet(error: SliceError) -> Self
+        ensures { result ≡ headers_fault error }
+    {
+        match error {
+            SliceError::Len(error) => HeadersSliceError::Len(error),
+            SliceError::IpHeaders(error) => HeadersSliceError::Content(error),
+        }
+    }
+
     /// The same fault of headers that start `offset` bytes further on. A `Content` stays as it is.
     pub fn add_slice_offset(self, offset: usize) -> Self
         requires { CanMove self offset }

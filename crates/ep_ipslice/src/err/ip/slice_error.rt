@@ -1,4 +1,8 @@
-use super::HeadersError;
+ghost use Rattle.std.specs.Prelude.{◌≡◌};
+ghost use Rattle.ep_ipslice.specs.IpSlice.{ipv4_fault, ipv6_fault};
+
+use super::{HeaderError, HeadersError};
+use crate::err::{ipv4, ipv6};
 use ep_base::err::LenError;
 use thiserror::Error;
 
@@ -11,4 +15,41 @@ pub enum SliceError {
     /// A header breaks its format.
     #[error("{0}")]
     IpHeaders(HeadersError),
+}
+
+impl SliceError {
+    /// The fault of a packet of version 4.
+    pub fn of_ipv4(error: ipv4::SliceError) -> Self
+        ensures { result ≡ ipv4_fault error }
+    {
+        match error {
+            ipv4::SliceError::Len(error) => SliceError::Len(error),
+            ipv4::SliceError::Header(error) => {
+                SliceError::IpHeaders(HeadersError::Ip(match error {
+                    ep_ip::err::ipv4::HeaderError::UnexpectedVersion { version_number } => {
+                        HeaderError::UnsupportedIpVersion { version_number }
+                    }
+                    ep_ip::err::ipv4::HeaderError::HeaderLengthSmallerThanHeader { ihl } => {
+                        HeaderError::Ipv4HeaderLengthSmallerThanHeader { ihl }
+                    }
+                }))
+            }
+            ipv4::SliceError::Exts(error) => SliceError::IpHeaders(HeadersError::Ipv4Ext(error)),
+        }
+    }
+
+    /// The fault of a packet of version 6.
+    pub fn of_ipv6(error: ipv6::SliceError) -> Self
+        ensures { result ≡ ipv6_fault error }
+    {
+        match error {
+            ipv6::SliceError::Len(error) => SliceError::Len(error),
+            ipv6::SliceError::Header(
+                ep_ip::err::ipv6::HeaderError::UnexpectedVersion { version_number },
+            ) => SliceError::IpHeaders(HeadersError::Ip(HeaderError::UnsupportedIpVersion {
+                version_number,
+            })),
+            ipv6::SliceError::Exts(error) => SliceError::IpHeaders(HeadersError::Ipv6Ext(error)),
+        }
+    }
 }

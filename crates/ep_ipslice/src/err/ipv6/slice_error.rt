@@ -1,6 +1,12 @@
+ghost use Rattle.std.specs.Prelude.{◌≡◌};
+ghost use Rattle.ep_ext.specs.Moved.{CanMove};
+ghost use Rattle.ep_ipslice.specs.Ipv6Fault.{of_exts_fault, of_header_fault};
+
+use ep_base::LenSource;
 use ep_base::err::LenError;
 use ep_ext::err::ipv6_exts;
-use ep_ip::err::ipv6::HeaderError;
+use ep_ip::Ipv6Header;
+use ep_ip::err::ipv6::{HeaderError, HeaderSliceError};
 use thiserror::Error;
 
 /// Why no IPv6 packet could be read from a slice (RFC 8200, sections 3 and 4).
@@ -15,4 +21,31 @@ pub enum SliceError {
     /// An extension header breaks its format, or stands out of its place.
     #[error("{0}")]
     Exts(ipv6_exts::HeaderError),
+}
+
+impl SliceError {
+    /// The fault of a packet of which the header has this fault.
+    pub fn of_header(error: HeaderSliceError) -> Self
+        ensures { result ≡ of_header_fault error }
+    {
+        match error {
+            HeaderSliceError::Len(error) => SliceError::Len(error),
+            HeaderSliceError::Content(error) => SliceError::Header(error),
+        }
+    }
+
+    /// The fault of a packet of which the extension headers, behind the header, have this fault in
+    /// bytes whose length came from this source.
+    pub fn of_extensions(error: ipv6_exts::HeaderSliceError, len_source: LenSource) -> Self
+        requires { CanMove error 40 }
+        ensures { result ≡ of_exts_fault len_source error }
+    {
+        match error {
+            ipv6_exts::HeaderSliceError::Len(error) => SliceError::Len(LenError {
+                len_source,
+                ..error.add_offset(Ipv6Header::LEN)
+            }),
+            ipv6_exts::HeaderSliceError::Content(error) => SliceError::Exts(error),
+        }
+    }
 }
