@@ -11,7 +11,7 @@ use Rattle.ep_ip.specs.declared.err.ipv6.header_slice_error.HeaderSliceError.{He
 use Rattle.ep_ipslice.specs.Ipv6Fault.{IsCutOff, IsFrontFault, IsIpv6Fault, IsRowFault, InHeader, InLength, OfHeader, OfLength, of_exts_fault}
 use Rattle.ep_ext.specs.Chain.{Chain, Fault, IsEnd, IsPiece, Row, fault_at, fault_in, fault_of, front_of, layer_of}
 use Rattle.ep_ext.specs.Follow.{has_place}
-use Rattle.ep_ext.specs.Place.{KeepsNumbers, in_front, number_of}
+use Rattle.ep_ext.specs.Place.{KeepsNumbers, Order, in_front, number_of}
 use Rattle.ep_ext.specs.Value.{Piece, bytes_of, places}
 use Rattle.ep_base.specs.declared.err.len_error.LenError.{LenError}
 use Rattle.std.proofs.lemmas.Bool.{eqb-true}
@@ -91,6 +91,10 @@ pub body_fits : (bytes header : List ℕ) (source : LenSource) (body : List ℕ)
 body_fits bytes header source body is =
     omega (arith, ap length (body_parts bytes header source body is), length-append header (body ++ is.padding), length-append body is.padding, is.whole.whole)
 
+pub body_within : (bytes header : List ℕ) (source : LenSource) (body : List ℕ) → IsIpv6Body bytes header source body → 40 + length body ≤ length bytes
+body_within bytes header source body is =
+    omega (arith, ap length (body_parts bytes header source body is), length-append header (body ++ is.padding), length-append body is.padding, is.whole.whole)
+
 body_cut : (bytes header : List ℕ) (source : LenSource) (body : List ℕ) → IsIpv6Body bytes header source body → take (body_len header (length bytes - 40)) (drop 40 bytes) ≡ body
 body_cut bytes header source body is =
     ap (λ (xs : List ℕ). take (body_len header (length bytes - 40)) (drop 40 xs)) (body_parts bytes header source body is)
@@ -128,17 +132,17 @@ body_whole bytes header other source body e same is cut =
     omega (arith, body_fits bytes other source body is, is.size, short)
 
 -- a row of extension headers in a body that ends at a fault
-pub row_fault : (bytes header : List ℕ) (source : LenSource) (body : List ℕ) (pieces : List Piece) (last : ℕ) (rest : List ℕ) (first : ℕ) (fault : Fault) (e : SliceError) → IsIpv6Body bytes header source body →
-    first ≡ next_header_of header → Chain view_order first body pieces last rest → fault_of view_order pieces last rest ≡ Some fault → e ≡ of_exts_fault source fault.0 → IsRowFault view_order bytes header e
-row_fault bytes header source body pieces last rest first fault e is named chain found error = record {
+pub row_fault : (order : Order) (bytes header : List ℕ) (source : LenSource) (body : List ℕ) (pieces : List Piece) (last : ℕ) (rest : List ℕ) (fault : Fault) → IsIpv6Body bytes header source body →
+    Chain order (next_header_of header) body pieces last rest → fault_of order pieces last rest ≡ Some fault → IsRowFault order bytes header (of_exts_fault source fault.0)
+row_fault order bytes header source body pieces last rest fault is chain found = record {
   pieces = pieces;
   last = last;
   rest = rest;
   fault = fault;
   size = omega (arith, body_fits bytes header source body is, is.size);
-  chain = subst (λ (xs : List ℕ). Chain view_order (next_header_of header) xs pieces last rest) (sym (body_cut bytes header source body is)) (subst (λ (n : ℕ). Chain view_order n body pieces last rest) named chain);
+  chain = subst (λ (xs : List ℕ). Chain order (next_header_of header) xs pieces last rest) (sym (body_cut bytes header source body is)) chain;
   found = found;
-  error = error ∙ ap (λ (s : LenSource). of_exts_fault s fault.0) is.bounded;
+  error = ap (λ (s : LenSource). of_exts_fault s fault.0) is.bounded;
 }
 
 -- a packet stands where its header, its body and its extension headers were found

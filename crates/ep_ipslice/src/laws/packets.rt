@@ -1,20 +1,23 @@
 //! Laws of the definitions of IP packets.
-ghost use Rattle.std.specs.Prelude.{◌≡◌, ◌<◌, ◌+◌, ◌^◌, ℕ, List, [], ◌∷◌, ◌++◌, length, None, Some, Err, IsOkAnd, false, replicate};
+ghost use Rattle.std.specs.Prelude.{◌≡◌, ◌<◌, ◌≤◌, ◌+◌, ◌^◌, ℕ, List, [], ◌∷◌, ◌++◌, length, None, Some, Err, IsOkAnd, false, replicate};
 ghost use Rattle.std.specs.Option.{option_map};
 ghost use Rattle.ep_ip.specs.Ipv6.{next_header_of};
 ghost use Rattle.ep_ip.specs.Skip.{is_skipped};
+ghost use Rattle.ep_base.specs.declared.len_source.LenSource.{LenSource};
+ghost use Rattle.ep_ext.specs.Chain.{Chain, Fault, fault_of};
 ghost use Rattle.ep_ext.specs.Place.{KeepsNumbers, Order};
+ghost use Rattle.ep_ext.specs.Value.{Piece};
 ghost use Rattle.ep_ext.specs.declared.net.ipv6_ext_place.Ipv6ExtPlace.TheVariants as place;
 ghost use Rattle.ep_ipslice.specs.FaultPlace.{ip_place, ipv4_place, ipv6_place};
 ghost use Rattle.ep_ipslice.specs.IpSlice.{IsIpFault, IsIpFaultIn, IsWhole};
 ghost use Rattle.ep_ipslice.specs.Ipv4Packet.{ipv4_packet_at};
 ghost use Rattle.ep_ipslice.specs.Ipv6Packet.{extensions_in};
-ghost use Rattle.ep_ipslice.specs.Ipv6Fault.{IsFaultIn, IsIpv6Fault};
+ghost use Rattle.ep_ipslice.specs.Ipv6Fault.{IsFaultIn, IsIpv6Fault, IsRowFault, of_exts_fault};
 ghost use Rattle.ep_ipslice.specs.declared.err.ip.slice_error.SliceError.{SliceError as IpFault};
 ghost use Rattle.ep_ipslice.specs.declared.err.ipv4.slice_error.SliceError.{SliceError as Ipv4Fault};
 ghost use Rattle.ep_ipslice.specs.declared.err.ipv6.slice_error.SliceError.{SliceError as Ipv6Fault};
 ghost use Rattle.ep_ipslice.specs.Ipv6Exts.{view_order};
-ghost use Rattle.ep_ipslice.specs.Packet.{Ipv4Packet, Ipv6Packet, IsIpv4Packet, IsIpv6Packet, body_len, fragment_fields, ipv4_fragment_fields, ipv6_fragment_fields};
+ghost use Rattle.ep_ipslice.specs.Packet.{Ipv4Packet, Ipv6Packet, IsIpv4Packet, IsIpv6Body, IsIpv6Packet, body_len, fragment_fields, ipv4_fragment_fields, ipv6_fragment_fields};
 
 use crate::{IpSlice, Ipv4Slice, Ipv6Slice};
 use ep_base::err::LenError;
@@ -47,6 +50,17 @@ pub fn faults_are_alone()
 {
     laws::chain_is_alone();
 }
+
+/// What a header's payload length gives it lies within the bytes, and a fault at which extension headers
+/// in it end, under whatever order, is one of the bytes.
+pub fn bodies_lie_within()
+    ensures within { (bytes header : List ℕ) (source : LenSource) (body : List ℕ)
+        → IsIpv6Body bytes header source body → 40 + length body ≤ length bytes }
+    ensures fault { (order : Order) (bytes header : List ℕ) (source : LenSource) (body : List ℕ)
+        (pieces : List Piece) (last : ℕ) (rest : List ℕ) (fault : Fault) → IsIpv6Body bytes header source body
+        → Chain order (next_header_of header) body pieces last rest → fault_of order pieces last rest ≡ Some fault
+        → IsRowFault order bytes header (of_exts_fault source fault.0) }
+{}
 
 /// The place of a fault lies within the bytes, so that it can be moved by what stands in front of
 /// them.

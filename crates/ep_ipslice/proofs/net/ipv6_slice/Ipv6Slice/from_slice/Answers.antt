@@ -1,8 +1,9 @@
-use Rattle.std.proofs.Common.{ap, sym, ◌∙◌, ℕ, List, ◌++◌, ◌-◌, arith, length, Ok, Err}
+use Rattle.std.proofs.Common.{ap, subst, sym, ◌∙◌, ℕ, List, ◌++◌, ◌-◌, arith, length, Ok, Err}
 use Rattle.ep_ip.specs.Ipv6.{next_header_of}
+use Rattle.ep_ext.specs.Chain.{Chain}
 use Rattle.ep_ext.specs.Value.{bytes_of}
-use Rattle.ep_ipslice.specs.Ipv6Exts.{exts_of}
-use Rattle.ep_ipslice.specs.Ipv6Fault.{IsIpv6Fault, OfExtensions}
+use Rattle.ep_ipslice.specs.Ipv6Exts.{exts_of, view_order}
+use Rattle.ep_ipslice.specs.Ipv6Fault.{IsIpv6Fault, IsRowFault, OfExtensions}
 use Rattle.ep_ipslice.specs.Packet.{Ipv6Packet, IsIpv6Packet, body_source}
 use Rattle.ep_ipslice.proofs.Ipv6At.{told_exactly}
 use Rattle.ep_ipslice.proofs.Ipv6Parts.{body_fits, front_fault, never_refused, packet_body, packet_by_itself, packet_chain, packet_found, packet_same, payload_same, row_fault}
@@ -56,9 +57,9 @@ returns-in-Err-from_slice-clause-only c = λ packet is.
 refused : (c : goal.After-of_extensions) → IsIpv6Fault c.args.slice.now c.of_extensions.result
 refused c =
     let found = c.in-Err-from_slice.ensures.found in
-    OfExtensions c.in-Ok.parts.0 c.in-Ok.ensures.header
-    (row_fault c.args.slice.now c.in-Ok.parts.0 c.in-Ok.parts.1 c.in-Ok.parts.2.now found.0 found.1 found.2 c.next_header.result.0 (c.in-Err-from_slice.error, found.4.0) c.of_extensions.result
-    c.in-Ok.ensures.found c.next_header.ensures found.3 found.4.1 c.of_extensions.ensures)
+    let chain = subst (λ (n : ℕ). Chain view_order n c.in-Ok.parts.2.now found.0 found.1 found.2) c.next_header.ensures found.3 in
+    let row = row_fault view_order c.args.slice.now c.in-Ok.parts.0 c.in-Ok.parts.1 c.in-Ok.parts.2.now found.0 found.1 found.2 (c.in-Err-from_slice.error, found.4.0) c.in-Ok.ensures.found chain found.4.1 in
+    OfExtensions c.in-Ok.parts.0 c.in-Ok.ensures.header (subst (IsRowFault view_order c.args.slice.now c.in-Ok.parts.0) (sym c.of_extensions.ensures) row)
 
 pub returns-in-Err-from_slice-clause-refused : goal.returns-in-Err-from_slice-clause-refused
 returns-in-Err-from_slice-clause-refused c = refused c
