@@ -57,8 +57,11 @@ ipv6_in (Ipv4 h e) = None
 ipv6_in (Ipv6 h e) = Some (h, e)
 
 -- the headers and the payload of an IPv4 packet, or why there is none
+abbrev pub ipv4_parts : Ipv4Packet → IpHeaders × IpPayload
+ipv4_parts packet = (Ipv4 (header_of packet.header) (ipv4_exts_of packet.auth), ipv4_payload packet)
+
 abbrev pub with_ipv4_headers : Result Ipv4Packet SliceError → Result (IpHeaders × IpPayload) SliceError
-with_ipv4_headers (Ok packet) = Ok (Ipv4 (header_of packet.header) (ipv4_exts_of packet.auth), ipv4_payload packet)
+with_ipv4_headers (Ok packet) = Ok (ipv4_parts packet)
 with_ipv4_headers (Err e) = Err e
 
 -- the ether type of a version (IEEE 802; RFC 894; RFC 2464)

@@ -4,5 +4,6 @@ mod ip_headers;
 mod laws;
 mod net_headers;
 mod net_slice;
+mod read_ip_headers;
 mod transport_header;
 mod transport_slice;

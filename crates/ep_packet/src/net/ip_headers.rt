@@ -1,4 +1,4 @@
-ghost use Rattle.std.specs.Prelude.{◌≡◌, ◌≤◌, ◌<◌, ◌+◌, ℕ, List, length, Ok, Err, IfOk, IfErr, vec_len, vec_capacity};
+ghost use Rattle.std.specs.Prelude.{◌≡◌, ◌≤◌, ◌<◌, ◌+◌, ℕ, List, length, Ok, Err, IfOk, IfErr, IsOkAnd, vec_len, vec_capacity};
 ghost use Rattle.std.specs.Option.{option_map};
 ghost use Rattle.ep_ext.specs.Follow.{Follows, Names, header_len as exts_len};
 ghost use Rattle.ep_ext.specs.Ipv4Exts.{NamesBehind, ipv4_exts_spelling};
@@ -8,19 +8,25 @@ ghost use Rattle.ep_ext.specs.declared.net.ipv6_extensions.Ipv6Extensions.{Ipv6E
 ghost use Rattle.ep_ip.specs.Ipv4.{header_len};
 ghost use Rattle.ep_ip.specs.declared.net.ipv4_header.Ipv4Header.{Ipv4Header};
 ghost use Rattle.ep_ip.specs.declared.net.ipv6_header.Ipv6Header.{Ipv6Header};
+ghost use Rattle.ep_ext.specs.Place.{place_of};
 ghost use Rattle.ep_ipslice.specs.Ipv4Packet.{ipv4_packet_at};
-ghost use Rattle.ep_packet.specs.IpHeaders.{AppendsHeaders, AppendsIpv4, AppendsIpv6, IsLinked, ether_type_of, ip_headers_len, ipv4_in, ipv6_in, is_fragmenting, or_ipv4, or_ipv6, with_ipv4_headers, with_payload_len};
+ghost use Rattle.ep_ipslice.specs.Ipv6Fault.{IsFaultIn};
+ghost use Rattle.ep_ipslice.specs.Packet.{IpPayload};
+ghost use Rattle.ep_packet.specs.ReadIpHeaders.{IsIpHeaders, IsIpHeadersFault, IsIpv4Headers, IsIpv6Headers};
+ghost use Rattle.ep_packet.specs.declared.net.ip_headers.IpHeaders.{IpHeaders};
+ghost use Rattle.ep_packet.specs.IpHeaders.{AppendsHeaders, AppendsIpv4, AppendsIpv6, IsLinked, ether_type_of, ip_headers_len, ipv4_in, ipv4_parts, ipv6_in, is_fragmenting, or_ipv4, or_ipv6, with_ipv4_headers, with_payload_len};
 ghost use Rattle.ep_packet.specs.declared.err.ip.headers_write_error.HeadersWriteError.TheVariants.{Memory};
 ghost use Rattle.ep_packet.specs.declared.net.ip_headers.IpHeaders.TheVariants as headers;
 
 use crate::err::ip::HeadersWriteError;
-use ep_base::err::ValueTooBigError;
-use ep_base::{EtherType, IpNumber};
+use ep_base::err::{Layer, LenError, ValueTooBigError};
+use ep_base::{EtherType, IpNumber, LenSource};
 use ep_ext::err::ip_exts::ExtsWalkError;
 use ep_ext::{Ipv4Extensions, Ipv6Extensions};
 use ep_ip::{Ipv4Header, Ipv6Header};
-use ep_ipslice::err::ipv4;
-use ep_ipslice::{IpPayloadSlice, Ipv4Slice};
+use ep_ipslice::err::ip::{HeaderError, HeadersError, HeadersSliceError, SliceError};
+use ep_ipslice::err::{ipv4, ipv6};
+use ep_ipslice::{IpPayloadSlice, Ipv4Slice, Ipv6Slice, laws};
 
 /// The header of an IP packet of either version, and its extension headers.
 #[derive(Clone, Debug, PartialEq, Eq, Drop)]
@@ -55,25 +61,118 @@ impl IpHeaders {
         }
     }
 
+    /// The headers of the IP packet at the front of the slice, of the version that the upper half of its
+    /// first byte tells, and its payload. Refused are, in this order, a slice of no bytes, a version that
+    /// is neither 4 nor 6, and what `from_ipv4_slice` or `from_ipv6_slice` refuses.
+    pub fn from_slice(slice: &[u8]) -> Result<(IpHeaders, IpPayloadSlice<'_>), HeadersSliceError>
+        // The slice begins with what is taken.
+        ensures found { IfOk result (λ r. IsIpHeaders slice.now r.0 r.1) }
+        // Headers and a payload that the slice begins with are taken.
+        ensures only { (headers : IpHeaders) (payload : IpPayload) → IsIpHeaders slice.now headers payload
+            → result ≡ Ok (headers, payload) }
+        // Else it is the first fault.
+        ensures refused { IfErr result (λ e. IsIpHeadersFault slice.now e) }
+    {
+        if slice.is_empty() {
+            return Err(HeadersSliceError::Len(LenError {
+                required_len: 1,
+                len: 0,
+                len_source: LenSource::Slice,
+                layer: Layer::IpHeader,
+                layer_start_offset: 0,
+            }));
+        }
+        let version_number = slice[0] >> 4;
+        if version_number == 4 {
+            return match IpHeaders::from_ipv4_slice(slice) {
+                Ok(parts) => Ok(parts),
+                Err(error) => Err(HeadersSliceError::of_packet(SliceError::of_ipv4(error))),
+            };
+        }
+        if version_number == 6 {
+            return match IpHeaders::from_ipv6_slice(slice) {
+                Ok(parts) => Ok(parts),
+                Err(error) => Err(HeadersSliceError::of_packet(SliceError::of_ipv6(error))),
+            };
+        }
+        Err(HeadersSliceError::Content(HeadersError::Ip(HeaderError::UnsupportedIpVersion {
+            version_number,
+        })))
+    }
+
+    /// The headers of the IP packet at the front of the slice, the number behind them and the bytes of
+    /// the payload, as `from_slice` gives them.
+    pub fn read_from_slice(slice: &[u8]) -> Result<(IpHeaders, IpNumber, &[u8]), HeadersSliceError>
+        ensures found { IfOk result (λ r. (payload : IpPayload) × IsIpHeaders slice.now r.0 payload
+            × (r.1 ≡ payload.ip_number) × (r.2.now ≡ payload.payload)) }
+        ensures only { (headers : IpHeaders) (payload : IpPayload) → IsIpHeaders slice.now headers payload
+            → IsOkAnd result (λ r. (r.0 ≡ headers) × (r.1 ≡ payload.ip_number) × (r.2.now ≡ payload.payload)) }
+        ensures refused { IfErr result (λ e. IsIpHeadersFault slice.now e) }
+    {
+        match IpHeaders::from_slice(slice) {
+            Ok((headers, payload)) => Ok((headers, payload.ip_number, payload.payload)),
+            Err(error) => Err(error),
+        }
+    }
+
     /// The headers of the IPv4 packet at the front of the slice, and its payload, without the padding
     /// behind the total length. It is refused as by [`Ipv4Slice::from_slice`].
     pub fn from_ipv4_slice(
         slice: &[u8],
     ) -> Result<(IpHeaders, IpPayloadSlice<'_>), ipv4::SliceError>
-        ensures { result ≡ with_ipv4_headers (ipv4_packet_at slice.now) }
+        // The slice begins with what is taken.
+        ensures found { IfOk result (λ r. IsIpv4Headers slice.now r.0 r.1) }
+        // Headers and a payload that the slice begins with are taken.
+        ensures only { (headers : IpHeaders) (payload : IpPayload) → IsIpv4Headers slice.now headers payload
+            → result ≡ Ok (headers, payload) }
+        // Else it is the first fault.
+        ensures exact { result ≡ with_ipv4_headers (ipv4_packet_at slice.now) }
     {
-        let packet = Ipv4Slice::from_slice(slice)?;
-        let headers = IpHeaders::Ipv4(packet.header().to_header(), packet.extensions().to_header());
-        let payload = packet.payload();
-        Ok((
-            headers,
-            IpPayloadSlice {
-                ip_number: payload.ip_number,
-                fragmented: payload.fragmented,
-                len_source: payload.len_source,
-                payload: payload.payload,
-            },
-        ))
+        match Ipv4Slice::from_slice(slice) {
+            Ok(packet) => Ok(ipv4_parts(&packet)),
+            Err(error) => Err(error),
+        }
+    }
+
+    /// The headers of the IPv6 packet at the front of the slice, and its payload, without the padding
+    /// behind the payload length. Where that length is 0 and bytes stand behind the header, the packet
+    /// takes all of them.
+    ///
+    /// The extension headers are those that [`Ipv6Extensions::from_slice`] takes, and the payload begins
+    /// behind them. Refused are, in this order, what [`Ipv6Slice::header_and_body`] refuses, and what
+    /// [`Ipv6Extensions::from_slice`] refuses in the bytes that the payload length gives it.
+    pub fn from_ipv6_slice(
+        slice: &[u8],
+    ) -> Result<(IpHeaders, IpPayloadSlice<'_>), ipv6::SliceError>
+        // The slice begins with what is taken.
+        ensures found { IfOk result (λ r. IsIpv6Headers slice.now r.0 r.1) }
+        // Headers and a payload that the slice begins with are taken.
+        ensures only { (headers : IpHeaders) (payload : IpPayload) → IsIpv6Headers slice.now headers payload
+            → result ≡ Ok (headers, payload) }
+        // Else it is the first fault.
+        ensures refused { IfErr result (λ e. IsFaultIn place_of slice.now e) }
+    {
+        laws::bodies_lie_within();
+        let (header, len_source, body) = match Ipv6Slice::header_and_body(slice) {
+            Ok(parts) => parts,
+            Err(error) => return Err(error),
+        };
+        match Ipv6Extensions::from_slice(header.next_header(), body) {
+            Ok((extensions, ip_number, payload)) => {
+                let fragmented = extensions.is_fragmenting_payload();
+                let headers = IpHeaders::Ipv6(header.to_header(), extensions);
+                Ok((
+                    headers,
+                    IpPayloadSlice {
+                        ip_number,
+                        fragmented,
+                        len_source,
+                        payload,
+                    },
+                ))
+            }
+            Err(error) => Err(ipv6::SliceError::of_extensions(error, len_source)),
+        }
     }
 
     /// The length of all headers in bytes.
@@ -169,6 +268,23 @@ impl IpHeaders {
             IpHeaders::Ipv6(_, extensions) => extensions.is_fragmenting_payload(),
         }
     }
+}
+
+// The headers and the payload of the packet.
+fn ipv4_parts<'a>(packet: &Ipv4Slice<'a>) -> (IpHeaders, IpPayloadSlice<'a>)
+    ensures { result ≡ ipv4_parts packet.now }
+{
+    let headers = IpHeaders::Ipv4(packet.header().to_header(), packet.extensions().to_header());
+    let payload = packet.payload();
+    (
+        headers,
+        IpPayloadSlice {
+            ip_number: payload.ip_number,
+            fragmented: payload.fragmented,
+            len_source: payload.len_source,
+            payload: payload.payload,
+        },
+    )
 }
 
 fn write_ipv4(

@@ -1,0 +1,36 @@
+use Rattle.std.proofs.Common.{sym, subst, ◌∙◌, ap, refl}
+use Rattle.ep_ext.specs.Place.{place_of}
+use Rattle.ep_ip.specs.Ipv6.{next_header_of}
+use Rattle.ep_ipslice.specs.Ipv6Fault.{IsRowFault, OfExtensions}
+use Rattle.ep_packet.proofs.ReadHeaders.{chain_same, front_fault, ipv6_only, never_refused}
+use Rattle.ep_packet.proofs.net.ip_headers.IpHeaders.from_ipv6_slice.Goals as goal
+
+pub returns-in-Err-clause-only : goal.returns-in-Err-clause-only
+returns-in-Err-clause-only c = λ headers payload is. absurd (c.in-Err.ensures.only is.header is.body is.source is.begins)
+
+pub returns-in-Err-clause-refused : goal.returns-in-Err-clause-refused
+returns-in-Err-clause-refused c = front_fault place_of c.args.slice.now c.in-Err.error c.in-Err.ensures.refused
+
+pub returns-in-Ok-from_slice-clause-only : goal.returns-in-Ok-from_slice-clause-only
+returns-in-Ok-from_slice-clause-only c = λ headers payload is.
+    let front = c.in-Ok.ensures.only is.header is.body is.source is.begins in
+    let chain = chain_same c.next_header.result.0 (next_header_of is.header) c.in-Ok.parts.2.now is.body is.pieces is.last payload.payload (c.next_header.ensures ∙ ap next_header_of front.0) front.2 is.chain in
+    let answers = c.in-Ok-from_slice.ensures.only is.pieces is.last payload.payload chain in
+    ipv6_only c.args.slice.now headers payload is c.to_header.result c.in-Ok.parts.0 c.in-Ok-from_slice.extensions c.in-Ok-from_slice.ip_number c.is_fragmenting_payload-fragmented.result c.in-Ok.parts.1 c.in-Ok-from_slice.payload.now
+    c.to_header.ensures front.0 answers.0 answers.1 c.is_fragmenting_payload-fragmented.ensures front.1 answers.2
+
+pub returns-in-Err-from_slice-clause-only : goal.returns-in-Err-from_slice-clause-only
+returns-in-Err-from_slice-clause-only c = λ headers payload is.
+    let front = c.in-Ok.ensures.only is.header is.body is.source is.begins in
+    let chain = chain_same c.next_header.result.0 (next_header_of is.header) c.in-Ok.parts.2.now is.body is.pieces is.last payload.payload (c.next_header.ensures ∙ ap next_header_of front.0) front.2 is.chain in
+    let refused = c.in-Err-from_slice.ensures.only is.pieces is.last payload.payload chain in
+    absurd (never_refused is.pieces is.last payload.payload (c.in-Err-from_slice.error, refused.0) is.ended refused.1)
+
+pub returns-in-Err-from_slice-clause-refused : goal.returns-in-Err-from_slice-clause-refused
+returns-in-Err-from_slice-clause-refused c =
+    let found = c.in-Err-from_slice.ensures.found in
+    let header = c.in-Ok.parts.0 in
+    let body = c.in-Ok.parts.2.now in
+    let chain = chain_same (next_header_of header) c.next_header.result.0 body body found.0 found.1 found.2 (sym c.next_header.ensures) refl found.3 in
+    let row = c.bodies_lie_within.ensures.fault place_of c.args.slice.now header c.in-Ok.parts.1 body found.0 found.1 found.2 (c.in-Err-from_slice.error, found.4.0) c.in-Ok.ensures.found chain found.4.1 in
+    OfExtensions header c.in-Ok.ensures.header (subst (IsRowFault place_of c.args.slice.now header) (sym c.of_extensions.ensures) row)

@@ -1,0 +1,89 @@
+//! Headers of IP packets in slices. The bytes were worked out by hand after RFC 791 and 8200.
+use crate::IpHeaders;
+use ep_base::err::{Layer, LenError};
+use ep_base::{IpNumber, LenSource};
+use ep_ipslice::err::ip::{HeaderError, HeadersError, HeadersSliceError};
+use ep_ipslice::err::ipv6::SliceError;
+use std::test::Fail;
+
+// An IPv6 packet whose payload length is 16: a fragment header of a first fragment that names this
+// number, eight bytes, and one of padding.
+fn ipv6_packet(next: u8) -> [u8; 57] {
+    let mut packet = [7; 57];
+    packet[..8].copy_from_slice(&[0x60, 0, 0, 0, 0, 16, 44, 64]);
+    packet[40..48].copy_from_slice(&[next, 0, 0, 1, 0, 0, 0, 7]);
+    packet[48..].copy_from_slice(&[1, 2, 3, 4, 5, 6, 7, 8, 0]);
+    packet
+}
+
+#[test]
+fn headers_of_an_ipv6_packet(rt: HostRuntime) -> Result<(), Fail> {
+    let packet = ipv6_packet(17);
+    let (headers, payload) = IpHeaders::from_ipv6_slice(&packet)?;
+    assert!(rt; headers.header_len() == 48);
+    assert!(rt; headers.is_fragmenting_payload());
+    assert!(rt; payload.ip_number == IpNumber(17));
+    assert!(rt; payload.fragmented);
+    assert!(rt; payload.len_source == LenSource::Ipv6HeaderPayloadLen);
+    assert!(rt; payload.payload == [1, 2, 3, 4, 5, 6, 7, 8].as_slice());
+    Ok(())
+}
+
+// Destination options behind the fragment header, of (2 + 1) * 8 bytes, where eight are left.
+#[test]
+fn extension_header_cut_off(rt: HostRuntime) {
+    let mut packet = ipv6_packet(60);
+    packet[49] = 2;
+    let want = LenError {
+        required_len: 24,
+        len: 8,
+        len_source: LenSource::Ipv6HeaderPayloadLen,
+        layer: Layer::Ipv6ExtHeader,
+        layer_start_offset: 48,
+    };
+    let refused = IpHeaders::from_ipv6_slice(&packet).err();
+    assert!(rt; refused == Some(SliceError::Len(want)));
+    let refused = IpHeaders::from_slice(&packet).err();
+    assert!(rt; refused == Some(HeadersSliceError::Len(want)));
+}
+
+// A second fragment header ends the headers, since a value holds one.
+#[test]
+fn second_fragment_header(rt: HostRuntime) {
+    let packet = ipv6_packet(44);
+    let payload = IpHeaders::from_ipv6_slice(&packet).map(|(_, payload)| payload.ip_number);
+    assert!(rt; payload == Ok(IpNumber(44)));
+}
+
+#[test]
+fn version_tells_the_headers(rt: HostRuntime) {
+    let packet = ipv6_packet(17);
+    let read = IpHeaders::read_from_slice(&packet);
+    assert!(rt; read.is_ok());
+    if let Ok((headers, number, payload)) = read {
+        assert!(rt; headers.ipv6().is_some());
+        assert!(rt; number == IpNumber(17));
+        assert!(rt; payload.len() == 8);
+    }
+    let mut ipv4 = [0; 20];
+    ipv4[0] = 0x45;
+    ipv4[3] = 20;
+    assert!(rt; IpHeaders::from_slice(&ipv4).is_ok());
+    assert!(rt; IpHeaders::read_from_slice(&ipv4[..19]).is_err());
+}
+
+#[test]
+fn neither_version(rt: HostRuntime) {
+    let want = LenError {
+        required_len: 1,
+        len: 0,
+        len_source: LenSource::Slice,
+        layer: Layer::IpHeader,
+        layer_start_offset: 0,
+    };
+    let refused = IpHeaders::from_slice(&[]).err();
+    assert!(rt; refused == Some(HeadersSliceError::Len(want)));
+    let other = HeaderError::UnsupportedIpVersion { version_number: 5 };
+    let refused = IpHeaders::from_slice(&[0x5f]).err();
+    assert!(rt; refused == Some(HeadersSliceError::Content(HeadersError::Ip(other))));
+}
