@@ -35,8 +35,9 @@ pub fn copies_never_fail<'a>()
 {}
 
 /// Equal are the values that are the same: all fields of a header or an error, all bytes of a slice or
-/// of options. (Of IPv4 headers `laws::ipv4::headers_are_equal_as_fields` says it.)
+/// of options.
 pub fn equals_are_same<'a>()
+    ensures ipv4_header { EqualIsSame ⟦<Ipv4Header as PartialEq>⟧.eq }
     ensures ipv4_header_slice { EqualIsSame ⟦<Ipv4HeaderSlice<'a> as PartialEq>⟧.eq }
     ensures ipv4_options { EqualIsSame ⟦<Ipv4Options as PartialEq>⟧.eq }
     ensures ipv6_header { EqualIsSame ⟦<Ipv6Header as PartialEq>⟧.eq }
