@@ -1,1 +1,2 @@
 mod ReadHeaders
+mod SameNet

@@ -2,6 +2,7 @@ pub mod HeadersWriteError
 pub mod IpHeaders
 pub mod NetHeaders
 pub mod NetSlice
+pub mod Payload
 pub mod ReadIpHeaders
 pub mod Readable
 pub mod Transport

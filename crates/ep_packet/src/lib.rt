@@ -4,9 +4,11 @@
 pub mod err;
 pub mod laws;
 mod net;
+mod payload_slice;
 mod transport;
 
 pub use net::{IpHeader, IpHeaders, NetHeaders, NetSlice};
+pub use payload_slice::PayloadSlice;
 pub use transport::{TransportHeader, TransportSlice};
 
 #[cfg(test)]

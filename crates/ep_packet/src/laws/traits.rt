@@ -1,10 +1,15 @@
 //! What `Clone` and `PartialEq` of the types here mean, each clause about the relation that the type's
 //! own impl names.
+ghost use Rattle.std.specs.Prelude.{◌≡◌, ◌↔◌, IsTrue};
+ghost use Rattle.std.specs.Cmp.Lexicographic.{slice_cmp};
+ghost use Rattle.std.specs.Ordering.{nat_cmp};
 ghost use Rattle.ep_base.specs.Traits.{CopyIsValue, CopyNeverFails, EqualIsSame};
+ghost use Rattle.ep_packet.specs.Payload.{ordered_as, payload_told};
+ghost use Rattle.ep_packet.specs.declared.payload_slice.PayloadSlice.{PayloadSlice};
 
 use crate::err::ip::HeadersWriteError;
 use crate::err::packet::{SliceError, TransportChecksumError};
-use crate::{IpHeaders, NetHeaders, NetSlice, TransportHeader, TransportSlice};
+use crate::{IpHeaders, NetHeaders, NetSlice, PayloadSlice, TransportHeader, TransportSlice};
 
 /// A copy is the value: of a header its fields, of a slice its bytes.
 pub fn copies_are_values<'a>()
@@ -61,4 +66,34 @@ pub fn equals_are_same<'a>()
     ep_link::laws::traits::equals_are_same();
     ep_tag::laws::traits::equals_are_same();
     ep_tcpudp::laws::traits::equals_are_same();
+}
+
+/// So are headers and packets of the network layer.
+pub fn equal_net_is_same<'a>()
+    ensures ip_headers { EqualIsSame ⟦<IpHeaders as PartialEq>⟧.eq }
+    ensures net_headers { EqualIsSame ⟦<NetHeaders as PartialEq>⟧.eq }
+    ensures net_slice { EqualIsSame ⟦<NetSlice<'a> as PartialEq>⟧.eq }
+{
+    ep_ext::laws::traits::equals_are_same();
+    ep_ip::laws::traits::equals_are_same();
+    ep_ipslice::laws::traits::equals_are_same();
+    ep_link::laws::traits::equals_are_same();
+}
+
+/// A copy of a payload tells the same.
+pub fn copies_of_payloads_are_values<'a>()
+    ensures value { (value copy : PayloadSlice) → ⟦<PayloadSlice<'a> as Clone>⟧.is_clone value copy
+        → payload_told copy ≡ payload_told value }
+    ensures fails { CopyNeverFails ⟦<PayloadSlice<'a> as Clone>⟧.is_infallible }
+{}
+
+/// Equal are payloads that tell the same. They are ordered by their kinds, as the variants stand, then
+/// as what they hold.
+pub fn payloads_are_told_apart<'a>()
+    ensures equal { (a b : PayloadSlice) → IsTrue (⟦<PayloadSlice<'a> as PartialEq>⟧.eq a b) ↔ (payload_told a ≡ payload_told b) }
+    ensures order { (a b : PayloadSlice) → ⟦<PayloadSlice<'a> as Ord>⟧.cmp a b
+        ≡ slice_cmp nat_cmp (ordered_as (payload_told a)) (ordered_as (payload_told b)) }
+{
+    ep_ipslice::laws::traits::equals_are_same();
+    ep_tag::laws::traits::equals_are_same();
 }

@@ -1,0 +1,52 @@
+-- What stands behind the headers of a packet.
+use Rattle.std.specs.Prelude.{ℕ, List, [], ◌∷◌}
+use Rattle.ep_ipslice.specs.Compared.{ordered_as as ip_ordered_as}
+use Rattle.ep_ipslice.specs.Packet.{IpPayload}
+use Rattle.ep_packet.specs.declared.payload_slice.PayloadSlice.{PayloadSlice}
+use Rattle.ep_packet.specs.declared.payload_slice.PayloadSlice.TheVariants as slice
+use Rattle.ep_tag.specs.Ether.{EtherPayload}
+use Rattle.ep_tag.specs.EtherOrder.{ordered_as as ether_ordered_as}
+
+-- nothing that is known; bytes that an ether type names; bytes that MACsec changed; bytes of an IP
+-- packet; and those of a message of each protocol that is read
+pub data Payload : Type 0 where
+  Empty : Payload
+  Ether : EtherPayload → Payload
+  MacsecMod : List ℕ → Payload
+  Ip : IpPayload → Payload
+  Udp : List ℕ → Payload
+  Tcp : List ℕ → Payload
+  Icmpv4 : List ℕ → Payload
+  Icmpv6 : List ℕ → Payload
+
+-- what a payload that is lent tells
+abbrev pub payload_told : PayloadSlice → Payload
+payload_told slice.Empty = Empty
+payload_told (slice.Ether p) = Ether p
+payload_told (slice.MacsecMod bytes) = MacsecMod bytes.now
+payload_told (slice.Ip p) = Ip p
+payload_told (slice.Udp bytes) = Udp bytes.now
+payload_told (slice.Tcp bytes) = Tcp bytes.now
+payload_told (slice.Icmpv4 bytes) = Icmpv4 bytes.now
+payload_told (slice.Icmpv6 bytes) = Icmpv6 bytes.now
+
+abbrev pub bytes_of : Payload → List ℕ
+bytes_of Empty = []
+bytes_of (Ether p) = p.payload
+bytes_of (MacsecMod bytes) = bytes
+bytes_of (Ip p) = p.payload
+bytes_of (Udp bytes) = bytes
+bytes_of (Tcp bytes) = bytes
+bytes_of (Icmpv4 bytes) = bytes
+bytes_of (Icmpv6 bytes) = bytes
+
+-- the place of the kind among the variants, and then all of the payload, which tells payloads apart
+abbrev pub ordered_as : Payload → List ℕ
+ordered_as Empty = 0 ∷ []
+ordered_as (Ether p) = 1 ∷ ether_ordered_as p
+ordered_as (MacsecMod bytes) = 2 ∷ bytes
+ordered_as (Ip p) = 3 ∷ ip_ordered_as p
+ordered_as (Udp bytes) = 4 ∷ bytes
+ordered_as (Tcp bytes) = 5 ∷ bytes
+ordered_as (Icmpv4 bytes) = 6 ∷ bytes
+ordered_as (Icmpv6 bytes) = 7 ∷ bytes
