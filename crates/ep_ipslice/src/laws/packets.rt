@@ -1,5 +1,5 @@
 //! Laws of the definitions of IP packets.
-ghost use Rattle.std.specs.Prelude.{◌≡◌, ◌<◌, ◌≤◌, ◌+◌, ◌^◌, ℕ, List, [], ◌∷◌, ◌++◌, length, None, Some, Err, IsOkAnd, false, replicate};
+ghost use Rattle.std.specs.Prelude.{◌≡◌, ◌↔◌, ◌<◌, ◌≤◌, ◌+◌, ◌^◌, ℕ, List, [], ◌∷◌, ◌++◌, length, None, Some, Ok, Err, IsOkAnd, false, replicate};
 ghost use Rattle.std.specs.Option.{option_map};
 ghost use Rattle.ep_ip.specs.Ipv6.{next_header_of};
 ghost use Rattle.ep_ip.specs.Skip.{is_skipped};
@@ -11,7 +11,7 @@ ghost use Rattle.ep_ext.specs.declared.net.ipv6_ext_place.Ipv6ExtPlace.TheVarian
 ghost use Rattle.ep_ipslice.specs.FaultPlace.{ip_place, ipv4_place, ipv6_place};
 ghost use Rattle.ep_ipslice.specs.IpSlice.{IsIpFault, IsIpFaultIn, IsWhole};
 ghost use Rattle.ep_ipslice.specs.Ipv4Packet.{ipv4_packet_at};
-ghost use Rattle.ep_ipslice.specs.Ipv6Packet.{extensions_in};
+ghost use Rattle.ep_ipslice.specs.Ipv6Packet.{extensions_in, ipv6_packet_at};
 ghost use Rattle.ep_ipslice.specs.Ipv6Fault.{IsFaultIn, IsIpv6Fault, IsRowFault, of_exts_fault};
 ghost use Rattle.ep_ipslice.specs.declared.err.ip.slice_error.SliceError.{SliceError as IpFault};
 ghost use Rattle.ep_ipslice.specs.declared.err.ipv4.slice_error.SliceError.{SliceError as Ipv4Fault};
@@ -61,6 +61,17 @@ pub fn bodies_lie_within()
         → Chain order (next_header_of header) body pieces last rest → fault_of order pieces last rest ≡ Some fault
         → IsRowFault order bytes header (of_exts_fault source fault.0) }
 {}
+
+/// The packet that is found at the front of bytes is one that they begin with, and one that they begin
+/// with is found.
+pub fn packets_are_their_parts(slice: &[u8])
+    ensures ipv4 { (packet : Ipv4Packet) → (ipv4_packet_at slice.now ≡ Ok packet) ↔ IsIpv4Packet slice.now packet }
+    ensures ipv6 { (packet : Ipv6Packet) → (ipv6_packet_at slice.now ≡ Ok packet) ↔ IsIpv6Packet slice.now packet }
+{
+    // For the proof alone.
+    let _ipv4 = Ipv4Slice::from_slice(slice);
+    let _ipv6 = Ipv6Slice::from_slice(slice);
+}
 
 /// The place of a fault lies within the bytes, so that it can be moved by what stands in front of
 /// them.
