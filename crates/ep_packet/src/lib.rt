@@ -3,12 +3,17 @@
 
 pub mod err;
 pub mod laws;
+mod layer_slices;
 mod net;
 mod payload_slice;
+mod slice_fault;
+mod sliced_packet;
+mod tagged_slice;
 mod transport;
 
 pub use net::{IpHeader, IpHeaders, NetHeaders, NetSlice};
 pub use payload_slice::PayloadSlice;
+pub use sliced_packet::SlicedPacket;
 pub use transport::{TransportHeader, TransportSlice};
 
 #[cfg(test)]

@@ -1,0 +1,90 @@
+-- Where the parts of a frame stand in it.
+use Rattle.std.specs.Prelude.{◌≡◌, ℕ, ◌+◌, ⊤, List, [], ◌∷◌, ◌++◌, length, Option, Some, None, IfSome}
+use Rattle.ep_ext.specs.Ipv4Exts.{auth_bytes}
+use Rattle.ep_packet.specs.Sliced.{Layers, no_layers}
+use Rattle.ep_packet.specs.Tags.{Tagged}
+use Rattle.ep_packet.specs.declared.net.net_slice.NetSlice.{NetSlice}
+use Rattle.ep_packet.specs.declared.net.net_slice.NetSlice.TheVariants as net
+use Rattle.ep_packet.specs.declared.sliced_packet.SlicedPacket.{SlicedPacket}
+use Rattle.ep_packet.specs.declared.transport.transport_slice.TransportSlice.{TransportSlice}
+use Rattle.ep_packet.specs.declared.transport.transport_slice.TransportSlice.TheVariants as transport
+use Rattle.ep_tag.specs.Ether.{EtherPayload}
+use Rattle.ep_tag.specs.LinkExt.{payload_behind, tag_len}
+use Rattle.ep_tag.specs.MacsecPayload.{MacsecPayload, Unmodified, Modified}
+use Rattle.ep_tag.specs.declared.link.link_ext_slice.LinkExtSlice.{LinkExtSlice}
+use Rattle.ep_tag.specs.declared.link.link_ext_slice.LinkExtSlice.TheVariants as tag
+
+-- the part is the bytes from this place on, as far as it is long
+pub record IsAt (bytes : List ℕ) (place : ℕ) (part : List ℕ) : Type 0 where
+  pub before : List ℕ
+  pub after : List ℕ
+  pub here : length before ≡ place
+  pub parts : bytes ≡ before ++ part ++ after
+
+abbrev pub macsec_bytes : MacsecPayload → List ℕ
+macsec_bytes (Unmodified p) = p.payload
+macsec_bytes (Modified bytes) = bytes
+
+-- a VLAN tag with all that follows it, or a MACsec header and its payload
+abbrev pub IsTagAt : List ℕ → ℕ → LinkExtSlice → Type 0
+IsTagAt frame place (tag.Vlan bytes) = IsAt frame place bytes
+IsTagAt frame place (tag.Macsec macsec) = IsAt frame place macsec.header × IsAt frame (place + length macsec.header) (macsec_bytes macsec.payload)
+
+-- each tag stands where the one in front of it ends
+abbrev pub AreTagsAt : List ℕ → ℕ → List LinkExtSlice → Type 0
+AreTagsAt frame place [] = ⊤
+AreTagsAt frame place (t ∷ tags) = IsTagAt frame place t × AreTagsAt frame (place + tag_len t) tags
+
+abbrev pub tags_len : List LinkExtSlice → ℕ
+tags_len [] = 0
+tags_len (t ∷ tags) = tag_len t + tags_len tags
+
+-- header, extension headers and payload one behind the other
+abbrev pub IsNetAt : List ℕ → ℕ → NetSlice → Type 0
+IsNetAt frame place (net.Ipv4 packet) =
+    IsAt frame place packet.header × IsAt frame (place + length packet.header) (auth_bytes packet.auth)
+    × IsAt frame (place + length packet.header + length (auth_bytes packet.auth)) packet.payload
+IsNetAt frame place (net.Ipv6 packet) =
+    IsAt frame place packet.header × IsAt frame (place + length packet.header) packet.exts.slice
+    × IsAt frame (place + length packet.header + length packet.exts.slice) packet.payload.payload
+IsNetAt frame place (net.Arp packet) = IsAt frame place packet
+
+-- the bytes in front of a packet's payload
+abbrev pub headers_len : Option NetSlice → ℕ
+headers_len None = 0
+headers_len (Some (net.Ipv4 packet)) = length packet.header + length (auth_bytes packet.auth)
+headers_len (Some (net.Ipv6 packet)) = length packet.header + length packet.exts.slice
+headers_len (Some (net.Arp packet)) = length packet
+
+-- the bytes of a message
+abbrev pub transport_bytes : TransportSlice → List ℕ
+transport_bytes (transport.Udp m) = m
+transport_bytes (transport.Tcp m) = m
+transport_bytes (transport.Icmpv4 m) = m
+transport_bytes (transport.Icmpv6 m) = m
+
+-- network layer and transport layer from a place on
+pub record LayersIn (frame : List ℕ) (place : ℕ) (layers : Layers) : Type 0 where
+  pub net : IfSome layers.net (IsNetAt frame place)
+  pub transport : IfSome layers.transport (λ message. IsAt frame (place + headers_len layers.net) (transport_bytes message))
+
+-- the layers in what an ether type names, if it was named
+abbrev pub LayersBehind : Option EtherPayload → Layers → Type 0
+LayersBehind None layers = layers ≡ no_layers
+LayersBehind (Some q) layers = LayersIn q.payload 0 layers
+
+-- a tag at the front of some bytes, and what stands behind it
+pub record TagIn (bytes : List ℕ) (t : LinkExtSlice) : Type 0 where
+  pub tag : IsTagAt bytes 0 t
+  pub next : IfSome (payload_behind t) (λ next. IsAt bytes (tag_len t) next.payload)
+
+-- the tags from a place on, and what stands behind them
+pub record TagsIn (frame : List ℕ) (place : ℕ) (t : Tagged) : Type 0 where
+  pub tags : AreTagsAt frame place t.tags
+  pub len : t.len ≡ tags_len t.tags
+  pub last : IfSome t.last (λ q. IsAt frame (place + t.len) q.payload)
+
+-- every part of a packet is the frame from its place on; this is where its tags begin
+pub record ArePartsOf (frame : List ℕ) (place : ℕ) (packet : SlicedPacket) : Type 0 where
+  pub tags : AreTagsAt frame place packet.link_exts.items
+  pub layers : LayersIn frame (place + tags_len packet.link_exts.items) (record { net = packet.net; transport = packet.transport })

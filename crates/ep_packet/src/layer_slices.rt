@@ -1,0 +1,212 @@
+//! The network layer and the transport layer in a payload.
+ghost use Rattle.std.specs.Prelude.{◌≡◌, ◌<◌, ◌+◌, ◌^◌, ℕ, length, IfErr, IfOk, IfSome};
+ghost use Rattle.ep_ext.specs.Ipv4Exts.{auth_bytes};
+ghost use Rattle.ep_ipslice.specs.IpSlice.{ip_packet_at};
+ghost use Rattle.ep_ipslice.specs.Ipv4Packet.{ipv4_packet_at};
+ghost use Rattle.ep_ipslice.specs.Ipv6Packet.{ipv6_packet_at};
+ghost use Rattle.ep_ipslice.specs.Packet.{IsIpv4Packet, IsIpv6Packet};
+ghost use Rattle.ep_packet.specs.Parts.{IsAt, LayersBehind, LayersIn, transport_bytes};
+ghost use Rattle.ep_packet.specs.Readable.{message_at};
+ghost use Rattle.ep_packet.specs.SliceFault.{place_of};
+ghost use Rattle.ep_packet.specs.Sliced.{Layers, in_ipv4, in_ipv6, ip_layers, ipv4_layers, ipv6_layers, layers_in, layers_of, read_transport, transport_in};
+
+use crate::err::packet::SliceError;
+use crate::{NetSlice, TransportSlice, slice_fault};
+use ep_base::{EtherType, IpNumber};
+use ep_icmp::{Icmpv4Slice, Icmpv6Slice};
+use ep_ipslice::{IpPayloadSlice, IpSlice, Ipv4Slice, Ipv6Slice, laws};
+use ep_link::ArpPacketSlice;
+use ep_tag::EtherPayloadSlice;
+use ep_tcpudp::{TcpSlice, UdpSlice};
+use std::marker::Model;
+
+/// The packet of the network layer and the message in it.
+#[derive(Drop)]
+pub(crate) struct LayerSlices<'a> {
+    pub net: Option<NetSlice<'a>>,
+    pub transport: Option<TransportSlice<'a>>,
+}
+
+impl<'a> Model for LayerSlices<'a> {
+    ghost Value = { Layers };
+
+    ghost view = { λ layers. record { net = layers.net; transport = layers.transport } };
+}
+
+impl<'a> LayerSlices<'a> {
+    /// The layers in what the last ether type names, if there is one.
+    pub(crate) fn behind_tags(
+        last: &Option<EtherPayloadSlice<'a>>,
+    ) -> Result<LayerSlices<'a>, SliceError>
+        ensures layers { result ≡ layers_in last.now }
+        ensures parts { IfOk result (λ layers. LayersBehind last.now layers) }
+        ensures place { IfErr result (λ e. IfSome last.now (λ q. (n : ℕ) → length q.payload + n < 2 ^ 64 → place_of e + n < 2 ^ 64)) }
+    {
+        match last {
+            Some(payload) => Self::from_ether_payload(payload),
+            None => Ok(LayerSlices {
+                net: None,
+                transport: None,
+            }),
+        }
+    }
+
+    fn from_ether_payload(
+        payload: &EtherPayloadSlice<'a>,
+    ) -> Result<LayerSlices<'a>, SliceError>
+        ensures layers { result ≡ layers_of payload.now }
+        ensures parts { IfOk result (λ layers. LayersIn payload.now.payload 0 layers) }
+        ensures place { IfErr result (λ e. (n : ℕ) → length payload.now.payload + n < 2 ^ 64 → place_of e + n < 2 ^ 64) }
+    {
+        match payload.ether_type {
+            EtherType::IPV4 => Self::from_ipv4(payload.payload),
+            EtherType::IPV6 => Self::from_ipv6(payload.payload),
+            EtherType::ARP => match ArpPacketSlice::from_slice(payload.payload) {
+                Ok(packet) => Ok(LayerSlices {
+                    net: Some(NetSlice::Arp(packet)),
+                    transport: None,
+                }),
+                Err(error) => Err(SliceError::Len(error)),
+            },
+            _ => Ok(LayerSlices {
+                net: None,
+                transport: None,
+            }),
+        }
+    }
+
+    fn from_ipv4(slice: &'a [u8]) -> Result<LayerSlices<'a>, SliceError>
+        ensures layers { result ≡ ipv4_layers (ipv4_packet_at slice.now) }
+        ensures parts { IfOk result (λ layers. LayersIn slice.now 0 layers) }
+        ensures place { IfErr result (λ e. (n : ℕ) → length slice.now + n < 2 ^ 64 → place_of e + n < 2 ^ 64) }
+    {
+        laws::faults_can_be_moved();
+        match Ipv4Slice::from_slice(slice) {
+            Ok(packet) => Self::in_ipv4(packet, slice),
+            Err(error) => Err(slice_fault::of_ipv4(error)),
+        }
+    }
+
+    fn from_ipv6(slice: &'a [u8]) -> Result<LayerSlices<'a>, SliceError>
+        ensures layers { result ≡ ipv6_layers (ipv6_packet_at slice.now) }
+        ensures parts { IfOk result (λ layers. LayersIn slice.now 0 layers) }
+        ensures place { IfErr result (λ e. (n : ℕ) → length slice.now + n < 2 ^ 64 → place_of e + n < 2 ^ 64) }
+    {
+        laws::faults_can_be_moved();
+        match Ipv6Slice::from_slice(slice) {
+            Ok(packet) => Self::in_ipv6(packet, slice),
+            Err(error) => Err(slice_fault::of_ipv6(error)),
+        }
+    }
+
+    /// The layers in an IP packet of either version.
+    pub(crate) fn from_ip(slice: &'a [u8]) -> Result<LayerSlices<'a>, SliceError>
+        ensures layers { result ≡ ip_layers (ip_packet_at slice.now) }
+        ensures parts { IfOk result (λ layers. LayersIn slice.now 0 layers) }
+        ensures place { IfErr result (λ e. (n : ℕ) → length slice.now + n < 2 ^ 64 → place_of e + n < 2 ^ 64) }
+    {
+        laws::faults_can_be_moved();
+        match IpSlice::from_slice(slice) {
+            Ok(IpSlice::Ipv4(packet)) => Self::in_ipv4(packet, slice),
+            Ok(IpSlice::Ipv6(packet)) => Self::in_ipv6(packet, slice),
+            Err(error) => Err(slice_fault::of_ip(error)),
+        }
+    }
+
+    fn in_ipv4(packet: Ipv4Slice<'a>, slice: &'a [u8]) -> Result<LayerSlices<'a>, SliceError>
+        requires { IsIpv4Packet slice.now packet }
+        ensures layers { result ≡ in_ipv4 packet.entry }
+        ensures parts { IfOk result (λ layers. LayersIn slice.now 0 layers) }
+        ensures place { IfErr result (λ e. (n : ℕ) → length slice.now + n < 2 ^ 64 → place_of e + n < 2 ^ 64) }
+    {
+        let transport = match transport_in(packet.payload()) {
+            Ok(transport) => transport,
+            Err(error) => {
+                return Err(slice_fault::moved(error, ipv4_headers_len(&packet)));
+            }
+        };
+        Ok(LayerSlices {
+            net: Some(NetSlice::Ipv4(packet)),
+            transport,
+        })
+    }
+
+    fn in_ipv6(packet: Ipv6Slice<'a>, slice: &'a [u8]) -> Result<LayerSlices<'a>, SliceError>
+        requires { IsIpv6Packet slice.now packet }
+        ensures layers { result ≡ in_ipv6 packet.entry }
+        ensures parts { IfOk result (λ layers. LayersIn slice.now 0 layers) }
+        ensures place { IfErr result (λ e. (n : ℕ) → length slice.now + n < 2 ^ 64 → place_of e + n < 2 ^ 64) }
+    {
+        let transport = match transport_in(packet.payload()) {
+            Ok(transport) => transport,
+            Err(error) => {
+                return Err(slice_fault::moved(error, ipv6_headers_len(&packet)));
+            }
+        };
+        Ok(LayerSlices {
+            net: Some(NetSlice::Ipv6(packet)),
+            transport,
+        })
+    }
+}
+
+// How many bytes stand in front of the payload.
+fn ipv4_headers_len(packet: &Ipv4Slice<'_>) -> usize
+    ensures { result ≡ length packet.now.header + length (auth_bytes packet.now.auth) }
+{
+    let header_len = packet.header().slice().len();
+    match &packet.extensions().auth {
+        Some(auth) => header_len + auth.slice().len(),
+        None => header_len,
+    }
+}
+
+fn ipv6_headers_len(packet: &Ipv6Slice<'_>) -> usize
+    ensures { result ≡ length packet.now.header + length packet.now.exts.slice }
+{
+    packet.header().slice().len() + packet.extensions().slice().len()
+}
+
+// The message that the payload is, unless it is a part of one or its protocol is another.
+fn transport_in<'a>(
+    payload: &IpPayloadSlice<'a>,
+) -> Result<Option<TransportSlice<'a>>, SliceError>
+    ensures message { result ≡ transport_in payload.now }
+    ensures parts { IfOk result (λ o. IfSome o (λ message. IsAt payload.now.payload 0 (transport_bytes message))) }
+    ensures place { IfErr result (λ e. place_of e ≡ 0) }
+{
+    if payload.fragmented {
+        return Ok(None);
+    }
+    match read_transport(payload.ip_number, payload.payload) {
+        Ok(transport) => Ok(transport),
+        Err(error) => Err(slice_fault::within(error, payload.len_source)),
+    }
+}
+
+fn read_transport(
+    ip_number: IpNumber,
+    payload: &[u8],
+) -> Result<Option<TransportSlice<'_>>, SliceError>
+    ensures { result ≡ read_transport (message_at ip_number.0 payload.now) }
+{
+    match ip_number {
+        IpNumber::ICMP => match Icmpv4Slice::from_slice(payload) {
+            Ok(message) => Ok(Some(TransportSlice::Icmpv4(message))),
+            Err(error) => Err(SliceError::Len(error)),
+        },
+        IpNumber::TCP => match TcpSlice::from_slice(payload) {
+            Ok(segment) => Ok(Some(TransportSlice::Tcp(segment))),
+            Err(error) => Err(slice_fault::of_tcp(error)),
+        },
+        IpNumber::UDP => match UdpSlice::from_slice(payload) {
+            Ok(datagram) => Ok(Some(TransportSlice::Udp(datagram))),
+            Err(error) => Err(SliceError::Len(error)),
+        },
+        IpNumber::IPV6_ICMP => match Icmpv6Slice::from_slice(payload) {
+            Ok(message) => Ok(Some(TransportSlice::Icmpv6(message))),
+            Err(error) => Err(SliceError::Len(error)),
+        },
+        _ => Ok(None),
+    }
+}

@@ -1,0 +1,273 @@
+ghost use Rattle.std.specs.Prelude.{◌≡◌, ◌≤◌, ◌<◌, ◌+◌, ◌^◌, ◌↔◌, IfOk, IsErr, List, Option, length, Ok};
+ghost use Rattle.std.specs.Option.{option_map};
+ghost use Rattle.ep_link.specs.Ethernet.{ethernet_len, payload_of};
+ghost use Rattle.ep_packet.specs.Class.{class_of, class_told};
+ghost use Rattle.ep_packet.specs.Class.Class.{Refused};
+ghost use Rattle.ep_packet.specs.PacketView.{ether_payload_in, ip_payload_of, is_cut, is_part, last_payload, payload_ether_type_in, source_behind, vlan_of, vlan_tags};
+ghost use Rattle.ep_packet.specs.Parts.{ArePartsOf};
+ghost use Rattle.ep_packet.specs.SliceFault.{later};
+ghost use Rattle.ep_packet.specs.Sliced.{IsSliced, packet_behind, sliced_ether_type, sliced_ethernet, sliced_ip, sliced_linux_sll};
+ghost use Rattle.ep_packet.specs.Tags.{vlan_ids_of};
+
+use crate::err::packet::SliceError;
+use crate::layer_slices::LayerSlices;
+use crate::tagged_slice::TaggedSlice;
+use crate::{NetSlice, TransportSlice, slice_fault};
+use arrayvec::ArrayVec;
+use ep_base::{EtherType, LenSource};
+use ep_ipslice::IpPayloadSlice;
+use ep_link::{Ethernet2Header, Ethernet2Slice, LinkSlice, LinuxSllHeader, LinuxSllSlice};
+use ep_tag::{
+    DoubleVlanSlice, EtherPayloadSlice, LinkExtSlice, SingleVlanSlice, VlanId, VlanSlice,
+};
+
+/// The parts of a packet, each borrowed from where it stands in the packet's bytes.
+#[derive(Clone, Debug, PartialEq, Eq, Drop)]
+pub struct SlicedPacket<'a> {
+    /// The link header with all that follows it, or what stands in its place.
+    pub link: Option<LinkSlice<'a>>,
+    /// The VLAN tags and MACsec headers behind it, in their order.
+    pub link_exts: ArrayVec<LinkExtSlice<'a>, 3>,
+    /// The packet of the network layer, with its extension headers.
+    pub net: Option<NetSlice<'a>>,
+    /// The message of the transport layer.
+    pub transport: Option<TransportSlice<'a>>,
+}
+
+impl<'a> SlicedPacket<'a> {
+    /// The greatest number of tags behind a link header.
+    pub const LINK_EXTS_CAP: usize = 3;
+
+    /// The parts of an Ethernet II frame (RFC 894; IEEE 802.3, clause 3).
+    ///
+    /// Behind the link header stand up to three tags; a fourth is payload that is not looked into, and
+    /// so is a modified MACsec payload. IPv4, IPv6 and ARP packets are sliced, and the message in an IP
+    /// packet that is no fragment: ICMP, TCP and UDP.
+    ///
+    /// Refused is the first layer that isn't whole or breaks its format, with the error of that layer.
+    /// The place of a want of bytes counts from the front of the frame; what a header or message wants
+    /// within an IP payload has the source of that payload's length.
+    pub fn from_ethernet(slice: &'a [u8]) -> Result<SlicedPacket<'a>, SliceError>
+        ensures exact { result ≡ sliced_ethernet slice.now }
+    {
+        let frame = match Ethernet2Slice::from_slice_without_fcs(slice) {
+            Ok(frame) => frame,
+            Err(error) => return Err(SliceError::Len(error)),
+        };
+        let payload = frame.payload();
+        Self::behind_link(LinkSlice::Ethernet2(frame), payload, Ethernet2Header::LEN)
+    }
+
+    /// The parts of a packet of a Linux cooked capture (libpcap's page on LINKTYPE_LINUX_SLL), whose
+    /// payload is looked into as that of [`SlicedPacket::from_ethernet`] where its protocol is an ether
+    /// type. The errors are of the same kind.
+    pub fn from_linux_sll(slice: &'a [u8]) -> Result<SlicedPacket<'a>, SliceError>
+        ensures exact { result ≡ sliced_linux_sll slice.now }
+    {
+        let packet = match LinuxSllSlice::from_slice(slice) {
+            Ok(packet) => packet,
+            Err(error) => return Err(slice_fault::of_linux_sll(error)),
+        };
+        match EtherPayloadSlice::try_from(packet.payload()) {
+            Ok(payload) => {
+                Self::behind_link(LinkSlice::LinuxSll(packet), payload, LinuxSllHeader::LEN)
+            }
+            Err(()) => Ok(SlicedPacket {
+                link: Some(LinkSlice::LinuxSll(packet)),
+                link_exts: ArrayVec::new(),
+                net: None,
+                transport: None,
+            }),
+        }
+    }
+
+    /// The parts of the bytes behind an ether type, which stand in the place of a link header. The errors
+    /// are as those of [`SlicedPacket::from_ethernet`].
+    pub fn from_ether_type(
+        ether_type: EtherType,
+        slice: &'a [u8],
+    ) -> Result<SlicedPacket<'a>, SliceError>
+        ensures exact { result ≡ sliced_ether_type ether_type slice.now }
+    {
+        let payload = EtherPayloadSlice {
+            ether_type,
+            len_source: LenSource::Slice,
+            payload: slice,
+        };
+        let link = EtherPayloadSlice {
+            ether_type,
+            len_source: LenSource::Slice,
+            payload: slice,
+        };
+        Self::behind_link(LinkSlice::EtherPayload(link), payload, 0)
+    }
+
+    /// The parts of an IP packet of the version that its first half byte tells. Nothing stands in the
+    /// place of a link header. The errors are as those of [`SlicedPacket::from_ethernet`].
+    pub fn from_ip(slice: &'a [u8]) -> Result<SlicedPacket<'a>, SliceError>
+        ensures exact { result ≡ sliced_ip slice.now }
+    {
+        match LayerSlices::from_ip(slice) {
+            Ok(layers) => Ok(SlicedPacket {
+                link: None,
+                link_exts: ArrayVec::new(),
+                net: layers.net,
+                transport: layers.transport,
+            }),
+            Err(error) => Err(error),
+        }
+    }
+
+    /// The ether type of what was not looked into: the last one, where there is no packet of the network
+    /// layer. None behind a modified MACsec payload, and where there was none from the beginning.
+    pub fn payload_ether_type(&self) -> Option<EtherType>
+        ensures { result ≡ payload_ether_type_in self.now }
+    {
+        if self.net.is_some() {
+            return None;
+        }
+        match self.last_payload() {
+            Some(payload) => Some(payload.ether_type),
+            None => None,
+        }
+    }
+
+    /// What the last ether type names, also where it was looked into. It is bounded by a MACsec header's
+    /// short length where one of the tags has one.
+    pub fn ether_payload(&self) -> Option<EtherPayloadSlice<'a>>
+        ensures { result ≡ ether_payload_in self.now }
+    {
+        match self.last_payload() {
+            Some(payload) => Some(EtherPayloadSlice {
+                len_source: self.tags_len_source(),
+                ..payload
+            }),
+            None => None,
+        }
+    }
+
+    // What the last ether type names.
+    fn last_payload(&self) -> Option<EtherPayloadSlice<'a>>
+        ensures { result ≡ last_payload self.now.link self.now.link_exts.items }
+    {
+        match self.link_exts.as_slice().last() {
+            Some(tag) => tag.ether_payload(),
+            None => match &self.link {
+                Some(link) => link.ether_payload(),
+                None => None,
+            },
+        }
+    }
+
+    // What bounds the bytes behind the tags.
+    fn tags_len_source(&self) -> LenSource
+        ensures { result ≡ source_behind self.now.link_exts.items }
+    {
+        for tag in self.link_exts.as_slice() {
+            if is_cut(tag) {
+                return LenSource::MacsecShortLength;
+            }
+        }
+        LenSource::Slice
+    }
+
+    /// The payload of an IP packet, if there is one.
+    pub fn ip_payload(&self) -> Option<&IpPayloadSlice<'a>>
+        ensures { option_map (λ payload. payload.now) result ≡ ip_payload_of self.now.net }
+    {
+        match &self.net {
+            Some(packet) => packet.ip_payload_ref(),
+            None => None,
+        }
+    }
+
+    /// Whether the payload of an IP packet is a part of a message.
+    pub fn is_ip_payload_fragmented(&self) -> bool
+        ensures { result ≡ is_part (ip_payload_of self.now.net) }
+    {
+        match self.ip_payload() {
+            Some(payload) => payload.fragmented,
+            None => false,
+        }
+    }
+
+    /// The first two VLAN tags, or the one that there is; MACsec headers may stand between them.
+    pub fn vlan(&self) -> Option<VlanSlice<'a>>
+        ensures { result ≡ vlan_of (vlan_tags self.now.link_exts.items) }
+    {
+        let mut outer: Option<SingleVlanSlice<'a>> = None;
+        for tag in self.link_exts.as_slice() {
+            if let LinkExtSlice::Vlan(tag) = tag {
+                match outer {
+                    Some(outer) => {
+                        return Some(VlanSlice::DoubleVlan(DoubleVlanSlice {
+                            outer,
+                            inner: same_tag(tag),
+                        }));
+                    }
+                    None => outer = Some(same_tag(tag)),
+                }
+            }
+        }
+        match outer {
+            Some(tag) => Some(VlanSlice::SingleVlan(tag)),
+            None => None,
+        }
+    }
+
+    /// The identifiers of all VLAN tags, the outer one first.
+    pub fn vlan_ids(&self) -> ArrayVec<VlanId, 3>
+        ensures { result.items ≡ vlan_ids_of self.now.link_exts.items }
+    {
+        let mut ids = ArrayVec::new();
+        for tag in self.link_exts.as_slice() {
+            if let LinkExtSlice::Vlan(tag) = tag {
+                ids.push(tag.vlan_identifier());
+            }
+        }
+        ids
+    }
+
+    // The parts of what an ether type names, `link_len` bytes behind the front.
+    fn behind_link(
+        link: LinkSlice<'a>,
+        payload: EtherPayloadSlice<'a>,
+        link_len: usize,
+    ) -> Result<SlicedPacket<'a>, SliceError>
+        requires { link_len + length payload.payload < 2 ^ 64 }
+        ensures exact { result ≡ later link_len (packet_behind link.entry payload.entry) }
+        ensures parts { IfOk result (λ packet. ArePartsOf payload.entry.payload 0 packet) }
+    {
+        let tagged = match TaggedSlice::from_ether_payload(payload) {
+            Ok(tagged) => tagged,
+            Err(error) => return Err(slice_fault::moved(error, link_len)),
+        };
+        let layers = match LayerSlices::behind_tags(&tagged.last) {
+            Ok(layers) => layers,
+            Err(error) => return Err(slice_fault::moved(error, link_len + tagged.len)),
+        };
+        Ok(SlicedPacket {
+            link: Some(link),
+            link_exts: tagged.tags,
+            net: layers.net,
+            transport: layers.transport,
+        })
+    }
+}
+
+// A MACsec header with a short length.
+fn is_cut(tag: &LinkExtSlice<'_>) -> bool
+    ensures { result ≡ is_cut tag.now }
+{
+    match tag {
+        LinkExtSlice::Vlan(_) => false,
+        LinkExtSlice::Macsec(macsec) => macsec.header.short_len().value() != 0,
+    }
+}
+
+// The tag again: to clone a value with a model is a call that could fail.
+fn same_tag<'a>(tag: &SingleVlanSlice<'a>) -> SingleVlanSlice<'a>
+    ensures { result ≡ tag.now }
+{
+    SingleVlanSlice::from_slice(tag.slice()).unwrap()
+}

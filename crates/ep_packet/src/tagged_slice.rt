@@ -1,0 +1,93 @@
+//! The tags in front of a payload.
+ghost use Rattle.std.specs.Prelude.{◌≡◌, ◌≤◌, length, IfErr, IfOk, IfSome};
+ghost use Rattle.ep_packet.specs.Parts.{TagIn, TagsIn};
+ghost use Rattle.ep_packet.specs.SliceFault.{place_of};
+ghost use Rattle.ep_packet.specs.Tags.{Tagged, most_tags, tag_at, tags_in};
+
+use crate::err::packet::SliceError;
+use crate::slice_fault;
+use arrayvec::ArrayVec;
+use ep_base::EtherType;
+use ep_tag::{EtherPayloadSlice, LinkExtSlice, MacsecSlice, SingleVlanSlice};
+use std::marker::Model;
+
+/// The tags in front of a payload, the length of all in bytes, and what the last ether type names.
+#[derive(Drop)]
+pub(crate) struct TaggedSlice<'a> {
+    pub tags: ArrayVec<LinkExtSlice<'a>, 3>,
+    pub len: usize,
+    pub last: Option<EtherPayloadSlice<'a>>,
+}
+
+impl<'a> Model for TaggedSlice<'a> {
+    ghost Value = { Tagged };
+
+    ghost view = { λ t. record { tags = t.tags.items; len = t.len; last = t.last } };
+}
+
+impl<'a> TaggedSlice<'a> {
+    /// The tags in front of `payload`, three at most.
+    pub(crate) fn from_ether_payload(
+        payload: EtherPayloadSlice<'a>,
+    ) -> Result<TaggedSlice<'a>, SliceError>
+        ensures tags { result ≡ tags_in most_tags payload.entry }
+        ensures parts { IfOk result (λ t. TagsIn payload.entry.payload 0 t) }
+        ensures place { IfErr result (λ e. place_of e ≤ length payload.entry.payload) }
+    {
+        let mut tags = ArrayVec::new();
+        let mut len = 0;
+        let mut rest = payload;
+        for _count in 0..3usize {
+            let tag = match tag_of(&rest) {
+                Ok(Some(tag)) => tag,
+                Ok(None) => {
+                    return Ok(TaggedSlice {
+                        tags,
+                        len,
+                        last: Some(rest),
+                    });
+                }
+                Err(error) => return Err(slice_fault::moved(error, len)),
+            };
+            len += tag.header_len();
+            let next = tag.ether_payload();
+            tags.push(tag);
+            match next {
+                Some(payload) => rest = payload,
+                None => {
+                    return Ok(TaggedSlice {
+                        tags,
+                        len,
+                        last: None,
+                    });
+                }
+            }
+        }
+        Ok(TaggedSlice {
+            tags,
+            len,
+            last: Some(rest),
+        })
+    }
+}
+
+// The tag that the payload's ether type names, if it names one.
+fn tag_of<'a>(payload: &EtherPayloadSlice<'a>) -> Result<Option<LinkExtSlice<'a>>, SliceError>
+    ensures tag { result ≡ tag_at payload.now }
+    ensures parts { IfOk result (λ o. IfSome o (λ t. TagIn payload.now.payload t)) }
+    ensures place { IfErr result (λ e. place_of e ≡ 0) }
+{
+    match payload.ether_type {
+        EtherType::VLAN_TAGGED_FRAME
+        | EtherType::PROVIDER_BRIDGING
+        | EtherType::VLAN_DOUBLE_TAGGED_FRAME => match SingleVlanSlice::from_slice(payload.payload) {
+            Ok(vlan) => Ok(Some(LinkExtSlice::Vlan(vlan))),
+            Err(error) => Err(SliceError::Len(error)),
+        },
+        EtherType::MACSEC => match MacsecSlice::from_slice(payload.payload) {
+            Ok(macsec) => Ok(Some(LinkExtSlice::Macsec(macsec))),
+            Err(error) => Err(slice_fault::of_macsec(error)),
+        },
+        _ => Ok(None),
+    }
+}
