@@ -1,29 +1,29 @@
 -- A piece of a stream, line by line.
-use Rattle.std.proofs.Common.{◌≡◌, ◌∙◌, sym, ap, refl, subst, ℕ, zero, suc, ◌+◌, ◌-◌, ◌<◌, Bool, true, false, ◌==◌, List, [], ◌∷◌, ◌++◌, length, take, drop, get_or, Result, Ok, arith, append_assoc, append-nil, take-append-drop}
-use Rattle.std.specs.List.{flat_map}
+use Rattle.std.proofs.Common.{◌≡◌, ◌∙◌, sym, ap, refl, subst, ℕ, zero, suc, ◌+◌, ◌-◌, ◌<◌, Bool, true, false, ◌==◌, List, [], ◌∷◌, ◌++◌, length, take, drop, get_or, Result, Ok, Err, arith, append_assoc, append-nil, length-append, take-append-drop}
+use Rattle.std.specs.Io.Iter.{u64_saturate}
 use Rattle.std.proofs.lemmas.List.{take_rest, drop_more, take_all, drop-drop}
-use Rattle.std.proofs.lemmas.List.Concat.{flat_map-append}
 use Rattle.memchr.specs.Find.{NoneBefore, Nowhere, Passes, is_byte}
 use Rattle.netlines.specs.declared.run_error.RunError.{RunError}
-use Rattle.netlines.specs.declared.line_answerer.TheConstants.{LINE_ROOM}
-use Rattle.netlines.specs.Answers.{reply_of, ended_answers_of}
+use Rattle.netlines.specs.declared.limits.TheConstants.{LINE_ROOM}
 use Rattle.netlines.specs.Calls.{Call}
 use Rattle.netlines.specs.Lines.{Split, split, HasNoNewline}
-use Rattle.netlines.specs.Writes.{Written, Stops, Delivers, Gathers}
+use Rattle.netlines.specs.Replies.{Asks, Kept, Meaning, number_after, replies_after}
+use Rattle.netlines.specs.Writes.{Written, Stops, Delivers, Gathers, Serves}
 use Rattle.netlines.proofs.LineLemmas.{take-kept}
+use Rattle.netlines.proofs.RepliesLemmas.{replies_after-append}
 use Rattle.netlines.proofs.SplitLemmas.{HasNoNewline-append, split-HasNoNewline, split-line, split_on}
-use Rattle.netlines.proofs.WriteLemmas.{Written-append, Written-nil, Stops-after, Stops-more, Delivers-after}
+use Rattle.netlines.proofs.WriteLemmas.{FailsBy-map, Written-append, Written-nil, Stops-after, Stops-fails, Stops-more, Delivers-after, Delivers-gathered}
 
 -- the replies to these lines are gathered, and what follows goes on from begun, of which line is kept
-pub record Fed {D : Type 0} (transition : D → Call → D → Type 0) (old : D) (text line rest waiting : List ℕ) (new : D) : Type 0 where
+pub record Fed {D : Type 0} (transition : D → Call → D → Type 0) (m : Meaning) (old : D) (earlier : List (List ℕ)) (text line rest waiting : List ℕ)
+    (count : ℕ) (shown : List (List ℕ) → Type 0) (new : D) : Type 0 where
   pub lines : List (List ℕ)
   pub begun : List ℕ
-  pub whole : HasNoNewline begun
-  pub kept : line ≡ take LINE_ROOM begun
+  pub keeps : Kept shown count line (earlier ++ lines) begun
   pub same : split text ≡ split_on lines begun rest
   pub front : List ℕ
   pub written : Written transition old front new
-  pub gathered : flat_map reply_of lines ≡ front ++ waiting
+  pub gathered : replies_after m earlier lines ≡ front ++ waiting
 
 not_true : (b : Bool) → (b ≡ true → ⊥) → b ≡ false
 not_true true h = absurd (h refl)
@@ -50,75 +50,138 @@ split_on-line lines begun rest n whole lt is none =
     ∙ ap (λ ls. let d : Split = record { ended = ls; rest = (split (drop (n + 1) rest)).rest } in d) (sym (append_assoc lines (line ∷ []) (split (drop (n + 1) rest)).ended))
 
 -- the replies to one more line, after what was written and what waits
-replies-more : (lines : List (List ℕ)) (line front waiting front' waiting' : List ℕ) → flat_map reply_of lines ≡ front ++ waiting → waiting ++ reply_of line ≡ front' ++ waiting'
-    → flat_map reply_of (lines ++ line ∷ []) ≡ (front ++ front') ++ waiting'
-replies-more lines line front waiting front' waiting' before here =
-    flat_map-append reply_of lines (line ∷ []) ∙ ap (λ l. flat_map reply_of lines ++ l) (append-nil (reply_of line)) ∙ ap (λ l. l ++ reply_of line) before
-    ∙ append_assoc front waiting (reply_of line) ∙ ap (λ l. front ++ l) here ∙ sym (append_assoc front front' waiting')
+replies-more : (m : Meaning) (earlier lines : List (List ℕ)) (line front waiting front' waiting' : List ℕ) → replies_after m earlier lines ≡ front ++ waiting
+    → waiting ++ m.reply (earlier ++ lines) line ≡ front' ++ waiting' → replies_after m earlier (lines ++ line ∷ []) ≡ (front ++ front') ++ waiting'
+replies-more m earlier lines line front waiting front' waiting' before here =
+    let reply = m.reply (earlier ++ lines) line in
+    replies_after-append m earlier lines (line ∷ []) ∙ ap (λ l. replies_after m earlier lines ++ l) (append-nil reply) ∙ ap (λ l. l ++ reply) before
+    ∙ append_assoc front waiting reply ∙ ap (λ l. front ++ l) here ∙ sym (append_assoc front front' waiting')
 
-module _ {D : Type 0} (transition : D → Call → D → Type 0) where
-  pub fed_start : (old : D) (start piece line waiting : List ℕ) → HasNoNewline start → line ≡ take LINE_ROOM start → waiting ≡ [] → Fed transition old (start ++ piece) line piece waiting old
-  fed_start old start piece line waiting whole kept none = record {
+saturate-more : (n : ℕ) → u64_saturate (u64_saturate n + 1) ≡ u64_saturate (n + 1)
+saturate-more n = omega arith
+
+next_number : (earlier : List (List ℕ)) (count number : ℕ) → count ≡ u64_saturate (length earlier) → number ≡ u64_saturate (count + 1) → number ≡ number_after earlier
+next_number earlier count number counted next = next ∙ ap (λ n. u64_saturate (n + 1)) counted ∙ saturate-more (length earlier)
+
+-- one more line is counted
+counted-more : (earlier lines : List (List ℕ)) (line : List ℕ) (count count' : ℕ) → count ≡ u64_saturate (length (earlier ++ lines)) → count' ≡ u64_saturate (count + 1)
+    → count' ≡ u64_saturate (length (earlier ++ (lines ++ line ∷ [])))
+counted-more earlier lines line count count' before more =
+    next_number (earlier ++ lines) count count' before more
+    ∙ ap u64_saturate (sym (length-append (earlier ++ lines) (line ∷ [])) ∙ ap length (append_assoc earlier lines (line ∷ [])))
+
+-- the line that ends with these bytes is asked for
+pub asks_kept : (shown : List (List ℕ) → Type 0) (count number : ℕ) (kept : List ℕ) (earlier : List (List ℕ)) (start tail line : List ℕ) → Kept shown count kept earlier start
+    → number ≡ u64_saturate (count + 1) → take LINE_ROOM line ≡ take LINE_ROOM (start ++ tail) → Asks shown earlier number line (start ++ tail)
+asks_kept shown count number kept earlier start tail line keeps next first =
+    record { shows = keeps.shows; numbered = next_number earlier count number keeps.counted next; first = first }
+
+module _ {D : Type 0} (transition : D → Call → D → Type 0) (m : Meaning) where
+  pub fed_start : (old : D) (earlier : List (List ℕ)) (start piece line waiting : List ℕ) (count : ℕ) (shown : List (List ℕ) → Type 0) → Kept shown count line earlier start → waiting ≡ []
+      → Fed transition m old earlier (start ++ piece) line piece waiting count shown old
+  fed_start old earlier start piece line waiting count shown keeps none = record {
     lines = [];
     begun = start;
-    whole = whole;
-    kept = kept;
+    keeps = subst (λ l. Kept shown count line l start) (sym (append-nil earlier)) keeps;
     same = refl;
     front = [];
     written = Written-nil transition old;
     gathered = sym none;
   }
 
-  -- one more line
-  pub fed_line : (old mid new : D) (text line rest waiting : List ℕ) (n : ℕ) (f : Fed transition old text line rest waiting mid) → n < length rest → get_or rest n 0 ≡ 10
-      → HasNoNewline (take n rest) → (waiting' : List ℕ) → Gathers transition mid waiting (reply_of (f.begun ++ take n rest)) (Ok tt) waiting' new
-      → (empty : List ℕ) → empty ≡ [] → Fed transition old text empty (drop (n + 1) rest) waiting' new
-  fed_line old mid new text line rest waiting n f lt is none waiting' more empty nothing = record {
-    lines = f.lines ++ (f.begun ++ take n rest) ∷ [];
-    begun = [];
-    whole = tt;
-    kept = nothing;
-    same = f.same ∙ split_on-line f.lines f.begun rest n f.whole lt is none;
-    front = f.front ++ more.0;
-    written = Written-append transition old mid new f.front more.0 f.written more.1;
-    gathered = replies-more f.lines (f.begun ++ take n rest) f.front waiting more.0 waiting' f.gathered more.2;
-  }
+  -- what is delivered is served
+  pub Serves-delivered : (old new : D) (earlier lines : List (List ℕ)) (r : Result Unit RunError) → Delivers transition old (replies_after m earlier lines) r new → Serves transition m old earlier lines r new
+  Serves-delivered old new earlier lines (Ok done) d = d
+  Serves-delivered old new earlier lines (Err e) d = Stops-fails transition _ e old new (replies_after m earlier lines) d
 
-  -- a write stops at a line
-  pub fed_stops : (old mid new : D) (text line rest waiting : List ℕ) (n : ℕ) (f : Fed transition old text line rest waiting mid) → n < length rest → get_or rest n 0 ≡ 10
-      → HasNoNewline (take n rest) → (e : RunError) → Stops transition e mid (waiting ++ reply_of (f.begun ++ take n rest)) new
-      → Stops transition e old (ended_answers_of text) new
-  fed_stops old mid new text line rest waiting n f lt is none e stops =
-      let here = f.begun ++ take n rest in
-      let later = (split (drop (n + 1) rest)).ended in
-      let replies : List (List ℕ) → List ℕ = flat_map reply_of in
-      let all : ended_answers_of text ≡ f.front ++ ((waiting ++ reply_of here) ++ replies later) =
-      ap (λ c. replies c.ended) (f.same ∙ split_on-line f.lines f.begun rest n f.whole lt is none)
-      ∙ ap replies (append_assoc f.lines (here ∷ []) later) ∙ flat_map-append reply_of f.lines (here ∷ later)
-      ∙ ap (λ l. l ++ (reply_of here ++ replies later)) f.gathered ∙ append_assoc f.front waiting (reply_of here ++ replies later)
-      ∙ ap (λ l. f.front ++ l) (sym (append_assoc waiting (reply_of here) (replies later))) in
-      subst (λ bytes. Stops transition e old bytes new) (sym all)
-      (Stops-after transition e old mid new f.front ((waiting ++ reply_of here) ++ replies later) f.written
-      (Stops-more transition e mid new (waiting ++ reply_of here) (replies later) stops))
+  -- a line alone, for which memory is wanting or a write stops,
+  pub serves_fails : (old new : D) (earlier : List (List ℕ)) (line waiting waiting' : List ℕ) → waiting ≡ [] → (e : RunError)
+      → Gathers transition (m.takes_memory line) old waiting (m.reply earlier line) (Err e) waiting' new → Serves transition m old earlier (line ∷ []) (Err e) new
+  serves_fails old new earlier line waiting waiting' none e fails =
+      let reply = m.reply earlier line in
+      FailsBy-map e
+      (λ h. ([], record { before = []; line = line; later = []; parts = refl; takes = h.0; same = refl }, subst (λ l. Written transition old l new) none h.1))
+      (λ stops. subst (λ l. Stops transition e old l new) (ap (λ w. w ++ reply) none ∙ sym (append-nil reply)) stops)
+      fails
 
-  -- no line ends any more
-  fed_split : (old new : D) (text line rest waiting : List ℕ) (f : Fed transition old text line rest waiting new) → HasNoNewline rest
-      → split text ≡ (let d : Split = record { ended = f.lines; rest = f.begun ++ rest } in d)
-  fed_split old new text line rest waiting f none =
-      f.same ∙ ap (λ (c : Split). let d : Split = record { ended = f.lines ++ c.ended; rest = c.rest } in d) (split-HasNoNewline (f.begun ++ rest) (HasNoNewline-append f.begun rest f.whole none))
-      ∙ ap (λ ls. let d : Split = record { ended = ls; rest = f.begun ++ rest } in d) (append-nil f.lines)
+  -- or that is answered
+  pub serves_line : (old mid new : D) (earlier : List (List ℕ)) (line waiting waiting' : List ℕ) → waiting ≡ [] → (r : Result Unit RunError)
+      → Gathers transition (m.takes_memory line) old waiting (m.reply earlier line) (Ok tt) waiting' mid → Delivers transition mid waiting' r new → Serves transition m old earlier (line ∷ []) r new
+  serves_line old mid new earlier line waiting waiting' none r gathers delivers =
+      let reply = m.reply earlier line in
+      Serves-delivered old new earlier (line ∷ []) r
+      (subst (λ l. Delivers transition old l r new) (ap (λ w. w ++ reply) none ∙ sym (append-nil reply))
+      (Delivers-gathered transition (m.takes_memory line) old mid new waiting reply waiting' r gathers delivers))
 
-  -- what waits is written
-  pub fed_written : (old mid new : D) (text line rest waiting : List ℕ) (f : Fed transition old text line rest waiting mid) → HasNoNewline rest → (r : Result Unit RunError)
-      → Delivers transition mid waiting r new → Delivers transition old (ended_answers_of text) r new
-  fed_written old mid new text line rest waiting f none r d =
-      let all : ended_answers_of text ≡ f.front ++ waiting = ap (λ (c : Split). flat_map reply_of c.ended) (fed_split old mid text line rest waiting f none) ∙ f.gathered in
-      subst (λ bytes. Delivers transition old bytes r new) (sym all) (Delivers-after transition old mid new f.front waiting r f.written d)
+  module _ (old mid new : D) (earlier : List (List ℕ)) (text line rest waiting : List ℕ) (count : ℕ) (shown : List (List ℕ) → Type 0) (n : ℕ)
+      (f : Fed transition m old earlier text line rest waiting count shown mid) (lt : n < length rest) (is : get_or rest n 0 ≡ 10) (none : HasNoNewline (take n rest)) where
+    -- one more line
+    pub fed_line : (waiting' : List ℕ) → Gathers transition (m.takes_memory (f.begun ++ take n rest)) mid waiting (m.reply (earlier ++ f.lines) (f.begun ++ take n rest)) (Ok tt) waiting' new
+        → (count' : ℕ) → count' ≡ u64_saturate (count + 1) → (shown' : List (List ℕ) → Type 0) → shown' ((earlier ++ f.lines) ++ (f.begun ++ take n rest) ∷ [])
+        → (empty : List ℕ) → empty ≡ [] → Fed transition m old earlier text empty (drop (n + 1) rest) waiting' count' shown' new
+    fed_line waiting' more count' counts shown' shows empty nothing =
+        let line = f.begun ++ take n rest in
+        record {
+          lines = f.lines ++ line ∷ [];
+          begun = [];
+          keeps = record {
+            shows = subst shown' (append_assoc earlier f.lines (line ∷ [])) shows;
+            counted = counted-more earlier f.lines line count count' f.keeps.counted counts;
+            kept = nothing;
+            unended = tt;
+          };
+          same = f.same ∙ split_on-line f.lines f.begun rest n f.keeps.unended lt is none;
+          front = f.front ++ more.0;
+          written = Written-append transition old mid new f.front more.0 f.written more.1;
+          gathered = replies-more m earlier f.lines line f.front waiting more.0 waiting' f.gathered more.2;
+        }
 
-  pub fed_kept : (old new : D) (text line rest waiting : List ℕ) (f : Fed transition old text line rest waiting new) → HasNoNewline rest
-      → (kept : List ℕ) → kept ≡ take LINE_ROOM (line ++ rest) → kept ≡ take LINE_ROOM (split text).rest
-  fed_kept old new text line rest waiting f none kept is =
-      is ∙ ap (λ l. take LINE_ROOM (l ++ rest)) f.kept ∙ take-kept LINE_ROOM f.begun rest ∙ ap (λ (c : Split). take LINE_ROOM c.rest) (sym (fed_split old new text line rest waiting f none))
+    -- a write stops at a line, or memory is wanting for it
+    pub fed_fails : (e : RunError) (waiting' : List ℕ) → Gathers transition (m.takes_memory (f.begun ++ take n rest)) mid waiting (m.reply (earlier ++ f.lines) (f.begun ++ take n rest)) (Err e) waiting' new
+        → Serves transition m old earlier (split text).ended (Err e) new
+    fed_fails e waiting' fails =
+        let line = f.begun ++ take n rest in
+        let later = (split (drop (n + 1) rest)).ended in
+        let reply = m.reply (earlier ++ f.lines) line in
+        let replies = replies_after m ((earlier ++ f.lines) ++ line ∷ []) later in
+        let parts : (split text).ended ≡ f.lines ++ line ∷ later =
+        ap (λ c. c.ended) (f.same ∙ split_on-line f.lines f.begun rest n f.keeps.unended lt is none) ∙ append_assoc f.lines (line ∷ []) later in
+        let all : replies_after m earlier (split text).ended ≡ f.front ++ ((waiting ++ reply) ++ replies) =
+        ap (replies_after m earlier) parts ∙ replies_after-append m earlier f.lines (line ∷ later)
+        ∙ ap (λ l. l ++ (reply ++ replies)) f.gathered ∙ append_assoc f.front waiting (reply ++ replies)
+        ∙ ap (λ l. f.front ++ l) (sym (append_assoc waiting reply replies)) in
+        FailsBy-map e
+        (λ h. (
+          replies_after m earlier f.lines,
+          record { before = f.lines; line = line; later = later; parts = parts; takes = h.0; same = refl },
+          subst (λ l. Written transition old l new) (sym f.gathered) (Written-append transition old mid new f.front waiting f.written h.1),
+        ))
+        (λ stops. subst (λ bytes. Stops transition e old bytes new) (sym all)
+        (Stops-after transition e old mid new f.front ((waiting ++ reply) ++ replies) f.written (Stops-more transition e mid new (waiting ++ reply) replies stops)))
+        fails
+
+  module _ (old new : D) (earlier : List (List ℕ)) (text line rest waiting : List ℕ) (count : ℕ) (shown : List (List ℕ) → Type 0)
+      (f : Fed transition m old earlier text line rest waiting count shown new) (none : HasNoNewline rest) where
+    -- no line ends any more
+    fed_split : split text ≡ (let d : Split = record { ended = f.lines; rest = f.begun ++ rest } in d)
+    fed_split =
+        f.same ∙ ap (λ (c : Split). let d : Split = record { ended = f.lines ++ c.ended; rest = c.rest } in d) (split-HasNoNewline (f.begun ++ rest) (HasNoNewline-append f.begun rest f.keeps.unended none))
+        ∙ ap (λ ls. let d : Split = record { ended = ls; rest = f.begun ++ rest } in d) (append-nil f.lines)
+
+    -- what waits is written
+    pub fed_written : (later : D) (r : Result Unit RunError) → Delivers transition new waiting r later → Serves transition m old earlier (split text).ended r later
+    fed_written later r d =
+        let all : replies_after m earlier (split text).ended ≡ f.front ++ waiting = ap (λ (c : Split). replies_after m earlier c.ended) fed_split ∙ f.gathered in
+        Serves-delivered old later earlier (split text).ended r (subst (λ bytes. Delivers transition old bytes r later) (sym all) (Delivers-after transition old new later f.front waiting r f.written d))
+
+    pub fed_kept : (kept : List ℕ) → kept ≡ take LINE_ROOM (line ++ rest) → Kept shown count kept (earlier ++ (split text).ended) (split text).rest
+    fed_kept kept is =
+        subst (λ (c : Split). Kept shown count kept (earlier ++ c.ended) c.rest) (sym fed_split) (record {
+          shows = f.keeps.shows;
+          counted = f.keeps.counted;
+          kept = is ∙ ap (λ l. take LINE_ROOM (l ++ rest)) f.keeps.kept ∙ take-kept LINE_ROOM f.begun rest;
+          unended = HasNoNewline-append f.begun rest f.keeps.unended none;
+        })
 
 -- what memchr tells of the first 0a
 pub found_end : (rest : List ℕ) (n : ℕ) → NoneBefore (Passes (is_byte 10) rest) 0 (length rest) n → HasNoNewline (take n rest)

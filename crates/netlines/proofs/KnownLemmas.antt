@@ -1,16 +1,16 @@
 -- What the calls of a run do to known bytes.
-use Rattle.std.proofs.Common.{Option, ◌≡◌, ◌∙◌, sym, ap, refl, subst, ℕ, Bool, true, false, List, [], ◌∷◌, ◌++◌, Some, None, Result, Ok, Err, IfSome, zero, suc, ◌≤◌, arith, length, length-append}
+use Rattle.std.proofs.Common.{Option, ◌≡◌, ◌∙◌, sym, ap, refl, subst, ℕ, Bool, true, false, List, [], ◌∷◌, ◌++◌, Some, None, Result, Ok, Err, IfSome, zero, suc, ◌≤◌, arith, length, length-append, ◌⊎◌, inl, inr}
 use Rattle.std.specs.Prelude.{OnOk, ◌||◌}
 use Rattle.std.specs.Io.KnownBytes.{Appends, Consumes, IsAtEnd}
 use Rattle.std.proofs.KnownBytes.{Consumes-nil, Consumes-trans, Consumes-kept, Consumes-whole, Appends-nil, Appends-trans, Appends-kept}
 use Rattle.std.proofs.lemmas.List.Folds.{list_any-append}
 use Rattle.netlines.specs.declared.run_error.RunError.{RunError}
 use Rattle.netlines.specs.declared.run_error.RunError.TheVariants.{Memory, TooManyReads}
-use Rattle.netlines.specs.Answers.{answers_of}
 use Rattle.netlines.specs.Calls.{Call, Reads, Writes, Makes, bytes_given, bytes_taken, bytes_read, bytes_written, tells_end, is_end_told, read_count, faults_of}
-use Rattle.netlines.specs.Known.{Known, KnownCall, Transfers}
+use Rattle.netlines.specs.Known.{Known, KnownCall, TransfersBy}
+use Rattle.netlines.specs.Replies.{EndsBefore, Meaning, replies_to, whole_lines_of}
 use Rattle.netlines.proofs.CallLemmas.{read_count-append}
-use Rattle.netlines.specs.Runs.{EachFollows, Runs}
+use Rattle.netlines.specs.Runs.{EachFollows, RunsBy}
 
 -- what each call keeps, calls keep
 Makes-keep : {D N : Type 0} (transition : D → Call → D → Type 0) (name : D → N) → ((s t : D) (call : Call) → transition s call t → name t ≡ name s)
@@ -19,8 +19,8 @@ Makes-keep transition name keep old new [] made = ap name made
 Makes-keep transition name keep old new (call ∷ calls) made = Makes-keep transition name keep made.0 new calls made.2 ∙ keep old made.0 call made.1
 
 pub Runs-keep : {D N : Type 0} (transition : D → Call → D → Type 0) (name : D → N) → ((s t : D) (call : Call) → transition s call t → name t ≡ name s)
-    → (limit : ℕ) (old new : D) (result : Result Unit RunError) → Runs transition limit old new result → name new ≡ name old
-Runs-keep transition name keep limit old new result runs = Makes-keep transition name keep old new runs.calls runs.made
+    → (m : Meaning) (limit : ℕ) (old new : D) (result : Result Unit RunError) → RunsBy transition m limit old new result → name new ≡ name old
+Runs-keep transition name keep m limit old new result runs = Makes-keep transition name keep old new runs.calls runs.made
 
 -- calls on what is seen of a device
 Makes-map : {D E : Type 0} (transition : D → Call → D → Type 0) (transition' : E → Call → E → Type 0) (seen : D → E) → ((s t : D) (call : Call) → transition s call t → transition' (seen s) call (seen t))
@@ -30,8 +30,8 @@ Makes-map transition transition' seen see old new (call ∷ calls) made =
     (seen made.0, see old made.0 call made.1, Makes-map transition transition' seen see made.0 new calls made.2)
 
 pub Runs-map : {D E : Type 0} (transition : D → Call → D → Type 0) (transition' : E → Call → E → Type 0) (seen : D → E) → ((s t : D) (call : Call) → transition s call t → transition' (seen s) call (seen t))
-    → (limit : ℕ) (old new : D) (result : Result Unit RunError) → Runs transition limit old new result → Runs transition' limit (seen old) (seen new) result
-Runs-map transition transition' seen see limit old new result runs = record {
+    → (m : Meaning) (limit : ℕ) (old new : D) (result : Result Unit RunError) → RunsBy transition m limit old new result → RunsBy transition' m limit (seen old) (seen new) result
+Runs-map transition transition' seen see m limit old new result runs = record {
   calls = runs.calls;
   made = Makes-map transition transition' seen see old new runs.calls runs.made;
   each = runs.each;
@@ -40,11 +40,24 @@ Runs-map transition transition' seen see limit old new result runs = record {
   output = runs.output;
 }
 
-memory_keeps : {D : Type 0} (transition : D → Call → D → Type 0) (limit : ℕ) (old new : D) → Runs transition limit old new (Err Memory) → new ≡ old
-memory_keeps transition limit old new runs = subst (λ calls. Makes transition old calls new) runs.ends runs.made
+-- where memory is wanting nothing was called, or a line takes memory
+pub runs_memory : {D : Type 0} (transition : D → Call → D → Type 0) (m : Meaning) (limit : ℕ) (old new : D) (result : Result Unit RunError) → result ≡ Err Memory → RunsBy transition m limit old new result
+    → (new ≡ old) ⊎ ((told : Bool) × (read : List ℕ) × (written : List ℕ) × EndsBefore m [] (whole_lines_of told read) written)
+runs_memory transition m limit old new result is runs =
+    let failed : RunsBy transition m limit old new (Err Memory) = subst (RunsBy transition m limit old new) is runs in
+    elim failed.output [
+      | inl nothing ↦ inl (subst (λ calls. Makes transition old calls new) (failed.ends.1 nothing.0) failed.made)
+      | inr ends ↦ inr (is_end_told failed.calls, bytes_read failed.calls, bytes_written failed.calls, ends)
+    ]
 
-pub runs_memory : {D : Type 0} (transition : D → Call → D → Type 0) (limit : ℕ) (old new : D) (result : Result Unit RunError) → result ≡ Err Memory → Runs transition limit old new result → new ≡ old
-runs_memory transition limit old new result is runs = memory_keeps transition limit old new (subst (Runs transition limit old new) is runs)
+-- where no line takes memory
+pub runs_memory_first : {D : Type 0} (transition : D → Call → D → Type 0) (m : Meaning) → ((line : List ℕ) → m.takes_memory line ≡ false) → (limit : ℕ) (old new : D) (result : Result Unit RunError)
+    → result ≡ Err Memory → RunsBy transition m limit old new result → new ≡ old
+runs_memory_first transition m never limit old new result is runs =
+    elim (runs_memory transition m limit old new result is runs) [
+      | inl same ↦ same
+      | inr ends ↦ (let e = sym (never ends.3.line) ∙ ends.3.takes in absurd (cc))
+    ]
 
 -- one call,
 input_moves : (a b : Known) (call : Call) → KnownCall a call b → Consumes a.input b.input (bytes_given call)
@@ -78,39 +91,42 @@ told_more : (before : List Call) (call : Call) → is_end_told before ≡ true �
 told_more before call told = list_any-append tells_end before (call ∷ []) ∙ ap (λ b. b || (tells_end call || false)) told
 
 -- after the end is told nothing is read
-input_kept : (before : List Call) → is_end_told before ≡ true → (a b : Known) (calls : List Call) → EachFollows before calls → Makes KnownCall a calls b → b.input ≡ a.input
-input_kept before told a b [] each made = ap (λ (k : Known). k.input) made
-input_kept before told a b (Reads given ∷ calls) each made = let untold = each.0.0.no_end in absurd (cc)
-input_kept before told a b (Writes bytes (Some n) ∷ calls) each made =
-    input_kept (before ++ Writes bytes (Some n) ∷ []) (told_more before (Writes bytes (Some n)) told) made.0 b calls each.1 made.2 ∙ made.1.1
-input_kept before told a b (Writes bytes None ∷ calls) each made =
-    input_kept (before ++ Writes bytes None ∷ []) (told_more before (Writes bytes None) told) made.0 b calls each.1 made.2 ∙ made.1.1
+input_kept : (m : Meaning) (before : List Call) → is_end_told before ≡ true → (a b : Known) (calls : List Call) → EachFollows m before calls → Makes KnownCall a calls b → b.input ≡ a.input
+input_kept m before told a b [] each made = ap (λ (k : Known). k.input) made
+input_kept m before told a b (Reads given ∷ calls) each made = let untold = each.0.0.no_end in absurd (cc)
+input_kept m before told a b (Writes bytes (Some n) ∷ calls) each made =
+    input_kept m (before ++ Writes bytes (Some n) ∷ []) (told_more before (Writes bytes (Some n)) told) made.0 b calls each.1 made.2 ∙ made.1.1
+input_kept m before told a b (Writes bytes None ∷ calls) each made =
+    input_kept m (before ++ Writes bytes None ∷ []) (told_more before (Writes bytes None) told) made.0 b calls each.1 made.2 ∙ made.1.1
 
 -- where the end is told no known byte is left
-known_end : (before : List Call) (a b : Known) (calls : List Call) → EachFollows before calls → Makes KnownCall a calls b → is_end_told calls ≡ true → IsAtEnd b.input
-known_end before a b [] each made told = absurd (cc)
-known_end before a b (Reads None ∷ calls) each made told = known_end (before ++ Reads None ∷ []) made.0 b calls each.1 made.2 told
-known_end before a b (Reads (Some []) ∷ calls) each made told =
-    subst IsAtEnd (sym (input_kept (before ++ Reads (Some []) ∷ []) (list_any-append tells_end before (Reads (Some []) ∷ []) ∙ or_true (is_end_told before)) made.0 b calls each.1 made.2)) (made.1.1 refl)
-known_end before a b (Reads (Some (x ∷ bytes)) ∷ calls) each made told = known_end (before ++ Reads (Some (x ∷ bytes)) ∷ []) made.0 b calls each.1 made.2 told
-known_end before a b (Writes bytes taken ∷ calls) each made told = known_end (before ++ Writes bytes taken ∷ []) made.0 b calls each.1 made.2 told
+known_end : (m : Meaning) (before : List Call) (a b : Known) (calls : List Call) → EachFollows m before calls → Makes KnownCall a calls b → is_end_told calls ≡ true → IsAtEnd b.input
+known_end m before a b [] each made told = absurd (cc)
+known_end m before a b (Reads None ∷ calls) each made told = known_end m (before ++ Reads None ∷ []) made.0 b calls each.1 made.2 told
+known_end m before a b (Reads (Some []) ∷ calls) each made told =
+    subst IsAtEnd (sym (input_kept m (before ++ Reads (Some []) ∷ []) (list_any-append tells_end before (Reads (Some []) ∷ []) ∙ or_true (is_end_told before)) made.0 b calls each.1 made.2)) (made.1.1 refl)
+known_end m before a b (Reads (Some (x ∷ bytes)) ∷ calls) each made told = known_end m (before ++ Reads (Some (x ∷ bytes)) ∷ []) made.0 b calls each.1 made.2 told
+known_end m before a b (Writes bytes taken ∷ calls) each made told = known_end m (before ++ Writes bytes taken ∷ []) made.0 b calls each.1 made.2 told
 
-pub runs_end : (limit : ℕ) (a b : Known) (result : Result Unit RunError) → Runs KnownCall limit a b result → OnOk result (IsAtEnd b.input)
-runs_end limit a b (Ok tt) runs = known_end [] a b runs.calls runs.each runs.made runs.ends.1
-runs_end limit a b (Err e) runs = tt
+pub runs_end : (m : Meaning) (limit : ℕ) (a b : Known) (result : Result Unit RunError) → RunsBy KnownCall m limit a b result → OnOk result (IsAtEnd b.input)
+runs_end m limit a b (Ok tt) runs = known_end m [] a b runs.calls runs.each runs.made runs.ends.1
+runs_end m limit a b (Err e) runs = tt
 
-pub runs_ok : (limit : ℕ) (a b : Known) (result : Result Unit RunError) → Runs KnownCall limit a b result → OnOk result (IfSome a.input (λ bytes. Appends a.output b.output (answers_of bytes)))
-runs_ok limit a b (Ok tt) runs =
-    Consumes-whole a.input b.input (bytes_read runs.calls) (λ bytes. Appends a.output b.output (answers_of bytes)) (known_read a b runs.calls runs.made)
-    (runs_end limit a b (Ok tt) runs) (subst (Appends a.output b.output) runs.output (known_written a b runs.calls runs.made))
-runs_ok limit a b (Err e) runs = tt
+pub runs_ok : (m : Meaning) (due : List ℕ → List ℕ) → ((bytes : List ℕ) → replies_to m bytes ≡ due bytes) → (limit : ℕ) (a b : Known) (result : Result Unit RunError)
+    → RunsBy KnownCall m limit a b result → OnOk result (IfSome a.input (λ bytes. Appends a.output b.output (due bytes)))
+runs_ok m due is limit a b (Ok tt) runs =
+    Consumes-whole a.input b.input (bytes_read runs.calls) (λ bytes. Appends a.output b.output (due bytes)) (known_read a b runs.calls runs.made)
+    (runs_end m limit a b (Ok tt) runs) (subst (Appends a.output b.output) (runs.output ∙ is (bytes_read runs.calls)) (known_written a b runs.calls runs.made))
+runs_ok m due is limit a b (Err e) runs = tt
 
-pub runs_transfer : (limit : ℕ) (a b : Known) (result : Result Unit RunError) → Runs KnownCall limit a b result → Transfers a.input b.input a.output b.output result
-runs_transfer limit a b result runs = record {
+pub runs_transfer : (m : Meaning) (limit : ℕ) (a b : Known) (result : Result Unit RunError) → RunsBy KnownCall m limit a b result → TransfersBy m a.input b.input a.output b.output result
+runs_transfer m limit a b result runs = record {
   read = bytes_read runs.calls;
   written = bytes_written runs.calls;
   consumed = known_read a b runs.calls runs.made;
   appended = known_written a b runs.calls runs.made;
+  told = is_end_told runs.calls;
+  end = known_end m [] a b runs.calls runs.each runs.made;
   due = runs.output;
 }
 
@@ -133,11 +149,11 @@ Consumes-length None new bytes n consumed le = tt
 Consumes-length (Some x) None bytes n consumed le = absurd consumed
 Consumes-length (Some x) (Some y) bytes n consumed le = let whole = ap length consumed in omega (arith, length-append bytes y)
 
-too_many : (limit : ℕ) (a b : Known) → Runs KnownCall limit a b (Err TooManyReads) → IfSome a.input (λ bytes. limit ≤ length bytes)
-too_many limit a b runs =
+too_many : (m : Meaning) (limit : ℕ) (a b : Known) → RunsBy KnownCall m limit a b (Err TooManyReads) → IfSome a.input (λ bytes. limit ≤ length bytes)
+too_many m limit a b runs =
     let le = read_count_le runs.calls runs.ends.0 runs.ends.1 in
     let all = runs.ends.2 in
     Consumes-length a.input b.input (bytes_read runs.calls) limit (known_read a b runs.calls runs.made) (omega arith)
 
-pub runs_too_many : (limit : ℕ) (a b : Known) (result : Result Unit RunError) → result ≡ Err TooManyReads → Runs KnownCall limit a b result → IfSome a.input (λ bytes. limit ≤ length bytes)
-runs_too_many limit a b result is runs = too_many limit a b (subst (Runs KnownCall limit a b) is runs)
+pub runs_too_many : (m : Meaning) (limit : ℕ) (a b : Known) (result : Result Unit RunError) → result ≡ Err TooManyReads → RunsBy KnownCall m limit a b result → IfSome a.input (λ bytes. limit ≤ length bytes)
+runs_too_many m limit a b result is runs = too_many m limit a b (subst (RunsBy KnownCall m limit a b) is runs)

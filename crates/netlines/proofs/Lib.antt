@@ -14,6 +14,7 @@ pub mod PostLemmas
 pub mod PostedAnswer
 pub mod PostedClass
 pub mod ReadLemmas
+pub mod RepliesLemmas
 pub mod ReplyLemmas
 pub mod SealedLemmas
 pub mod SplitLaws

@@ -1,7 +1,6 @@
 -- The first bytes of a line, as far as they are kept.
 use Rattle.std.proofs.Common.{◌≡◌, ◌∙◌, sym, ap, refl, ℕ, zero, suc, ◌+◌, ◌-◌, ◌≤◌, ◌<◌, ◌==◌, false, cond, List, [], ◌∷◌, ◌++◌, length, take, arith, Result, Ok, Err, length-take, append-nil, inl, inr}
 use Rattle.std.specs.Prelude.{IsOk, is_ok, OnOk}
-use Rattle.std.specs.List.{flat_map}
 use Rattle.std.proofs.lemmas.Bool.{cases_lt}
 use Rattle.std.proofs.lemmas.List.{take_all}
 use Rattle.std.proofs.Math.Seq.{take-append-add}
@@ -28,10 +27,18 @@ take-kept (suc n) (x ∷ a) b = ap (λ l. x ∷ l) (take-kept n a b)
 pub take-room : (n : ℕ) (a b : List ℕ) → length a ≤ n → take n (a ++ b) ≡ a ++ take (n - length a) b
 take-room n a b h = let e : n ≡ length a + (n - length a) = omega arith in ap (λ k. take k (a ++ b)) e ∙ take-append-add a b (n - length a)
 
--- the reply to a line of which the first bytes are kept
-pub reply_kept : (kept start tail : List ℕ) → kept ≡ take (LINE_LIMIT + 1) start → reply_of (take (LINE_LIMIT + 1) (kept ++ tail)) ≡ reply_of (start ++ tail)
-reply_kept kept start tail h =
-    ap (λ l. reply_of (take (LINE_LIMIT + 1) (l ++ tail))) h ∙ ap reply_of (take-kept (LINE_LIMIT + 1) start tail) ∙ reply_of-take (start ++ tail)
+pub take-twice : (n : ℕ) (a : List ℕ) → take n (take n a) ≡ take n a
+take-twice zero a = refl
+take-twice (suc n) [] = refl
+take-twice (suc n) (x ∷ a) = ap (λ l. x ∷ l) (take-twice n a)
+
+-- lines of the same first bytes have the same reply
+pub reply_first : (line whole : List ℕ) → take (LINE_LIMIT + 1) line ≡ take (LINE_LIMIT + 1) whole → reply_of line ≡ reply_of whole
+reply_first line whole same = sym (reply_of-take line) ∙ ap reply_of same ∙ reply_of-take whole
+
+-- the first bytes of a line of which the first bytes are kept
+pub first_kept : (n : ℕ) (kept start tail : List ℕ) → kept ≡ take n start → take n (take n (kept ++ tail)) ≡ take n (start ++ tail)
+first_kept n kept start tail h = take-twice n (kept ++ tail) ∙ ap (λ l. take n (l ++ tail)) h ∙ take-kept n start tail
 
 -- nothing is kept of nothing alone
 pub nothing_kept : (n : ℕ) (kept start : List ℕ) → 0 < n → kept ≡ take n start → length kept ≡ 0 → start ≡ []
@@ -40,10 +47,10 @@ nothing_kept (suc n) kept [] some h e = refl
 nothing_kept (suc n) kept (x ∷ start) some h e = let long = ap length h in absurd (omega arith)
 
 -- where something is kept there is a last line
-pub some_kept : (n : ℕ) (kept start : List ℕ) → kept ≡ take n start → 0 < length kept → reply_of (start ++ []) ≡ flat_map reply_of (last_line start)
+pub some_kept : (n : ℕ) (kept start : List ℕ) → kept ≡ take n start → 0 < length kept → last_line start ≡ (start ++ []) ∷ []
 some_kept zero kept [] h some = let none = ap length h in absurd (omega arith)
 some_kept (suc n) kept [] h some = let none = ap length h in absurd (omega arith)
-some_kept n kept (x ∷ start) h some = ap reply_of (append-nil (x ∷ start)) ∙ sym (append-nil (reply_of (x ∷ start)))
+some_kept n kept (x ∷ start) h some = ap (λ l. l ∷ []) (sym (append-nil (x ∷ start)))
 
 -- what a call gives where it succeeds
 pub if_ok : {E X : Type 0} (r : Result Unit E) (new grown same : X) → IsOk r → new ≡ cond (is_ok r) grown same → new ≡ grown

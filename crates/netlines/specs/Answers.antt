@@ -1,11 +1,12 @@
 -- What is answered to a line, and to a list of bytes line by line.
-use Rattle.std.specs.Prelude.{ℕ, List, [], ◌∷◌, ◌++◌, codes, decimal}
+use Rattle.std.specs.Prelude.{◌≡◌, ℕ, false, List, [], ◌∷◌, ◌++◌, codes, decimal}
 use Rattle.std.specs.List.{flat_map}
 use Rattle.hex.specs.Hex.{encode_lower}
 use Rattle.netlines.specs.Class.{Class, class_of}
 use Rattle.netlines.specs.Class.Class.{Whole, Other, Refused}
 use Rattle.netlines.specs.Lines.{Command, command_of, lines_of, ended_lines_of}
 use Rattle.netlines.specs.Lines.Command.{Frame, Bad}
+use Rattle.netlines.specs.Replies.{Meaning, replies_to, replies_to_ended}
 use Rattle.netlines.specs.Verdict.{verdict_of}
 use Rattle.netlines.specs.declared.verdict.Verdict.{Verdict}
 use Rattle.netlines.specs.declared.verdict.Verdict.TheVariants as verdict
@@ -51,3 +52,11 @@ answers_of bytes = flat_map reply_of (lines_of bytes)
 -- the answers to the lines that 0a ends
 abbrev pub ended_answers_of : List ℕ → List ℕ
 ended_answers_of bytes = flat_map reply_of (ended_lines_of bytes)
+
+-- each line by itself: the reply is the same after any other lines, and takes no memory
+abbrev pub answering : Meaning
+answering = record { reply = λ earlier line. reply_of line; takes_memory = λ line. false }
+
+-- the replies by this meaning are the answers
+abbrev pub RepliesAreAnswers : Type 0
+RepliesAreAnswers = (bytes : List ℕ) → (replies_to answering bytes ≡ answers_of bytes) × (replies_to_ended answering bytes ≡ ended_answers_of bytes)

@@ -1,8 +1,10 @@
 -- What is known of a reader and a writer: the bytes that the one has left and those that the other holds.
-use Rattle.std.specs.Prelude.{◌≡◌, ℕ, List, [], length, take, Option, Some, None, Result}
+use Rattle.std.specs.Prelude.{◌≡◌, ℕ, Bool, true, List, [], length, take, Option, Some, None, Result}
 use Rattle.std.specs.Io.KnownBytes.{Appends, Consumes, Keeps, IsAtEnd}
 use Rattle.netlines.specs.declared.run_error.RunError.{RunError}
+use Rattle.netlines.specs.Answers.{answering}
 use Rattle.netlines.specs.Calls.{Call, Reads, Writes}
+use Rattle.netlines.specs.Replies.{Meaning}
 use Rattle.netlines.specs.Runs.{IsOutput}
 
 -- the known bytes of both, as one device
@@ -31,10 +33,17 @@ IsInMemory (Writes bytes (Some n)) = n ≡ length bytes
 abbrev pub MemoryCall : Known → Call → Known → Type 0
 MemoryCall old call new = KnownCall old call new × IsInMemory call
 
--- the bytes that a run with this result read, and those that it wrote, which are the output for the bytes read
-pub record Transfers (input input' output output' : Option (List ℕ)) (result : Result Unit RunError) : Type 0 where
+-- the bytes that a run with this result read, and those that it wrote, which are the output for the bytes read;
+-- where it was told the end of them no byte is left
+pub record TransfersBy (meaning : Meaning) (input input' output output' : Option (List ℕ)) (result : Result Unit RunError) : Type 0 where
   pub read : List ℕ
   pub written : List ℕ
   pub consumed : Consumes input input' read
   pub appended : Appends output output' written
-  pub due : IsOutput result read written
+  pub told : Bool
+  pub end : told ≡ true → IsAtEnd input'
+  pub due : IsOutput meaning result told read written
+
+-- the same where each line is answered by itself
+abbrev pub Transfers : Option (List ℕ) → Option (List ℕ) → Option (List ℕ) → Option (List ℕ) → Result Unit RunError → Type 0
+Transfers input input' output output' result = TransfersBy answering input input' output output' result

@@ -11,6 +11,7 @@ pub mod Lines
 pub mod PostRefusal
 pub mod Posted
 pub mod ReadMessage
+pub mod Replies
 pub mod Runs
 pub mod Sealed
 pub mod Verdict

@@ -5,14 +5,12 @@ ghost use Rattle.netlines.specs.Class.{class_of};
 
 use crate::command::frame_line;
 use crate::frame::{FrameClass, classify};
+use crate::limits::REPLY_ROOM;
 use crate::output::{append, append_decimal, append_hex};
 use crate::{LINE_LIMIT, Verdict, judge};
 
 /// The bytes of a line's frame at most.
 pub const FRAME_ROOM: usize = LINE_LIMIT / 2;
-
-/// The bytes of an answer and its 0a at most, and some to spare.
-pub const REPLY_ROOM: usize = 2 * FRAME_ROOM + 32;
 
 const BAD_LINE: &[u8; 8] = b"bad line";
 

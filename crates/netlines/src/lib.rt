@@ -4,10 +4,12 @@
 
 mod addresses;
 mod answer;
+mod answerer;
 mod command;
 pub mod device;
 mod ethernet;
 mod frame;
+mod frame_answerer;
 mod in_memory;
 mod ip_frag_version_spec_id;
 pub mod laws;

@@ -1,23 +1,25 @@
 //! Lines out of pieces of a stream, and their replies.
-ghost use Rattle.std.specs.Prelude.{◌≡◌, ◌≤◌, ◌++◌, ℕ, List, [], take, vec_len, vec_capacity, OnOk, IfOk};
-ghost use Rattle.std.specs.List.{flat_map};
-ghost use Rattle.netlines.specs.Answers.{reply_of, ended_answers_of};
-ghost use Rattle.netlines.specs.Lines.{split, last_line, HasNoNewline};
-ghost use Rattle.netlines.specs.Writes.{Delivers, Gathers};
-ghost use Rattle.netlines.specs.declared.line_answerer.TheConstants.{LINE_ROOM};
+ghost use Rattle.std.specs.Prelude.{◌≡◌, ◌≤◌, ◌+◌, ◌++◌, ◌∷◌, ℕ, List, [], take, vec_len, vec_capacity, OnOk, IfOk};
+ghost use Rattle.std.specs.Io.Iter.{u64_saturate};
+ghost use Rattle.netlines.specs.Lines.{split, last_line};
+ghost use Rattle.netlines.specs.Replies.{Kept};
+ghost use Rattle.netlines.specs.Writes.{Gathers, Serves};
+ghost use Rattle.netlines.specs.declared.limits.TheConstants.{LINE_ROOM};
 
+use crate::RunError;
+use crate::answerer::Answerer;
 use crate::device::Device;
+use crate::limits::LINE_ROOM;
 use crate::reply_buffer::ReplyBuffer;
-use crate::{LINE_LIMIT, RunError};
 use memchr::memchr;
 use std::alloc::{AllocError, Global};
 
-/// The bytes of a line that are kept: one beyond the limit tells that the line is too long.
-pub const LINE_ROOM: usize = LINE_LIMIT + 1;
-
 /// Answers lines that come in pieces.
 #[derive(Drop)]
-pub struct LineAnswerer {
+pub struct LineAnswerer<A> {
+    pub answerer: A,
+    /// The lines that are answered, as far as they can be counted.
+    pub count: u64,
     /// The first bytes of a line that has begun in an earlier piece.
     pub line: Vec<u8>,
     pub replies: ReplyBuffer,
@@ -25,13 +27,17 @@ pub struct LineAnswerer {
     ghost line_len: { vec_len line ≤ LINE_ROOM },
 }
 
-impl LineAnswerer {
+impl<A: Answerer + Drop> LineAnswerer<A> {
     /// No line has begun and no reply waits. All the memory is taken here.
-    pub fn new(alloc: Global) -> Result<LineAnswerer, AllocError>
-        ensures line { IfOk result (λ answerer. answerer.line.items ≡ []) }
-        ensures replies { IfOk result (λ answerer. answerer.replies ≡ []) }
+    pub fn new(alloc: Global, answerer: A) -> Result<LineAnswerer<A>, AllocError>
+        ensures answerer { IfOk result (λ lines. lines.answerer ≡ answerer) }
+        ensures count { IfOk result (λ lines. lines.count ≡ 0) }
+        ensures line { IfOk result (λ lines. lines.line.items ≡ []) }
+        ensures replies { IfOk result (λ lines. lines.replies ≡ []) }
     {
         Ok(LineAnswerer {
+            answerer,
+            count: 0,
             line: Vec::with_capacity(alloc, LINE_ROOM)?,
             replies: ReplyBuffer::new(alloc)?,
         })
@@ -41,6 +47,8 @@ impl LineAnswerer {
     fn keep(&mut self, bytes: &[u8])
         ensures line { self.new.line.items ≡ take LINE_ROOM (self.old.line.items ++ bytes.now) }
         ensures replies { self.new.replies ≡ self.old.replies }
+        ensures answerer { self.new.answerer ≡ self.old.answerer }
+        ensures count { self.new.count ≡ self.old.count }
     {
         let room = LINE_ROOM - self.line.len();
         let kept = bytes.len().min(room);
@@ -49,15 +57,26 @@ impl LineAnswerer {
 
     // Answers the line that ends with these bytes.
     fn end_line<D: Device>(&mut self, tail: &[u8], device: &mut D) -> Result<(), RunError>
-        ensures gathers { (start : List ℕ) → self.old.line.items ≡ take LINE_ROOM start
-            → Gathers D.transition device.old self.old.replies (reply_of (start ++ tail.now)) result self.new.replies device.new }
+        ensures gathers { (earlier : List (List ℕ)) (start : List ℕ) → Kept (A.shows self.old.answerer) self.old.count self.old.line.items earlier start
+            → Gathers D.transition (A.meaning.takes_memory (start ++ tail.now)) device.old self.old.replies (A.meaning.reply earlier (start ++ tail.now)) result self.new.replies device.new }
+        ensures shows { (earlier : List (List ℕ)) (start : List ℕ) → Kept (A.shows self.old.answerer) self.old.count self.old.line.items earlier start
+            → OnOk result (A.shows self.new.answerer (earlier ++ (start ++ tail.now) ∷ [])) }
+        ensures count { self.new.count ≡ u64_saturate (self.old.count + 1) }
         ensures line { self.new.line.items ≡ [] }
     {
+        self.count = self.count.saturating_add(1);
         if self.line.is_empty() {
-            return self.replies.push(tail, device);
+            return self
+                .replies
+                .push(&mut self.answerer, self.count, tail, device);
         }
         self.keep(tail);
-        let pushed = self.replies.push(self.line.as_slice(), device);
+        let pushed = self.replies.push(
+            &mut self.answerer,
+            self.count,
+            self.line.as_slice(),
+            device,
+        );
         self.line.clear();
         pushed
     }
@@ -65,10 +84,10 @@ impl LineAnswerer {
     /// Goes on with a piece: answers each line that 0a ends in it, and writes all that waits.
     pub fn feed<D: Device>(&mut self, piece: &[u8], device: &mut D) -> Result<(), RunError>
         requires { self.old.replies ≡ [] }
-        ensures delivers { (start : List ℕ) → HasNoNewline start → self.old.line.items ≡ take LINE_ROOM start
-            → Delivers D.transition device.old (ended_answers_of (start ++ piece.now)) result device.new }
-        ensures line { (start : List ℕ) → HasNoNewline start → self.old.line.items ≡ take LINE_ROOM start
-            → OnOk result (self.new.line.items ≡ take LINE_ROOM (split (start ++ piece.now)).rest) }
+        ensures serves { (earlier : List (List ℕ)) (start : List ℕ) → Kept (A.shows self.old.answerer) self.old.count self.old.line.items earlier start
+            → Serves D.transition A.meaning device.old earlier (split (start ++ piece.now)).ended result device.new }
+        ensures keeps { (earlier : List (List ℕ)) (start : List ℕ) → Kept (A.shows self.old.answerer) self.old.count self.old.line.items earlier start
+            → OnOk result (Kept (A.shows self.new.answerer) self.new.count self.new.line.items (earlier ++ (split (start ++ piece.now)).ended) (split (start ++ piece.now)).rest) }
         ensures replies { OnOk result (self.new.replies ≡ []) }
     {
         let mut rest = piece;
@@ -84,8 +103,8 @@ impl LineAnswerer {
     /// Answers a last line that no 0a ended, if there is one.
     pub fn finish<D: Device>(&mut self, device: &mut D) -> Result<(), RunError>
         requires { self.old.replies ≡ [] }
-        ensures { (start : List ℕ) → self.old.line.items ≡ take LINE_ROOM start
-            → Delivers D.transition device.old (flat_map reply_of (last_line start)) result device.new }
+        ensures { (earlier : List (List ℕ)) (start : List ℕ) → Kept (A.shows self.old.answerer) self.old.count self.old.line.items earlier start
+            → Serves D.transition A.meaning device.old earlier (last_line start) result device.new }
     {
         if self.line.is_empty() {
             return Ok(());

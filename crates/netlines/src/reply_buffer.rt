@@ -1,13 +1,14 @@
 //! Replies that wait to be written together.
-ghost use Rattle.std.specs.Prelude.{◌≡◌, ◌↔◌, ◌≤◌, ◌+◌, ◌++◌, ℕ, List, [], IsTrue, OnOk, IfOk, length, take, vec_len};
-ghost use Rattle.netlines.specs.Answers.{reply_of};
+ghost use Rattle.std.specs.Prelude.{◌≡◌, ◌↔◌, ◌≤◌, ◌+◌, ◌++◌, ◌∷◌, ℕ, List, [], IsTrue, OnOk, OnErr, IfOk, MatchResult, length, take, vec_len};
+ghost use Rattle.netlines.specs.Replies.{Asks};
 ghost use Rattle.netlines.specs.Writes.{Delivers, Gathers};
-ghost use Rattle.netlines.specs.declared.answer.TheConstants.{FRAME_ROOM, REPLY_ROOM};
+ghost use Rattle.netlines.specs.declared.limits.TheConstants.{REPLY_ROOM};
 ghost use Rattle.netlines.specs.declared.reply_buffer.TheConstants.{OUTPUT_ROOM};
 
 use crate::RunError;
-use crate::answer::{FRAME_ROOM, REPLY_ROOM, write_reply};
+use crate::answerer::Answerer;
 use crate::device::{Device, write_whole};
+use crate::limits::REPLY_ROOM;
 use std::alloc::{AllocError, Global};
 use std::marker::Model;
 
@@ -17,7 +18,6 @@ pub const OUTPUT_ROOM: usize = REPLY_ROOM + 65_536;
 /// Replies that wait to be written. Contracts see their bytes.
 #[derive(Drop)]
 pub struct ReplyBuffer {
-    frame: Vec<u8>,
     output: Vec<u8>,
     used: usize,
 }
@@ -27,7 +27,7 @@ impl Model for ReplyBuffer {
 
     ghost view = { λ b. take b.used b.output.items };
 
-    ghost invariant = { λ b. (vec_len b.frame ≡ FRAME_ROOM) × (vec_len b.output ≡ OUTPUT_ROOM) × (b.used ≤ OUTPUT_ROOM) };
+    ghost invariant = { λ b. (vec_len b.output ≡ OUTPUT_ROOM) × (b.used ≤ OUTPUT_ROOM) };
 }
 
 impl ReplyBuffer {
@@ -36,21 +36,35 @@ impl ReplyBuffer {
         ensures { IfOk result (λ buffer. buffer ≡ []) }
     {
         Ok(ReplyBuffer {
-            frame: vec![in alloc; 0; FRAME_ROOM]?,
             output: vec![in alloc; 0; OUTPUT_ROOM]?,
             used: 0,
         })
     }
 
-    /// Adds the reply to a line. What waits is written first where a reply may have no room.
-    pub fn push<D: Device>(&mut self, line: &[u8], device: &mut D) -> Result<(), RunError>
-        ensures { Gathers D.transition device.old self.old (reply_of line.now) result self.new device.new }
+    /// Adds the reply to a line. What waits is written first where a reply may have no room; where
+    /// memory is wanting for the reply, all that waits is written before that is told.
+    pub fn push<A: Answerer, D: Device>(
+        &mut self,
+        answerer: &mut A,
+        number: u64,
+        line: &[u8],
+        device: &mut D,
+    ) -> Result<(), RunError>
+        ensures gathers { (earlier : List (List ℕ)) (whole : List ℕ) → Asks (A.shows answerer.old) earlier number line.now whole
+            → Gathers D.transition (A.meaning.takes_memory whole) device.old self.old (A.meaning.reply earlier whole) result self.new device.new }
+        ensures shows { (earlier : List (List ℕ)) (whole : List ℕ) → Asks (A.shows answerer.old) earlier number line.now whole
+            → OnOk result (A.shows answerer.new (earlier ++ whole ∷ [])) }
     {
         if !self.has_room() {
             self.write_out(device)?;
         }
-        self.add(line);
-        Ok(())
+        match self.add(answerer, number, line) {
+            Ok(()) => Ok(()),
+            Err(_) => {
+                self.write_out(device)?;
+                Err(RunError::Memory)
+            }
+        }
     }
 
     // Whether any reply can be added.
@@ -60,12 +74,27 @@ impl ReplyBuffer {
         self.used <= OUTPUT_ROOM - REPLY_ROOM
     }
 
-    fn add(&mut self, line: &[u8])
+    fn add<A: Answerer>(
+        &mut self,
+        answerer: &mut A,
+        number: u64,
+        line: &[u8],
+    ) -> Result<(), AllocError>
         requires { length self.old + REPLY_ROOM ≤ OUTPUT_ROOM }
-        ensures { self.new ≡ self.old ++ reply_of line.now }
+        ensures replies { (earlier : List (List ℕ)) (whole : List ℕ) → Asks (A.shows answerer.old) earlier number line.now whole
+            → MatchResult result
+            (λ done. (self.new ≡ self.old ++ A.meaning.reply earlier whole) × A.shows answerer.new (earlier ++ whole ∷ []))
+            (λ e. IsTrue (A.meaning.takes_memory whole)) }
+        ensures err { OnErr result (self.new ≡ self.old) }
     {
-        let frame = self.frame.as_mut_slice();
-        self.used = add_reply(line, frame, self.output.as_mut_slice(), self.used);
+        self.used = add_reply(
+            answerer,
+            number,
+            line,
+            self.output.as_mut_slice(),
+            self.used,
+        )?;
+        Ok(())
     }
 
     /// Writes what waits.
@@ -80,11 +109,21 @@ impl ReplyBuffer {
 }
 
 // Puts the reply to a line behind the first `used` bytes, and returns where it ends.
-fn add_reply(line: &[u8], frame: &mut [u8], output: &mut [u8], used: usize) -> usize
-    requires frame { length frame.old ≡ FRAME_ROOM }
-    requires room { used + REPLY_ROOM ≤ length output.old }
-    ensures fits { result ≤ length output.new }
-    ensures bytes { take result output.new ≡ take used output.old ++ reply_of line.now }
+fn add_reply<A: Answerer>(
+    answerer: &mut A,
+    number: u64,
+    line: &[u8],
+    output: &mut [u8],
+    used: usize,
+) -> Result<usize, AllocError>
+    requires { used + REPLY_ROOM ≤ length output.old }
+    ensures fits { IfOk result (λ end. end ≤ length output.new) }
+    ensures front { take used output.new ≡ take used output.old }
+    ensures replies { (earlier : List (List ℕ)) (whole : List ℕ) → Asks (A.shows answerer.old) earlier number line.now whole
+        → MatchResult result
+        (λ end. (take end output.new ≡ take used output.old ++ A.meaning.reply earlier whole) × A.shows answerer.new (earlier ++ whole ∷ []))
+        (λ e. IsTrue (A.meaning.takes_memory whole)) }
 {
-    used + write_reply(line, frame, &mut output[used..])
+    let len = answerer.answer(number, line, &mut output[used..])?;
+    Ok(used + len)
 }

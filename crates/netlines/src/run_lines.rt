@@ -3,9 +3,12 @@ ghost use Rattle.std.specs.Prelude.{◌≡◌, ◌≤◌, ℕ, List, [], length,
 ghost use Rattle.std.specs.Io.KnownBytes.{Appends, IsAtEnd};
 ghost use Rattle.netlines.specs.Answers.{answers_of};
 ghost use Rattle.netlines.specs.Known.{KnownCall, Transfers, known_of};
-ghost use Rattle.netlines.specs.Runs.{Runs};
+ghost use Rattle.netlines.specs.Replies.{Kept};
+ghost use Rattle.netlines.specs.Runs.{Runs, RunsBy};
 
+use crate::answerer::Answerer;
 use crate::device::{Device, ReaderWriter};
+use crate::frame_answerer::FrameAnswerer;
 use crate::line_answerer::LineAnswerer;
 use crate::{READ_COUNT_LIMIT, READ_SIZE_LIMIT, RunError};
 use std::alloc::{AllocError, Global};
@@ -50,40 +53,63 @@ pub fn run<R: Read, W: Write>(alloc: Global, reader: &mut R, writer: &mut W) -> 
 /// A run of at most so many reads over any device: each call that it makes, in its order, and how
 /// these calls end it.
 pub fn run_over<D: Device>(alloc: Global, device: &mut D, reads: u64) -> Result<(), RunError>
-    ensures { Runs D.transition reads device.old device.new result }
+    ensures runs { Runs D.transition reads device.old device.new result }
+
+    // Memory is taken before the first call.
+    ensures memory { IsErrOf result RunError.Memory → device.new ≡ device.old }
 {
-    let Ok((mut piece, mut answerer)) = buffers(alloc) else {
+    let Ok(answerer) = FrameAnswerer::new(alloc) else {
         return Err(RunError::Memory);
     };
-    answer_reads(piece.as_mut_slice(), &mut answerer, device, reads)
+    run_with(alloc, answerer, device, reads)
 }
 
-// All the memory of a run.
-fn buffers(alloc: Global) -> Result<(Vec<u8>, LineAnswerer), AllocError>
+/// The same by any answerer, which has answered no line yet.
+pub(crate) fn run_with<A: Answerer + Drop, D: Device>(
+    alloc: Global,
+    answerer: A,
+    device: &mut D,
+    reads: u64,
+) -> Result<(), RunError>
+    requires { A.shows answerer [] }
+    ensures { RunsBy D.transition A.meaning reads device.old device.new result }
+{
+    let Ok((mut piece, mut lines)) = buffers(alloc, answerer) else {
+        return Err(RunError::Memory);
+    };
+    answer_reads(piece.as_mut_slice(), &mut lines, device, reads)
+}
+
+// All the memory of a run but that of its answerer.
+fn buffers<A: Answerer + Drop>(
+    alloc: Global,
+    answerer: A,
+) -> Result<(Vec<u8>, LineAnswerer<A>), AllocError>
+    requires { A.shows answerer [] }
     ensures piece { IfOk result (λ made. vec_len made.0 ≡ READ_SIZE_LIMIT) }
-    ensures line { IfOk result (λ made. made.1.line.items ≡ []) }
+    ensures kept { IfOk result (λ made. Kept (A.shows made.1.answerer) made.1.count made.1.line.items [] []) }
     ensures replies { IfOk result (λ made. made.1.replies ≡ []) }
 {
     let piece = vec![in alloc; 0; READ_SIZE_LIMIT]?;
-    Ok((piece, LineAnswerer::new(alloc)?))
+    Ok((piece, LineAnswerer::new(alloc, answerer)?))
 }
 
 // Answers at most so many reads.
-fn answer_reads<D: Device>(
+fn answer_reads<A: Answerer + Drop, D: Device>(
     piece: &mut [u8],
-    answerer: &mut LineAnswerer,
+    lines: &mut LineAnswerer<A>,
     device: &mut D,
     reads: u64,
 ) -> Result<(), RunError>
     requires room { length piece.old ≡ READ_SIZE_LIMIT }
-    requires line { answerer.old.line.items ≡ [] }
-    requires replies { answerer.old.replies ≡ [] }
-    ensures { Runs D.transition reads device.old device.new result }
+    requires kept { Kept (A.shows lines.old.answerer) lines.old.count lines.old.line.items [] [] }
+    requires replies { lines.old.replies ≡ [] }
+    ensures { RunsBy D.transition A.meaning reads device.old device.new result }
 {
     'reads: for _ in 0..reads {
         match device.read_some(piece) {
-            Ok(0) => return answerer.finish(device),
-            Ok(n) => answerer.feed(&piece[..n], device)?,
+            Ok(0) => return lines.finish(device),
+            Ok(n) => lines.feed(&piece[..n], device)?,
             Err(_) => return Err(RunError::Read),
         }
     }

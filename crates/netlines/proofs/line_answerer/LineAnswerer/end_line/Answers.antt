@@ -1,20 +1,42 @@
-use Rattle.std.proofs.Common.{rules, ◌≡◌, ◌++◌, ◌∙◌, sym, ap, subst, length, List, ℕ}
-use Rattle.netlines.proofs.LineLemmas.{nothing_kept, reply_kept}
-use Rattle.netlines.specs.Answers.{reply_of}
+use Rattle.std.proofs.Common.{rules, ◌≡◌, ◌++◌, ◌∙◌, sym, ap, subst, length, take, List, ℕ}
+use Rattle.netlines.proofs.Feeding.{asks_kept}
+use Rattle.netlines.proofs.LineLemmas.{nothing_kept, first_kept}
+use Rattle.netlines.specs.Replies.{Asks}
 use Rattle.netlines.specs.Writes.{Gathers}
-use Rattle.netlines.specs.declared.line_answerer.TheConstants.{LINE_ROOM}
+use Rattle.netlines.specs.declared.limits.TheConstants.{LINE_ROOM}
 use Rattle.netlines.proofs.line_answerer.LineAnswerer.end_line.Goals as goal
 
 pub returns-then-is_empty-clause-gathers : goal.returns-then-is_empty-clause-gathers
-returns-then-is_empty-clause-gathers g c start kept =
+returns-then-is_empty-clause-gathers g c earlier start keeps =
+    let tail = c.args.tail.now in
     let none : length c.args.self.now.line.items ≡ 0 = search rules in
-    let nothing = nothing_kept LINE_ROOM c.args.self.now.line.items start (search rules) kept none in
-    subst (λ (l : List ℕ). Gathers g.D.Device.transition c.args.device.now c.args.self.now.replies (reply_of (l ++ c.args.tail.now)) c.push.result c.push.new.self c.push.new.device)
-    (sym nothing) c.push.ensures
+    let nothing = nothing_kept LINE_ROOM c.args.self.now.line.items start (search rules) keeps.kept none in
+    c.push.ensures.gathers earlier (start ++ tail)
+    (asks_kept _ c.args.self.now.count _ c.args.self.now.line.items earlier start tail tail keeps c.saturating_add-self.ensures (ap (λ (l : List ℕ). take LINE_ROOM (l ++ tail)) (sym nothing)))
+
+pub returns-then-is_empty-clause-shows : goal.returns-then-is_empty-clause-shows
+returns-then-is_empty-clause-shows g c earlier start keeps =
+    let tail = c.args.tail.now in
+    let none : length c.args.self.now.line.items ≡ 0 = search rules in
+    let nothing = nothing_kept LINE_ROOM c.args.self.now.line.items start (search rules) keeps.kept none in
+    c.push.ensures.shows earlier (start ++ tail)
+    (asks_kept _ c.args.self.now.count _ c.args.self.now.line.items earlier start tail tail keeps c.saturating_add-self.ensures (ap (λ (l : List ℕ). take LINE_ROOM (l ++ tail)) (sym nothing)))
 
 pub returns-clause-gathers : goal.returns-clause-gathers
-returns-clause-gathers g c start kept =
-    let line = c.args.self.now.line.items in
-    let same = ap reply_of (c.as_slice.ensures.value ∙ c.keep.ensures.line) ∙ reply_kept line start c.args.tail.now kept in
-    subst (λ (l : List ℕ). Gathers g.D.Device.transition c.args.device.now c.args.self.now.replies l c.push-pushed.result c.push-pushed.new.self c.push-pushed.new.device) same
-    (subst (λ (w : List ℕ). Gathers g.D.Device.transition c.args.device.now w (reply_of c.as_slice.result.now) c.push-pushed.result c.push-pushed.new.self c.push-pushed.new.device) c.keep.ensures.replies c.push-pushed.ensures)
+returns-clause-gathers g c earlier start keeps =
+    let tail = c.args.tail.now in
+    let first = ap (take LINE_ROOM) (c.as_slice.ensures.value ∙ c.keep.ensures.line) ∙ first_kept LINE_ROOM c.args.self.now.line.items start tail keeps.kept in
+    let asks : Asks (g.A.Answerer.shows c.keep.new.self.answerer) earlier c.keep.new.self.count c.as_slice.result.now (start ++ tail) =
+    rw (c.keep.ensures.answerer, c.keep.ensures.count)
+    (asks_kept _ c.args.self.now.count _ c.args.self.now.line.items earlier start tail c.as_slice.result.now keeps c.saturating_add-self.ensures first) in
+    subst (λ (w : List ℕ). Gathers g.D.Device.transition (g.A.Answerer.meaning.takes_memory (start ++ tail)) c.args.device.now w (g.A.Answerer.meaning.reply earlier (start ++ tail))
+    c.push-pushed.result c.push-pushed.new.self c.push-pushed.new.device) c.keep.ensures.replies (c.push-pushed.ensures.gathers earlier (start ++ tail) asks)
+
+pub returns-clause-shows : goal.returns-clause-shows
+returns-clause-shows g c earlier start keeps =
+    let tail = c.args.tail.now in
+    let first = ap (take LINE_ROOM) (c.as_slice.ensures.value ∙ c.keep.ensures.line) ∙ first_kept LINE_ROOM c.args.self.now.line.items start tail keeps.kept in
+    let asks : Asks (g.A.Answerer.shows c.keep.new.self.answerer) earlier c.keep.new.self.count c.as_slice.result.now (start ++ tail) =
+    rw (c.keep.ensures.answerer, c.keep.ensures.count)
+    (asks_kept _ c.args.self.now.count _ c.args.self.now.line.items earlier start tail c.as_slice.result.now keeps c.saturating_add-self.ensures first) in
+    c.push-pushed.ensures.shows earlier (start ++ tail) asks

@@ -1,17 +1,40 @@
-use Rattle.std.proofs.Common.{◌∙◌, ap, ◌++◌, List, ℕ}
-use Rattle.netlines.specs.Answers.{reply_of}
-use Rattle.netlines.proofs.WriteLemmas.{Gathers-waits, Gathers-after}
+use Rattle.std.proofs.Common.{◌∙◌, subst, List, ℕ}
+use Rattle.std.proofs.lemmas.Result.{err_from_is_err_and}
+use Rattle.netlines.specs.Writes.{Written, Stops}
+use Rattle.netlines.proofs.WriteLemmas.{Left, Left-all, Left-none, Gathers-left, Gathers-memory, Gathers-stops}
 use Rattle.netlines.proofs.reply_buffer.ReplyBuffer.push.Goals as goal
 use Rattle.netlines.proofs.reply_buffer.ReplyBuffer.push.Goals.{then-not-has_room+in_ok-write_out, else-not-has_room}
 
-pub returns : goal.returns
-returns g c =
+pub returns-in-Ok-clause-gathers : goal.returns-in-Ok-clause-gathers
+returns-in-Ok-clause-gathers g c earlier whole asks =
     let transition = g.D.Device.transition in
-    let reply = reply_of c.args.line.now in
+    let left : Left transition c.args.device.now c.args.self.now c.if-not-has_room.self c.if-not-has_room.device =
     elim c.if-not-has_room.branch [
-      | then-not-has_room+in_ok-write_out w ↦
-          rw w.device-is (Gathers-after transition _ _ c.args.self.now reply c.add.new.self w.in_ok-write_out.ensures.delivers
-          (c.add.ensures ∙ ap (λ (l : List ℕ). l ++ reply) (w.self-is ∙ w.in_ok-write_out.ensures.empty)))
-      | else-not-has_room w ↦
-          rw w.device-is (Gathers-waits transition _ c.args.self.now reply c.add.new.self (c.add.ensures ∙ ap (λ (l : List ℕ). l ++ reply) w.self-is))
-    ]
+      | then-not-has_room+in_ok-write_out w ↦ rw w.device-is (Left-all transition _ _ _ _ w.in_ok-write_out.ensures.delivers (w.self-is ∙ w.in_ok-write_out.ensures.empty))
+      | else-not-has_room w ↦ rw w.device-is (Left-none transition _ _ _ w.self-is)
+    ] in
+    Gathers-left transition (g.A.Answerer.meaning.takes_memory whole) _ _ _ _ (g.A.Answerer.meaning.reply earlier whole) c.add.new.self left (c.in-Ok.ensures.replies earlier whole asks).0
+
+pub returns-in_err-write_out-in-Err-clause-gathers : goal.returns-in_err-write_out-in-Err-clause-gathers
+returns-in_err-write_out-in-Err-clause-gathers g c earlier whole asks =
+    let transition = g.D.Device.transition in
+    let left : Left transition c.args.device.now c.args.self.now c.if-not-has_room.self c.if-not-has_room.device =
+    elim c.if-not-has_room.branch [
+      | then-not-has_room+in_ok-write_out w ↦ rw w.device-is (Left-all transition _ _ _ _ w.in_ok-write_out.ensures.delivers (w.self-is ∙ w.in_ok-write_out.ensures.empty))
+      | else-not-has_room w ↦ rw w.device-is (Left-none transition _ _ _ w.self-is)
+    ] in
+    let exit = err_from_is_err_and c.from_residual-in_err-write_out-in-Err.result c.from_residual-in_err-write_out-in-Err.ensures.1 in
+    let stops = subst (λ (l : List ℕ). Stops transition c.in_err-write_out-in-Err.field-0.0 c.if-not-has_room.device l c.write_out-in-Err.new.device) c.in-Err.ensures.err
+    c.in_err-write_out-in-Err.ensures.delivers in
+    rw (exit.1, exit.2) (Gathers-stops transition (g.A.Answerer.meaning.takes_memory whole) c.in_err-write_out-in-Err.field-0.0 _ _ _ _ _ (g.A.Answerer.meaning.reply earlier whole) c.write_out-in-Err.new.self left stops)
+
+pub returns-in_ok-write_out-in-Err-clause-gathers : goal.returns-in_ok-write_out-in-Err-clause-gathers
+returns-in_ok-write_out-in-Err-clause-gathers g c earlier whole asks =
+    let transition = g.D.Device.transition in
+    let left : Left transition c.args.device.now c.args.self.now c.if-not-has_room.self c.if-not-has_room.device =
+    elim c.if-not-has_room.branch [
+      | then-not-has_room+in_ok-write_out w ↦ rw w.device-is (Left-all transition _ _ _ _ w.in_ok-write_out.ensures.delivers (w.self-is ∙ w.in_ok-write_out.ensures.empty))
+      | else-not-has_room w ↦ rw w.device-is (Left-none transition _ _ _ w.self-is)
+    ] in
+    let written = subst (λ (l : List ℕ). Written transition c.if-not-has_room.device l c.write_out-in-Err.new.device) c.in-Err.ensures.err c.in_ok-write_out-in-Err.ensures.delivers in
+    Gathers-memory transition _ _ _ _ _ _ (g.A.Answerer.meaning.reply earlier whole) c.write_out-in-Err.new.self (c.in-Err.ensures.replies earlier whole asks) left written

@@ -1,0 +1,55 @@
+-- What is replied to lines, one after another, where a reply may depend on the lines before it.
+use Rattle.std.specs.Prelude.{◌≡◌, ℕ, ◌+◌, Bool, true, false, List, [], ◌∷◌, ◌++◌, length, take}
+use Rattle.std.specs.Io.Iter.{u64_saturate}
+use Rattle.netlines.specs.Lines.{HasNoNewline, lines_of, ended_lines_of}
+use Rattle.netlines.specs.declared.limits.TheConstants.{LINE_ROOM}
+
+-- what lines mean: the reply to a line after those before it, and whether the reply to a line takes memory
+pub record Meaning : Type 0 where
+  pub reply : List (List ℕ) → List ℕ → List ℕ
+  pub takes_memory : List ℕ → Bool
+
+-- the replies to lines, in order, after these earlier ones
+abbrev pub replies_after : Meaning → List (List ℕ) → List (List ℕ) → List ℕ
+replies_after meaning earlier [] = []
+replies_after meaning earlier (line ∷ lines) = meaning.reply earlier line ++ replies_after meaning (earlier ++ line ∷ []) lines
+
+-- the replies to all lines of these bytes
+abbrev pub replies_to : Meaning → List ℕ → List ℕ
+replies_to meaning bytes = replies_after meaning [] (lines_of bytes)
+
+-- the replies to the lines that 0a ends
+abbrev pub replies_to_ended : Meaning → List ℕ → List ℕ
+replies_to_ended meaning bytes = replies_after meaning [] (ended_lines_of bytes)
+
+-- the lines that are whole: all where the end is told, and otherwise those that 0a ends
+abbrev pub whole_lines_of : Bool → List ℕ → List (List ℕ)
+whole_lines_of true bytes = lines_of bytes
+whole_lines_of false bytes = ended_lines_of bytes
+
+-- these are the replies to the lines before one whose reply takes memory
+pub record EndsBefore (meaning : Meaning) (earlier lines : List (List ℕ)) (replies : List ℕ) : Type 0 where
+  pub before : List (List ℕ)
+  pub line : List ℕ
+  pub later : List (List ℕ)
+  pub parts : lines ≡ before ++ line ∷ later
+  pub takes : meaning.takes_memory line ≡ true
+  pub same : replies ≡ replies_after meaning earlier before
+
+-- the number of the line that follows these, from 1 on; the greatest number of 64 bits is that of all lines from there on
+abbrev pub number_after : List (List ℕ) → ℕ
+number_after earlier = u64_saturate (length earlier + 1)
+
+-- an answerer that has answered the earlier lines is asked for the next one, by its number,
+-- and by a line that is its first bytes, as far as they matter
+pub record Asks (shown : List (List ℕ) → Type 0) (earlier : List (List ℕ)) (number : ℕ) (line whole : List ℕ) : Type 0 where
+  pub shows : shown earlier
+  pub numbered : number ≡ number_after earlier
+  pub first : take LINE_ROOM line ≡ take LINE_ROOM whole
+
+-- the earlier lines are answered and counted, a line has begun with these bytes, and of them the first are kept
+pub record Kept (shown : List (List ℕ) → Type 0) (count : ℕ) (line : List ℕ) (earlier : List (List ℕ)) (begun : List ℕ) : Type 0 where
+  pub shows : shown earlier
+  pub counted : count ≡ u64_saturate (length earlier)
+  pub kept : line ≡ take LINE_ROOM begun
+  pub unended : HasNoNewline begun
