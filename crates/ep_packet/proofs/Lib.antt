@@ -1,7 +1,10 @@
+mod ClassLemmas
 mod FaultLemmas
+mod FoundLemmas
 mod PacketViewLemmas
 mod PartsLemmas
 mod ReadHeaders
 mod SameNet
 mod SlicedLemmas
+mod TaggedLaws
 mod TagsLemmas

@@ -1,6 +1,16 @@
 -- The parts of a packet together.
-use Rattle.std.proofs.Common.{◌≡◌, ◌∙◌, ℕ, ◌+◌, List, [], ◌∷◌, length, Option, Some, None, Result, Ok, Err, IfOk, IfSome, IsSome, ◌<◌, ◌^◌, arith, refl, sym, ap, subst}
+use Rattle.std.proofs.Common.{◌≡◌, ◌∙◌, ℕ, ◌≤◌, Bool, true, false, cond, drop, ◌+◌, List, [], ◌∷◌, length, Option, Some, None, Result, Ok, Err, IfOk, IfSome, IsSome, ◌<◌, ◌^◌, arith, refl, sym, ap, subst}
+use Rattle.std.specs.Option.{ok_or}
+use Rattle.std.specs.Prelude.{nat_lt}
+use Rattle.std.proofs.lemmas.Bool.{ltb-false}
+use Rattle.ep_base.specs.declared.len_source.LenSource.TheVariants as source
 use Rattle.ep_ext.specs.Ipv4Exts.{auth_bytes}
+use Rattle.ep_link.specs.Sll.{greatest_packet_type, packet_type_of, sll_len}
+use Rattle.ep_link.specs.SllFault.{whole_at as sll_at}
+use Rattle.ep_link.specs.SllPayload.{ether_payload_of, named_payload, payload_of}
+use Rattle.ep_link.specs.declared.err.linux_sll.header_slice_error.HeaderSliceError.{HeaderSliceError as SllFault}
+use Rattle.ep_link.specs.declared.link.linux_sll_protocol_type.LinuxSllProtocolType.{LinuxSllProtocolType}
+use Rattle.ep_link.specs.declared.link.linux_sll_protocol_type.LinuxSllProtocolType.TheVariants as protocol
 use Rattle.ep_link.specs.declared.link.link_slice.LinkSlice.{LinkSlice}
 use Rattle.ep_packet.specs.Parts.{AreTagsAt, ArePartsOf, IsAt, IsNetAt, IsTagAt, LayersBehind, LayersIn, TagsIn, headers_len, macsec_bytes, tags_len, transport_bytes}
 use Rattle.ep_packet.specs.SliceFault.{later, moved, place_of}
@@ -12,7 +22,7 @@ use Rattle.ep_packet.specs.declared.net.net_slice.NetSlice.TheVariants as net
 use Rattle.ep_packet.specs.declared.sliced_packet.SlicedPacket.{SlicedPacket}
 use Rattle.ep_packet.specs.declared.transport.transport_slice.TransportSlice.{TransportSlice}
 use Rattle.ep_packet.proofs.FaultLemmas.{moved_twice}
-use Rattle.ep_packet.proofs.PartsLemmas.{at_fits, at_in, from_front}
+use Rattle.ep_packet.proofs.PartsLemmas.{at_drop, at_fits, at_in, from_front}
 use Rattle.ep_tag.specs.Ether.{EtherPayload}
 use Rattle.ep_tag.specs.LinkExt.{tag_len}
 use Rattle.ep_tag.specs.declared.link.link_ext_slice.LinkExtSlice.{LinkExtSlice}
@@ -112,3 +122,31 @@ parts_with bytes link t layers tags inside =
 pub layer_fits : (bytes : List ℕ) (n : ℕ) (t : Tagged) (e : SliceError) → TagsIn bytes 0 t → IfSome t.last (λ q. (m : ℕ) → length q.payload + m < 2 ^ 64 → place_of e + m < 2 ^ 64) → IsSome t.last →
     n + length bytes < 2 ^ 64 → place_of e + (n + t.len) < 2 ^ 64
 layer_fits bytes n t e tags fits some room = layer_fits_at bytes n t.len t.last e tags.last fits some room
+
+pub parts_in_frame : (frame bytes : List ℕ) (place : ℕ) (r : Result SlicedPacket SliceError) → IsAt frame place bytes → IfOk r (λ packet. ArePartsOf bytes 0 packet) → IfOk r (λ packet. ArePartsOf frame place packet)
+parts_in_frame frame bytes place (Ok packet) at are = parts_later frame bytes place packet at are
+parts_in_frame frame bytes place (Err e) at are = tt
+
+-- the header of a cooked capture's packet begins all of its bytes
+sll_taken : (few other : Bool) (bytes packet : List ℕ) (e f : SllFault) → few ≡ nat_lt (length bytes) sll_len → Ok packet ≡ cond few (Err e) (cond other (Err f) (Ok bytes)) → (packet ≡ bytes) × (sll_len ≤ length bytes)
+sll_taken true other bytes packet e f is same = cc
+sll_taken false true bytes packet e f is same = cc
+sll_taken false false bytes packet e f is same = (cc, ltb-false (length bytes) sll_len (sym is))
+
+pub sll_whole : (bytes packet : List ℕ) → Ok packet ≡ sll_at bytes → (packet ≡ bytes) × (sll_len ≤ length bytes)
+sll_whole bytes packet same = sll_taken (nat_lt (length bytes) sll_len) (nat_lt greatest_packet_type (packet_type_of bytes)) bytes packet _ _ refl same
+
+-- what its protocol names, if it is an ether type
+pub some_named : (o : Option EtherPayload) (p : EtherPayload) → Ok p ≡ ok_or o (tt {0}) → o ≡ Some p
+some_named None p same = cc
+some_named (Some q) p same = cc
+
+named_bytes : (protocol : LinuxSllProtocolType) (bytes : List ℕ) (p : EtherPayload) → ether_payload_of protocol bytes ≡ Some p → p.payload ≡ bytes
+named_bytes (protocol.Ignored n) bytes p same = cc
+named_bytes (protocol.NetlinkProtocolType n) bytes p same = cc
+named_bytes (protocol.GenericRoutingEncapsulationProtocolType n) bytes p same = cc
+named_bytes (protocol.EtherType t) bytes p same = let is : record { ether_type = t; len_source = source.Slice; payload = bytes } ≡ p = cc in ap (λ (q : EtherPayload). q.payload) (sym is)
+named_bytes (protocol.LinuxNonstandardEtherType n) bytes p same = cc
+
+pub named_at : (bytes : List ℕ) (p : EtherPayload) → sll_len ≤ length bytes → named_payload (payload_of bytes) ≡ Some p → IsAt bytes sll_len p.payload
+named_at bytes p enough named = subst (IsAt bytes sll_len) (sym (named_bytes (payload_of bytes).protocol_type (drop sll_len bytes) p named)) (at_drop sll_len bytes enough)

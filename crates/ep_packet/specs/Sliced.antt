@@ -155,11 +155,13 @@ in_cooked (Err e) = Err (of_linux_sll e)
 abbrev pub sliced_linux_sll : List ℕ → Result SlicedPacket SliceError
 sliced_linux_sll bytes = in_cooked (sll_fault.whole_at bytes)
 
--- those of the bytes behind an ether type
+-- bytes behind an ether type
+abbrev pub ether_payload : EtherType → List ℕ → EtherPayload
+ether_payload t bytes = record { ether_type = t; len_source = source.Slice; payload = bytes }
+
+-- their parts
 abbrev pub sliced_ether_type : EtherType → List ℕ → Result SlicedPacket SliceError
-sliced_ether_type t bytes =
-    let p : EtherPayload = record { ether_type = t; len_source = source.Slice; payload = bytes } in
-    packet_behind (link.EtherPayload p) p
+sliced_ether_type t bytes = packet_behind (link.EtherPayload (ether_payload t bytes)) (ether_payload t bytes)
 
 -- those of an IP packet of either version
 abbrev pub sliced_ip : List ℕ → Result SlicedPacket SliceError

@@ -1,12 +1,15 @@
-ghost use Rattle.std.specs.Prelude.{◌≡◌, ◌≤◌, ◌<◌, ◌+◌, ◌^◌, ◌↔◌, IfOk, IsErr, List, Option, length, Ok};
+ghost use Rattle.std.specs.Prelude.{◌≡◌, ◌≤◌, ◌<◌, ◌+◌, ◌^◌, ◌↔◌, IfOk, IfSome, IsErr, length, Ok, Some};
 ghost use Rattle.std.specs.Option.{option_map};
 ghost use Rattle.ep_link.specs.Ethernet.{ethernet_len, payload_of};
+ghost use Rattle.ep_link.specs.Sll.{sll_len};
+ghost use Rattle.ep_link.specs.SllPayload.{named_payload, payload_of as sll_payload_of};
+ghost use Rattle.ep_link.specs.declared.link.link_slice.LinkSlice.TheVariants as link_slice;
 ghost use Rattle.ep_packet.specs.Class.{class_of, class_told};
 ghost use Rattle.ep_packet.specs.Class.Class.{Refused};
 ghost use Rattle.ep_packet.specs.PacketView.{ether_payload_in, ip_payload_of, is_cut, is_part, last_payload, payload_ether_type_in, source_behind, vlan_of, vlan_tags};
 ghost use Rattle.ep_packet.specs.Parts.{ArePartsOf};
 ghost use Rattle.ep_packet.specs.SliceFault.{later};
-ghost use Rattle.ep_packet.specs.Sliced.{IsSliced, packet_behind, sliced_ether_type, sliced_ethernet, sliced_ip, sliced_linux_sll};
+ghost use Rattle.ep_packet.specs.Sliced.{IsSliced, ether_payload, packet_behind, sliced_ether_type, sliced_ethernet, sliced_ip, sliced_linux_sll};
 ghost use Rattle.ep_packet.specs.Tags.{vlan_ids_of};
 
 use crate::err::packet::SliceError;
@@ -17,6 +20,7 @@ use arrayvec::ArrayVec;
 use ep_base::{EtherType, LenSource};
 use ep_ipslice::IpPayloadSlice;
 use ep_link::{Ethernet2Header, Ethernet2Slice, LinkSlice, LinuxSllHeader, LinuxSllSlice};
+use ep_tag::laws::macsec::payload_is_read;
 use ep_tag::{
     DoubleVlanSlice, EtherPayloadSlice, LinkExtSlice, SingleVlanSlice, VlanId, VlanSlice,
 };
@@ -48,8 +52,20 @@ impl<'a> SlicedPacket<'a> {
     /// The place of a want of bytes counts from the front of the frame; what a header or message wants
     /// within an IP payload has the source of that payload's length.
     pub fn from_ethernet(slice: &'a [u8]) -> Result<SlicedPacket<'a>, SliceError>
+        // Tags and layers that are taken stand behind the link header, and no others could.
+        ensures found { IfOk result (λ packet. IsSliced (payload_of slice.now) packet) }
+        // What stands there is taken.
+        ensures only { (packet : SlicedPacket) → ethernet_len ≤ length slice.now → packet.link ≡ Some (link_slice.Ethernet2 slice.now)
+            → IsSliced (payload_of slice.now) packet → result ≡ Ok packet }
+        // Each part is the frame from its place on.
+        ensures parts { IfOk result (λ packet. ArePartsOf slice.now ethernet_len packet) }
+        // A frame is refused exactly where its class is, and else the parts tell the class.
+        ensures refused { IsErr result ↔ (class_of slice.now ≡ Refused) }
+        ensures class { class_told result ≡ class_of slice.now }
+        // A refusal is the first fault, with its place in the frame.
         ensures exact { result ≡ sliced_ethernet slice.now }
     {
+        payload_is_read();
         let frame = match Ethernet2Slice::from_slice_without_fcs(slice) {
             Ok(frame) => frame,
             Err(error) => return Err(SliceError::Len(error)),
@@ -62,8 +78,13 @@ impl<'a> SlicedPacket<'a> {
     /// payload is looked into as that of [`SlicedPacket::from_ethernet`] where its protocol is an ether
     /// type. The errors are of the same kind.
     pub fn from_linux_sll(slice: &'a [u8]) -> Result<SlicedPacket<'a>, SliceError>
+        // Tags and layers that are taken stand behind the header, where its protocol is an ether type.
+        ensures found { IfOk result (λ packet. IfSome (named_payload (sll_payload_of slice.now)) (λ p. IsSliced p packet)) }
+        // Each part is the packet from its place on.
+        ensures parts { IfOk result (λ packet. ArePartsOf slice.now sll_len packet) }
         ensures exact { result ≡ sliced_linux_sll slice.now }
     {
+        payload_is_read();
         let packet = match LinuxSllSlice::from_slice(slice) {
             Ok(packet) => packet,
             Err(error) => return Err(slice_fault::of_linux_sll(error)),
@@ -87,8 +108,16 @@ impl<'a> SlicedPacket<'a> {
         ether_type: EtherType,
         slice: &'a [u8],
     ) -> Result<SlicedPacket<'a>, SliceError>
+        // Tags and layers that are taken stand in the slice, and no others could.
+        ensures found { IfOk result (λ packet. IsSliced (ether_payload ether_type slice.now) packet) }
+        // What stands there is taken.
+        ensures only { (packet : SlicedPacket) → packet.link ≡ Some (link_slice.EtherPayload (ether_payload ether_type slice.now))
+            → IsSliced (ether_payload ether_type slice.now) packet → result ≡ Ok packet }
+        // Each part is the slice from its place on.
+        ensures parts { IfOk result (λ packet. ArePartsOf slice.now 0 packet) }
         ensures exact { result ≡ sliced_ether_type ether_type slice.now }
     {
+        payload_is_read();
         let payload = EtherPayloadSlice {
             ether_type,
             len_source: LenSource::Slice,
@@ -105,6 +134,8 @@ impl<'a> SlicedPacket<'a> {
     /// The parts of an IP packet of the version that its first half byte tells. Nothing stands in the
     /// place of a link header. The errors are as those of [`SlicedPacket::from_ethernet`].
     pub fn from_ip(slice: &'a [u8]) -> Result<SlicedPacket<'a>, SliceError>
+        // Each part is the slice from its place on.
+        ensures parts { IfOk result (λ packet. ArePartsOf slice.now 0 packet) }
         ensures exact { result ≡ sliced_ip slice.now }
     {
         match LayerSlices::from_ip(slice) {

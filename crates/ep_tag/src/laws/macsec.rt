@@ -8,7 +8,7 @@ ghost use Rattle.ep_tag.specs.declared.err.macsec.header_slice_error.HeaderSlice
 ghost use Rattle.ep_tag.specs.declared.link.macsec_p_type.MacsecPType.TheVariants as ptype;
 ghost use Rattle.ep_tag.specs.Front.{too_short};
 ghost use Rattle.ep_tag.specs.Macsec.{IsMacsecHeader, HasRoom, has_no_room, header_of, payload_len_in, ptype_of, short_len_of, spelling, with_unused_bits_zero};
-ghost use Rattle.ep_tag.specs.MacsecPayload.{macsec_at, payload_len_of, Unmodified, Modified};
+ghost use Rattle.ep_tag.specs.MacsecPayload.{IsMacsec, Macsec, Modified, Unmodified, macsec_at, payload_len_of};
 
 use crate::MacsecHeader;
 use crate::err::macsec::HeaderSliceError;
@@ -43,6 +43,13 @@ pub fn header_is_read_again<'a>(
     let _bytes = header.to_bytes();
     MacsecHeader::from_slice(slice)
 }
+
+/// What is found at the front of bytes is a header and a payload that they begin with, and one that they
+/// begin with is found.
+pub fn payload_is_read()
+    ensures found { (bytes : List ℕ) (macsec : Macsec) → macsec_at bytes ≡ Ok macsec → IsMacsec bytes macsec }
+    ensures only { (bytes : List ℕ) (macsec : Macsec) → IsMacsec bytes macsec → macsec_at bytes ≡ Ok macsec }
+{}
 
 /// All flags but the version set, association 2, short length 3 with both unused bits set, packet
 /// number 01020304 and a secure channel identifier.

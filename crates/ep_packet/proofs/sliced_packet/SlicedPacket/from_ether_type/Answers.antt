@@ -1,0 +1,15 @@
+use Rattle.ep_link.specs.declared.link.link_slice.LinkSlice.TheVariants as link
+use Rattle.ep_packet.specs.Sliced.{ether_payload}
+use Rattle.ep_packet.proofs.FoundLemmas.{found_behind, taken_behind}
+use Rattle.ep_packet.proofs.sliced_packet.SlicedPacket.from_ether_type.Goals as goal
+use Rattle.ep_tag.specs.Ether.{EtherPayload}
+
+pub returns-clause-found : goal.returns-clause-found
+returns-clause-found c =
+    let p : EtherPayload = ether_payload c.args.ether_type c.args.slice.now in
+    found_behind (record { found = c.payload_is_read.ensures.found; only = c.payload_is_read.ensures.only }) (link.EtherPayload p) p 0 c.behind_link.result c.behind_link.ensures.exact
+
+pub returns-clause-only : goal.returns-clause-only
+returns-clause-only c =
+    let p : EtherPayload = ether_payload c.args.ether_type c.args.slice.now in
+    taken_behind (record { found = c.payload_is_read.ensures.found; only = c.payload_is_read.ensures.only }) (link.EtherPayload p) p 0 c.behind_link.result c.behind_link.ensures.exact
