@@ -49,10 +49,10 @@ fn a_vlan_tag(rt: HostRuntime) -> Result<(), Fail> {
         len_source: LenSource::Slice,
         payload: &[7, 8],
     };
-    assert_eq!(rt; header_and_payload(&tag), (4, Some(payload)));
+    assert!(rt; header_and_payload(&tag) == (4, Some(payload)));
     let next = Some(EtherType::VLAN_TAGGED_FRAME);
-    assert_eq!(rt; header_and_type(&tag), (4, next));
-    assert_eq!(rt; written(rt.alloc(), &tag)?.as_slice(), &VLAN[..4]);
+    assert!(rt; header_and_type(&tag) == (4, next));
+    assert!(rt; written(rt.alloc(), &tag)?.as_slice() == &VLAN[..4]);
     Ok(())
 }
 
@@ -66,9 +66,9 @@ fn a_macsec_header(rt: HostRuntime) -> Result<(), Fail> {
         len_source: LenSource::MacsecShortLength,
         payload: &[7],
     };
-    assert_eq!(rt; header_and_payload(&tag), (8, Some(payload)));
-    assert_eq!(rt; header_and_type(&tag), (8, Some(EtherType::ARP)));
-    assert_eq!(rt; written(rt.alloc(), &tag)?.as_slice(), &MACSEC[..8]);
+    assert!(rt; header_and_payload(&tag) == (8, Some(payload)));
+    assert!(rt; header_and_type(&tag) == (8, Some(EtherType::ARP)));
+    assert!(rt; written(rt.alloc(), &tag)?.as_slice() == &MACSEC[..8]);
     Ok(())
 }
 
@@ -77,15 +77,12 @@ fn changed_bytes_have_no_ether_type(rt: HostRuntime) {
     let Some(tag) = macsec_tag(&[4, 0, 0, 0, 0, 1, 8, 6, 7, 8]) else {
         panic!(rt; "no tag");
     };
-    assert_eq!(rt; header_and_payload(&tag), (6, None));
-    assert_eq!(rt; header_and_type(&tag), (6, None));
+    assert!(rt; header_and_payload(&tag) == (6, None));
+    assert!(rt; header_and_type(&tag) == (6, None));
 }
 
 #[test]
 fn tags_of_zeros(rt: HostRuntime) {
-    assert_eq!(rt; Some(LinkExtSlice::default()), vlan_tag(&[0; 4]));
-    assert_eq!(rt;
-        LinkExtHeader::default(),
-        LinkExtHeader::Vlan(SingleVlanHeader::default())
-    );
+    assert!(rt; Some(LinkExtSlice::default()) == vlan_tag(&[0; 4]));
+    assert!(rt; LinkExtHeader::default() == LinkExtHeader::Vlan(SingleVlanHeader::default()));
 }

@@ -110,7 +110,7 @@ fn every_flag_and_short_length(rt: HostRuntime) {
         for (short_len, payload_len) in SHORT_LENS.into_iter().zip(payload_lens) {
             let bytes = numbered(flags, short_len);
             let expected = expected(&bytes, header_len, ptype, short_len, payload_len);
-            assert_eq!(rt; told(&bytes), expected);
+            assert!(rt; told(&bytes) == expected);
         }
     }
 }
@@ -120,7 +120,7 @@ fn every_flag_and_short_length_of_version_1(rt: HostRuntime) {
     for (flags, _, _, _) in BY_FLAGS {
         for short_len in SHORT_LENS {
             let error = HeaderError::UnexpectedVersion.into();
-            assert_eq!(rt; refusal(&numbered(0x80 | flags, short_len)), Some(error));
+            assert!(rt; refusal(&numbered(0x80 | flags, short_len)) == Some(error));
         }
     }
 }
@@ -153,7 +153,7 @@ fn every_flag_and_short_length_of_too_few_bytes(rt: HostRuntime) {
             else {
                 panic!(rt; "too few bytes");
             };
-            assert_eq!(rt; refused, Some(error));
+            assert!(rt; refused == Some(error));
         }
     }
 }
@@ -178,12 +178,12 @@ fn every_front_of_a_header_with_its_payload(rt: HostRuntime) {
         for len in 0..whole_len {
             let error = Some(front_refused(len, header_len, whole_len));
             let front = &bytes[..len];
-            assert_eq!(rt; refusal(front), error);
+            assert!(rt; refusal(front) == error);
             if len < header_len {
-                assert_eq!(rt; header_refusal(front), error);
-                assert_eq!(rt; header_slice_refusal(front), error);
+                assert!(rt; header_refusal(front) == error);
+                assert!(rt; header_slice_refusal(front) == error);
             }
         }
-        assert_eq!(rt; refusal(&bytes[..whole_len]), None);
+        assert!(rt; refusal(&bytes[..whole_len]).is_none());
     }
 }

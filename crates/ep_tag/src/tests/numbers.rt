@@ -26,10 +26,10 @@ fn macsec_short_len(value: u8) -> Option<u8> {
 
 #[test]
 fn greatest_numbers(rt: HostRuntime) {
-    assert_eq!(rt; vlan_id(4095), Some(VlanId::MAX_U16));
-    assert_eq!(rt; vlan_pcp(7), Some(VlanPcp::MAX_U8));
-    assert_eq!(rt; macsec_an(3), Some(MacsecAn::MAX_U8));
-    assert_eq!(rt; macsec_short_len(63), Some(MacsecShortLen::MAX_U8));
+    assert!(rt; vlan_id(4095) == Some(VlanId::MAX_U16));
+    assert!(rt; vlan_pcp(7) == Some(VlanPcp::MAX_U8));
+    assert!(rt; macsec_an(3) == Some(MacsecAn::MAX_U8));
+    assert!(rt; macsec_short_len(63) == Some(MacsecShortLen::MAX_U8));
 }
 
 fn converted_vlan_id(value: u16) -> Option<u16> {
@@ -50,10 +50,10 @@ fn converted_macsec_short_len(value: u8) -> Option<u8> {
 
 #[test]
 fn converted_numbers(rt: HostRuntime) {
-    assert_eq!(rt; converted_vlan_id(5), Some(5));
-    assert_eq!(rt; converted_vlan_pcp(5), Some(5));
-    assert_eq!(rt; converted_macsec_an(2), Some(2));
-    assert_eq!(rt; converted_macsec_short_len(47), Some(47));
+    assert!(rt; converted_vlan_id(5) == Some(5));
+    assert!(rt; converted_vlan_pcp(5) == Some(5));
+    assert!(rt; converted_macsec_an(2) == Some(2));
+    assert!(rt; converted_macsec_short_len(47) == Some(47));
 }
 
 fn too_big(actual: u8, max_allowed: u8, value_type: ValueType) -> ValueTooBigError<u8> {
@@ -66,31 +66,25 @@ fn too_big(actual: u8, max_allowed: u8, value_type: ValueType) -> ValueTooBigErr
 
 #[test]
 fn refused_numbers(rt: HostRuntime) {
-    assert_eq!(rt;
-        VlanId::try_new(4096),
-        Err(ValueTooBigError {
-            actual: 4096,
-            max_allowed: 4095,
-            value_type: ValueType::VlanId,
-        })
+    assert!(rt;
+        VlanId::try_new(4096)
+            == Err(ValueTooBigError {
+                actual: 4096,
+                max_allowed: 4095,
+                value_type: ValueType::VlanId,
+            })
     );
-    assert_eq!(rt; VlanPcp::try_new(8), Err(too_big(8, 7, ValueType::VlanPcp)));
-    assert_eq!(rt;
-        MacsecAn::try_from(4),
-        Err(too_big(4, 3, ValueType::MacsecAn))
-    );
-    assert_eq!(rt;
-        MacsecShortLen::try_new(64),
-        Err(too_big(64, 63, ValueType::MacsecShortLen))
-    );
+    assert!(rt; VlanPcp::try_new(8) == Err(too_big(8, 7, ValueType::VlanPcp)));
+    assert!(rt; MacsecAn::try_from(4) == Err(too_big(4, 3, ValueType::MacsecAn)));
+    assert!(rt; MacsecShortLen::try_new(64) == Err(too_big(64, 63, ValueType::MacsecShortLen)));
 }
 
 #[test]
 fn zeros(rt: HostRuntime) {
-    assert_eq!(rt; VlanId::default(), VlanId::ZERO);
-    assert_eq!(rt; VlanPcp::default(), VlanPcp::ZERO);
-    assert_eq!(rt; MacsecAn::default(), MacsecAn::ZERO);
-    assert_eq!(rt; MacsecShortLen::default(), MacsecShortLen::ZERO);
+    assert!(rt; VlanId::default() == VlanId::ZERO);
+    assert!(rt; VlanPcp::default() == VlanPcp::ZERO);
+    assert!(rt; MacsecAn::default() == MacsecAn::ZERO);
+    assert!(rt; MacsecShortLen::default() == MacsecShortLen::ZERO);
 }
 
 #[test]
@@ -102,16 +96,16 @@ fn texts(rt: HostRuntime) -> Result<(), Fail> {
         MacsecAn::try_new(1)?,
         MacsecShortLen::try_new(10)?
     )?;
-    assert_eq!(rt; text.as_str(), "4095 6 1 10");
+    assert!(rt; text.as_str() == "4095 6 1 10");
     Ok(())
 }
 
 #[test]
 fn laws(rt: HostRuntime) {
-    assert_eq!(rt; vlan_id_constants(), [VlanId::ZERO]);
-    assert_eq!(rt; vlan_pcp_constants(), [VlanPcp::ZERO]);
-    assert_eq!(rt; macsec_an_constants(), [MacsecAn::ZERO]);
-    assert_eq!(rt; macsec_short_len_constants(), [MacsecShortLen::ZERO]);
+    assert!(rt; vlan_id_constants() == [VlanId::ZERO]);
+    assert!(rt; vlan_pcp_constants() == [VlanPcp::ZERO]);
+    assert!(rt; macsec_an_constants() == [MacsecAn::ZERO]);
+    assert!(rt; macsec_short_len_constants() == [MacsecShortLen::ZERO]);
     copies_are_values();
     copies_never_fail();
     equals_are_same();

@@ -62,13 +62,13 @@ fn spelled(header: &SingleVlanHeader) -> [u8; 4] {
 
 #[test]
 fn a_header_both_ways(rt: HostRuntime) -> Result<(), Fail> {
-    assert_eq!(rt; read_header(&BYTES), Some(header()?));
-    assert_eq!(rt; rest_behind(&BYTES), Some([7, 8].as_slice()));
+    assert!(rt; read_header(&BYTES) == Some(header()?));
+    assert!(rt; rest_behind(&BYTES) == Some([7, 8].as_slice()));
     let bytes = [0xb1, 0x23, 0x86, 0xdd];
-    assert_eq!(rt; SingleVlanHeader::from_bytes(bytes), header()?);
-    assert_eq!(rt; spelled(&header()?), bytes);
-    assert_eq!(rt; header()?.header_len(), 4);
-    assert_eq!(rt; spelled(&SingleVlanHeader::default()), [0; 4]);
+    assert!(rt; SingleVlanHeader::from_bytes(bytes) == header()?);
+    assert!(rt; spelled(&header()?) == bytes);
+    assert!(rt; header()?.header_len() == 4);
+    assert!(rt; spelled(&SingleVlanHeader::default()) == [0; 4]);
     Ok(())
 }
 
@@ -96,9 +96,9 @@ fn header_of_header_slice(bytes: &[u8]) -> Option<SingleVlanHeader> {
 #[test]
 fn fields_of_a_header_slice(rt: HostRuntime) -> Result<(), Fail> {
     let fields = Some((5, true, 0x123, EtherType::IPV6));
-    assert_eq!(rt; fields_of_header_slice(&BYTES), fields);
-    assert_eq!(rt; bytes_of_header_slice(&BYTES), Some(&BYTES[..4]));
-    assert_eq!(rt; header_of_header_slice(&BYTES), Some(header()?));
+    assert!(rt; fields_of_header_slice(&BYTES) == fields);
+    assert!(rt; bytes_of_header_slice(&BYTES) == Some(&BYTES[..4]));
+    assert!(rt; header_of_header_slice(&BYTES) == Some(header()?));
     Ok(())
 }
 
@@ -130,10 +130,10 @@ fn header_of_slice(bytes: &[u8]) -> Option<SingleVlanHeader> {
 #[test]
 fn fields_of_a_slice(rt: HostRuntime) -> Result<(), Fail> {
     let fields = Some((5, true, 0x123, EtherType::IPV6));
-    assert_eq!(rt; fields_of_slice(&BYTES), fields);
+    assert!(rt; fields_of_slice(&BYTES) == fields);
     let parts = (BYTES.as_slice(), &BYTES[..4], 4, &BYTES[4..]);
-    assert_eq!(rt; parts_of_slice(&BYTES), Some(parts));
-    assert_eq!(rt; header_of_slice(&BYTES), Some(header()?));
+    assert!(rt; parts_of_slice(&BYTES) == Some(parts));
+    assert!(rt; header_of_slice(&BYTES) == Some(header()?));
     Ok(())
 }
 
@@ -147,8 +147,8 @@ fn each_field_alone(rt: HostRuntime) {
     ] {
         let bytes = [first, second, 8, 0];
         let fields = Some((pcp, drop_eligible, id, EtherType::IPV4));
-        assert_eq!(rt; fields_of_header_slice(&bytes), fields);
-        assert_eq!(rt; fields_of_slice(&bytes), fields);
+        assert!(rt; fields_of_header_slice(&bytes) == fields);
+        assert!(rt; fields_of_slice(&bytes) == fields);
     }
 }
 
@@ -163,7 +163,7 @@ fn a_payload_names_its_ether_type(rt: HostRuntime) {
         len_source: LenSource::Slice,
         payload: &[7, 8],
     };
-    assert_eq!(rt; payload_of_slice(&BYTES), Some(payload));
+    assert!(rt; payload_of_slice(&BYTES) == Some(payload));
 }
 
 #[test]
@@ -202,11 +202,11 @@ fn every_front_of_a_tag(rt: HostRuntime) {
     let bytes = BYTES;
     for len in 0..4 {
         let error = Some(too_short(len));
-        assert_eq!(rt; header_refusal(&bytes[..len]), error);
-        assert_eq!(rt; header_slice_refusal(&bytes[..len]), error);
-        assert_eq!(rt; refusal(&bytes[..len]), error);
+        assert!(rt; header_refusal(&bytes[..len]) == error);
+        assert!(rt; header_slice_refusal(&bytes[..len]) == error);
+        assert!(rt; refusal(&bytes[..len]) == error);
     }
-    assert_eq!(rt; refusal(&bytes[..4]), None);
+    assert!(rt; refusal(&bytes[..4]).is_none());
 }
 
 const TWO_TAGS: [u8; 10] = [0, 5, 0x81, 0, 0xb1, 0x23, 0x86, 0xdd, 7, 8];
@@ -241,13 +241,13 @@ fn bytes_behind<'a>(slice: &VlanSlice<'a>) -> &'a [u8] {
 fn two_tags_and_what_is_behind(rt: HostRuntime) {
     let behind = [7, 8].as_slice();
     let parts = (8, EtherType::IPV6, behind, behind);
-    assert_eq!(rt; parts_of_two(&TWO_TAGS), Some(parts));
+    assert!(rt; parts_of_two(&TWO_TAGS) == Some(parts));
     let Some(tags) = two_tags(&TWO_TAGS) else {
         panic!(rt; "no tags");
     };
     let slice = VlanSlice::DoubleVlan(tags);
-    assert_eq!(rt; parts_of_either(&slice), (8, EtherType::IPV6));
-    assert_eq!(rt; bytes_behind(&slice), behind);
+    assert!(rt; parts_of_either(&slice) == (8, EtherType::IPV6));
+    assert!(rt; bytes_behind(&slice) == behind);
 }
 
 // The identifier of the tag in front, the ether type behind it, and what follows.
@@ -270,7 +270,7 @@ fn four_tags(rt: HostRuntime) {
         let Some((identifier, ether_type, behind)) = one_tag(rest) else {
             panic!(rt; "no tag");
         };
-        assert_eq!(rt; (identifier, ether_type.0), (id, next));
+        assert!(rt; (identifier, ether_type.0) == (id, next));
         rest = behind;
     }
     assert!(rt; rest.is_empty());
@@ -295,9 +295,9 @@ fn fields_of_two_tags(rt: HostRuntime) {
         panic!(rt; "no tags");
     };
     let bytes = [0, 5, 0x81, 0, 0xb1, 0x23, 0x86, 0xdd];
-    assert_eq!(rt; spelled_twice(&header), (8, bytes));
+    assert!(rt; spelled_twice(&header) == (8, bytes));
     let header = Some(VlanHeader::Double(header));
-    assert_eq!(rt; header_of_either(&TWO_TAGS), header);
+    assert!(rt; header_of_either(&TWO_TAGS) == header);
 }
 
 fn one_or_two(bytes: &[u8]) -> Option<VlanSlice<'_>> {
@@ -313,21 +313,21 @@ fn one_tag_or_two(rt: HostRuntime) -> Result<(), Fail> {
     let Some(slice) = one_or_two(&BYTES) else {
         panic!(rt; "no tag");
     };
-    assert_eq!(rt; parts_of_either(&slice), (4, EtherType::IPV6));
-    assert_eq!(rt; bytes_behind(&slice), [7, 8].as_slice());
-    assert_eq!(rt; slice.to_header(), VlanHeader::Single(header()?));
+    assert!(rt; parts_of_either(&slice) == (4, EtherType::IPV6));
+    assert!(rt; bytes_behind(&slice) == [7, 8].as_slice());
+    assert!(rt; slice.to_header() == VlanHeader::Single(header()?));
     Ok(())
 }
 
 #[test]
 fn headers_of_one_tag_or_two(rt: HostRuntime) -> Result<(), Fail> {
     let single = VlanHeader::Single(header()?);
-    assert_eq!(rt; length_and_type(&single), (4, EtherType::IPV6));
+    assert!(rt; length_and_type(&single) == (4, EtherType::IPV6));
     let double = VlanHeader::Double(DoubleVlanHeader {
         outer: SingleVlanHeader::default(),
         inner: header()?,
     });
-    assert_eq!(rt; length_and_type(&double), (8, EtherType::IPV6));
+    assert!(rt; length_and_type(&double) == (8, EtherType::IPV6));
     Ok(())
 }
 
@@ -345,14 +345,14 @@ fn tags_behind_a_byte_that_is_there(rt: HostRuntime) -> Result<(), Fail> {
     let written = [
         9, 0xb1, 0x23, 0x86, 0xdd, 0, 0, 0, 0, 0xb1, 0x23, 0x86, 0xdd, 0xb1, 0x23, 0x86, 0xdd,
     ];
-    assert_eq!(rt; buffer.as_slice(), written.as_slice());
+    assert!(rt; buffer.as_slice() == written.as_slice());
     Ok(())
 }
 
 #[test]
 fn laws(rt: HostRuntime) -> Result<(), Fail> {
     let bytes = BYTES;
-    assert_eq!(rt; header_lengths(), [4, 8]);
+    assert!(rt; header_lengths() == [4, 8]);
     headers_are_their_bytes(&header()?);
     assert!(rt; header_is_read_again(&header()?, &bytes).is_ok());
     fields_by_hand();
