@@ -31,12 +31,12 @@ fn a_chain_is_read_in_pieces(rt: HostRuntime) -> Result<(), Fail> {
         let mut reader = reader_of(&bytes, piece);
         match read_kind(&mut reader, 0) {
             Ok((read, number)) => {
-                assert_eq!(rt; read, headers);
-                assert_eq!(rt; number, IpNumber(17));
+                assert!(rt; read == headers);
+                assert!(rt; number == IpNumber(17));
             }
             Err(_) => panic!(rt; "refused"),
         }
-        assert_eq!(rt; reader.rest, [0xaa, 0xbb].as_slice());
+        assert!(rt; reader.rest == [0xaa, 0xbb].as_slice());
     }
     Ok(())
 }
@@ -48,7 +48,7 @@ fn each_read_of_a_chain_fails(rt: HostRuntime) -> Result<(), Fail> {
         let mut reader = failing_reader(&bytes, 1, call, ErrorKind::ConnectionReset);
         match read_kind(&mut reader, 0) {
             Ok(_) => panic!(rt; "read"),
-            Err(kind) => assert_eq!(rt; kind, Err(ErrorKind::ConnectionReset)),
+            Err(kind) => assert!(rt; kind == Err(ErrorKind::ConnectionReset)),
         }
     }
     Ok(())
@@ -61,7 +61,7 @@ fn a_reader_ends_within_a_chain(rt: HostRuntime) -> Result<(), Fail> {
         let mut reader = reader_of(&bytes[..len], 100);
         match read_kind(&mut reader, 0) {
             Ok(_) => panic!(rt; "read"),
-            Err(kind) => assert_eq!(rt; kind, Err(ErrorKind::UnexpectedEof)),
+            Err(kind) => assert!(rt; kind == Err(ErrorKind::UnexpectedEof)),
         }
     }
     Ok(())
@@ -72,16 +72,16 @@ fn faults_of_a_chain_that_is_read(rt: HostRuntime) -> Result<(), Fail> {
     let mut reader = reader_of(&[0u8; 16], 100);
     match read_kind(&mut reader, 60) {
         Ok(_) => panic!(rt; "read"),
-        Err(fault) => assert_eq!(rt; fault, Ok(HeaderError::HopByHopNotAtStart)),
+        Err(fault) => assert!(rt; fault == Ok(HeaderError::HopByHopNotAtStart)),
     }
-    assert_eq!(rt; reader.rest.len(), 8);
+    assert!(rt; reader.rest.len() == 8);
     let mut reader = reader_of(&[0u8; 16], 100);
     let zero = HeaderError::IpAuth(ip_auth::HeaderError::ZeroPayloadLen);
     match read_kind(&mut reader, 51) {
         Ok(_) => panic!(rt; "read"),
-        Err(fault) => assert_eq!(rt; fault, Ok(zero)),
+        Err(fault) => assert!(rt; fault == Ok(zero)),
     }
-    assert_eq!(rt; reader.rest.len(), 4);
+    assert!(rt; reader.rest.len() == 4);
     Ok(())
 }
 
@@ -91,21 +91,21 @@ fn the_header_of_ipv4_is_read(rt: HostRuntime) -> Result<(), Fail> {
     let mut reader = reader_of(&bytes, 1);
     match Ipv4Extensions::read(&mut reader, IpNumber(51)) {
         Ok((headers, number)) => {
-            assert_eq!(rt; headers.header_len(), 16);
-            assert_eq!(rt; number, IpNumber(6));
+            assert!(rt; headers.header_len() == 16);
+            assert!(rt; number == IpNumber(6));
         }
         Err(_) => panic!(rt; "refused"),
     }
-    assert_eq!(rt; reader.rest, [0xaa].as_slice());
+    assert!(rt; reader.rest == [0xaa].as_slice());
     let mut reader = reader_of(&bytes, 1);
     match Ipv4Extensions::read(&mut reader, IpNumber(6)) {
         Ok((headers, number)) => {
             assert!(rt; headers.is_empty());
-            assert_eq!(rt; number, IpNumber(6));
+            assert!(rt; number == IpNumber(6));
         }
         Err(_) => panic!(rt; "refused"),
     }
-    assert_eq!(rt; reader.calls, 0);
+    assert!(rt; reader.calls == 0);
     Ok(())
 }
 
@@ -116,7 +116,7 @@ fn each_read_of_the_header_of_ipv4_fails(rt: HostRuntime) -> Result<(), Fail> {
         let mut reader = failing_reader(&bytes, 1, call, ErrorKind::ConnectionReset);
         match Ipv4Extensions::read(&mut reader, IpNumber(51)) {
             Err(ip_auth::HeaderReadError::Io(error)) => {
-                assert_eq!(rt; error.kind(), ErrorKind::ConnectionReset);
+                assert!(rt; error.kind() == ErrorKind::ConnectionReset);
             }
             _ => panic!(rt; "no failed read"),
         }
@@ -129,10 +129,10 @@ fn a_length_field_of_zero_behind_ipv4_is_read(rt: HostRuntime) -> Result<(), Fai
     let mut reader = reader_of(&[0; 16], 100);
     match Ipv4Extensions::read(&mut reader, IpNumber(51)) {
         Err(ip_auth::HeaderReadError::Content(fault)) => {
-            assert_eq!(rt; fault, ip_auth::HeaderError::ZeroPayloadLen);
+            assert!(rt; fault == ip_auth::HeaderError::ZeroPayloadLen);
         }
         _ => panic!(rt; "no fault"),
     }
-    assert_eq!(rt; reader.rest.len(), 4);
+    assert!(rt; reader.rest.len() == 4);
     Ok(())
 }

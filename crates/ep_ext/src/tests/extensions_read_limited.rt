@@ -65,9 +65,9 @@ fn a_limited_chain_is_that_of_the_slice(rt: HostRuntime) {
     let (headers, _, _, _) = Ipv6Extensions::from_slice_lax(IpNumber(0), &bytes);
     match read_within(reader_of(&bytes, 5), 72, 0) {
         Ok((read, number, left)) => {
-            assert_eq!(rt; read, headers);
-            assert_eq!(rt; number, IpNumber(17));
-            assert_eq!(rt; left, 2);
+            assert!(rt; read == headers);
+            assert!(rt; number == IpNumber(17));
+            assert!(rt; left == 2);
         }
         Err(_) => panic!(rt; "refused"),
     }
@@ -79,7 +79,7 @@ fn each_read_of_a_limited_chain_fails(rt: HostRuntime) {
     let fault = Some(Refusal::Io(ErrorKind::ConnectionReset));
     for call in 0..72usize {
         let reader = failing_reader(&bytes, 1, call, ErrorKind::ConnectionReset);
-        assert_eq!(rt; why_refused(reader, 72, 0), fault);
+        assert!(rt; why_refused(reader, 72, 0) == fault);
     }
 }
 
@@ -88,15 +88,15 @@ fn a_limited_reader_ends_within_a_chain(rt: HostRuntime) {
     let bytes = CHAIN;
     let fault = Some(Refusal::Io(ErrorKind::UnexpectedEof));
     for len in 0..72usize {
-        assert_eq!(rt; why_refused(reader_of(&bytes[..len], 100), 72, 0), fault);
+        assert!(rt; why_refused(reader_of(&bytes[..len], 100), 72, 0) == fault);
     }
 }
 
 #[test]
 fn a_chain_at_its_limit(rt: HostRuntime) {
     let bytes = CHAIN;
-    assert_eq!(rt; why_refused(reader_of(&bytes, 100), 72, 0), None);
-    assert_eq!(rt; why_refused(reader_of(&bytes, 100), 73, 0), None);
+    assert!(rt; why_refused(reader_of(&bytes, 100), 72, 0).is_none());
+    assert!(rt; why_refused(reader_of(&bytes, 100), 73, 0).is_none());
     // The limit, the length that is asked for and the one that is there, the layer and its place:
     // hop-by-hop options stand at 40, the routing header of 16 bytes at 56, the fragment header at 72,
     // the authentication header of 24 bytes at 80, the last header at 104.
@@ -109,22 +109,16 @@ fn a_chain_at_its_limit(rt: HostRuntime) {
         (71, 8, 7, Layer::Ipv6ExtHeader, 104),
     ] {
         let want = beyond(required_len, len, layer, place);
-        assert_eq!(rt; why_refused(reader_of(&bytes, 100), limit, 0), Some(want));
+        assert!(rt; why_refused(reader_of(&bytes, 100), limit, 0) == Some(want));
     }
 }
 
 #[test]
 fn faults_of_a_limited_chain(rt: HostRuntime) {
     let misplaced = Refusal::Content(HeaderError::HopByHopNotAtStart);
-    assert_eq!(rt;
-        why_refused(reader_of(&[0; 16], 100), 16, 60),
-        Some(misplaced)
-    );
+    assert!(rt; why_refused(reader_of(&[0; 16], 100), 16, 60) == Some(misplaced));
     let zero = HeaderError::IpAuth(ip_auth::HeaderError::ZeroPayloadLen);
-    assert_eq!(rt;
-        why_refused(reader_of(&[0; 16], 100), 16, 51),
-        Some(Refusal::Content(zero))
-    );
+    assert!(rt; why_refused(reader_of(&[0; 16], 100), 16, 51) == Some(Refusal::Content(zero)));
 }
 
 // The header of IPv4 from a reader with this limit, as above.
@@ -162,9 +156,9 @@ fn the_limited_header_of_ipv4_is_that_of_the_slice(rt: HostRuntime) {
     let (headers, _, _, _) = Ipv4Extensions::from_slice_lax(IpNumber(51), &bytes);
     match read_ipv4_within(reader_of(&bytes, 5), 16, 51) {
         Ok((read, number, left)) => {
-            assert_eq!(rt; read, headers);
-            assert_eq!(rt; number, IpNumber(6));
-            assert_eq!(rt; left, 1);
+            assert!(rt; read == headers);
+            assert!(rt; number == IpNumber(6));
+            assert!(rt; left == 1);
         }
         Err(_) => panic!(rt; "refused"),
     }
@@ -177,23 +171,20 @@ fn each_read_of_the_limited_header_of_ipv4_fails(rt: HostRuntime) {
     let end = Some(Refusal::Io(ErrorKind::UnexpectedEof));
     for count in 0..16usize {
         let reader = failing_reader(&bytes, 1, count, ErrorKind::ConnectionReset);
-        assert_eq!(rt; why_ipv4_refused(reader, 16), fault);
-        assert_eq!(rt; why_ipv4_refused(reader_of(&bytes[..count], 100), 16), end);
+        assert!(rt; why_ipv4_refused(reader, 16) == fault);
+        assert!(rt; why_ipv4_refused(reader_of(&bytes[..count], 100), 16) == end);
     }
 }
 
 #[test]
 fn the_header_of_ipv4_at_its_limit(rt: HostRuntime) {
     let bytes = AUTH;
-    assert_eq!(rt; why_ipv4_refused(reader_of(&bytes, 9), 16), None);
-    assert_eq!(rt; why_ipv4_refused(reader_of(&bytes, 9), 17), None);
+    assert!(rt; why_ipv4_refused(reader_of(&bytes, 9), 16).is_none());
+    assert!(rt; why_ipv4_refused(reader_of(&bytes, 9), 17).is_none());
     let want = beyond(16, 15, Layer::IpAuthHeader, 40);
-    assert_eq!(rt; why_ipv4_refused(reader_of(&bytes, 9), 15), Some(want));
+    assert!(rt; why_ipv4_refused(reader_of(&bytes, 9), 15) == Some(want));
     let zero = HeaderError::IpAuth(ip_auth::HeaderError::ZeroPayloadLen);
-    assert_eq!(rt;
-        why_ipv4_refused(reader_of(&[0; 16], 9), 16),
-        Some(Refusal::Content(zero))
-    );
+    assert!(rt; why_ipv4_refused(reader_of(&[0; 16], 9), 16) == Some(Refusal::Content(zero)));
 }
 
 #[test]
@@ -202,8 +193,8 @@ fn another_number_than_51_leaves_a_limited_reader(rt: HostRuntime) {
     match read_ipv4_within(reader_of(&bytes, 9), 16, 6) {
         Ok((headers, number, left)) => {
             assert!(rt; headers.is_empty());
-            assert_eq!(rt; number, IpNumber(6));
-            assert_eq!(rt; left, 17);
+            assert!(rt; number == IpNumber(6));
+            assert!(rt; left == 17);
         }
         Err(_) => panic!(rt; "refused"),
     }

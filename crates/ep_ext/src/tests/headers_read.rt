@@ -50,8 +50,8 @@ fn headers_are_read_in_pieces(rt: HostRuntime) -> Result<(), Fail> {
         let Ok(header) = raw_kind(&mut reader) else {
             panic!(rt; "no raw header");
         };
-        assert_eq!(rt; header.to_bytes().as_slice(), &RAW[..16]);
-        assert_eq!(rt; reader.rest, [0xaa, 0xbb].as_slice());
+        assert!(rt; header.to_bytes().as_slice() == &RAW[..16]);
+        assert!(rt; reader.rest == [0xaa, 0xbb].as_slice());
     }
     Ok(())
 }
@@ -63,8 +63,8 @@ fn fragment_headers_are_read_in_pieces(rt: HostRuntime) -> Result<(), Fail> {
         let Ok(header) = fragment_kind(&mut reader) else {
             panic!(rt; "no fragment header");
         };
-        assert_eq!(rt; header.to_bytes().as_slice(), &FRAGMENT[..8]);
-        assert_eq!(rt; reader.rest, [0xaa, 0xbb].as_slice());
+        assert!(rt; header.to_bytes().as_slice() == &FRAGMENT[..8]);
+        assert!(rt; reader.rest == [0xaa, 0xbb].as_slice());
     }
     Ok(())
 }
@@ -76,8 +76,8 @@ fn authentication_headers_are_read_in_pieces(rt: HostRuntime) -> Result<(), Fail
         let Ok(header) = auth_kind(&mut reader) else {
             panic!(rt; "no authentication header");
         };
-        assert_eq!(rt; header.to_bytes().as_slice(), &AUTH[..16]);
-        assert_eq!(rt; reader.rest, [0xaa, 0xbb].as_slice());
+        assert!(rt; header.to_bytes().as_slice() == &AUTH[..16]);
+        assert!(rt; reader.rest == [0xaa, 0xbb].as_slice());
     }
     Ok(())
 }
@@ -88,16 +88,13 @@ fn a_raw_header_from_a_failing_reader(rt: HostRuntime) -> Result<(), Fail> {
     for (piece, calls) in [(100usize, 2usize), (1, 16)] {
         for call in 0..calls {
             let mut reader = failing_reader(&RAW, piece, call, ErrorKind::PermissionDenied);
-            assert_eq!(rt;
-                raw_kind(&mut reader).err(),
-                Some(ErrorKind::PermissionDenied)
-            );
+            assert!(rt; raw_kind(&mut reader).err() == Some(ErrorKind::PermissionDenied));
             let mut reader = failing_reader(&RAW, piece, call, ErrorKind::Interrupted);
             assert!(rt; raw_kind(&mut reader).is_ok());
         }
         let mut reader = failing_reader(&RAW, piece, calls, ErrorKind::PermissionDenied);
         assert!(rt; raw_kind(&mut reader).is_ok());
-        assert_eq!(rt; reader.calls, calls);
+        assert!(rt; reader.calls == calls);
     }
     Ok(())
 }
@@ -107,14 +104,11 @@ fn a_fragment_header_from_a_failing_reader(rt: HostRuntime) -> Result<(), Fail> 
     for (piece, calls) in [(100usize, 1usize), (1, 8)] {
         for call in 0..calls {
             let mut reader = failing_reader(&FRAGMENT, piece, call, ErrorKind::PermissionDenied);
-            assert_eq!(rt;
-                fragment_kind(&mut reader).err(),
-                Some(ErrorKind::PermissionDenied)
-            );
+            assert!(rt; fragment_kind(&mut reader).err() == Some(ErrorKind::PermissionDenied));
         }
         let mut reader = failing_reader(&FRAGMENT, piece, calls, ErrorKind::PermissionDenied);
         assert!(rt; fragment_kind(&mut reader).is_ok());
-        assert_eq!(rt; reader.calls, calls);
+        assert!(rt; reader.calls == calls);
     }
     Ok(())
 }
@@ -124,14 +118,11 @@ fn an_authentication_header_from_a_failing_reader(rt: HostRuntime) -> Result<(),
     for (piece, calls) in [(100usize, 2usize), (1, 16)] {
         for call in 0..calls {
             let mut reader = failing_reader(&AUTH, piece, call, ErrorKind::PermissionDenied);
-            assert_eq!(rt;
-                auth_kind(&mut reader).err(),
-                Some(Some(ErrorKind::PermissionDenied))
-            );
+            assert!(rt; auth_kind(&mut reader).err() == Some(Some(ErrorKind::PermissionDenied)));
         }
         let mut reader = failing_reader(&AUTH, piece, calls, ErrorKind::PermissionDenied);
         assert!(rt; auth_kind(&mut reader).is_ok());
-        assert_eq!(rt; reader.calls, calls);
+        assert!(rt; reader.calls == calls);
     }
     Ok(())
 }
@@ -140,17 +131,11 @@ fn an_authentication_header_from_a_failing_reader(rt: HostRuntime) -> Result<(),
 fn readers_that_end_within_a_header(rt: HostRuntime) -> Result<(), Fail> {
     let end = ErrorKind::UnexpectedEof;
     for len in 0..16usize {
-        assert_eq!(rt; raw_kind(&mut reader_of(&RAW[..len], 5)).err(), Some(end));
-        assert_eq!(rt;
-            auth_kind(&mut reader_of(&AUTH[..len], 5)).err(),
-            Some(Some(end))
-        );
+        assert!(rt; raw_kind(&mut reader_of(&RAW[..len], 5)).err() == Some(end));
+        assert!(rt; auth_kind(&mut reader_of(&AUTH[..len], 5)).err() == Some(Some(end)));
     }
     for len in 0..8usize {
-        assert_eq!(rt;
-            fragment_kind(&mut reader_of(&FRAGMENT[..len], 5)).err(),
-            Some(end)
-        );
+        assert!(rt; fragment_kind(&mut reader_of(&FRAGMENT[..len], 5)).err() == Some(end));
     }
     Ok(())
 }
@@ -158,8 +143,8 @@ fn readers_that_end_within_a_header(rt: HostRuntime) -> Result<(), Fail> {
 #[test]
 fn a_length_byte_of_zero_is_read(rt: HostRuntime) -> Result<(), Fail> {
     let mut reader = reader_of(&[0; 16], 100);
-    assert_eq!(rt; auth_kind(&mut reader).err(), Some(None));
-    assert_eq!(rt; reader.rest.len(), 4);
+    assert!(rt; auth_kind(&mut reader).err() == Some(None));
+    assert!(rt; reader.rest.len() == 4);
     Ok(())
 }
 
@@ -196,10 +181,10 @@ fn a_raw_header_within_its_limit(rt: HostRuntime) -> Result<(), Fail> {
         let Ok(header) = Ipv6RawExtHeader::read_limited(&mut reader) else {
             panic!(rt; "no header");
         };
-        assert_eq!(rt; header.to_bytes().as_slice(), &RAW[..16]);
-        assert_eq!(rt; reader.read_len(), 16);
-        assert_eq!(rt; reader.layer(), Layer::Ipv6ExtHeader);
-        assert_eq!(rt; reader.take_reader().rest.len(), 2);
+        assert!(rt; header.to_bytes().as_slice() == &RAW[..16]);
+        assert!(rt; reader.read_len() == 16);
+        assert!(rt; reader.layer() == Layer::Ipv6ExtHeader);
+        assert!(rt; reader.take_reader().rest.len() == 2);
     }
     Ok(())
 }
@@ -218,11 +203,11 @@ fn a_raw_header_beyond_its_limit(rt: HostRuntime) -> Result<(), Fail> {
             Ok(_) => panic!(rt; "a header beyond {limit} bytes"),
             Err(e) => {
                 let error = want(required_len, limit, Layer::Ipv6ExtHeader, 10);
-                assert_eq!(rt; wanted(e), Some(error));
+                assert!(rt; wanted(e) == Some(error));
             }
         }
-        assert_eq!(rt; reader.read_len(), read);
-        assert_eq!(rt; reader.take_reader().rest, &RAW[read..]);
+        assert!(rt; reader.read_len() == read);
+        assert!(rt; reader.take_reader().rest == &RAW[read..]);
     }
     Ok(())
 }
@@ -234,8 +219,8 @@ fn a_fragment_header_at_its_limit(rt: HostRuntime) -> Result<(), Fail> {
         let Ok(header) = Ipv6FragmentHeader::read_limited(&mut reader) else {
             panic!(rt; "no header");
         };
-        assert_eq!(rt; header.identification, 0x1234_5678);
-        assert_eq!(rt; reader.take_reader().rest.len(), 2);
+        assert!(rt; header.identification == 0x1234_5678);
+        assert!(rt; reader.take_reader().rest.len() == 2);
     }
     for limit in [0usize, 7] {
         let mut reader = limited(&FRAGMENT, limit);
@@ -243,10 +228,10 @@ fn a_fragment_header_at_its_limit(rt: HostRuntime) -> Result<(), Fail> {
             Ok(_) => panic!(rt; "a header beyond {limit} bytes"),
             Err(e) => {
                 let error = want(8, limit, Layer::Ipv6FragHeader, 10);
-                assert_eq!(rt; wanted(e), Some(error));
+                assert!(rt; wanted(e) == Some(error));
             }
         }
-        assert_eq!(rt; reader.take_reader().rest.len(), 10);
+        assert!(rt; reader.take_reader().rest.len() == 10);
     }
     Ok(())
 }
@@ -258,9 +243,9 @@ fn an_authentication_header_within_its_limit(rt: HostRuntime) -> Result<(), Fail
         let Ok(header) = IpAuthHeader::read_limited(&mut reader) else {
             panic!(rt; "no header");
         };
-        assert_eq!(rt; header.to_bytes().as_slice(), &AUTH[..16]);
-        assert_eq!(rt; reader.layer(), Layer::IpAuthHeader);
-        assert_eq!(rt; reader.take_reader().rest.len(), 2);
+        assert!(rt; header.to_bytes().as_slice() == &AUTH[..16]);
+        assert!(rt; reader.layer() == Layer::IpAuthHeader);
+        assert!(rt; reader.take_reader().rest.len() == 2);
     }
     Ok(())
 }
@@ -276,11 +261,11 @@ fn an_authentication_header_beyond_its_limit(rt: HostRuntime) -> Result<(), Fail
         let mut reader = limited(&AUTH, limit);
         match IpAuthHeader::read_limited(&mut reader) {
             Err(HeaderLimitedReadError::Len(error)) => {
-                assert_eq!(rt; error, want(required_len, limit, Layer::IpAuthHeader, 10));
+                assert!(rt; error == want(required_len, limit, Layer::IpAuthHeader, 10));
             }
             _ => panic!(rt; "no want of bytes at {limit}"),
         }
-        assert_eq!(rt; reader.take_reader().rest, &AUTH[read..]);
+        assert!(rt; reader.take_reader().rest == &AUTH[read..]);
     }
     Ok(())
 }
@@ -290,11 +275,11 @@ fn a_length_byte_of_zero_within_a_limit(rt: HostRuntime) -> Result<(), Fail> {
     let mut reader = limited(&[0; 16], 16);
     match IpAuthHeader::read_limited(&mut reader) {
         Err(HeaderLimitedReadError::Content(error)) => {
-            assert_eq!(rt; error, HeaderError::ZeroPayloadLen);
+            assert!(rt; error == HeaderError::ZeroPayloadLen);
         }
         _ => panic!(rt; "no fault"),
     }
-    assert_eq!(rt; reader.read_len(), 12);
+    assert!(rt; reader.read_len() == 12);
     Ok(())
 }
 
@@ -306,12 +291,12 @@ fn limited_headers_from_failing_readers(rt: HostRuntime) -> Result<(), Fail> {
         let mut reader = LimitedReader::new(inner, 16, source, 0, Layer::Ipv6Packet);
         match Ipv6RawExtHeader::read_limited(&mut reader) {
             Err(LimitedReadError::Io(error)) => {
-                assert_eq!(rt; error.kind(), ErrorKind::PermissionDenied);
+                assert!(rt; error.kind() == ErrorKind::PermissionDenied);
             }
             _ => panic!(rt; "no fault at call {call}"),
         }
         // What was read of the first eight bytes or of the rest doesn't count.
-        assert_eq!(rt; reader.read_len(), if call < 8 { 0 } else { 8 });
+        assert!(rt; reader.read_len() == if call < 8 { 0 } else { 8 });
     }
     Ok(())
 }
@@ -324,7 +309,7 @@ fn limited_authentication_headers_from_failing_readers(rt: HostRuntime) -> Resul
         let mut reader = LimitedReader::new(inner, 16, source, 0, Layer::Ipv6Packet);
         match IpAuthHeader::read_limited(&mut reader) {
             Err(HeaderLimitedReadError::Io(error)) => {
-                assert_eq!(rt; error.kind(), ErrorKind::PermissionDenied);
+                assert!(rt; error.kind() == ErrorKind::PermissionDenied);
             }
             _ => panic!(rt; "no fault at call {call}"),
         }
@@ -351,7 +336,7 @@ fn headers_in_a_row_within_a_limit(rt: HostRuntime) -> Result<(), Fail> {
     assert!(rt; Ipv6RawExtHeader::read_limited(&mut reader).is_ok());
     match Ipv6FragmentHeader::read_limited(&mut reader) {
         Ok(_) => panic!(rt; "a header beyond the limit"),
-        Err(e) => assert_eq!(rt; wanted(e), Some(want(8, 7, Layer::Ipv6FragHeader, 26))),
+        Err(e) => assert!(rt; wanted(e) == Some(want(8, 7, Layer::Ipv6FragHeader, 26))),
     }
     Ok(())
 }

@@ -18,11 +18,11 @@ fn no_header_behind_udp(rt: HostRuntime) -> Result<(), Fail> {
         &[0, 1, 2, 3],
     );
     assert!(rt; headers.is_empty());
-    assert_eq!(rt; headers.header_len(), 0);
-    assert_eq!(rt; number, IpNumber::UDP);
-    assert_eq!(rt; rest, [0, 1, 2, 3].as_slice());
-    assert_eq!(rt; fault, None);
-    assert_eq!(rt; headers.next_header(IpNumber::UDP), Ok(IpNumber::UDP));
+    assert!(rt; headers.header_len() == 0);
+    assert!(rt; number == IpNumber::UDP);
+    assert!(rt; rest == [0, 1, 2, 3].as_slice());
+    assert!(rt; fault == None);
+    assert!(rt; headers.next_header(IpNumber::UDP) == Ok(IpNumber::UDP));
     Ok(())
 }
 
@@ -33,9 +33,9 @@ fn an_authentication_header(rt: HostRuntime) -> Result<(), Fail> {
         panic!(rt; "refused");
     };
     assert!(rt; !headers.is_empty());
-    assert_eq!(rt; headers.header_len(), 16);
-    assert_eq!(rt; number, IpNumber(6));
-    assert_eq!(rt; rest, [0xaa].as_slice());
+    assert!(rt; headers.header_len() == 16);
+    assert!(rt; number == IpNumber(6));
+    assert!(rt; rest == [0xaa].as_slice());
     Ok(())
 }
 
@@ -43,12 +43,12 @@ fn an_authentication_header(rt: HostRuntime) -> Result<(), Fail> {
 fn an_authentication_header_is_appended(rt: HostRuntime) -> Result<(), Fail> {
     let bytes = AUTH;
     let (headers, _, _, _) = Ipv4Extensions::from_slice_lax(IpNumber(51), &bytes);
-    assert_eq!(rt; headers.next_header(IpNumber(51)), Ok(IpNumber(6)));
+    assert!(rt; headers.next_header(IpNumber(51)) == Ok(IpNumber(6)));
     let mut buffer = vec![in rt.alloc(); 0x55]?;
-    assert_eq!(rt; headers.write(&mut buffer, IpNumber(51)), Ok(()));
-    assert_eq!(rt; buffer.len(), 17);
-    assert_eq!(rt; buffer[0], 0x55);
-    assert_eq!(rt; &buffer[1..], &bytes[..16]);
+    assert!(rt; headers.write(&mut buffer, IpNumber(51)) == Ok(()));
+    assert!(rt; buffer.len() == 17);
+    assert!(rt; buffer[0] == 0x55);
+    assert!(rt; &buffer[1..] == &bytes[..16]);
     Ok(())
 }
 
@@ -57,10 +57,10 @@ fn what_is_written_reads_back(rt: HostRuntime) -> Result<(), Fail> {
     let bytes = AUTH;
     let (headers, _, _, _) = Ipv4Extensions::from_slice_lax(IpNumber(51), &bytes);
     match laws::written_ipv4_chain_reads_back(&headers, IpNumber(51), &bytes) {
-        Ok((again, _, _)) => assert_eq!(rt; again, headers),
+        Ok((again, _, _)) => assert!(rt; again == headers),
         Err(_) => panic!(rt; "refused"),
     }
-    assert_eq!(rt; headers.clone()?, headers);
+    assert!(rt; headers.clone()? == headers);
     Ok(())
 }
 
@@ -71,18 +71,15 @@ fn a_header_that_is_not_named(rt: HostRuntime) -> Result<(), Fail> {
     let missing = ExtsWalkError::ExtNotReferenced {
         missing_ext: IpNumber(51),
     };
-    assert_eq!(rt; headers.next_header(IpNumber(6)), Err(missing));
+    assert!(rt; headers.next_header(IpNumber(6)) == Err(missing));
     let mut buffer = Vec::new(rt.alloc());
     let refused = Err(HeaderWriteError::Content(missing));
-    assert_eq!(rt; headers.write(&mut buffer, IpNumber(6)), refused);
-    assert_eq!(rt; buffer.len(), 0);
-    assert_eq!(rt; headers.set_next_headers(IpNumber(17)), IpNumber(51));
-    assert_eq!(rt; headers.next_header(IpNumber(51)), Ok(IpNumber(17)));
-    assert_eq!(rt;
-        Ipv4Extensions::default().set_next_headers(IpNumber(17)),
-        IpNumber(17)
-    );
-    assert_eq!(rt; Ipv4Extensions::MAX_LEN, 1028);
+    assert!(rt; headers.write(&mut buffer, IpNumber(6)) == refused);
+    assert!(rt; buffer.len() == 0);
+    assert!(rt; headers.set_next_headers(IpNumber(17)) == IpNumber(51));
+    assert!(rt; headers.next_header(IpNumber(51)) == Ok(IpNumber(17)));
+    assert!(rt; Ipv4Extensions::default().set_next_headers(IpNumber(17)) == IpNumber(17));
+    assert!(rt; Ipv4Extensions::MAX_LEN == 1028);
     Ok(())
 }
 
@@ -94,7 +91,7 @@ fn every_front_of_an_authentication_header(rt: HostRuntime) -> Result<(), Fail> 
         let error = HeaderSliceError::Len(want(required, len, Layer::IpAuthHeader, 0));
         match Ipv4Extensions::from_slice(IpNumber(51), &bytes[..len]) {
             Ok(_) => panic!(rt; "taken"),
-            Err(found) => assert_eq!(rt; found, error),
+            Err(found) => assert!(rt; found == error),
         }
     }
     Ok(())
@@ -105,7 +102,7 @@ fn a_length_field_of_zero_is_refused(rt: HostRuntime) {
     let zero = HeaderSliceError::Content(HeaderError::ZeroPayloadLen);
     match Ipv4Extensions::from_slice(IpNumber(51), &[0; 12]) {
         Ok(_) => panic!(rt; "taken"),
-        Err(error) => assert_eq!(rt; error, zero),
+        Err(error) => assert!(rt; error == zero),
     }
 }
 
@@ -114,19 +111,19 @@ fn a_want_of_bytes_keeps_the_slice(rt: HostRuntime) {
     let bytes = AUTH;
     let (headers, number, rest, fault) = Ipv4Extensions::from_slice_lax(IpNumber(51), &bytes[..15]);
     assert!(rt; headers.is_empty());
-    assert_eq!(rt; number, IpNumber(51));
-    assert_eq!(rt; rest, &bytes[..15]);
+    assert!(rt; number == IpNumber(51));
+    assert!(rt; rest == &bytes[..15]);
     let error = HeaderSliceError::Len(want(16, 15, Layer::IpAuthHeader, 0));
-    assert_eq!(rt; fault, Some(error));
+    assert!(rt; fault == Some(error));
 }
 
 #[test]
 fn a_fault_keeps_the_number_and_the_slice(rt: HostRuntime) -> Result<(), Fail> {
     let (headers, number, rest, fault) = Ipv4Extensions::from_slice_lax(IpNumber(51), &[0u8; 12]);
     assert!(rt; headers.is_empty());
-    assert_eq!(rt; number, IpNumber(51));
-    assert_eq!(rt; rest.len(), 12);
+    assert!(rt; number == IpNumber(51));
+    assert!(rt; rest.len() == 12);
     let zero = HeaderError::ZeroPayloadLen;
-    assert_eq!(rt; fault, Some(HeaderSliceError::Content(zero)));
+    assert!(rt; fault == Some(HeaderSliceError::Content(zero)));
     Ok(())
 }

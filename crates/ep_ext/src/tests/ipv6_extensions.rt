@@ -71,7 +71,7 @@ fn every_front_of_a_chain_is_refused(rt: HostRuntime) -> Result<(), Fail> {
         let (_, _, error) = cut_at(len);
         match Ipv6Extensions::from_slice(IpNumber(0), &bytes[..len]) {
             Ok(_) => panic!(rt; "taken"),
-            Err(found) => assert_eq!(rt; found, HeaderSliceError::Len(error)),
+            Err(found) => assert!(rt; found == HeaderSliceError::Len(error)),
         }
     }
     Ok(())
@@ -87,10 +87,10 @@ fn every_front_of_a_chain_up_to_the_fault(rt: HostRuntime) -> Result<(), Fail> {
             IpNumber(0),
             &bytes[..len],
         );
-        assert_eq!(rt; last, number);
-        assert_eq!(rt; rest.len(), error.len);
-        assert_eq!(rt; headers.header_len(), error.layer_start_offset);
-        assert_eq!(rt; found, fault);
+        assert!(rt; last == number);
+        assert!(rt; rest.len() == error.len);
+        assert!(rt; headers.header_len() == error.layer_start_offset);
+        assert!(rt; found == fault);
     }
     Ok(())
 }
@@ -112,15 +112,15 @@ fn all_six_headers(rt: HostRuntime) -> Result<(), Fail> {
     let Ok((headers, number, rest)) = Ipv6Extensions::from_slice(IpNumber(0), &bytes) else {
         panic!(rt; "refused");
     };
-    assert_eq!(rt; number, IpNumber(17));
-    assert_eq!(rt; rest, [0xaa, 0xbb].as_slice());
-    assert_eq!(rt; headers.header_len(), 72);
+    assert!(rt; number == IpNumber(17));
+    assert!(rt; rest == [0xaa, 0xbb].as_slice());
+    assert!(rt; headers.header_len() == 72);
     assert!(rt; headers.is_fragmenting_payload());
     assert!(rt; !headers.is_empty());
     let Some(routing) = &headers.routing else {
         panic!(rt; "no routing header");
     };
-    assert_eq!(rt; routing.header_len(), 24);
+    assert!(rt; routing.header_len() == 24);
     assert!(rt; has_payload(&routing.routing, &bytes[18..32]));
     assert!(rt; is_skipped_to_its_end(&bytes));
     Ok(())
@@ -130,23 +130,23 @@ fn all_six_headers(rt: HostRuntime) -> Result<(), Fail> {
 fn each_header_at_its_place(rt: HostRuntime) -> Result<(), Fail> {
     let bytes = CHAIN;
     let (headers, _, _, fault) = Ipv6Extensions::from_slice_lax(IpNumber(0), &bytes);
-    assert_eq!(rt; fault, None);
+    assert!(rt; fault == None);
     let Some(hop_by_hop) = &headers.hop_by_hop_options else {
         panic!(rt; "no hop-by-hop options");
     };
-    assert_eq!(rt; hop_by_hop.next_header, IpNumber(60));
+    assert!(rt; hop_by_hop.next_header == IpNumber(60));
     let Some(destination) = &headers.destination_options else {
         panic!(rt; "no destination options");
     };
-    assert_eq!(rt; destination.next_header, IpNumber(43));
+    assert!(rt; destination.next_header == IpNumber(43));
     let Some(fragment) = &headers.fragment else {
         panic!(rt; "no fragment header");
     };
-    assert_eq!(rt; fragment.identification, 7);
+    assert!(rt; fragment.identification == 7);
     let Some(auth) = &headers.auth else {
         panic!(rt; "no authentication header");
     };
-    assert_eq!(rt; auth.raw_icv(), &bytes[52..64]);
+    assert!(rt; auth.raw_icv() == &bytes[52..64]);
     Ok(())
 }
 
@@ -158,9 +158,9 @@ fn a_second_fragment_header_ends_the_chain(rt: HostRuntime) -> Result<(), Fail> 
     let Ok((headers, number, rest)) = Ipv6Extensions::from_slice(IpNumber(44), &bytes) else {
         panic!(rt; "refused");
     };
-    assert_eq!(rt; number, IpNumber(44));
-    assert_eq!(rt; rest, &bytes[8..]);
-    assert_eq!(rt; headers.header_len(), 8);
+    assert!(rt; number == IpNumber(44));
+    assert!(rt; rest == &bytes[8..]);
+    assert!(rt; headers.header_len() == 8);
     Ok(())
 }
 
@@ -202,13 +202,13 @@ fn hop_by_hop_options_behind_a_header_are_refused(rt: HostRuntime) -> Result<(),
     let fault = HeaderSliceError::Content(HeaderError::HopByHopNotAtStart);
     match Ipv6Extensions::from_slice(IpNumber(60), &bytes) {
         Ok(_) => panic!(rt; "taken"),
-        Err(error) => assert_eq!(rt; error, fault),
+        Err(error) => assert!(rt; error == fault),
     }
     let (headers, number, rest, found) = Ipv6Extensions::from_slice_lax(IpNumber(60), &bytes);
-    assert_eq!(rt; number, IpNumber(0));
-    assert_eq!(rt; rest, &bytes[8..]);
+    assert!(rt; number == IpNumber(0));
+    assert!(rt; rest == &bytes[8..]);
     assert!(rt; headers.destination_options.is_some());
-    assert_eq!(rt; found, Some((fault, Layer::Ipv6HopByHopHeader)));
+    assert!(rt; found == Some((fault, Layer::Ipv6HopByHopHeader)));
     Ok(())
 }
 
@@ -218,13 +218,13 @@ fn an_authentication_header_of_length_zero_is_refused(rt: HostRuntime) -> Result
     let fault = HeaderSliceError::Content(HeaderError::IpAuth(zero));
     match Ipv6Extensions::from_slice(IpNumber(51), &[0u8; 12]) {
         Ok(_) => panic!(rt; "taken"),
-        Err(error) => assert_eq!(rt; error, fault),
+        Err(error) => assert!(rt; error == fault),
     }
     let (headers, number, rest, found) = Ipv6Extensions::from_slice_lax(IpNumber(51), &[0u8; 12]);
     assert!(rt; headers.is_empty());
-    assert_eq!(rt; number, IpNumber(51));
-    assert_eq!(rt; rest.len(), 12);
-    assert_eq!(rt; found, Some((fault, Layer::IpAuthHeader)));
+    assert!(rt; number == IpNumber(51));
+    assert!(rt; rest.len() == 12);
+    assert!(rt; found == Some((fault, Layer::IpAuthHeader)));
     Ok(())
 }
 
@@ -235,8 +235,8 @@ fn numbers_without_a_place_end_the_chain(rt: HostRuntime) -> Result<(), Fail> {
         match Ipv6Extensions::from_slice(IpNumber(number), &[1, 2, 3]) {
             Ok((headers, last, rest)) => {
                 assert!(rt; headers.is_empty());
-                assert_eq!(rt; last, IpNumber(number));
-                assert_eq!(rt; rest, [1, 2, 3].as_slice());
+                assert!(rt; last == IpNumber(number));
+                assert!(rt; rest == [1, 2, 3].as_slice());
             }
             Err(_) => panic!(rt; "refused"),
         }
@@ -248,10 +248,7 @@ fn numbers_without_a_place_end_the_chain(rt: HostRuntime) -> Result<(), Fail> {
 fn an_error_seen_from_further_in_front(rt: HostRuntime) {
     let error = want(8, 7, Layer::Ipv6ExtHeader, 0);
     let moved = want(8, 7, Layer::Ipv6ExtHeader, 40);
-    assert_eq!(rt;
-        HeaderSliceError::Len(error).add_slice_offset(40),
-        HeaderSliceError::Len(moved)
-    );
+    assert!(rt; HeaderSliceError::Len(error).add_slice_offset(40) == HeaderSliceError::Len(moved));
     let fault = HeaderSliceError::Content(HeaderError::HopByHopNotAtStart);
-    assert_eq!(rt; fault.add_slice_offset(40), fault);
+    assert!(rt; fault.add_slice_offset(40) == fault);
 }

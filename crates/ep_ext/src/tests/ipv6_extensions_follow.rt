@@ -20,13 +20,13 @@ fn all_headers() -> Ipv6Extensions {
 #[test]
 fn a_chain_is_followed_and_written(rt: HostRuntime) -> Result<(), Fail> {
     let headers = all_headers();
-    assert_eq!(rt; headers.next_header(IpNumber(0)), Ok(IpNumber(17)));
+    assert!(rt; headers.next_header(IpNumber(0)) == Ok(IpNumber(17)));
     let mut buffer = Vec::new(rt.alloc());
     buffer.push(9)?;
-    assert_eq!(rt; headers.write(&mut buffer, IpNumber(0)), Ok(()));
+    assert!(rt; headers.write(&mut buffer, IpNumber(0)) == Ok(()));
     let mut written = [9; 73];
     written[1..].copy_from_slice(&CHAIN[..72]);
-    assert_eq!(rt; buffer.as_slice(), written.as_slice());
+    assert!(rt; buffer.as_slice() == written.as_slice());
     Ok(())
 }
 
@@ -36,13 +36,13 @@ fn what_is_written_reads_back(rt: HostRuntime) -> Result<(), Fail> {
     let bytes = CHAIN;
     match laws::written_chain_reads_back(&headers, IpNumber(0), &bytes) {
         Ok((again, number, rest)) => {
-            assert_eq!(rt; again, headers);
-            assert_eq!(rt; number, IpNumber(17));
-            assert_eq!(rt; rest.len(), 2);
+            assert!(rt; again == headers);
+            assert!(rt; number == IpNumber(17));
+            assert!(rt; rest.len() == 2);
         }
         Err(_) => panic!(rt; "refused"),
     }
-    assert_eq!(rt; headers.clone()?, headers);
+    assert!(rt; headers.clone()? == headers);
     Ok(())
 }
 
@@ -51,11 +51,11 @@ fn a_fragment_header_alone(rt: HostRuntime) -> Result<(), Fail> {
     let mut headers = Ipv6Extensions::default();
     headers.fragment = Some(Ipv6FragmentHeader::new(IpNumber(17), IpFragOffset::ZERO, false, 0));
     assert!(rt; !headers.is_fragmenting_payload());
-    assert_eq!(rt; headers.next_header(IpNumber(17)), Err(not_referenced(44)));
-    assert_eq!(rt; headers.next_header(IpNumber(44)), Ok(IpNumber(17)));
+    assert!(rt; headers.next_header(IpNumber(17)) == Err(not_referenced(44)));
+    assert!(rt; headers.next_header(IpNumber(44)) == Ok(IpNumber(17)));
     let mut buffer = Vec::new(rt.alloc());
-    assert_eq!(rt; headers.write(&mut buffer, IpNumber(44)), Ok(()));
-    assert_eq!(rt; buffer.as_slice(), [0x11, 0, 0, 0, 0, 0, 0, 0].as_slice());
+    assert!(rt; headers.write(&mut buffer, IpNumber(44)) == Ok(()));
+    assert!(rt; buffer.as_slice() == [0x11, 0, 0, 0, 0, 0, 0, 0].as_slice());
     Ok(())
 }
 
@@ -64,12 +64,12 @@ fn no_header_at_all(rt: HostRuntime) -> Result<(), Fail> {
     let headers = Ipv6Extensions::default();
     assert!(rt; headers.is_empty());
     assert!(rt; !headers.is_fragmenting_payload());
-    assert_eq!(rt; headers.header_len(), 0);
-    assert_eq!(rt; headers.next_header(IpNumber(0)), Ok(IpNumber(0)));
+    assert!(rt; headers.header_len() == 0);
+    assert!(rt; headers.next_header(IpNumber(0)) == Ok(IpNumber(0)));
     let mut buffer = Vec::new(rt.alloc());
-    assert_eq!(rt; headers.write(&mut buffer, IpNumber(17)), Ok(()));
-    assert_eq!(rt; buffer.len(), 0);
-    assert_eq!(rt; Ipv6Extensions::MAX_LEN, 9228);
+    assert!(rt; headers.write(&mut buffer, IpNumber(17)) == Ok(()));
+    assert!(rt; buffer.len() == 0);
+    assert!(rt; Ipv6Extensions::MAX_LEN == 9228);
     Ok(())
 }
 
@@ -78,13 +78,13 @@ fn no_header_at_all(rt: HostRuntime) -> Result<(), Fail> {
 #[test]
 fn the_first_header_that_is_not_reached(rt: HostRuntime) -> Result<(), Fail> {
     let mut headers = all_headers();
-    assert_eq!(rt; headers.next_header(IpNumber(17)), Err(not_referenced(0)));
-    assert_eq!(rt; headers.next_header(IpNumber(60)), Err(not_referenced(0)));
+    assert!(rt; headers.next_header(IpNumber(17)) == Err(not_referenced(0)));
+    assert!(rt; headers.next_header(IpNumber(60)) == Err(not_referenced(0)));
     headers.hop_by_hop_options = None;
-    assert_eq!(rt; headers.next_header(IpNumber(17)), Err(not_referenced(60)));
+    assert!(rt; headers.next_header(IpNumber(17)) == Err(not_referenced(60)));
     headers.destination_options = None;
-    assert_eq!(rt; headers.next_header(IpNumber(17)), Err(not_referenced(43)));
-    assert_eq!(rt; headers.next_header(IpNumber(51)), Err(not_referenced(43)));
+    assert!(rt; headers.next_header(IpNumber(17)) == Err(not_referenced(43)));
+    assert!(rt; headers.next_header(IpNumber(51)) == Err(not_referenced(43)));
     Ok(())
 }
 
@@ -96,11 +96,11 @@ fn the_later_headers_that_are_not_reached(rt: HostRuntime) -> Result<(), Fail> {
     if let Some(routing) = &mut headers.routing {
         routing.routing.next_header = IpNumber(17);
     }
-    assert_eq!(rt; headers.next_header(IpNumber(43)), Err(not_referenced(44)));
+    assert!(rt; headers.next_header(IpNumber(43)) == Err(not_referenced(44)));
     headers.fragment = None;
-    assert_eq!(rt; headers.next_header(IpNumber(43)), Err(not_referenced(51)));
+    assert!(rt; headers.next_header(IpNumber(43)) == Err(not_referenced(51)));
     headers.auth = None;
-    assert_eq!(rt; headers.next_header(IpNumber(43)), Err(not_referenced(60)));
+    assert!(rt; headers.next_header(IpNumber(43)) == Err(not_referenced(60)));
     Ok(())
 }
 
@@ -111,21 +111,21 @@ fn hop_by_hop_options_that_are_named_later(rt: HostRuntime) -> Result<(), Fail> 
         destination.next_header = IpNumber(0);
     }
     let fault = ExtsWalkError::HopByHopNotAtStart;
-    assert_eq!(rt; headers.next_header(IpNumber(60)), Err(fault));
+    assert!(rt; headers.next_header(IpNumber(60)) == Err(fault));
     // Where they were taken in first place, a later 0 ends the walk.
-    assert_eq!(rt; headers.next_header(IpNumber(0)), Err(not_referenced(43)));
+    assert!(rt; headers.next_header(IpNumber(0)) == Err(not_referenced(43)));
     let mut buffer = Vec::new(rt.alloc());
     buffer.push(9)?;
     let refused = Err(HeaderWriteError::Content(fault));
-    assert_eq!(rt; headers.write(&mut buffer, IpNumber(60)), refused);
-    assert_eq!(rt; buffer.as_slice(), [9].as_slice());
+    assert!(rt; headers.write(&mut buffer, IpNumber(60)) == refused);
+    assert!(rt; buffer.as_slice() == [9].as_slice());
     Ok(())
 }
 
 #[test]
 fn headers_made_to_name_one_another(rt: HostRuntime) -> Result<(), Fail> {
     let mut headers = Ipv6Extensions::default();
-    assert_eq!(rt; headers.set_next_headers(IpNumber(6)), IpNumber(6));
+    assert!(rt; headers.set_next_headers(IpNumber(6)) == IpNumber(6));
     let Ok(auth) = IpAuthHeader::new(IpNumber(0), 1, 2, &[1, 2, 3, 4]) else {
         panic!(rt; "no authentication header");
     };
@@ -134,25 +134,25 @@ fn headers_made_to_name_one_another(rt: HostRuntime) -> Result<(), Fail> {
         panic!(rt; "no destination options");
     };
     headers.destination_options = Some(options);
-    assert_eq!(rt; headers.set_next_headers(IpNumber(6)), IpNumber(60));
+    assert!(rt; headers.set_next_headers(IpNumber(6)) == IpNumber(60));
     let mut buffer = Vec::new(rt.alloc());
-    assert_eq!(rt; headers.write(&mut buffer, IpNumber(60)), Ok(()));
+    assert!(rt; headers.write(&mut buffer, IpNumber(60)) == Ok(()));
     let written = [
         51, 0, 1, 4, 0, 0, 0, 0, 6, 2, 0, 0, 0, 0, 0, 1, 0, 0, 0, 2, 1, 2, 3, 4,
     ];
-    assert_eq!(rt; buffer.as_slice(), written.as_slice());
+    assert!(rt; buffer.as_slice() == written.as_slice());
     Ok(())
 }
 
 #[test]
 fn all_headers_made_to_name_one_another(rt: HostRuntime) -> Result<(), Fail> {
     let mut headers = all_headers();
-    assert_eq!(rt; headers.set_next_headers(IpNumber(6)), IpNumber(0));
-    assert_eq!(rt; headers.next_header(IpNumber(0)), Ok(IpNumber(6)));
+    assert!(rt; headers.set_next_headers(IpNumber(6)) == IpNumber(0));
+    assert!(rt; headers.next_header(IpNumber(0)) == Ok(IpNumber(6)));
     let mut buffer = Vec::new(rt.alloc());
-    assert_eq!(rt; headers.write(&mut buffer, IpNumber(0)), Ok(()));
+    assert!(rt; headers.write(&mut buffer, IpNumber(0)) == Ok(()));
     let mut written = CHAIN;
     written[64] = 6;
-    assert_eq!(rt; buffer.as_slice(), &written[..72]);
+    assert!(rt; buffer.as_slice() == &written[..72]);
     Ok(())
 }

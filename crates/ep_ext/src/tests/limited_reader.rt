@@ -19,12 +19,12 @@ const BYTES: [u8; 6] = [1, 2, 3, 4, 5, 6];
 fn a_new_reader(rt: HostRuntime) -> Result<(), Fail> {
     let source = LenSource::Ipv4HeaderTotalLen;
     let reader = LimitedReader::new(reader_of(&BYTES, 1), 5, source, 20, Layer::Ipv4Packet);
-    assert_eq!(rt; reader.max_len(), 5);
-    assert_eq!(rt; reader.len_source(), source);
-    assert_eq!(rt; reader.layer(), Layer::Ipv4Packet);
-    assert_eq!(rt; reader.layer_offset(), 20);
-    assert_eq!(rt; reader.read_len(), 0);
-    assert_eq!(rt; reader.take_reader().rest, BYTES.as_slice());
+    assert!(rt; reader.max_len() == 5);
+    assert!(rt; reader.len_source() == source);
+    assert!(rt; reader.layer() == Layer::Ipv4Packet);
+    assert!(rt; reader.layer_offset() == 20);
+    assert!(rt; reader.read_len() == 0);
+    assert!(rt; reader.take_reader().rest == BYTES.as_slice());
     Ok(())
 }
 
@@ -34,8 +34,8 @@ fn reads_up_to_the_limit(rt: HostRuntime) -> Result<(), Fail> {
     let mut reader = LimitedReader::new(reader_of(&BYTES, 1), 5, source, 20, Layer::Ipv4Packet);
     let mut two = [0; 2];
     assert!(rt; reader.read_exact(&mut two).is_ok());
-    assert_eq!(rt; two, [1, 2]);
-    assert_eq!(rt; reader.read_len(), 2);
+    assert!(rt; two == [1, 2]);
+    assert!(rt; reader.read_len() == 2);
     // One byte above the limit: nothing is read.
     let mut four = [9; 4];
     match reader.read_exact(&mut four) {
@@ -47,19 +47,19 @@ fn reads_up_to_the_limit(rt: HostRuntime) -> Result<(), Fail> {
                 layer: Layer::Ipv4Packet,
                 layer_start_offset: 20,
             };
-            assert_eq!(rt; error, want);
+            assert!(rt; error == want);
         }
         _ => panic!(rt; "no want of bytes"),
     }
-    assert_eq!(rt; four, [9; 4]);
-    assert_eq!(rt; reader.read_len(), 2);
+    assert!(rt; four == [9; 4]);
+    assert!(rt; reader.read_len() == 2);
     // At the limit, and nothing more.
     let mut three = [0; 3];
     assert!(rt; reader.read_exact(&mut three).is_ok());
-    assert_eq!(rt; three, [3, 4, 5]);
+    assert!(rt; three == [3, 4, 5]);
     assert!(rt; reader.read_exact(&mut []).is_ok());
-    assert_eq!(rt; reader.read_len(), 5);
-    assert_eq!(rt; reader.take_reader().rest, [6].as_slice());
+    assert!(rt; reader.read_len() == 5);
+    assert!(rt; reader.take_reader().rest == [6].as_slice());
     Ok(())
 }
 
@@ -70,10 +70,10 @@ fn a_layer_begins(rt: HostRuntime) -> Result<(), Fail> {
     let mut two = [0; 2];
     assert!(rt; reader.read_exact(&mut two).is_ok());
     reader.start_layer(Layer::IpAuthHeader);
-    assert_eq!(rt; reader.max_len(), 3);
-    assert_eq!(rt; reader.layer(), Layer::IpAuthHeader);
-    assert_eq!(rt; reader.layer_offset(), 22);
-    assert_eq!(rt; reader.read_len(), 0);
+    assert!(rt; reader.max_len() == 3);
+    assert!(rt; reader.layer() == Layer::IpAuthHeader);
+    assert!(rt; reader.layer_offset() == 22);
+    assert!(rt; reader.read_len() == 0);
     Ok(())
 }
 
@@ -85,13 +85,13 @@ fn a_failed_read_counts_for_nothing(rt: HostRuntime) -> Result<(), Fail> {
     assert!(rt; reader.read_exact(&mut two).is_ok());
     match reader.read_exact(&mut two) {
         Err(LimitedReadError::Io(error)) => {
-            assert_eq!(rt; error.kind(), ErrorKind::PermissionDenied);
+            assert!(rt; error.kind() == ErrorKind::PermissionDenied);
         }
         _ => panic!(rt; "no fault"),
     }
-    assert_eq!(rt; reader.read_len(), 2);
+    assert!(rt; reader.read_len() == 2);
     assert!(rt; reader.read_exact(&mut two).is_ok());
-    assert_eq!(rt; two, [3, 4]);
+    assert!(rt; two == [3, 4]);
     Ok(())
 }
 

@@ -20,7 +20,7 @@ fn a_raw_header_wants_memory(rt: HostRuntime) {
     } else {
         0
     };
-    assert_eq!(rt; buffer.as_slice(), &bytes[..written]);
+    assert!(rt; buffer.as_slice() == &bytes[..written]);
 }
 
 #[test]
@@ -35,7 +35,7 @@ fn a_fragment_header_wants_memory(rt: HostRuntime) {
     } else {
         0
     };
-    assert_eq!(rt; buffer.as_slice(), &bytes[..written]);
+    assert!(rt; buffer.as_slice() == &bytes[..written]);
 }
 
 #[test]
@@ -50,7 +50,7 @@ fn an_authentication_header_wants_memory(rt: HostRuntime) {
     } else {
         0
     };
-    assert_eq!(rt; buffer.as_slice(), &bytes[..written]);
+    assert!(rt; buffer.as_slice() == &bytes[..written]);
 }
 
 #[test]
@@ -59,10 +59,10 @@ fn headers_of_ipv6_want_memory(rt: HostRuntime) {
     let (headers, _, _, _) = Ipv6Extensions::from_slice_lax(IpNumber(0), &bytes);
     let mut buffer = Vec::new(rt.alloc());
     match headers.write(&mut buffer, IpNumber(0)) {
-        Ok(()) => assert_eq!(rt; buffer.as_slice(), &bytes[..72]),
+        Ok(()) => assert!(rt; buffer.as_slice() == &bytes[..72]),
         Err(error) => {
-            assert_eq!(rt; error, ipv6_exts::HeaderWriteError::Memory);
-            assert_eq!(rt; buffer.len(), 0);
+            assert!(rt; error == ipv6_exts::HeaderWriteError::Memory);
+            assert!(rt; buffer.len() == 0);
         }
     }
 }
@@ -73,10 +73,10 @@ fn the_header_of_ipv4_wants_memory(rt: HostRuntime) {
     let (headers, _, _, _) = Ipv4Extensions::from_slice_lax(IpNumber(51), &bytes);
     let mut buffer = Vec::new(rt.alloc());
     match headers.write(&mut buffer, IpNumber(51)) {
-        Ok(()) => assert_eq!(rt; buffer.as_slice(), &bytes[..16]),
+        Ok(()) => assert!(rt; buffer.as_slice() == &bytes[..16]),
         Err(error) => {
-            assert_eq!(rt; error, ipv4_exts::HeaderWriteError::Memory);
-            assert_eq!(rt; buffer.len(), 0);
+            assert!(rt; error == ipv4_exts::HeaderWriteError::Memory);
+            assert!(rt; buffer.len() == 0);
         }
     }
 }
