@@ -31,18 +31,12 @@ fn linux_sll() -> LinuxSllHeader {
 
 #[test]
 fn one_kind_or_the_other(rt: HostRuntime) {
-    assert_eq!(rt;
-        LinkHeader::from(ethernet2()).ethernet2(),
-        Some(ethernet2())
-    );
-    assert_eq!(rt; LinkHeader::from(ethernet2()).linux_sll(), None);
-    assert_eq!(rt; LinkHeader::from(linux_sll()).ethernet2(), None);
-    assert_eq!(rt;
-        LinkHeader::from(linux_sll()).linux_sll(),
-        Some(linux_sll())
-    );
-    assert_eq!(rt; LinkHeader::Ethernet2(ethernet2()).header_len(), 14);
-    assert_eq!(rt; LinkHeader::LinuxSll(linux_sll()).header_len(), 16);
+    assert!(rt; LinkHeader::from(ethernet2()).ethernet2() == Some(ethernet2()));
+    assert!(rt; LinkHeader::from(ethernet2()).linux_sll().is_none());
+    assert!(rt; LinkHeader::from(linux_sll()).ethernet2().is_none());
+    assert!(rt; LinkHeader::from(linux_sll()).linux_sll() == Some(linux_sll()));
+    assert!(rt; LinkHeader::Ethernet2(ethernet2()).header_len() == 14);
+    assert!(rt; LinkHeader::LinuxSll(linux_sll()).header_len() == 16);
 }
 
 #[test]
@@ -54,7 +48,7 @@ fn headers_written_anew(rt: HostRuntime) {
     }
     let mut changed = ethernet2();
     changed.ether_type = EtherType::ARP;
-    assert_eq!(rt; header, LinkHeader::Ethernet2(changed));
+    assert!(rt; header == LinkHeader::Ethernet2(changed));
     let mut header = LinkHeader::LinuxSll(linux_sll());
     assert!(rt; header.mut_ethernet2().is_none());
     if let Some(linux_sll) = header.mut_linux_sll() {
@@ -62,7 +56,7 @@ fn headers_written_anew(rt: HostRuntime) {
     }
     let mut changed = linux_sll();
     changed.sender_address_valid_length = 8;
-    assert_eq!(rt; header, LinkHeader::LinuxSll(changed));
+    assert!(rt; header == LinkHeader::LinuxSll(changed));
 }
 
 #[test]
@@ -70,11 +64,11 @@ fn headers_behind_a_byte_that_is_there(rt: HostRuntime) -> Result<(), Fail> {
     let mut buffer = Vec::new(rt.alloc());
     buffer.push(9)?;
     LinkHeader::Ethernet2(ethernet2()).write(&mut buffer)?;
-    assert_eq!(rt; buffer[0], 9);
-    assert_eq!(rt; &buffer[1..], ETHERNET.as_slice());
+    assert!(rt; buffer[0] == 9);
+    assert!(rt; &buffer[1..] == ETHERNET.as_slice());
     LinkHeader::LinuxSll(linux_sll()).write(&mut buffer)?;
-    assert_eq!(rt; buffer.len(), 31);
-    assert_eq!(rt; &buffer[15..], SLL.as_slice());
+    assert!(rt; buffer.len() == 31);
+    assert!(rt; &buffer[15..] == SLL.as_slice());
     Ok(())
 }
 
@@ -82,21 +76,21 @@ fn headers_behind_a_byte_that_is_there(rt: HostRuntime) -> Result<(), Fail> {
 fn fields_of_slices(rt: HostRuntime) -> Result<(), Fail> {
     let ethernet = ETHERNET;
     let frame = LinkSlice::Ethernet2(Ethernet2Slice::from_slice_without_fcs(&ethernet)?);
-    assert_eq!(rt; frame.to_header(), Some(LinkHeader::Ethernet2(ethernet2())));
+    assert!(rt; frame.to_header() == Some(LinkHeader::Ethernet2(ethernet2())));
     let sll = SLL;
     let packet = LinkSlice::LinuxSll(LinuxSllSlice::from_slice(&sll)?);
-    assert_eq!(rt; packet.to_header(), Some(LinkHeader::LinuxSll(linux_sll())));
+    assert!(rt; packet.to_header() == Some(LinkHeader::LinuxSll(linux_sll())));
     let payload = LinkSlice::EtherPayload(EtherPayloadSlice {
         ether_type: EtherType::IPV4,
         len_source: LenSource::Slice,
         payload: &ethernet,
     });
-    assert_eq!(rt; payload.to_header(), None);
+    assert!(rt; payload.to_header().is_none());
     let payload = LinkSlice::LinuxSllPayload(LinuxSllPayloadSlice {
         protocol_type: LinuxSllProtocolType::Ignored(1),
         payload: &ethernet,
     });
-    assert_eq!(rt; payload.to_header(), None);
+    assert!(rt; payload.to_header().is_none());
     Ok(())
 }
 
@@ -113,7 +107,7 @@ fn payloads_behind_ether_types(rt: HostRuntime) -> Result<(), Fail> {
         payload: &[7, 8],
     };
     let link = LinkSlice::Ethernet2(Ethernet2Slice::from_slice_without_fcs(&frame)?);
-    assert_eq!(rt; link.ether_payload(), Some(named));
+    assert!(rt; link.ether_payload() == Some(named));
     let mut packet = [9; 17];
     packet[..16].copy_from_slice(&SLL);
     let named = EtherPayloadSlice {
@@ -122,10 +116,10 @@ fn payloads_behind_ether_types(rt: HostRuntime) -> Result<(), Fail> {
         payload: &[9],
     };
     let link = LinkSlice::LinuxSll(LinuxSllSlice::from_slice(&packet)?);
-    assert_eq!(rt; link.ether_payload(), Some(named));
+    assert!(rt; link.ether_payload() == Some(named));
     packet[2..4].copy_from_slice(&[3, 0x23]);
     let link = LinkSlice::LinuxSll(LinuxSllSlice::from_slice(&packet)?);
-    assert_eq!(rt; link.ether_payload(), None);
+    assert!(rt; link.ether_payload().is_none());
     Ok(())
 }
 
@@ -142,10 +136,10 @@ fn payloads_without_a_header(rt: HostRuntime) {
         len_source: LenSource::MacsecShortLength,
         payload: &bytes,
     });
-    assert_eq!(rt; link.ether_payload(), Some(named));
+    assert!(rt; link.ether_payload() == Some(named));
     let link = LinkSlice::LinuxSllPayload(LinuxSllPayloadSlice {
         protocol_type: LinuxSllProtocolType::NetlinkProtocolType(0x0800),
         payload: &bytes,
     });
-    assert_eq!(rt; link.ether_payload(), None);
+    assert!(rt; link.ether_payload().is_none());
 }

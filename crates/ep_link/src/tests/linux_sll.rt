@@ -29,23 +29,23 @@ fn a_header_both_ways(rt: HostRuntime) {
     let Ok((read, rest)) = LinuxSllHeader::from_slice(&bytes) else {
         panic!(rt; "no header");
     };
-    assert_eq!(rt; read, header());
-    assert_eq!(rt; rest, [21, 22].as_slice());
-    assert_eq!(rt; header().to_bytes().as_slice(), &BYTES[..16]);
-    assert_eq!(rt; header().header_len(), 16);
+    assert!(rt; read == header());
+    assert!(rt; rest == [21, 22].as_slice());
+    assert!(rt; header().to_bytes().as_slice() == &BYTES[..16]);
+    assert!(rt; header().header_len() == 16);
 }
 
 #[test]
 fn fields_of_a_header_slice(rt: HostRuntime) -> Result<(), Fail> {
     let bytes = BYTES;
     let slice = LinuxSllHeaderSlice::from_slice(&bytes)?;
-    assert_eq!(rt; slice.slice(), &BYTES[..16]);
-    assert_eq!(rt; slice.packet_type(), LinuxSllPacketType::HOST);
-    assert_eq!(rt; slice.arp_hrd_type(), ArpHardwareId::ETHERNET);
-    assert_eq!(rt; slice.sender_address_valid_length(), 6);
-    assert_eq!(rt; slice.sender_address(), [1, 2, 3, 4, 5, 6, 0, 0]);
-    assert_eq!(rt; slice.protocol_type(), header().protocol_type);
-    assert_eq!(rt; slice.to_header(), header());
+    assert!(rt; slice.slice() == &BYTES[..16]);
+    assert!(rt; slice.packet_type() == LinuxSllPacketType::HOST);
+    assert!(rt; slice.arp_hrd_type() == ArpHardwareId::ETHERNET);
+    assert!(rt; slice.sender_address_valid_length() == 6);
+    assert!(rt; slice.sender_address() == [1, 2, 3, 4, 5, 6, 0, 0]);
+    assert!(rt; slice.protocol_type() == header().protocol_type);
+    assert!(rt; slice.to_header() == header());
     Ok(())
 }
 
@@ -53,13 +53,13 @@ fn fields_of_a_header_slice(rt: HostRuntime) -> Result<(), Fail> {
 fn fields_of_a_packet(rt: HostRuntime) -> Result<(), Fail> {
     let bytes = BYTES;
     let slice = LinuxSllSlice::from_slice(&bytes)?;
-    assert_eq!(rt; slice.slice(), bytes.as_slice());
-    assert_eq!(rt; slice.header_len(), 16);
-    assert_eq!(rt; slice.packet_type(), LinuxSllPacketType::HOST);
-    assert_eq!(rt; slice.sender_address_valid_length(), 6);
-    assert_eq!(rt; slice.sender_address(), [1, 2, 3, 4, 5, 6, 0, 0]);
-    assert_eq!(rt; slice.payload_slice(), [21, 22].as_slice());
-    assert_eq!(rt; slice.to_header(), header());
+    assert!(rt; slice.slice() == bytes.as_slice());
+    assert!(rt; slice.header_len() == 16);
+    assert!(rt; slice.packet_type() == LinuxSllPacketType::HOST);
+    assert!(rt; slice.sender_address_valid_length() == 6);
+    assert!(rt; slice.sender_address() == [1, 2, 3, 4, 5, 6, 0, 0]);
+    assert!(rt; slice.payload_slice() == [21, 22].as_slice());
+    assert!(rt; slice.to_header() == header());
     Ok(())
 }
 
@@ -67,16 +67,16 @@ fn fields_of_a_packet(rt: HostRuntime) -> Result<(), Fail> {
 fn a_payload_behind_an_ether_type(rt: HostRuntime) -> Result<(), Fail> {
     let bytes = BYTES;
     let payload = LinuxSllSlice::from_slice(&bytes)?.payload();
-    assert_eq!(rt; payload.protocol_type, header().protocol_type);
-    assert_eq!(rt; payload.payload, [21, 22].as_slice());
+    assert!(rt; payload.protocol_type == header().protocol_type);
+    assert!(rt; payload.payload == [21, 22].as_slice());
     let Ok(ether_payload) = EtherPayloadSlice::try_from(payload) else {
         panic!(rt; "no ether type");
     };
-    assert_eq!(rt; ether_payload.ether_type, EtherType::IPV4);
-    assert_eq!(rt; ether_payload.len_source, LenSource::Slice);
+    assert!(rt; ether_payload.ether_type == EtherType::IPV4);
+    assert!(rt; ether_payload.len_source == LenSource::Slice);
     let again = LinuxSllPayloadSlice::from(ether_payload);
-    assert_eq!(rt; again.protocol_type, header().protocol_type);
-    assert_eq!(rt; again.payload, [21, 22].as_slice());
+    assert!(rt; again.protocol_type == header().protocol_type);
+    assert!(rt; again.payload == [21, 22].as_slice());
     Ok(())
 }
 
@@ -108,12 +108,9 @@ fn every_front_of_a_header(rt: HostRuntime) {
             layer: Layer::LinuxSllHeader,
             layer_start_offset: 0,
         });
-        assert_eq!(rt; LinuxSllHeader::from_slice(&bytes[..len]), Err(error));
-        assert_eq!(rt;
-            LinuxSllHeaderSlice::from_slice(&bytes[..len]).err(),
-            Some(error)
-        );
-        assert_eq!(rt; LinuxSllSlice::from_slice(&bytes[..len]).err(), Some(error));
+        assert!(rt; LinuxSllHeader::from_slice(&bytes[..len]) == Err(error));
+        assert!(rt; LinuxSllHeaderSlice::from_slice(&bytes[..len]).err() == Some(error));
+        assert!(rt; LinuxSllSlice::from_slice(&bytes[..len]).err() == Some(error));
     }
     assert!(rt; LinuxSllSlice::from_slice(&bytes[..16]).is_ok());
 }
@@ -121,19 +118,19 @@ fn every_front_of_a_header(rt: HostRuntime) {
 #[test]
 fn packet_types(rt: HostRuntime) -> Result<(), Fail> {
     for n in 0..5 {
-        assert_eq!(rt; u16::from(LinuxSllPacketType::try_from(n)?), n);
+        assert!(rt; u16::from(LinuxSllPacketType::try_from(n)?) == n);
     }
     let unsupported = HeaderError::UnsupportedPacketTypeField { packet_type: 5 };
-    assert_eq!(rt; LinuxSllPacketType::try_from(5), Err(unsupported));
-    assert_eq!(rt; LinuxSllPacketType::default(), LinuxSllPacketType::HOST);
-    assert_eq!(rt; LinuxSllPacketType::OUTGOING.value(), 4);
+    assert!(rt; LinuxSllPacketType::try_from(5) == Err(unsupported));
+    assert!(rt; LinuxSllPacketType::default() == LinuxSllPacketType::HOST);
+    assert!(rt; LinuxSllPacketType::OUTGOING.value() == 4);
     let mut bytes = BYTES;
     bytes[1] = 5;
     let error = HeaderSliceError::from(unsupported);
-    assert_eq!(rt; LinuxSllHeader::from_slice(&bytes), Err(error));
-    assert_eq!(rt; LinuxSllHeaderSlice::from_slice(&bytes).err(), Some(error));
-    assert_eq!(rt; LinuxSllSlice::from_slice(&bytes).err(), Some(error));
-    assert_eq!(rt; error.add_slice_offset(3), error);
+    assert!(rt; LinuxSllHeader::from_slice(&bytes) == Err(error));
+    assert!(rt; LinuxSllHeaderSlice::from_slice(&bytes).err() == Some(error));
+    assert!(rt; LinuxSllSlice::from_slice(&bytes).err() == Some(error));
+    assert!(rt; error.add_slice_offset(3) == error);
     let want = LenError {
         required_len: 16,
         len: 7,
@@ -145,10 +142,7 @@ fn packet_types(rt: HostRuntime) -> Result<(), Fail> {
         layer_start_offset: 7,
         ..want
     };
-    assert_eq!(rt;
-        HeaderSliceError::Len(want).add_slice_offset(3),
-        HeaderSliceError::Len(further)
-    );
+    assert!(rt; HeaderSliceError::Len(want).add_slice_offset(3) == HeaderSliceError::Len(further));
     Ok(())
 }
 
@@ -181,8 +175,8 @@ fn protocols_by_hardware_type(rt: HostRuntime) {
     ];
     for (hardware_type, number, protocol) in table {
         let read = LinuxSllProtocolType::from((ArpHardwareId(hardware_type), number));
-        assert_eq!(rt; read, protocol);
-        assert_eq!(rt; u16::from(protocol), number);
+        assert!(rt; read == protocol);
+        assert!(rt; u16::from(protocol) == number);
     }
 }
 
@@ -208,11 +202,11 @@ fn numbers_set_anew(rt: HostRuntime) {
     ];
     for (mut protocol, changed) in table {
         protocol.change_value(9);
-        assert_eq!(rt; protocol, changed);
+        assert!(rt; protocol == changed);
     }
     let mut protocol = LinuxSllProtocolType::LinuxNonstandardEtherType(9);
     protocol.change_value(0x86dd);
-    assert_eq!(rt; protocol, LinuxSllProtocolType::EtherType(EtherType::IPV6));
+    assert!(rt; protocol == LinuxSllProtocolType::EtherType(EtherType::IPV6));
 }
 
 #[test]
@@ -224,9 +218,9 @@ fn error_texts(rt: HostRuntime) -> Result<(), Fail> {
             arp_hardware_type: ArpHardwareId(7)
         }
     )?;
-    assert_eq!(rt;
-        text.as_str(),
-        "Linux cooked capture header error: unsupported packet type 5 | Linux cooked capture header error: unsupported hardware type 7"
+    assert!(rt;
+        text.as_str()
+            == "Linux cooked capture header error: unsupported packet type 5 | Linux cooked capture header error: unsupported hardware type 7"
     );
     Ok(())
 }
@@ -234,8 +228,8 @@ fn error_texts(rt: HostRuntime) -> Result<(), Fail> {
 #[test]
 fn laws(rt: HostRuntime) {
     let bytes = BYTES;
-    assert_eq!(rt; header_lengths(), [16]);
-    assert_eq!(rt; packet_type_constants().len(), 5);
+    assert!(rt; header_lengths() == [16]);
+    assert!(rt; packet_type_constants().len() == 5);
     headers_are_their_bytes(&header());
     assert!(rt; header_is_read_again(&header(), &bytes).is_ok());
     number_stays();
