@@ -12,6 +12,3 @@ pub use link::{
     SingleVlanHeader, SingleVlanHeaderSlice, SingleVlanSlice, VlanHeader, VlanId, VlanPcp,
     VlanSlice,
 };
-
-#[cfg(test)]
-mod tests;

@@ -1,13 +1,13 @@
 //! MACsec headers (IEEE 802.1AE, clause 9).
-use crate::err::macsec::{HeaderError, HeaderSliceError};
-use crate::laws::macsec::*;
-use crate::{
-    EtherPayloadSlice, MacsecAn, MacsecHeader, MacsecHeaderSlice, MacsecPType, MacsecPayloadSlice,
-    MacsecShortLen, MacsecSlice, SingleVlanSlice,
-};
 use arrayvec::ArrayVec;
 use ep_base::err::{Layer, LenError};
 use ep_base::{EtherType, LenSource};
+use ep_tag::err::macsec::{HeaderError, HeaderSliceError};
+use ep_tag::laws::macsec::*;
+use ep_tag::{
+    EtherPayloadSlice, MacsecAn, MacsecHeader, MacsecHeaderSlice, MacsecPType, MacsecPayloadSlice,
+    MacsecShortLen, MacsecSlice, SingleVlanSlice,
+};
 use std::test::Fail;
 
 // All flags but the version and C set, association 2, short length 3 with both unused bits set,

@@ -1,8 +1,8 @@
 //! Bounded numbers.
-use crate::laws::numbers::*;
-use crate::laws::traits::*;
-use crate::{MacsecAn, MacsecShortLen, VlanId, VlanPcp};
 use ep_base::err::{ValueTooBigError, ValueType};
+use ep_tag::laws::numbers::*;
+use ep_tag::laws::traits::*;
+use ep_tag::{MacsecAn, MacsecShortLen, VlanId, VlanPcp};
 use std::test::Fail;
 
 // The readers below answer a number and no more: a value that a test held would bring its contract into

@@ -1,9 +1,9 @@
 //! MACsec headers and payloads under every flag and short length (IEEE 802.1AE, clause 9).
-use super::macsec::{Payload, header_refusal, header_slice_refusal, payload_of, refusal, want};
-use crate::err::macsec::{HeaderError, HeaderSliceError};
-use crate::{MacsecPType, MacsecSlice};
+use crate::macsec::{Payload, header_refusal, header_slice_refusal, payload_of, refusal, want};
 use ep_base::err::Layer;
 use ep_base::{EtherType, LenSource};
+use ep_tag::err::macsec::{HeaderError, HeaderSliceError};
+use ep_tag::{MacsecPType, MacsecSlice};
 
 // Of 80 bytes: the flags E, C and SC of the first one, the length of the header, what its payload is,
 // and the payload's length behind short lengths 0, 1, 2, 3, 47 and 63, or none where they are refused.

@@ -1,8 +1,8 @@
 //! Tags of either kind.
-use crate::{
+use ep_base::{EtherType, LenSource};
+use ep_tag::{
     EtherPayloadSlice, LinkExtHeader, LinkExtSlice, MacsecSlice, SingleVlanHeader, SingleVlanSlice,
 };
-use ep_base::{EtherType, LenSource};
 use std::alloc::{AllocError, Global};
 use std::test::Fail;
 

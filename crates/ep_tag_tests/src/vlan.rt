@@ -1,12 +1,12 @@
 //! VLAN tags (IEEE 802.1Q, section 9.6).
-use crate::laws::front::front_is_taken;
-use crate::laws::vlan::*;
-use crate::{
+use ep_base::err::{Layer, LenError};
+use ep_base::{EtherType, LenSource};
+use ep_tag::laws::front::front_is_taken;
+use ep_tag::laws::vlan::*;
+use ep_tag::{
     DoubleVlanHeader, DoubleVlanSlice, EtherPayloadSlice, SingleVlanHeader, SingleVlanHeaderSlice,
     SingleVlanSlice, VlanHeader, VlanId, VlanPcp, VlanSlice,
 };
-use ep_base::err::{Layer, LenError};
-use ep_base::{EtherType, LenSource};
 use std::test::Fail;
 
 // Priority 5, drop eligible, identifier 0123, IPv6; and what stands behind it.
