@@ -13,15 +13,15 @@ fn texts_of_len_errors(rt: HostRuntime) -> Result<(), Fail> {
         layer: Layer::Ipv4Header,
         layer_start_offset: 0,
     };
-    assert_eq!(rt;
-        format!(in rt.alloc(); "{error}")?.as_str(),
-        "IPv4 header Error: Not enough data to decode 'IPv4 header'. 20 byte(s) would be required, but only 19 byte(s) are available based on the slice length."
+    assert!(rt;
+        format!(in rt.alloc(); "{error}")?.as_str()
+            == "IPv4 header Error: Not enough data to decode 'IPv4 header'. 20 byte(s) would be required, but only 19 byte(s) are available based on the slice length."
     );
     let further = error.add_offset(14);
-    assert_eq!(rt; further.layer_start_offset, 14);
-    assert_eq!(rt;
-        format!(in rt.alloc(); "{further}")?.as_str(),
-        "IPv4 header Error: Not enough data to decode 'IPv4 header'. 20 byte(s) would be required, but only 19 byte(s) are available based on the slice length, 'IPv4 header' starts at overall parsed byte 14."
+    assert!(rt; further.layer_start_offset == 14);
+    assert!(rt;
+        format!(in rt.alloc(); "{further}")?.as_str()
+            == "IPv4 header Error: Not enough data to decode 'IPv4 header'. 20 byte(s) would be required, but only 19 byte(s) are available based on the slice length, 'IPv4 header' starts at overall parsed byte 14."
     );
     Ok(())
 }
@@ -37,8 +37,8 @@ fn greatest_offset(rt: HostRuntime) {
         layer_start_offset: 14,
     };
     let last = error.add_offset(0xffff_ffff_ffff_fff1);
-    assert_eq!(rt; last.layer_start_offset, 0xffff_ffff_ffff_ffff);
-    assert_eq!(rt; last.required_len, 20);
+    assert!(rt; last.layer_start_offset == 0xffff_ffff_ffff_ffff);
+    assert!(rt; last.required_len == 20);
 }
 
 #[test]
@@ -48,9 +48,9 @@ fn texts_of_errors(rt: HostRuntime) -> Result<(), Fail> {
         max_allowed: 63,
         value_type: ValueType::IpDscp,
     };
-    assert_eq!(rt;
-        format!(in rt.alloc(); "{too_big}")?.as_str(),
-        "Error '64' is too big to be a 'DSCP (Differentiated Services Code Point)' (maximum allowed value is '63')"
+    assert!(rt;
+        format!(in rt.alloc(); "{too_big}")?.as_str()
+            == "Error '64' is too big to be a 'DSCP (Differentiated Services Code Point)' (maximum allowed value is '63')"
     );
     let space = SliceWriteSpaceError {
         required_len: 14,
@@ -58,14 +58,11 @@ fn texts_of_errors(rt: HostRuntime) -> Result<(), Fail> {
         layer: Layer::Ethernet2Header,
         layer_start_offset: 0,
     };
-    assert_eq!(rt;
-        format!(in rt.alloc(); "{space}")?.as_str(),
-        "Ethernet 2 header Error: Not enough space to write 'Ethernet 2 header' to slice. Needed 14 byte(s), but only 13 byte(s) were available."
+    assert!(rt;
+        format!(in rt.alloc(); "{space}")?.as_str()
+            == "Ethernet 2 header Error: Not enough space to write 'Ethernet 2 header' to slice. Needed 14 byte(s), but only 13 byte(s) were available."
     );
     let unknown = IpDscpUnknownValueError { value: 63 };
-    assert_eq!(rt;
-        format!(in rt.alloc(); "{unknown}")?.as_str(),
-        "Unknown IP DSCP value 63"
-    );
+    assert!(rt; format!(in rt.alloc(); "{unknown}")?.as_str() == "Unknown IP DSCP value 63");
     Ok(())
 }

@@ -107,7 +107,7 @@ fn ip_number_constants(rt: HostRuntime) {
         IpNumber::ENCAP,
     ];
     for (value, number) in from_0.iter().enumerate() {
-        assert_eq!(rt; usize::from(number.0), value);
+        assert!(rt; usize::from(number.0) == value);
     }
     let from_100 = [
         IpNumber::GMTP,
@@ -155,10 +155,10 @@ fn ip_number_constants(rt: HostRuntime) {
         IpNumber::ROHC,
     ];
     for (place, number) in from_100.iter().enumerate() {
-        assert_eq!(rt; usize::from(number.0), 100 + place);
+        assert!(rt; usize::from(number.0) == 100 + place);
     }
-    assert_eq!(rt; IpNumber::EXPERIMENTAL_AND_TESTING_0.0, 253);
-    assert_eq!(rt; IpNumber::EXPERIMENTAL_AND_TESTING_1.0, 254);
+    assert!(rt; IpNumber::EXPERIMENTAL_AND_TESTING_0.0 == 253);
+    assert!(rt; IpNumber::EXPERIMENTAL_AND_TESTING_1.0 == 254);
 }
 
 // All numbers against the registry's list of IPv6 extension header types.
@@ -178,10 +178,10 @@ fn ext_header_numbers(rt: HostRuntime) {
 fn ip_number_calls(rt: HostRuntime) -> Result<(), Fail> {
     assert!(rt; IpNumber::MOBILITY_HEADER.is_ipv6_ext_header_value());
     assert!(rt; !IpNumber::IPV6_ICMP.is_ipv6_ext_header_value());
-    assert_eq!(rt; ip_number::UDP, IpNumber::from(17));
-    assert_eq!(rt; u8::from(ip_number::AUTH), 51);
-    assert_eq!(rt; IpTrafficClass::default(), IpNumber(0));
+    assert!(rt; ip_number::UDP == IpNumber::from(17));
+    assert!(rt; u8::from(ip_number::AUTH) == 51);
+    assert!(rt; IpTrafficClass::default() == IpNumber(0));
     assert!(rt; IpNumber::ICMP < IpNumber::TCP);
-    assert_eq!(rt; format!(in rt.alloc(); "{}", IpNumber::UDP)?.as_str(), "17");
+    assert!(rt; format!(in rt.alloc(); "{}", IpNumber::UDP)?.as_str() == "17");
     Ok(())
 }

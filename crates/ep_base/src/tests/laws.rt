@@ -12,9 +12,9 @@ fn laws_are_called(rt: HostRuntime) {
     one_changed_byte();
     ecn_round_trip(IpEcn::Ect0);
     known_round_trip();
-    assert_eq!(rt; constants::dscp_constants().len(), 25);
-    assert_eq!(rt; constants::frag_offset_constants().len(), 1);
-    assert_eq!(rt; constants::flow_label_constants().len(), 1);
+    assert!(rt; constants::dscp_constants().len() == 25);
+    assert!(rt; constants::frag_offset_constants().len() == 1);
+    assert!(rt; constants::flow_label_constants().len() == 1);
     constants::ecn_constants();
     constants::ip_number_constants();
     constants::ip_number_module();

@@ -9,57 +9,54 @@ use std::test::Fail;
 
 #[test]
 fn refused_numbers(rt: HostRuntime) {
-    assert_eq!(rt;
-        IpFragOffset::try_new(8192),
-        Err(ValueTooBigError {
-            actual: 8192,
-            max_allowed: 8191,
-            value_type: ValueType::IpFragmentOffset
-        })
+    assert!(rt;
+        IpFragOffset::try_new(8192)
+            == Err(ValueTooBigError {
+                actual: 8192,
+                max_allowed: 8191,
+                value_type: ValueType::IpFragmentOffset
+            })
     );
-    assert_eq!(rt;
-        IpDscp::try_from(64),
-        Err(ValueTooBigError {
-            actual: 64,
-            max_allowed: 63,
-            value_type: ValueType::IpDscp
-        })
+    assert!(rt;
+        IpDscp::try_from(64)
+            == Err(ValueTooBigError {
+                actual: 64,
+                max_allowed: 63,
+                value_type: ValueType::IpDscp
+            })
     );
-    assert_eq!(rt;
-        Ipv6FlowLabel::try_new(1048576),
-        Err(ValueTooBigError {
-            actual: 1048576,
-            max_allowed: 1048575,
-            value_type: ValueType::Ipv6FlowLabel
-        })
+    assert!(rt;
+        Ipv6FlowLabel::try_new(1048576)
+            == Err(ValueTooBigError {
+                actual: 1048576,
+                max_allowed: 1048575,
+                value_type: ValueType::Ipv6FlowLabel
+            })
     );
-    assert_eq!(rt;
-        IpEcn::try_new(4),
-        Err(ValueTooBigError {
-            actual: 4,
-            max_allowed: 3,
-            value_type: ValueType::IpEcn
-        })
+    assert!(rt;
+        IpEcn::try_new(4)
+            == Err(ValueTooBigError {
+                actual: 4,
+                max_allowed: 3,
+                value_type: ValueType::IpEcn
+            })
     );
 }
 
 #[test]
 fn accepted_numbers(rt: HostRuntime) -> Result<(), Fail> {
-    assert_eq!(rt; IpFragOffset::try_new(8191)?.byte_offset(), 65528);
-    assert_eq!(rt; u16::from(IpFragOffset::try_from(7)?), 7);
-    assert_eq!(rt; IpDscp::try_new(63)?, IpDscp::MAX);
-    assert_eq!(rt; Ipv4Dscp::try_from(46)?.value(), 46);
-    assert_eq!(rt;
-        Ipv6FlowLabel::try_from(1048575)?.value(),
-        Ipv6FlowLabel::MAX_U32
-    );
-    assert_eq!(rt; u32::from(Ipv6FlowLabel::ZERO), 0);
-    assert_eq!(rt; IpEcn::try_from(3)?, IpEcn::CongestionExperienced);
-    assert_eq!(rt; u8::from(Ipv4Ecn::Ect0), 2);
-    assert_eq!(rt; IpFragOffset::default(), IpFragOffset::ZERO);
-    assert_eq!(rt; IpDscp::default(), IpDscp::CS0);
-    assert_eq!(rt; Ipv6FlowLabel::default(), Ipv6FlowLabel::ZERO);
-    assert_eq!(rt; IpEcn::default(), IpEcn::ZERO);
+    assert!(rt; IpFragOffset::try_new(8191)?.byte_offset() == 65528);
+    assert!(rt; u16::from(IpFragOffset::try_from(7)?) == 7);
+    assert!(rt; IpDscp::try_new(63)? == IpDscp::MAX);
+    assert!(rt; Ipv4Dscp::try_from(46)?.value() == 46);
+    assert!(rt; Ipv6FlowLabel::try_from(1048575)?.value() == Ipv6FlowLabel::MAX_U32);
+    assert!(rt; u32::from(Ipv6FlowLabel::ZERO) == 0);
+    assert!(rt; IpEcn::try_from(3)? == IpEcn::CongestionExperienced);
+    assert!(rt; u8::from(Ipv4Ecn::Ect0) == 2);
+    assert!(rt; IpFragOffset::default() == IpFragOffset::ZERO);
+    assert!(rt; IpDscp::default() == IpDscp::CS0);
+    assert!(rt; Ipv6FlowLabel::default() == Ipv6FlowLabel::ZERO);
+    assert!(rt; IpEcn::default() == IpEcn::ZERO);
     assert!(rt; IpDscp::CS1 < IpDscp::AF11);
     Ok(())
 }
@@ -68,14 +65,14 @@ fn accepted_numbers(rt: HostRuntime) -> Result<(), Fail> {
 fn middle_values(rt: HostRuntime) -> Result<(), Fail> {
     let offset = IpFragOffset::try_new(1234)?;
     let label = Ipv6FlowLabel::try_new(0xabcde)?;
-    assert_eq!(rt; u16::from(offset), 1234);
-    assert_eq!(rt; offset.byte_offset(), 9872);
-    assert_eq!(rt; u32::from(label), 703710);
-    assert_eq!(rt; u8::from(IpDscp::EF), 46);
-    assert_eq!(rt; u8::from(IpEcn::Ect1), 1);
-    assert_eq!(rt; u16::from(EtherType(0x1234)), 4660);
+    assert!(rt; u16::from(offset) == 1234);
+    assert!(rt; offset.byte_offset() == 9872);
+    assert!(rt; u32::from(label) == 703710);
+    assert!(rt; u8::from(IpDscp::EF) == 46);
+    assert!(rt; u8::from(IpEcn::Ect1) == 1);
+    assert!(rt; u16::from(EtherType(0x1234)) == 4660);
     let text = format!(in rt.alloc(); "{} {} {offset} {label}", IpDscp::EF, IpEcn::Ect0)?;
-    assert_eq!(rt; text.as_str(), "46 2 1234 703710");
+    assert!(rt; text.as_str() == "46 2 1234 703710");
     Ok(())
 }
 
@@ -85,8 +82,8 @@ fn orders_and_copies(rt: HostRuntime) -> Result<(), Fail> {
     assert!(rt; Ipv6FlowLabel::try_new(256)? > Ipv6FlowLabel::try_new(255)?);
     assert!(rt; EtherType::IPV4 < EtherType::ARP);
     assert!(rt; IpEcn::Ect1 < IpEcn::Ect0);
-    assert_eq!(rt; IpDscp::EF.clone()?, IpDscp::EF);
-    assert_eq!(rt; LenSource::UdpHeaderLen.clone()?, LenSource::UdpHeaderLen);
+    assert!(rt; IpDscp::EF.clone()? == IpDscp::EF);
+    assert!(rt; LenSource::UdpHeaderLen.clone()? == LenSource::UdpHeaderLen);
     Ok(())
 }
 
@@ -128,17 +125,13 @@ fn known_code_points(rt: HostRuntime) {
         (IpDscpKnown::ClassSelector7, 56),
     ];
     for (known, value) in table {
-        assert_eq!(rt; u8::from(known), value);
+        assert!(rt; u8::from(known) == value);
     }
     let forwarding = IpDscp::from(IpDscpKnown::ExpeditedForwarding);
-    assert_eq!(rt; forwarding, IpDscp::EF);
-    assert_eq!(rt;
-        IpDscpKnown::try_from(forwarding),
-        Ok(IpDscpKnown::ExpeditedForwarding)
-    );
-    assert_eq!(rt;
-        IpDscpKnown::try_from_ip_dscp(IpDscp::MAX),
-        Err(IpDscpUnknownValueError { value: 63 })
+    assert!(rt; forwarding == IpDscp::EF);
+    assert!(rt; IpDscpKnown::try_from(forwarding) == Ok(IpDscpKnown::ExpeditedForwarding));
+    assert!(rt;
+        IpDscpKnown::try_from_ip_dscp(IpDscp::MAX) == Err(IpDscpUnknownValueError { value: 63 })
     );
     assert!(rt; IpDscpKnown::ClassSelector0 < IpDscpKnown::LowerEffort);
     assert!(rt; IpDscpKnown::LowerEffort < IpDscpKnown::ClassSelector1);
@@ -157,9 +150,9 @@ fn ether_types(rt: HostRuntime) {
         (EtherType::VLAN_DOUBLE_TAGGED_FRAME, 0x9100),
     ];
     for (ether_type, value) in table {
-        assert_eq!(rt; u16::from(ether_type), value);
+        assert!(rt; u16::from(ether_type) == value);
     }
-    assert_eq!(rt; EtherType::from(0x86dd), EtherType::IPV6);
-    assert_eq!(rt; ether_type::ARP.0, 0x0806);
-    assert_eq!(rt; EtherType::default().0, 0);
+    assert!(rt; EtherType::from(0x86dd) == EtherType::IPV6);
+    assert!(rt; ether_type::ARP.0 == 0x0806);
+    assert!(rt; EtherType::default().0 == 0);
 }

@@ -7,12 +7,9 @@ const RFC_1071: [u8; 8] = [0x00, 0x01, 0xf2, 0x03, 0xf4, 0xf5, 0xf6, 0xf7];
 
 #[test]
 fn sums_of_pieces(rt: HostRuntime) {
-    assert_eq!(rt; sum_pieces(&[&[1, 2, 3], &[4]]), 0xfdf7);
-    assert_eq!(rt; sum_pieces(&[]), 0xffff);
-    assert_eq!(rt;
-        sum_pieces(&[&RFC_1071[..4], &RFC_1071[4..]]).swap_bytes(),
-        0x220d
-    );
+    assert!(rt; sum_pieces(&[&[1, 2, 3], &[4]]) == 0xfdf7);
+    assert!(rt; sum_pieces(&[]) == 0xffff);
+    assert!(rt; sum_pieces(&[&RFC_1071[..4], &RFC_1071[4..]]).swap_bytes() == 0x220d);
 }
 
 // An IPv4 header whose checksum is b861: once with the field as 0, once as it stands.
@@ -24,11 +21,11 @@ fn sum_of_a_header(rt: HostRuntime) {
         .add_8bytes(front)
         .add_4bytes([0x40, 0x11, 0x00, 0x00])
         .add_slice(&addresses);
-    assert_eq!(rt; without_checksum.ones_complement().swap_bytes(), 0xb861);
+    assert!(rt; without_checksum.ones_complement().swap_bytes() == 0xb861);
     let whole = without_checksum.add_2bytes([0xb8, 0x61]);
-    assert_eq!(rt; whole.ones_complement(), 0);
-    assert_eq!(rt; whole.to_ones_complement_with_no_zero(), 0xffff);
-    assert_eq!(rt; Sum16BitWords::default().add_2bytes([0xff, 0xff]), whole);
+    assert!(rt; whole.ones_complement() == 0);
+    assert!(rt; whole.to_ones_complement_with_no_zero() == 0xffff);
+    assert!(rt; Sum16BitWords::default().add_2bytes([0xff, 0xff]) == whole);
 }
 
 #[test]
@@ -38,12 +35,12 @@ fn sum_of_sixteen_bytes(rt: HostRuntime) {
         0xf7,
     ];
     // Twice ddf2 is 1bbe4, and so bbe5.
-    assert_eq!(rt;
+    assert!(rt;
         Sum16BitWords::new()
             .add_16bytes(twice)
             .ones_complement()
-            .swap_bytes(),
-        0x441a
+            .swap_bytes()
+            == 0x441a
     );
 }
 
@@ -55,38 +52,26 @@ fn checksums_that_are_not_zero(rt: HostRuntime) {
         .add_8bytes([0x45, 0x00, 0x00, 0x73, 0x00, 0x00, 0x40, 0x00])
         .add_4bytes([0x40, 0x11, 0x00, 0x00])
         .add_8bytes(addresses);
-    assert_eq!(rt; sum.to_ones_complement_with_no_zero().swap_bytes(), 0xb861);
+    assert!(rt; sum.to_ones_complement_with_no_zero().swap_bytes() == 0xb861);
 }
 
 // A start of 1234 and of words in the upper halves, read low byte first, and what they sum to by hand.
 #[test]
 fn sums_from_another_start(rt: HostRuntime) {
     let narrow = u32_16bit_word::add_2bytes(0x3412, [0, 1]);
-    assert_eq!(rt;
-        u32_16bit_word::ones_complement(narrow).swap_bytes(),
-        0xedca
-    );
+    assert!(rt; u32_16bit_word::ones_complement(narrow).swap_bytes() == 0xedca);
     let narrow = u32_16bit_word::add_4bytes(0x0001_3412, [0, 1, 0, 2]);
-    assert_eq!(rt;
-        u32_16bit_word::ones_complement(narrow).swap_bytes(),
-        0xecc8
-    );
+    assert!(rt; u32_16bit_word::ones_complement(narrow).swap_bytes() == 0xecc8);
     let narrow = u32_16bit_word::add_slice(0x3412, &RFC_1071);
-    assert_eq!(rt;
-        u32_16bit_word::ones_complement_with_no_zero(narrow).swap_bytes(),
-        0x0fd9
-    );
+    assert!(rt; u32_16bit_word::ones_complement_with_no_zero(narrow).swap_bytes() == 0x0fd9);
     let wide = u64_16bit_word::add_2bytes(0x3412, [0, 1]);
-    assert_eq!(rt; u64_16bit_word::ones_complement(wide).swap_bytes(), 0xedca);
+    assert!(rt; u64_16bit_word::ones_complement(wide).swap_bytes() == 0xedca);
     let wide = u64_16bit_word::add_4bytes(0x0001_0000_0000_3412, [0, 1, 0, 2]);
-    assert_eq!(rt; u64_16bit_word::ones_complement(wide).swap_bytes(), 0xecc8);
+    assert!(rt; u64_16bit_word::ones_complement(wide).swap_bytes() == 0xecc8);
     let wide = u64_16bit_word::add_8bytes(0x3412, RFC_1071);
-    assert_eq!(rt; u64_16bit_word::ones_complement(wide).swap_bytes(), 0x0fd9);
+    assert!(rt; u64_16bit_word::ones_complement(wide).swap_bytes() == 0x0fd9);
     let wide = u64_16bit_word::add_slice(0x3412, &RFC_1071);
-    assert_eq!(rt;
-        u64_16bit_word::ones_complement_with_no_zero(wide).swap_bytes(),
-        0x0fd9
-    );
+    assert!(rt; u64_16bit_word::ones_complement_with_no_zero(wide).swap_bytes() == 0x0fd9);
 }
 
 #[test]
@@ -100,13 +85,12 @@ fn both_widths_agree(rt: HostRuntime) {
         for start in [0, 1, 0xffff, 0x1_0000, 0xffff_ffff] {
             let narrow = u32_16bit_word::add_slice(start, slice);
             let wide = u64_16bit_word::add_slice(u64::from(start), slice);
-            assert_eq!(rt;
-                u32_16bit_word::ones_complement(narrow),
-                u64_16bit_word::ones_complement(wide)
+            assert!(rt;
+                u32_16bit_word::ones_complement(narrow) == u64_16bit_word::ones_complement(wide)
             );
-            assert_eq!(rt;
-                u32_16bit_word::ones_complement_with_no_zero(narrow),
-                u64_16bit_word::ones_complement_with_no_zero(wide)
+            assert!(rt;
+                u32_16bit_word::ones_complement_with_no_zero(narrow)
+                    == u64_16bit_word::ones_complement_with_no_zero(wide)
             );
         }
     }
@@ -118,18 +102,13 @@ fn both_widths_agree(rt: HostRuntime) {
         u64_16bit_word::add_2bytes(0, [0, 1]),
         [0xf2, 3, 0xf4, 0xf5],
     );
-    assert_eq!(rt;
-        u32_16bit_word::ones_complement(u32_16bit_word::add_2bytes(narrow, [0xf6, 0xf7])),
-        0x0d22
+    assert!(rt;
+        u32_16bit_word::ones_complement(u32_16bit_word::add_2bytes(narrow, [0xf6, 0xf7])) == 0x0d22
     );
-    assert_eq!(rt;
-        u64_16bit_word::ones_complement(u64_16bit_word::add_2bytes(wide, [0xf6, 0xf7])),
-        0x0d22
+    assert!(rt;
+        u64_16bit_word::ones_complement(u64_16bit_word::add_2bytes(wide, [0xf6, 0xf7])) == 0x0d22
     );
-    assert_eq!(rt;
-        u64_16bit_word::ones_complement(u64_16bit_word::add_8bytes(0, RFC_1071)),
-        0x0d22
-    );
+    assert!(rt; u64_16bit_word::ones_complement(u64_16bit_word::add_8bytes(0, RFC_1071)) == 0x0d22);
 }
 
 // The UDP datagram of ports 1 and 2 with the payload 1 to 8, from 10.0.0.1 to 10.0.0.2: its checksum
@@ -145,5 +124,5 @@ fn sum_of_a_message(rt: HostRuntime) {
         &[0, 1, 0, 2, 0, 16, 0, 0],
         &[1, 2, 3, 4, 5, 6, 7, 8],
     );
-    assert_eq!(rt; sum.ones_complement().swap_bytes(), 0xdbb4);
+    assert!(rt; sum.ones_complement().swap_bytes() == 0xdbb4);
 }
