@@ -5,6 +5,7 @@ use crate::laws::ipv4 as laws;
 use crate::{Ipv4Header, Ipv4HeaderSlice, Ipv4Options};
 use ep_base::err::{Layer, LenError, ValueTooBigError, ValueType};
 use ep_base::{IpDscp, IpEcn, IpFragOffset, IpNumber, LenSource};
+use std::alloc::{AllocError, Global};
 use std::cmp::Ordering;
 use std::hash::FoldHasher;
 use std::test::*;
@@ -47,12 +48,12 @@ fn fields() -> Result<Ipv4Header, Fail> {
 #[test]
 fn fields_by_position(rt: HostRuntime) -> Result<(), Fail> {
     let (header, rest) = Ipv4Header::from_slice(&BYTES)?;
-    assert_eq!(rt; header, fields()?);
-    assert_eq!(rt; rest, [0xaa, 0xbb].as_slice());
-    assert_eq!(rt; header.ihl(), 6);
-    assert_eq!(rt; header.header_len(), 24);
-    assert_eq!(rt; header.payload_len(), Ok(6));
-    assert_eq!(rt; header.is_fragmenting_payload(), true);
+    assert!(rt; header == fields()?);
+    assert!(rt; rest == [0xaa, 0xbb].as_slice());
+    assert!(rt; header.ihl() == 6);
+    assert!(rt; header.header_len() == 24);
+    assert!(rt; header.payload_len() == Ok(6));
+    assert!(rt; header.is_fragmenting_payload());
     Ok(())
 }
 
@@ -87,21 +88,21 @@ fn flags_of(header: &Ipv4HeaderSlice<'_>) -> [bool; 3] {
 #[test]
 fn getters_of_the_slice(rt: HostRuntime) -> Result<(), Fail> {
     let header = Ipv4HeaderSlice::from_slice(&BYTES)?;
-    assert_eq!(rt; bytes_of(&header), [4, 6, 8, 1, 64, 17]);
-    assert_eq!(rt; words_of(&header), [30, 7, 5, 0x439f]);
-    assert_eq!(rt; flags_of(&header), [false, true, true]);
-    assert_eq!(rt; header.source(), [10, 0, 0, 1]);
-    assert_eq!(rt; header.destination(), [10, 0, 0, 2]);
-    assert_eq!(rt; header.to_header(), fields()?);
+    assert!(rt; bytes_of(&header) == [4, 6, 8, 1, 64, 17]);
+    assert!(rt; words_of(&header) == [30, 7, 5, 0x439f]);
+    assert!(rt; flags_of(&header) == [false, true, true]);
+    assert!(rt; header.source() == [10, 0, 0, 1]);
+    assert!(rt; header.destination() == [10, 0, 0, 2]);
+    assert!(rt; header.to_header() == fields()?);
     Ok(())
 }
 
 #[test]
 fn parts_of_the_slice(rt: HostRuntime) -> Result<(), Fail> {
     let header = Ipv4HeaderSlice::from_slice(&BYTES)?;
-    assert_eq!(rt; header.slice(), &BYTES[..24]);
-    assert_eq!(rt; header.options(), [1, 1, 1, 0].as_slice());
-    assert_eq!(rt; header.payload_len(), Ok(6));
+    assert!(rt; header.slice() == &BYTES[..24]);
+    assert!(rt; header.options() == [1, 1, 1, 0].as_slice());
+    assert!(rt; header.payload_len() == Ok(6));
     Ok(())
 }
 
@@ -129,12 +130,9 @@ fn faults_in_order(rt: HostRuntime) {
         ([0x43; 20], HeaderSliceError::Content(words_3)),
         ([0x4f; 20], too_short(60, 20)),
     ] {
-        assert_eq!(rt; Ipv4HeaderSlice::from_slice(&bytes), Err(refused));
+        assert!(rt; Ipv4HeaderSlice::from_slice(&bytes) == Err(refused));
     }
-    assert_eq!(rt;
-        Ipv4HeaderSlice::from_slice(&[0x63; 19]),
-        Err(too_short(20, 19))
-    );
+    assert!(rt; Ipv4HeaderSlice::from_slice(&[0x63; 19]) == Err(too_short(20, 19)));
 }
 
 #[test]
@@ -150,12 +148,9 @@ fn error_in_a_later_place(rt: HostRuntime) {
         layer_start_offset: 18,
         ..error
     };
-    assert_eq!(rt;
-        HeaderSliceError::Len(error).add_slice_offset(4),
-        HeaderSliceError::Len(moved)
-    );
+    assert!(rt; HeaderSliceError::Len(error).add_slice_offset(4) == HeaderSliceError::Len(moved));
     let content = HeaderSliceError::Content(HeaderError::UnexpectedVersion { version_number: 6 });
-    assert_eq!(rt; content.add_slice_offset(4), content);
+    assert!(rt; content.add_slice_offset(4) == content);
 }
 
 // From byte 14 to the greatest place that a `usize` names.
@@ -172,12 +167,12 @@ fn error_in_the_greatest_place(rt: HostRuntime) {
         layer_start_offset: 0xffff_ffff_ffff_ffff,
         ..error
     };
-    assert_eq!(rt;
-        HeaderSliceError::Len(error).add_slice_offset(0xffff_ffff_ffff_fff1),
-        HeaderSliceError::Len(last)
+    assert!(rt;
+        HeaderSliceError::Len(error).add_slice_offset(0xffff_ffff_ffff_fff1)
+            == HeaderSliceError::Len(last)
     );
     let content = HeaderSliceError::Content(HeaderError::UnexpectedVersion { version_number: 6 });
-    assert_eq!(rt; content.add_slice_offset(0xffff_ffff_ffff_ffff), content);
+    assert!(rt; content.add_slice_offset(0xffff_ffff_ffff_ffff) == content);
 }
 
 // More fragments and an offset, each set or not.
@@ -194,10 +189,10 @@ fn fragments(rt: HostRuntime) -> Result<(), Fail> {
             fragment_offset: IpFragOffset::try_new(offset)?,
             ..Ipv4Header::default()
         };
-        assert_eq!(rt; header.is_fragmenting_payload(), is_fragment);
+        assert!(rt; header.is_fragmenting_payload() == is_fragment);
         let bytes = header.to_bytes();
         let slice = Ipv4HeaderSlice::from_slice(bytes.as_slice())?;
-        assert_eq!(rt; slice.is_fragmenting_payload(), is_fragment);
+        assert!(rt; slice.is_fragmenting_payload() == is_fragment);
     }
     Ok(())
 }
@@ -208,40 +203,40 @@ fn total_length_below_the_header(rt: HostRuntime) {
         total_len: 19,
         ..Ipv4Header::default()
     };
-    assert_eq!(rt;
-        header.payload_len(),
-        Err(LenError {
-            required_len: 20,
-            len: 19,
-            len_source: LenSource::Ipv4HeaderTotalLen,
-            layer: Layer::Ipv4Packet,
-            layer_start_offset: 0,
-        })
+    assert!(rt;
+        header.payload_len()
+            == Err(LenError {
+                required_len: 20,
+                len: 19,
+                len_source: LenSource::Ipv4HeaderTotalLen,
+                layer: Layer::Ipv4Packet,
+                layer_start_offset: 0,
+            })
     );
 }
 
 #[test]
 fn default_header(rt: HostRuntime) {
     let header = Ipv4Header::default();
-    assert_eq!(rt;
-        header,
-        Ipv4Header {
-            dscp: IpDscp::ZERO,
-            ecn: IpEcn::NotEct,
-            total_len: 0,
-            identification: 0,
-            dont_fragment: true,
-            more_fragments: false,
-            fragment_offset: IpFragOffset::ZERO,
-            time_to_live: 0,
-            protocol: IpNumber(255),
-            header_checksum: 0,
-            source: [0; 4],
-            destination: [0; 4],
-            options: Ipv4Options::default(),
-        }
+    assert!(rt;
+        header
+            == Ipv4Header {
+                dscp: IpDscp::ZERO,
+                ecn: IpEcn::NotEct,
+                total_len: 0,
+                identification: 0,
+                dont_fragment: true,
+                more_fragments: false,
+                fragment_offset: IpFragOffset::ZERO,
+                time_to_live: 0,
+                protocol: IpNumber(255),
+                header_checksum: 0,
+                source: [0; 4],
+                destination: [0; 4],
+                options: Ipv4Options::default(),
+            }
     );
-    assert_eq!(rt; header.is_fragmenting_payload(), false);
+    assert!(rt; !header.is_fragmenting_payload());
 }
 
 // A header with no options, whose checksum was summed by hand.
@@ -253,29 +248,42 @@ const BYTES_WITHOUT_OPTIONS: [u8; 20] = [
     0x45, 0, 0, 28, 0, 0, 0x40, 0, 64, 17, 0x26, 0xcf, 10, 0, 0, 1, 10, 0, 0, 2,
 ];
 
+// The header behind a byte that is there, with the checksum that is computed, and once more with its own.
+fn written_twice(alloc: Global, header: &Ipv4Header) -> Result<Vec<u8>, AllocError> {
+    let mut buffer = Vec::new(alloc);
+    buffer.push(9)?;
+    header.write(&mut buffer)?;
+    header.write_raw(&mut buffer)?;
+    Ok(buffer)
+}
+
 #[test]
 fn written_behind_a_byte(rt: HostRuntime) -> Result<(), Fail> {
     let header = header_without_options()?;
-    assert_eq!(rt; header.dont_fragment, true);
-    assert_eq!(rt; header.calc_header_checksum(), 0x26cf);
-    let mut buffer = Vec::new(rt.alloc());
-    buffer.push(9)?;
-    header.write(&mut buffer)?;
-    assert_eq!(rt; buffer.len(), 21);
-    assert_eq!(rt; &buffer[1..], BYTES_WITHOUT_OPTIONS.as_slice());
-    header.write_raw(&mut buffer)?;
-    assert_eq!(rt; buffer.len(), 41);
-    assert_eq!(rt; &buffer[21..], header.to_bytes().as_slice());
-    assert_eq!(rt; &buffer[31..33], [0, 0].as_slice());
+    let mut written = [9; 41];
+    written[1..21].copy_from_slice(&BYTES_WITHOUT_OPTIONS);
+    written[21..].copy_from_slice(&BYTES_WITHOUT_OPTIONS);
+    written[31] = 0;
+    written[32] = 0;
+    assert!(rt; written_twice(rt.alloc(), &header)?.as_slice() == written.as_slice());
+    Ok(())
+}
+
+#[test]
+fn the_checksum_of_a_header_without_options(rt: HostRuntime) -> Result<(), Fail> {
+    let header = header_without_options()?;
+    assert!(rt; header.dont_fragment);
+    assert!(rt; header.calc_header_checksum() == 0x26cf);
+    assert!(rt; &header.to_bytes().as_slice()[10..12] == [0, 0].as_slice());
     Ok(())
 }
 
 #[test]
 fn bytes_of_a_header_with_options(rt: HostRuntime) -> Result<(), Fail> {
     let (header, _) = Ipv4Header::read_from_slice(&BYTES)?;
-    assert_eq!(rt; header.to_bytes().as_slice(), &BYTES[..24]);
-    assert_eq!(rt; header.calc_header_checksum(), 0x439f);
-    assert_eq!(rt; header.options(), [1, 1, 1, 0].as_slice());
+    assert!(rt; header.to_bytes().as_slice() == &BYTES[..24]);
+    assert!(rt; header.calc_header_checksum() == 0x439f);
+    assert!(rt; header.options() == [1, 1, 1, 0].as_slice());
     Ok(())
 }
 
@@ -285,51 +293,48 @@ fn checksum_zero(rt: HostRuntime) -> Result<(), Fail> {
         identification: 0x26cf,
         ..header_without_options()?
     };
-    assert_eq!(rt; header.calc_header_checksum(), 0);
+    assert!(rt; header.calc_header_checksum() == 0);
     Ok(())
 }
 
 #[test]
 fn payload_lengths(rt: HostRuntime) -> Result<(), Fail> {
     let longest = Ipv4Header::new(65515, 1, IpNumber::UDP, [0; 4], [0; 4])?;
-    assert_eq!(rt; longest.total_len, 65535);
-    assert_eq!(rt;
-        Ipv4Header::new(65516, 1, IpNumber::UDP, [0; 4], [0; 4]),
-        Err(ValueTooBigError {
-            actual: 65516,
-            max_allowed: 65515,
-            value_type: ValueType::Ipv4PayloadLength,
-        })
+    assert!(rt; longest.total_len == 65535);
+    assert!(rt;
+        Ipv4Header::new(65516, 1, IpNumber::UDP, [0; 4], [0; 4])
+            == Err(ValueTooBigError {
+                actual: 65516,
+                max_allowed: 65515,
+                value_type: ValueType::Ipv4PayloadLength,
+            })
     );
     let mut header = Ipv4Header::default();
     header.set_options(&[7; 40])?;
-    assert_eq!(rt;
-        header.set_options(&[7; 6]),
-        Err(BadOptionsLen { bad_len: 6 })
-    );
-    assert_eq!(rt; header.max_payload_len(), 65475);
+    assert!(rt; header.set_options(&[7; 6]) == Err(BadOptionsLen { bad_len: 6 }));
+    assert!(rt; header.max_payload_len() == 65475);
     header.set_payload_len(65475)?;
-    assert_eq!(rt; header.total_len, 65535);
-    assert_eq!(rt; header.payload_len(), Ok(65475));
-    assert_eq!(rt;
-        header.set_payload_len(65476),
-        Err(ValueTooBigError {
-            actual: 65476,
-            max_allowed: 65475,
-            value_type: ValueType::Ipv4PayloadLength,
-        })
+    assert!(rt; header.total_len == 65535);
+    assert!(rt; header.payload_len() == Ok(65475));
+    assert!(rt;
+        header.set_payload_len(65476)
+            == Err(ValueTooBigError {
+                actual: 65476,
+                max_allowed: 65475,
+                value_type: ValueType::Ipv4PayloadLength,
+            })
     );
-    assert_eq!(rt; header.total_len, 65535);
+    assert!(rt; header.total_len == 65535);
     Ok(())
 }
 
 #[test]
 fn header_lengths(rt: HostRuntime) {
-    assert_eq!(rt; Ipv4Header::MIN_LEN, 20);
-    assert_eq!(rt; Ipv4Header::MIN_LEN_U16, 20);
-    assert_eq!(rt; Ipv4Header::MAX_LEN, 60);
-    assert_eq!(rt; Ipv4Header::SERIALIZED_SIZE, 20);
-    assert_eq!(rt; Ipv4Options::MAX_LEN, 40);
+    assert!(rt; Ipv4Header::MIN_LEN == 20);
+    assert!(rt; Ipv4Header::MIN_LEN_U16 == 20);
+    assert!(rt; Ipv4Header::MAX_LEN == 60);
+    assert!(rt; Ipv4Header::SERIALIZED_SIZE == 20);
+    assert!(rt; Ipv4Options::MAX_LEN == 40);
 }
 
 #[test]
@@ -348,30 +353,24 @@ fn options_of_arrays(rt: HostRuntime) {
         Ipv4Options::from([1; 40]),
     ];
     for (words, options) in options.iter().enumerate() {
-        assert_eq!(rt; options.len(), 4 * words);
-        assert_eq!(rt; options.as_slice(), &[1; 40][..options.len()]);
+        assert!(rt; options.len() == 4 * words);
+        assert!(rt; options.as_slice() == &[1; 40][..options.len()]);
     }
 }
 
 #[test]
 fn option_lengths(rt: HostRuntime) -> Result<(), Fail> {
-    assert_eq!(rt;
-        Ipv4Options::try_from([1, 2, 3].as_slice()),
-        Err(BadOptionsLen { bad_len: 3 })
-    );
-    assert_eq!(rt;
-        Ipv4Options::try_from([0; 44].as_slice()),
-        Err(BadOptionsLen { bad_len: 44 })
-    );
+    assert!(rt; Ipv4Options::try_from([1, 2, 3].as_slice()) == Err(BadOptionsLen { bad_len: 3 }));
+    assert!(rt; Ipv4Options::try_from([0; 44].as_slice()) == Err(BadOptionsLen { bad_len: 44 }));
     let mut options = Ipv4Options::try_from([1, 2, 3, 4].as_slice())?;
-    assert_eq!(rt; options.len(), 4);
-    assert_eq!(rt; options.len_u8(), 4);
-    assert_eq!(rt; options.is_empty(), false);
+    assert!(rt; options.len() == 4);
+    assert!(rt; options.len_u8() == 4);
+    assert!(rt; !options.is_empty());
     for byte in options.as_mut_slice() {
         *byte = 9;
     }
-    assert_eq!(rt; options.as_slice(), [9; 4].as_slice());
-    assert_eq!(rt; Ipv4Options::new().is_empty(), true);
+    assert!(rt; options.as_slice() == [9; 4].as_slice());
+    assert!(rt; Ipv4Options::new().is_empty());
     Ok(())
 }
 
@@ -380,19 +379,19 @@ fn laws_are_called(rt: HostRuntime) -> Result<(), Fail> {
     let slice = Ipv4HeaderSlice::from_slice(&BYTES)?;
     let header = slice.to_header();
     let (again, rest) = laws::header_is_read_again(&header, &BYTES)?;
-    assert_eq!(rt; rest, [0xaa, 0xbb].as_slice());
+    assert!(rt; rest == [0xaa, 0xbb].as_slice());
     assert!(rt; laws::headers_are_equal_as_fields(&header, &again));
     assert!(rt; laws::headers_are_equal_as_fields(&header, &laws::header_is_copied(&header)?));
     laws::same_fields_from_same_bytes();
     let (of_slice, of_header) = laws::payload_lengths_agree(&slice);
-    assert_eq!(rt; of_slice, of_header);
+    assert!(rt; of_slice == of_header);
     assert!(rt; laws::slices_are_equal_as_bytes(&slice, &slice));
     assert!(rt; laws::options_are_equal_as_bytes(&header.options, &again.options));
-    assert_eq!(rt;
-        laws::options_are_ordered_as_bytes(&header.options, &Ipv4Options::new()),
-        Ordering::Greater
+    assert!(rt;
+        laws::options_are_ordered_as_bytes(&header.options, &Ipv4Options::new())
+            == Ordering::Greater
     );
     laws::options_hash_as_bytes(&header.options, &mut FoldHasher::default());
-    assert_eq!(rt; laws::header_lengths(), [20, 60, 20]);
+    assert!(rt; laws::header_lengths() == [20, 60, 20]);
     Ok(())
 }

@@ -35,38 +35,35 @@ fn a_header_and_its_rest(rt: HostRuntime) -> Result<(), Fail> {
     let Ok((header, rest)) = Ipv6Header::from_slice(&bytes) else {
         panic!(rt; "no header");
     };
-    assert_eq!(rt; rest, [0xaa, 0xbb].as_slice());
-    assert_eq!(rt; header.traffic_class, 0xab);
-    assert_eq!(rt; header.flow_label.value(), 0xcdef1);
-    assert_eq!(rt; header.payload_length, 0x1234);
-    assert_eq!(rt; header.next_header, IpNumber::UDP);
-    assert_eq!(rt; header.hop_limit, 64);
-    assert_eq!(rt; header.source, source);
-    assert_eq!(rt; header.destination, destination);
-    assert_eq!(rt; header.dscp().value(), 42);
-    assert_eq!(rt; header.ecn(), IpEcn::CongestionExperienced);
-    assert_eq!(rt; header.header_len(), 40);
-    assert_eq!(rt; header.to_bytes().as_slice(), &BYTES[..40]);
-    assert_eq!(rt;
-        Ipv6Header::read_from_slice(&bytes),
-        Ipv6Header::from_slice(&bytes)
-    );
+    assert!(rt; rest == [0xaa, 0xbb].as_slice());
+    assert!(rt; header.traffic_class == 0xab);
+    assert!(rt; header.flow_label.value() == 0xcdef1);
+    assert!(rt; header.payload_length == 0x1234);
+    assert!(rt; header.next_header == IpNumber::UDP);
+    assert!(rt; header.hop_limit == 64);
+    assert!(rt; header.source == source);
+    assert!(rt; header.destination == destination);
+    assert!(rt; header.dscp().value() == 42);
+    assert!(rt; header.ecn() == IpEcn::CongestionExperienced);
+    assert!(rt; header.header_len() == 40);
+    assert!(rt; header.to_bytes().as_slice() == &BYTES[..40]);
+    assert!(rt; Ipv6Header::read_from_slice(&bytes) == Ipv6Header::from_slice(&bytes));
 
     let view = Ipv6HeaderSlice::from_slice(&bytes)?;
-    assert_eq!(rt; view.slice(), &BYTES[..40]);
-    assert_eq!(rt; view.header_len(), 40);
-    assert_eq!(rt; view.version(), 6);
-    assert_eq!(rt; view.traffic_class(), 0xab);
-    assert_eq!(rt; view.dscp().value(), 42);
-    assert_eq!(rt; view.ecn(), IpEcn::CongestionExperienced);
-    assert_eq!(rt; view.flow_label().value(), 0xcdef1);
-    assert_eq!(rt; view.payload_length(), 0x1234);
-    assert_eq!(rt; view.next_header(), IpNumber::UDP);
-    assert_eq!(rt; view.hop_limit(), 64);
-    assert_eq!(rt; view.source(), source);
-    assert_eq!(rt; view.destination(), destination);
-    assert_eq!(rt; view.to_header(), header);
-    assert_eq!(rt; view.clone()?, view);
+    assert!(rt; view.slice() == &BYTES[..40]);
+    assert!(rt; view.header_len() == 40);
+    assert!(rt; view.version() == 6);
+    assert!(rt; view.traffic_class() == 0xab);
+    assert!(rt; view.dscp().value() == 42);
+    assert!(rt; view.ecn() == IpEcn::CongestionExperienced);
+    assert!(rt; view.flow_label().value() == 0xcdef1);
+    assert!(rt; view.payload_length() == 0x1234);
+    assert!(rt; view.next_header() == IpNumber::UDP);
+    assert!(rt; view.hop_limit() == 64);
+    assert!(rt; view.source() == source);
+    assert!(rt; view.destination() == destination);
+    assert!(rt; view.to_header() == header);
+    assert!(rt; view.clone()? == view);
     Ok(())
 }
 
@@ -75,11 +72,8 @@ fn every_front_of_a_header(rt: HostRuntime) {
     let bytes = BYTES;
     for len in 0..40 {
         let error = HeaderSliceError::Len(len_error(40, len, Layer::Ipv6Header, 0));
-        assert_eq!(rt; Ipv6Header::from_slice(&bytes[..len]), Err(error));
-        assert_eq!(rt;
-            Ipv6HeaderSlice::from_slice(&bytes[..len]).err(),
-            Some(error)
-        );
+        assert!(rt; Ipv6Header::from_slice(&bytes[..len]) == Err(error));
+        assert!(rt; Ipv6HeaderSlice::from_slice(&bytes[..len]).err() == Some(error));
     }
     for len in 40..43 {
         assert!(rt; Ipv6Header::from_slice(&bytes[..len]).is_ok());
@@ -89,18 +83,15 @@ fn every_front_of_a_header(rt: HostRuntime) {
 #[test]
 fn the_length_is_tested_before_the_version(rt: HostRuntime) {
     let bytes = [0x45; 41];
-    assert_eq!(rt;
-        Ipv6Header::from_slice(&bytes[..39]),
-        Err(HeaderSliceError::Len(len_error(40, 39, Layer::Ipv6Header, 0)))
+    assert!(rt;
+        Ipv6Header::from_slice(&bytes[..39])
+            == Err(HeaderSliceError::Len(len_error(40, 39, Layer::Ipv6Header, 0)))
     );
     for version_number in 0..16 {
         let bytes = [version_number * 16 + 15; 40];
         let error = HeaderError::UnexpectedVersion { version_number };
         if version_number != 6 {
-            assert_eq!(rt;
-                Ipv6Header::from_slice(&bytes),
-                Err(HeaderSliceError::Content(error))
-            );
+            assert!(rt; Ipv6Header::from_slice(&bytes) == Err(HeaderSliceError::Content(error)));
         } else {
             assert!(rt; Ipv6Header::from_slice(&bytes).is_ok());
         }
@@ -110,24 +101,23 @@ fn the_length_is_tested_before_the_version(rt: HostRuntime) {
 #[test]
 fn errors_further_on(rt: HostRuntime) {
     let short = HeaderSliceError::Len(len_error(40, 3, Layer::Ipv6Header, 5));
-    assert_eq!(rt;
-        short.add_slice_offset(14),
-        HeaderSliceError::Len(len_error(40, 3, Layer::Ipv6Header, 19))
+    assert!(rt;
+        short.add_slice_offset(14) == HeaderSliceError::Len(len_error(40, 3, Layer::Ipv6Header, 19))
     );
     let content = HeaderSliceError::Content(HeaderError::UnexpectedVersion { version_number: 4 });
-    assert_eq!(rt; content.add_slice_offset(14), content);
+    assert!(rt; content.add_slice_offset(14) == content);
 }
 
 // From byte 5 to the greatest place that a `usize` names.
 #[test]
 fn error_in_the_greatest_place(rt: HostRuntime) {
     let short = HeaderSliceError::Len(len_error(40, 3, Layer::Ipv6Header, 5));
-    assert_eq!(rt;
-        short.add_slice_offset(0xffff_ffff_ffff_fffa),
-        HeaderSliceError::Len(len_error(40, 3, Layer::Ipv6Header, 0xffff_ffff_ffff_ffff))
+    assert!(rt;
+        short.add_slice_offset(0xffff_ffff_ffff_fffa)
+            == HeaderSliceError::Len(len_error(40, 3, Layer::Ipv6Header, 0xffff_ffff_ffff_ffff))
     );
     let content = HeaderSliceError::Content(HeaderError::UnexpectedVersion { version_number: 4 });
-    assert_eq!(rt; content.add_slice_offset(0xffff_ffff_ffff_ffff), content);
+    assert!(rt; content.add_slice_offset(0xffff_ffff_ffff_ffff) == content);
 }
 
 #[test]
@@ -139,9 +129,9 @@ fn a_header_behind_a_byte_that_is_there(rt: HostRuntime) -> Result<(), Fail> {
     let mut buffer = Vec::new(rt.alloc());
     buffer.push(9)?;
     header.write(&mut buffer)?;
-    assert_eq!(rt; buffer.len(), 41);
-    assert_eq!(rt; buffer[0], 9);
-    assert_eq!(rt; &buffer[1..], &BYTES[..40]);
+    assert!(rt; buffer.len() == 41);
+    assert!(rt; buffer[0] == 9);
+    assert!(rt; &buffer[1..] == &BYTES[..40]);
     Ok(())
 }
 
@@ -151,25 +141,25 @@ fn fields_set(rt: HostRuntime) -> Result<(), Fail> {
     let mut bytes = [0; 40];
     bytes[0] = 0x60;
     bytes[6] = 255;
-    assert_eq!(rt; header.to_bytes(), bytes);
-    assert_eq!(rt; header.flow_label, Ipv6FlowLabel::ZERO);
+    assert!(rt; header.to_bytes() == bytes);
+    assert!(rt; header.flow_label == Ipv6FlowLabel::ZERO);
 
     header.traffic_class = 0xab;
     header.set_ecn(IpEcn::Ect1);
-    assert_eq!(rt; header.traffic_class, 0xa9);
+    assert!(rt; header.traffic_class == 0xa9);
     header.set_dscp(IpDscp::EF);
-    assert_eq!(rt; header.traffic_class, 0xb9);
+    assert!(rt; header.traffic_class == 0xb9);
 
-    assert_eq!(rt; header.set_payload_length(65535), Ok(()));
-    assert_eq!(rt;
-        header.set_payload_length(65536),
-        Err(ValueTooBigError {
-            actual: 65536,
-            max_allowed: 65535,
-            value_type: ValueType::Ipv6PayloadLength,
-        })
+    assert!(rt; header.set_payload_length(65535) == Ok(()));
+    assert!(rt;
+        header.set_payload_length(65536)
+            == Err(ValueTooBigError {
+                actual: 65536,
+                max_allowed: 65535,
+                value_type: ValueType::Ipv6PayloadLength,
+            })
     );
-    assert_eq!(rt; header.payload_length, 65535);
+    assert!(rt; header.payload_length == 65535);
     Ok(())
 }
 
@@ -179,7 +169,7 @@ fn laws_at_two_headers(rt: HostRuntime) -> Result<(), Fail> {
     let view = Ipv6HeaderSlice::from_slice(&bytes)?;
     let header = view.to_header();
     let other = Ipv6Header::default();
-    assert_eq!(rt; laws::header_lengths(), [40, 40]);
+    assert!(rt; laws::header_lengths() == [40, 40]);
     laws::headers_are_their_bytes(&header);
     assert!(rt; laws::header_is_read_again(&header, &bytes).is_ok());
     laws::traffic_class_has_two_parts();
@@ -188,7 +178,7 @@ fn laws_at_two_headers(rt: HostRuntime) -> Result<(), Fail> {
     assert!(rt; laws::headers_are_equal_as_fields(&header, &header));
     assert!(rt; !laws::headers_are_equal_as_fields(&header, &other));
     assert!(rt; laws::slices_are_equal_as_bytes(&view, &view));
-    assert_eq!(rt; laws::header_is_copied(&header)?, header);
+    assert!(rt; laws::header_is_copied(&header)? == header);
     Ok(())
 }
 
@@ -196,23 +186,23 @@ fn laws_at_two_headers(rt: HostRuntime) -> Result<(), Fail> {
 fn skip_walk(rt: HostRuntime) {
     let bytes = [60, 0, 0, 0, 0, 0, 0, 0, 17, 0, 0, 0, 0, 0, 0, 0, 0xaa, 0xbb];
     let behind = [0xaa, 0xbb];
-    assert_eq!(rt;
-        Ipv6Header::skip_all_header_extensions_in_slice(&bytes, IpNumber(0)),
-        Ok((IpNumber::UDP, behind.as_slice()))
+    assert!(rt;
+        Ipv6Header::skip_all_header_extensions_in_slice(&bytes, IpNumber(0))
+            == Ok((IpNumber::UDP, behind.as_slice()))
     );
-    assert_eq!(rt; Ipv6Header::skip_counted(&bytes, IpNumber(0)).1, 3);
-    assert_eq!(rt;
-        Ipv6Header::skip_all_header_extensions_in_slice(&[6], IpNumber(43)),
-        Err(len_error(2, 1, Layer::Ipv6ExtHeader, 0))
+    assert!(rt; Ipv6Header::skip_counted(&bytes, IpNumber(0)).1 == 3);
+    assert!(rt;
+        Ipv6Header::skip_all_header_extensions_in_slice(&[6], IpNumber(43))
+            == Err(len_error(2, 1, Layer::Ipv6ExtHeader, 0))
     );
 }
 
 #[test]
 fn skip_walk_to_the_end_of_the_slice(rt: HostRuntime) {
     let bytes = [0, 0, 0, 0, 0, 0, 0, 0, 17, 0, 0, 0, 0, 0, 0, 0];
-    assert_eq!(rt;
-        Ipv6Header::skip_all_header_extensions_in_slice(&bytes, IpNumber(60)),
-        Ok((IpNumber::UDP, [].as_slice()))
+    assert!(rt;
+        Ipv6Header::skip_all_header_extensions_in_slice(&bytes, IpNumber(60))
+            == Ok((IpNumber::UDP, [].as_slice()))
     );
 }
 
@@ -231,16 +221,13 @@ fn every_front_of_headers_in_a_row(rt: HostRuntime) {
         for len in 0..header_len {
             let required_len = if len < 2 { 2 } else { header_len };
             let (answer, turns) = Ipv6Header::skip_counted(&ROW[..offset + len], IpNumber(0));
-            assert_eq!(rt;
-                answer,
-                Err(len_error(required_len, len, Layer::Ipv6ExtHeader, offset))
-            );
-            assert_eq!(rt; turns, i + 1);
+            assert!(rt; answer == Err(len_error(required_len, len, Layer::Ipv6ExtHeader, offset)));
+            assert!(rt; turns == i + 1);
         }
     }
     let (answer, turns) = Ipv6Header::skip_counted(&ROW, IpNumber(0));
-    assert_eq!(rt; answer, Ok((IpNumber::TCP, [7, 8].as_slice())));
-    assert_eq!(rt; turns, 5);
+    assert!(rt; answer == Ok((IpNumber::TCP, [7, 8].as_slice())));
+    assert!(rt; turns == 5);
 }
 
 #[test]
@@ -259,13 +246,13 @@ fn one_header_by_its_number(rt: HostRuntime) {
         (6, 24),
     ];
     for (number, len) in lens {
-        assert_eq!(rt;
-            Ipv6Header::skip_header_extension_in_slice(&bytes, IpNumber(number)),
-            Ok((IpNumber(99), &bytes[len..]))
+        assert!(rt;
+            Ipv6Header::skip_header_extension_in_slice(&bytes, IpNumber(number))
+                == Ok((IpNumber(99), &bytes[len..]))
         );
-        assert_eq!(rt;
-            Ipv6Header::skip_header_extension_in_slice(&bytes[..len - 1], IpNumber(number)),
-            Err(len_error(len, len - 1, Layer::Ipv6ExtHeader, 0))
+        assert!(rt;
+            Ipv6Header::skip_header_extension_in_slice(&bytes[..len - 1], IpNumber(number))
+                == Err(len_error(len, len - 1, Layer::Ipv6ExtHeader, 0))
         );
     }
 }
@@ -276,9 +263,9 @@ fn numbers_that_are_skipped(rt: HostRuntime) {
     for n in 0..=255 {
         let skipped = matches!(n, 0 | 43 | 44 | 51 | 60 | 135 | 139 | 140);
         let (number, behind) = if skipped { (253, 8) } else { (n, 0) };
-        assert_eq!(rt;
-            Ipv6Header::skip_all_header_extensions_in_slice(&bytes, IpNumber(n)),
-            Ok((IpNumber(number), &bytes[behind..]))
+        assert!(rt;
+            Ipv6Header::skip_all_header_extensions_in_slice(&bytes, IpNumber(n))
+                == Ok((IpNumber(number), &bytes[behind..]))
         );
     }
 }
@@ -292,9 +279,9 @@ fn walks_over_thousands_of_headers(rt: HostRuntime) -> Result<(), Fail> {
         }
         bytes.extend_from_slice(&[253, 0, 0, 0, 0, 0, 0, 0])?;
         bytes.extend_from_slice(&[1, 2, 3, 4, 5, 6, 7])?;
-        assert_eq!(rt;
-            Ipv6Header::skip_counted(&bytes, IpNumber(60)),
-            (Ok((IpNumber(253), [1, 2, 3, 4, 5, 6, 7].as_slice())), turns)
+        assert!(rt;
+            Ipv6Header::skip_counted(&bytes, IpNumber(60))
+                == (Ok((IpNumber(253), [1, 2, 3, 4, 5, 6, 7].as_slice())), turns)
         );
     }
     Ok(())
