@@ -20,13 +20,13 @@ fn each_length(rt: HostRuntime) {
     for n in 0..=32 {
         let mut bytes = [0u8; 32];
         assert!(rt; decode(&DIGITS[..2 * n], &mut bytes[..n]));
-        assert_eq!(rt; &bytes[..n], &BYTES[..n]);
+        assert!(rt; &bytes[..n] == &BYTES[..n]);
         let mut bytes = [0u8; 32];
         assert!(rt; decode_to_slice(&UPPER_DIGITS[..2 * n], &mut bytes[..n]).is_ok());
-        assert_eq!(rt; &bytes[..n], &BYTES[..n]);
+        assert!(rt; &bytes[..n] == &BYTES[..n]);
         let mut digits = [0u8; 64];
         encode(&BYTES[..n], &mut digits[..2 * n]);
-        assert_eq!(rt; &digits[..2 * n], &DIGITS[..2 * n]);
+        assert!(rt; &digits[..2 * n] == &DIGITS[..2 * n]);
     }
 }
 
@@ -70,11 +70,8 @@ fn each_byte_as_a_digit(rt: HostRuntime) {
     for digit in 0..=255 {
         let digits = with_digit(41, digit);
         let mut bytes = [0u8; 32];
-        assert_eq!(rt;
-            decode(&digits[40..42], &mut bytes[..1]),
-            digit.is_ascii_hexdigit()
-        );
-        assert_eq!(rt; decode(&digits, &mut bytes), digit.is_ascii_hexdigit());
+        assert!(rt; decode(&digits[40..42], &mut bytes[..1]) == digit.is_ascii_hexdigit());
+        assert!(rt; decode(&digits, &mut bytes) == digit.is_ascii_hexdigit());
     }
 }
 
@@ -85,18 +82,12 @@ fn each_byte_in_each_lane(rt: HostRuntime) {
         let mut digits = [0u8; 34];
         encode(&[byte; 17], &mut digits);
         for pair in digits.chunks_exact(2) {
-            assert_eq!(rt;
-                char::from(pair[0]).to_digit(16),
-                Some(u32::from(byte / 16))
-            );
-            assert_eq!(rt;
-                char::from(pair[1]).to_digit(16),
-                Some(u32::from(byte % 16))
-            );
+            assert!(rt; char::from(pair[0]).to_digit(16) == Some(u32::from(byte / 16)));
+            assert!(rt; char::from(pair[1]).to_digit(16) == Some(u32::from(byte % 16)));
         }
         let mut bytes = [0u8; 17];
         assert!(rt; decode(&digits, &mut bytes));
-        assert_eq!(rt; bytes, [byte; 17]);
+        assert!(rt; bytes == [byte; 17]);
     }
 }
 
@@ -105,24 +96,18 @@ fn each_byte_in_each_lane(rt: HostRuntime) {
 fn text_of_rfc_4648(rt: HostRuntime) {
     let mut bytes = [0u8; 6];
     assert!(rt; decode(b"666F6F626172", &mut bytes));
-    assert_eq!(rt; &bytes, b"foobar");
+    assert!(rt; &bytes == b"foobar");
     let mut digits = [0u8; 12];
     encode(b"foobar", &mut digits);
-    assert_eq!(rt; &digits, b"666f6f626172");
+    assert!(rt; &digits == b"666f6f626172");
 }
 
 #[test]
 fn other_lengths(rt: HostRuntime) {
     let mut bytes = [7u8; 31];
     assert!(rt; !decode(DIGITS, &mut bytes));
-    assert_eq!(rt;
-        decode_to_slice(DIGITS, &mut bytes),
-        Err(FromHexError::InvalidStringLength)
-    );
-    assert_eq!(rt;
-        decode_to_slice(&DIGITS[..63], &mut bytes),
-        Err(FromHexError::OddLength)
-    );
+    assert!(rt; decode_to_slice(DIGITS, &mut bytes) == Err(FromHexError::InvalidStringLength));
+    assert!(rt; decode_to_slice(&DIGITS[..63], &mut bytes) == Err(FromHexError::OddLength));
     assert!(rt; !decode(&DIGITS[..1], &mut []));
-    assert_eq!(rt; bytes, [7u8; 31]);
+    assert!(rt; bytes == [7u8; 31]);
 }
