@@ -27,42 +27,70 @@ fn len_error(required_len: usize, len: usize, layer: Layer, layer_start_offset: 
     }
 }
 
+// The fields of `BYTES`, read by hand.
+fn fields() -> Result<Ipv6Header, Fail> {
+    Ok(Ipv6Header {
+        traffic_class: 0xab,
+        flow_label: Ipv6FlowLabel::try_new(0xcdef1)?,
+        payload_length: 0x1234,
+        next_header: IpNumber::UDP,
+        hop_limit: 64,
+        source: [0xfd, 0, 0, 0, 0, 0, 0, 0, 0, 0, 0, 0, 0, 0, 0, 1],
+        destination: [0xfd, 0, 0, 0, 0, 0, 0, 0, 0, 0, 0, 0, 0, 0, 0, 2],
+    })
+}
+
 #[test]
 fn a_header_and_its_rest(rt: HostRuntime) -> Result<(), Fail> {
-    let source = [0xfd, 0, 0, 0, 0, 0, 0, 0, 0, 0, 0, 0, 0, 0, 0, 1];
-    let destination = [0xfd, 0, 0, 0, 0, 0, 0, 0, 0, 0, 0, 0, 0, 0, 0, 2];
+    let header = fields()?;
     let bytes = BYTES;
-    let Ok((header, rest)) = Ipv6Header::from_slice(&bytes) else {
-        panic!(rt; "no header");
-    };
-    assert!(rt; rest == [0xaa, 0xbb].as_slice());
-    assert!(rt; header.traffic_class == 0xab);
-    assert!(rt; header.flow_label.value() == 0xcdef1);
-    assert!(rt; header.payload_length == 0x1234);
-    assert!(rt; header.next_header == IpNumber::UDP);
-    assert!(rt; header.hop_limit == 64);
-    assert!(rt; header.source == source);
-    assert!(rt; header.destination == destination);
+    let rest = [0xaa, 0xbb];
+    assert!(rt; Ipv6Header::from_slice(&bytes) == Ok((header.clone()?, rest.as_slice())));
+    assert!(rt; Ipv6Header::read_from_slice(&bytes) == Ok((header, rest.as_slice())));
+    Ok(())
+}
+
+#[test]
+fn a_header_of_fields(rt: HostRuntime) -> Result<(), Fail> {
+    let header = fields()?;
     assert!(rt; header.dscp().value() == 42);
     assert!(rt; header.ecn() == IpEcn::CongestionExperienced);
     assert!(rt; header.header_len() == 40);
     assert!(rt; header.to_bytes().as_slice() == &BYTES[..40]);
-    assert!(rt; Ipv6Header::read_from_slice(&bytes) == Ipv6Header::from_slice(&bytes));
+    Ok(())
+}
 
+// The view's numbers before the addresses.
+fn numbers(view: &Ipv6HeaderSlice<'_>) -> (u8, u8, u32, u16, u8, u8) {
+    (
+        view.version(),
+        view.traffic_class(),
+        view.flow_label().value(),
+        view.payload_length(),
+        view.next_header().0,
+        view.hop_limit(),
+    )
+}
+
+#[test]
+fn a_view_of_a_header(rt: HostRuntime) -> Result<(), Fail> {
+    let bytes = BYTES;
     let view = Ipv6HeaderSlice::from_slice(&bytes)?;
+    assert!(rt; numbers(&view) == (6, 0xab, 0xcdef1, 0x1234, 17, 64));
     assert!(rt; view.slice() == &BYTES[..40]);
     assert!(rt; view.header_len() == 40);
-    assert!(rt; view.version() == 6);
-    assert!(rt; view.traffic_class() == 0xab);
     assert!(rt; view.dscp().value() == 42);
     assert!(rt; view.ecn() == IpEcn::CongestionExperienced);
-    assert!(rt; view.flow_label().value() == 0xcdef1);
-    assert!(rt; view.payload_length() == 0x1234);
-    assert!(rt; view.next_header() == IpNumber::UDP);
-    assert!(rt; view.hop_limit() == 64);
-    assert!(rt; view.source() == source);
-    assert!(rt; view.destination() == destination);
-    assert!(rt; view.to_header() == header);
+    assert!(rt; view.source() == [0xfd, 0, 0, 0, 0, 0, 0, 0, 0, 0, 0, 0, 0, 0, 0, 1]);
+    assert!(rt; view.destination() == [0xfd, 0, 0, 0, 0, 0, 0, 0, 0, 0, 0, 0, 0, 0, 0, 2]);
+    Ok(())
+}
+
+#[test]
+fn a_view_is_its_header(rt: HostRuntime) -> Result<(), Fail> {
+    let bytes = BYTES;
+    let view = Ipv6HeaderSlice::from_slice(&bytes)?;
+    assert!(rt; view.to_header() == fields()?);
     assert!(rt; view.clone()? == view);
     Ok(())
 }
