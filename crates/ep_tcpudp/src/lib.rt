@@ -10,6 +10,3 @@ pub use transport::{
     TcpHeader, TcpHeaderSlice, TcpOptionElement, TcpOptionReadError, TcpOptionWriteError,
     TcpOptions, TcpOptionsIterator, TcpSlice, UdpHeader, UdpHeaderSlice, UdpSlice, tcp_option,
 };
-
-#[cfg(test)]
-mod tests;

@@ -1,6 +1,6 @@
-use crate::{UdpHeader, UdpHeaderSlice, UdpSlice, laws};
 use ep_base::LenSource;
 use ep_base::err::{Layer, LenError, ValueTooBigError, ValueType};
+use ep_tcpudp::{UdpHeader, UdpHeaderSlice, UdpSlice, laws};
 use std::test::*;
 
 // Ports 1 and 2 of a datagram of 16 bytes with the payload 1 to 8, and two bytes behind it.

@@ -1,5 +1,5 @@
-use crate::TcpOptionElement::*;
-use crate::{
+use ep_tcpudp::TcpOptionElement::*;
+use ep_tcpudp::{
     TcpHeader, TcpOptionElement, TcpOptionReadError, TcpOptionWriteError, TcpOptions,
     TcpOptionsIterator, laws, tcp_option,
 };

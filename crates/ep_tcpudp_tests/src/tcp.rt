@@ -1,7 +1,7 @@
-use crate::err::tcp::{HeaderError, HeaderSliceError};
-use crate::{TcpHeader, TcpHeaderSlice, TcpOptionWriteError, TcpOptions, TcpSlice, laws};
 use ep_base::LenSource;
 use ep_base::err::{Layer, LenError};
+use ep_tcpudp::err::tcp::{HeaderError, HeaderSliceError};
+use ep_tcpudp::{TcpHeader, TcpHeaderSlice, TcpOptionWriteError, TcpOptions, TcpSlice, laws};
 use std::cmp::Ordering;
 use std::hash::FoldHasher;
 use std::test::*;

@@ -1,7 +1,7 @@
-use crate::{TcpHeader, TcpHeaderSlice, TcpOptions, TcpSlice, UdpHeader, laws};
 use ep_base::err::{ValueTooBigError, ValueType};
 use ep_base::{IpNumber, Ipv6FlowLabel};
 use ep_ip::{Ipv4Header, Ipv4HeaderSlice, Ipv6Header, Ipv6HeaderSlice};
+use ep_tcpudp::{TcpHeader, TcpHeaderSlice, TcpOptions, TcpSlice, UdpHeader, laws};
 use std::test::*;
 
 const PAYLOAD: [u8; 8] = [1, 2, 3, 4, 5, 6, 7, 8];
