@@ -1,15 +1,15 @@
 //! Single extension headers in slices.
 ghost use Rattle.std.specs.Prelude.{◌≡◌};
 
-use crate::err::ip_auth;
-use crate::err::ip_auth::IcvLenError;
-use crate::err::ipv6_exts::ExtPayloadLenError;
-use crate::{
+use ep_base::err::{Layer, LenError};
+use ep_base::{IpFragOffset, IpNumber, LenSource};
+use ep_ext::err::ip_auth;
+use ep_ext::err::ip_auth::IcvLenError;
+use ep_ext::err::ipv6_exts::ExtPayloadLenError;
+use ep_ext::{
     IpAuthHeader, IpAuthHeaderSlice, Ipv6FragmentHeader, Ipv6FragmentHeaderSlice, Ipv6RawExtHeader,
     Ipv6RawExtHeaderSlice,
 };
-use ep_base::err::{Layer, LenError};
-use ep_base::{IpFragOffset, IpNumber, LenSource};
 use std::process::Abort;
 use std::test::*;
 

@@ -1,8 +1,8 @@
 //! The texts of errors of extension headers in a row.
 
-use crate::err::{ip_auth, ip_exts, ipv4_exts, ipv6_exts};
 use ep_base::IpNumber;
 use ep_base::err::Layer;
+use ep_ext::err::{ip_auth, ip_exts, ipv4_exts, ipv6_exts};
 use std::alloc::AllocError;
 use std::fmt::Display;
 use std::io::ErrorKind;
@@ -68,7 +68,7 @@ fn texts_of_the_authentication_header_among_others(rt: HostRuntime) -> Result<()
 
 #[test]
 fn texts_of_a_want(rt: HostRuntime) -> Result<(), Fail> {
-    let error = super::ipv6_extensions::want(8, 7, Layer::Ipv6FragHeader, 0);
+    let error = crate::ipv6_extensions::want(8, 7, Layer::Ipv6FragHeader, 0);
     let text = format!(in rt.alloc(); "{error}")?;
     let slice = ipv6_exts::HeaderSliceError::Len(error);
     assert!(rt; reads_as(&rt, &slice, text.as_str())?);

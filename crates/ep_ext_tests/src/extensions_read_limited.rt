@@ -1,15 +1,15 @@
 //! Extension headers in a row, from readers with a limit.
 ghost use Rattle.std.specs.Prelude.{◌<◌};
 
-use super::ipv4_extensions::AUTH;
-use super::ipv6_extensions::CHAIN;
-use super::piece_reader::{PieceReader, failing_reader, reader_of};
-use crate::err::ip_auth;
-use crate::err::ipv6_exts::{HeaderError, HeaderLimitedReadError};
-use crate::io::LimitedReader;
-use crate::{Ipv4Extensions, Ipv6Extensions};
+use crate::ipv4_extensions::AUTH;
+use crate::ipv6_extensions::CHAIN;
+use crate::piece_reader::{PieceReader, failing_reader, reader_of};
 use ep_base::err::{Layer, LenError};
 use ep_base::{IpNumber, LenSource};
+use ep_ext::err::ip_auth;
+use ep_ext::err::ipv6_exts::{HeaderError, HeaderLimitedReadError};
+use ep_ext::io::LimitedReader;
+use ep_ext::{Ipv4Extensions, Ipv6Extensions};
 use std::io::ErrorKind;
 use std::test::*;
 

@@ -1,13 +1,13 @@
 //! Single extension headers from readers.
 ghost use Rattle.std.specs.Prelude.{◌<◌};
 
-use super::piece_reader::{PieceReader, failing_reader, reader_of};
-use crate::err::io::LimitedReadError;
-use crate::err::ip_auth::{HeaderError, HeaderLimitedReadError, HeaderReadError};
-use crate::io::LimitedReader;
-use crate::{IpAuthHeader, Ipv6FragmentHeader, Ipv6RawExtHeader};
+use crate::piece_reader::{PieceReader, failing_reader, reader_of};
 use ep_base::LenSource;
 use ep_base::err::{Layer, LenError};
+use ep_ext::err::io::LimitedReadError;
+use ep_ext::err::ip_auth::{HeaderError, HeaderLimitedReadError, HeaderReadError};
+use ep_ext::io::LimitedReader;
+use ep_ext::{IpAuthHeader, Ipv6FragmentHeader, Ipv6RawExtHeader};
 use std::io::ErrorKind;
 use std::test::*;
 

@@ -1,8 +1,8 @@
 //! Places of extension headers.
 
-use crate::Ipv6ExtPlace;
 use ep_base::IpNumber;
 use ep_base::err::Layer;
+use ep_ext::Ipv6ExtPlace;
 use std::test::*;
 
 #[test]

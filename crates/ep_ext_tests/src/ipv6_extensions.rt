@@ -2,11 +2,11 @@
 
 ghost use Rattle.std.specs.Prelude.{◌≡◌};
 
-use crate::err::ip_auth;
-use crate::err::ipv6_exts::{HeaderError, HeaderSliceError};
-use crate::{Ipv6Extensions, Ipv6RawExtHeader, laws};
 use ep_base::err::{Layer, LenError};
 use ep_base::{IpNumber, LenSource};
+use ep_ext::err::ip_auth;
+use ep_ext::err::ipv6_exts::{HeaderError, HeaderSliceError};
+use ep_ext::{Ipv6Extensions, Ipv6RawExtHeader, laws};
 use ep_ip::Ipv6Header;
 use std::test::*;
 

@@ -1,15 +1,15 @@
 //! The reader with a limit, and the words of errors.
 
-use super::exts_errors::reads_as;
-use super::piece_reader::{failing_reader, reader_of};
-use crate::err::io::LimitedReadError;
-use crate::err::ip_auth::{
-    HeaderError, HeaderLimitedReadError, HeaderReadError, HeaderSliceError, IcvLenError,
-};
-use crate::err::ipv6_exts::ExtPayloadLenError;
-use crate::io::LimitedReader;
+use crate::exts_errors::reads_as;
+use crate::piece_reader::{failing_reader, reader_of};
 use ep_base::LenSource;
 use ep_base::err::{Layer, LenError};
+use ep_ext::err::io::LimitedReadError;
+use ep_ext::err::ip_auth::{
+    HeaderError, HeaderLimitedReadError, HeaderReadError, HeaderSliceError, IcvLenError,
+};
+use ep_ext::err::ipv6_exts::ExtPayloadLenError;
+use ep_ext::io::LimitedReader;
 use std::io::ErrorKind;
 use std::test::*;
 

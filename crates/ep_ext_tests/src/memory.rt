@@ -1,11 +1,11 @@
 //! Want of memory. To be run with each allocation failing in turn, too: then one of the calls wants
 //! memory and leaves its buffer empty, and the others write.
 
-use super::ipv4_extensions::AUTH;
-use super::ipv6_extensions::CHAIN;
-use crate::err::{ipv4_exts, ipv6_exts};
-use crate::{IpAuthHeader, Ipv4Extensions, Ipv6Extensions, Ipv6FragmentHeader, Ipv6RawExtHeader};
+use crate::ipv4_extensions::AUTH;
+use crate::ipv6_extensions::CHAIN;
 use ep_base::IpNumber;
+use ep_ext::err::{ipv4_exts, ipv6_exts};
+use ep_ext::{IpAuthHeader, Ipv4Extensions, Ipv6Extensions, Ipv6FragmentHeader, Ipv6RawExtHeader};
 use std::test::*;
 
 #[test]

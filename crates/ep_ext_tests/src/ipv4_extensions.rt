@@ -1,11 +1,11 @@
 //! The extension headers of IPv4.
 
-use super::ipv6_extensions::want;
-use crate::err::ip_auth::{HeaderError, HeaderSliceError};
-use crate::err::ipv4_exts::{ExtsWalkError, HeaderWriteError};
-use crate::{Ipv4Extensions, laws};
+use crate::ipv6_extensions::want;
 use ep_base::IpNumber;
 use ep_base::err::Layer;
+use ep_ext::err::ip_auth::{HeaderError, HeaderSliceError};
+use ep_ext::err::ipv4_exts::{ExtsWalkError, HeaderWriteError};
+use ep_ext::{Ipv4Extensions, laws};
 use std::test::*;
 
 // An authentication header by RFC 4302, section 2, and a byte.

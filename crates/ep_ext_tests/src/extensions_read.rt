@@ -1,12 +1,12 @@
 //! Extension headers in a row, from readers.
 
-use super::ipv4_extensions::AUTH;
-use super::ipv6_extensions::CHAIN;
-use super::piece_reader::{PieceReader, failing_reader, reader_of};
-use crate::err::ip_auth;
-use crate::err::ipv6_exts::{HeaderError, HeaderReadError};
-use crate::{Ipv4Extensions, Ipv6Extensions};
+use crate::ipv4_extensions::AUTH;
+use crate::ipv6_extensions::CHAIN;
+use crate::piece_reader::{PieceReader, failing_reader, reader_of};
 use ep_base::IpNumber;
+use ep_ext::err::ip_auth;
+use ep_ext::err::ipv6_exts::{HeaderError, HeaderReadError};
+use ep_ext::{Ipv4Extensions, Ipv6Extensions};
 use std::io::ErrorKind;
 use std::test::*;
 

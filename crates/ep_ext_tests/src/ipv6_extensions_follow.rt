@@ -1,9 +1,9 @@
 //! The headers that a value holds: followed, written, linked.
 
-use super::ipv6_extensions::CHAIN;
-use crate::err::ipv6_exts::{ExtsWalkError, HeaderWriteError};
-use crate::{IpAuthHeader, Ipv6Extensions, Ipv6FragmentHeader, Ipv6RawExtHeader, laws};
+use crate::ipv6_extensions::CHAIN;
 use ep_base::{IpFragOffset, IpNumber};
+use ep_ext::err::ipv6_exts::{ExtsWalkError, HeaderWriteError};
+use ep_ext::{IpAuthHeader, Ipv6Extensions, Ipv6FragmentHeader, Ipv6RawExtHeader, laws};
 use std::test::*;
 
 fn not_referenced(number: u8) -> ExtsWalkError {
