@@ -9,6 +9,3 @@ pub use transport::{
     IcmpEchoHeader, Icmpv4Header, Icmpv4Slice, Icmpv4Type, Icmpv6Header, Icmpv6Slice, Icmpv6Type,
     icmpv4, icmpv6,
 };
-
-#[cfg(test)]
-mod tests;

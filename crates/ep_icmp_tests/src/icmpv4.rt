@@ -1,6 +1,6 @@
 //! Every type and code of RFC 792 that has a variant, both ways, and neighbours that have none.
-use crate::icmpv4::*;
-use crate::{IcmpEchoHeader, Icmpv4Header, Icmpv4Slice, Icmpv4Type};
+use ep_icmp::icmpv4::*;
+use ep_icmp::{IcmpEchoHeader, Icmpv4Header, Icmpv4Slice, Icmpv4Type};
 use std::process::Abort;
 use std::test::Fail;
 

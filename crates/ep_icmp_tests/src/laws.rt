@@ -1,6 +1,6 @@
 //! Each law is called once.
-use crate::laws::{examples, icmpv4, icmpv6, traits};
-use crate::{IcmpEchoHeader, Icmpv4Header, Icmpv4Type, Icmpv6Header, Icmpv6Type};
+use ep_icmp::laws::{examples, icmpv4, icmpv6, traits};
+use ep_icmp::{IcmpEchoHeader, Icmpv4Header, Icmpv4Type, Icmpv6Header, Icmpv6Type};
 
 #[test]
 fn each_law_is_called(rt: HostRuntime) {

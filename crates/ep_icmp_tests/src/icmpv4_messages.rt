@@ -1,8 +1,8 @@
 //! ICMPv4 messages of RFC 792: lengths, bytes and checksums.
-use crate::icmpv4::*;
-use crate::{IcmpEchoHeader, Icmpv4Header, Icmpv4Slice, Icmpv4Type};
 use ep_base::LenSource;
 use ep_base::err::{Layer, LenError};
+use ep_icmp::icmpv4::*;
+use ep_icmp::{IcmpEchoHeader, Icmpv4Header, Icmpv4Slice, Icmpv4Type};
 use std::process::Abort;
 use std::test::Fail;
 

@@ -1,8 +1,8 @@
 //! ICMPv6 messages of RFC 4443: lengths, bytes and checksums.
-use crate::icmpv6::*;
-use crate::{IcmpEchoHeader, Icmpv6Header, Icmpv6Slice, Icmpv6Type};
 use ep_base::LenSource;
 use ep_base::err::{Layer, LenError};
+use ep_icmp::icmpv6::*;
+use ep_icmp::{IcmpEchoHeader, Icmpv6Header, Icmpv6Slice, Icmpv6Type};
 use std::process::Abort;
 use std::test::Fail;
 

@@ -1,6 +1,6 @@
 //! Every type and code of RFC 4443 that has a variant, both ways, and neighbours that have none.
-use crate::icmpv6::*;
-use crate::{IcmpEchoHeader, Icmpv6Header, Icmpv6Slice, Icmpv6Type};
+use ep_icmp::icmpv6::*;
+use ep_icmp::{IcmpEchoHeader, Icmpv6Header, Icmpv6Slice, Icmpv6Type};
 use std::process::Abort;
 use std::test::Fail;
 
