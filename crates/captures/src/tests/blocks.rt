@@ -49,8 +49,8 @@ pub(super) const TWO_SECTIONS_LINES: &[u8; 64] = b"frame 1 0102030405\n\
 #[test]
 fn file_of_scapy(rt: HostRuntime) -> Result<(), Fail> {
     let (result, lines) = lines_of(rt.alloc(), SCAPY)?;
-    assert_eq!(rt; result, Ok(()));
-    assert_eq!(rt; lines.as_slice(), LINES.as_slice());
+    assert!(rt; result == Ok(()));
+    assert!(rt; lines.as_slice() == LINES.as_slice());
     Ok(())
 }
 
@@ -74,10 +74,10 @@ fn each_front_of_two_sections(rt: HostRuntime) -> Result<(), Fail> {
             28 | 48 | 68 | 88 | 132 | 152 | 192 | 212 | 232 | 252 | 288 | 320 => Ok(()),
             _ => Err(RunError::Capture(CaptureError::CutOff)),
         };
-        assert_eq!(rt; result, wanted);
+        assert!(rt; result == wanted);
         let len = line_bytes(n);
         assert!(rt; len <= TWO_SECTIONS_LINES.len());
-        assert_eq!(rt; lines.as_slice(), &TWO_SECTIONS_LINES[..len]);
+        assert!(rt; lines.as_slice() == &TWO_SECTIONS_LINES[..len]);
     }
     Ok(())
 }
@@ -128,8 +128,8 @@ fn each_refusal(rt: HostRuntime) -> Result<(), Fail> {
         (160, b"\x1b".as_slice(), bad, 34),
     ] {
         let (result, lines) = with_bytes(rt.alloc(), at, bytes)?;
-        assert_eq!(rt; result, Err(RunError::Capture(error)));
-        assert_eq!(rt; lines.len(), len);
+        assert!(rt; result == Err(RunError::Capture(error)));
+        assert!(rt; lines.len() == len);
     }
     Ok(())
 }

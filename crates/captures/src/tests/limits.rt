@@ -75,8 +75,8 @@ fn each_length(rt: HostRuntime) -> Result<(), Fail> {
     ] {
         let file = with_block(rt.alloc(), kind, len, words)?;
         let (result, lines) = lines_of(rt.alloc(), file.as_slice())?;
-        assert_eq!(rt; result, wanted);
-        assert_eq!(rt; lines.len(), line_len);
+        assert!(rt; result == wanted);
+        assert!(rt; lines.len() == line_len);
     }
     Ok(())
 }
@@ -87,8 +87,8 @@ fn front_of_a_bad_section(rt: HostRuntime) -> Result<(), Fail> {
     let mut file = *FRONT;
     file[4] = 7;
     let (result, _) = lines_of(rt.alloc(), &file[..20])?;
-    assert_eq!(rt; result, Err(RunError::Capture(CaptureError::NotCapture)));
+    assert!(rt; result == Err(RunError::Capture(CaptureError::NotCapture)));
     let (result, _) = lines_of(rt.alloc(), &file[..24])?;
-    assert_eq!(rt; result, Err(RunError::Capture(CaptureError::BadBlock)));
+    assert!(rt; result == Err(RunError::Capture(CaptureError::BadBlock)));
     Ok(())
 }

@@ -70,10 +70,9 @@ fn long_blocks_are_skipped(rt: HostRuntime) -> Result<(), Fail> {
         let file = with_long_block(rt.alloc(), CUSTOM, len, len)?;
         for size in [1, 3, 4_096, 262_144] {
             let (result, lines) = lines_by_pieces(rt.alloc(), file.as_slice(), size)?;
-            assert_eq!(rt; result, Ok(()));
-            assert_eq!(rt;
-                lines.as_slice(),
-                b"frame 0 abcd\nframe 0 abcd\nframe 0 abcd\n".as_slice()
+            assert!(rt; result == Ok(()));
+            assert!(rt;
+                lines.as_slice() == b"frame 0 abcd\nframe 0 abcd\nframe 0 abcd\n".as_slice()
             );
         }
     }
@@ -96,8 +95,8 @@ fn long_blocks_that_are_refused(rt: HostRuntime) -> Result<(), Fail> {
         let file = with_long_block(rt.alloc(), kind, len, second)?;
         for size in [3, 262_144] {
             let (result, lines) = lines_by_pieces(rt.alloc(), file.as_slice(), size)?;
-            assert_eq!(rt; result, Err(RunError::Capture(error)));
-            assert_eq!(rt; lines.as_slice(), b"frame 0 abcd\n".as_slice());
+            assert!(rt; result == Err(RunError::Capture(error)));
+            assert!(rt; lines.as_slice() == b"frame 0 abcd\n".as_slice());
         }
     }
     Ok(())
@@ -121,8 +120,8 @@ fn long_block_cut_off(rt: HostRuntime) -> Result<(), Fail> {
         assert!(rt; len <= file.len());
         for size in [3, 262_144] {
             let (result, lines) = lines_by_pieces(rt.alloc(), &file.as_slice()[..len], size)?;
-            assert_eq!(rt; result, wanted);
-            assert_eq!(rt; lines.as_slice(), b"frame 0 abcd\n".as_slice());
+            assert!(rt; result == wanted);
+            assert!(rt; lines.as_slice() == b"frame 0 abcd\n".as_slice());
         }
     }
     Ok(())
@@ -149,10 +148,9 @@ fn long_blocks_of_both_byte_orders(rt: HostRuntime) -> Result<(), Fail> {
     )?;
     for size in [7, 100_000, 262_144] {
         let (result, lines) = lines_by_pieces(rt.alloc(), file.as_slice(), size)?;
-        assert_eq!(rt; result, Ok(()));
-        assert_eq!(rt;
-            lines.as_slice(),
-            b"frame 0 abcd\nframe 0 abcd\nframe 0 abcd\nframe 1 ef\n".as_slice()
+        assert!(rt; result == Ok(()));
+        assert!(rt;
+            lines.as_slice() == b"frame 0 abcd\nframe 0 abcd\nframe 0 abcd\nframe 1 ef\n".as_slice()
         );
     }
     Ok(())

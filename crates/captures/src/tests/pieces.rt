@@ -64,8 +64,8 @@ fn one_byte_a_call(rt: HostRuntime) -> Result<(), Fail> {
             taken: Vec::new(rt.alloc()),
             room: lines.len(),
         };
-        assert_eq!(rt; run(rt.alloc(), &mut reader, &mut writer), Ok(()));
-        assert_eq!(rt; writer.taken.as_slice(), lines);
+        assert!(rt; run(rt.alloc(), &mut reader, &mut writer) == Ok(()));
+        assert!(rt; writer.taken.as_slice() == lines);
     }
     Ok(())
 }
@@ -78,21 +78,15 @@ fn reads_that_fail(rt: HostRuntime) -> Result<(), Fail> {
         rest: &LINES[..110],
         fails: true,
     };
-    assert_eq!(rt;
-        write_capture(rt.alloc(), &mut reader, &mut capture),
-        Err(RunError::Read)
-    );
-    assert_eq!(rt; capture.len(), 90);
+    assert!(rt; write_capture(rt.alloc(), &mut reader, &mut capture) == Err(RunError::Read));
+    assert!(rt; capture.len() == 90);
     let mut lines = Vec::new(rt.alloc());
     let mut reader = ByteReader {
         rest: capture.as_slice(),
         fails: true,
     };
-    assert_eq!(rt;
-        run(rt.alloc(), &mut reader, &mut lines),
-        Err(RunError::Read)
-    );
-    assert_eq!(rt; lines.as_slice(), &LINES[..109]);
+    assert!(rt; run(rt.alloc(), &mut reader, &mut lines) == Err(RunError::Read));
+    assert!(rt; lines.as_slice() == &LINES[..109]);
     Ok(())
 }
 
@@ -105,8 +99,8 @@ fn writes_that_fail(rt: HostRuntime) -> Result<(), Fail> {
             room,
         };
         let result = write_capture(rt.alloc(), &mut LINES.as_slice(), &mut writer);
-        assert_eq!(rt; result, Err(RunError::Write));
-        assert_eq!(rt; writer.taken.len(), room);
+        assert!(rt; result == Err(RunError::Write));
+        assert!(rt; writer.taken.len() == room);
     }
     Ok(())
 }
@@ -116,8 +110,8 @@ fn writer_without_room(rt: HostRuntime) -> Result<(), Fail> {
     let mut room = [0u8; 111];
     let mut reader = LITTLE_NANOSECONDS.as_slice();
     let result = run(rt.alloc(), &mut reader, &mut room.as_mut_slice());
-    assert_eq!(rt; result, Err(RunError::WriteZero));
-    assert_eq!(rt; room.as_slice(), &LINES[..111]);
+    assert!(rt; result == Err(RunError::WriteZero));
+    assert!(rt; room.as_slice() == &LINES[..111]);
     Ok(())
 }
 
@@ -125,6 +119,6 @@ fn writer_without_room(rt: HostRuntime) -> Result<(), Fail> {
 fn texts_of_errors(rt: HostRuntime) -> Result<(), Fail> {
     let error = RunError::Capture(crate::CaptureError::LinkType(113));
     let text = format!(in rt.alloc(); "{error}")?;
-    assert_eq!(rt; text.as_str(), "link type 113 is not Ethernet");
+    assert!(rt; text.as_str() == "link type 113 is not Ethernet");
     Ok(())
 }

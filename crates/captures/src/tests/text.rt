@@ -20,16 +20,13 @@ fn capture_of(alloc: Global, text: &[u8]) -> Result<(Result<(), RunError>, Vec<u
 fn lines_come_back(rt: HostRuntime) -> Result<(), Fail> {
     let alloc = rt.alloc();
     let (result, capture) = capture_of(alloc, LINES)?;
-    assert_eq!(rt; result, Ok(()));
+    assert!(rt; result == Ok(()));
     assert!(rt; capture.len() >= 40);
-    assert_eq!(rt; &capture.as_slice()[..24], HEADER.as_slice());
-    assert_eq!(rt;
-        &capture.as_slice()[24..40],
-        b"\0\0\0\0\0\0\0\0\x32\0\0\0\x32\0\0\0".as_slice()
-    );
+    assert!(rt; &capture.as_slice()[..24] == HEADER.as_slice());
+    assert!(rt; &capture.as_slice()[24..40] == b"\0\0\0\0\0\0\0\0\x32\0\0\0\x32\0\0\0".as_slice());
     let (result, lines) = lines_of(alloc, capture.as_slice())?;
-    assert_eq!(rt; result, Ok(()));
-    assert_eq!(rt; lines.as_slice(), LINES.as_slice());
+    assert!(rt; result == Ok(()));
+    assert!(rt; lines.as_slice() == LINES.as_slice());
     Ok(())
 }
 
@@ -87,10 +84,10 @@ fn each_line(rt: HostRuntime) -> Result<(), Fail> {
         ),
     ] {
         let (result, capture) = capture_of(rt.alloc(), text)?;
-        assert_eq!(rt; result, wanted);
+        assert!(rt; result == wanted);
         assert!(rt; capture.len() >= 24);
-        assert_eq!(rt; &capture.as_slice()[..24], HEADER.as_slice());
-        assert_eq!(rt; &capture.as_slice()[24..], packets);
+        assert!(rt; &capture.as_slice()[..24] == HEADER.as_slice());
+        assert!(rt; &capture.as_slice()[24..] == packets);
     }
     Ok(())
 }
@@ -124,20 +121,17 @@ fn each_front_of_a_text(rt: HostRuntime) -> Result<(), Fail> {
     for n in 0..=28 {
         let (wanted, packets) = front_of_two(n);
         let (result, capture) = capture_of(rt.alloc(), &TWO_LINES[..n])?;
-        assert_eq!(rt; result, wanted);
+        assert!(rt; result == wanted);
         assert!(rt; capture.len() >= 24);
-        assert_eq!(rt; &capture.as_slice()[..24], HEADER.as_slice());
-        assert_eq!(rt; &capture.as_slice()[24..], packets);
+        assert!(rt; &capture.as_slice()[..24] == HEADER.as_slice());
+        assert!(rt; &capture.as_slice()[24..] == packets);
         let mut bytewise = Vec::new(rt.alloc());
         let mut reader = ByteReader {
             rest: &TWO_LINES[..n],
             fails: false,
         };
-        assert_eq!(rt;
-            write_capture(rt.alloc(), &mut reader, &mut bytewise),
-            wanted
-        );
-        assert_eq!(rt; bytewise.as_slice(), capture.as_slice());
+        assert!(rt; write_capture(rt.alloc(), &mut reader, &mut bytewise) == wanted);
+        assert!(rt; bytewise.as_slice() == capture.as_slice());
     }
     Ok(())
 }
@@ -162,8 +156,8 @@ fn longest_frame(rt: HostRuntime) -> Result<(), Fail> {
     ] {
         let line = long_line(rt.alloc(), len)?;
         let (result, capture) = capture_of(rt.alloc(), line.as_slice())?;
-        assert_eq!(rt; result, wanted);
-        assert_eq!(rt; capture.len(), size);
+        assert!(rt; result == wanted);
+        assert!(rt; capture.len() == size);
     }
     Ok(())
 }

@@ -77,12 +77,12 @@ fn each_write_of_a_run(rt: HostRuntime) -> Result<(), Fail> {
             let mut writer = OddWriter::new(rt.alloc(), before, odd);
             let result = run(rt.alloc(), &mut reader, &mut writer);
             if place == 202 || odd == Odd::TakesOne {
-                assert_eq!(rt; result, Ok(()));
-                assert_eq!(rt; writer.taken.as_slice(), LINES.as_slice());
+                assert!(rt; result == Ok(()));
+                assert!(rt; writer.taken.as_slice() == LINES.as_slice());
             } else {
-                assert_eq!(rt; result, ended_by(odd));
+                assert!(rt; result == ended_by(odd));
                 assert!(rt; place <= LINES.len());
-                assert_eq!(rt; writer.taken.as_slice(), &LINES[..place]);
+                assert!(rt; writer.taken.as_slice() == &LINES[..place]);
             }
         }
     }
@@ -93,22 +93,19 @@ fn each_write_of_a_run(rt: HostRuntime) -> Result<(), Fail> {
 #[test]
 fn each_write_of_a_capture(rt: HostRuntime) -> Result<(), Fail> {
     let mut whole = Vec::new(rt.alloc());
-    assert_eq!(rt;
-        write_capture(rt.alloc(), &mut LINES.as_slice(), &mut whole),
-        Ok(())
-    );
-    assert_eq!(rt; whole.len(), 148);
+    assert!(rt; write_capture(rt.alloc(), &mut LINES.as_slice(), &mut whole) == Ok(()));
+    assert!(rt; whole.len() == 148);
     for odd in [Odd::Fails, Odd::TakesNothing, Odd::TakesOne] {
         for (before, place) in [(0, 0), (1, 24), (2, 74), (3, 124), (4, 148)] {
             let mut writer = OddWriter::new(rt.alloc(), before, odd);
             let result = write_capture(rt.alloc(), &mut LINES.as_slice(), &mut writer);
             if place == 148 || odd == Odd::TakesOne {
-                assert_eq!(rt; result, Ok(()));
-                assert_eq!(rt; writer.taken.as_slice(), whole.as_slice());
+                assert!(rt; result == Ok(()));
+                assert!(rt; writer.taken.as_slice() == whole.as_slice());
             } else {
-                assert_eq!(rt; result, ended_by(odd));
+                assert!(rt; result == ended_by(odd));
                 assert!(rt; place <= whole.len());
-                assert_eq!(rt; writer.taken.as_slice(), &whole.as_slice()[..place]);
+                assert!(rt; writer.taken.as_slice() == &whole.as_slice()[..place]);
             }
         }
     }

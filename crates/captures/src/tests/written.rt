@@ -19,14 +19,14 @@ fn packets_are_those_of_scapy(rt: HostRuntime) -> Result<(), Fail> {
             writer: &mut file,
         },
     };
-    assert_eq!(rt; writer.write_header(), Ok(()));
-    assert_eq!(rt; writer.write_packet(1_700_000_000, 250_000, first), Ok(()));
-    assert_eq!(rt; writer.write_packet(1_700_000_001, 250_000, second), Ok(()));
-    assert_eq!(rt; file.len(), 148);
-    assert_eq!(rt; &file.as_slice()[..16], &wanted[..16]);
-    assert_eq!(rt; &file.as_slice()[20..], &wanted[20..]);
+    assert!(rt; writer.write_header() == Ok(()));
+    assert!(rt; writer.write_packet(1_700_000_000, 250_000, first) == Ok(()));
+    assert!(rt; writer.write_packet(1_700_000_001, 250_000, second) == Ok(()));
+    assert!(rt; file.len() == 148);
+    assert!(rt; &file.as_slice()[..16] == &wanted[..16]);
+    assert!(rt; &file.as_slice()[20..] == &wanted[20..]);
     let (result, lines) = lines_of(rt.alloc(), file.as_slice())?;
-    assert_eq!(rt; result, Ok(()));
-    assert_eq!(rt; lines.as_slice(), super::LINES.as_slice());
+    assert!(rt; result == Ok(()));
+    assert!(rt; lines.as_slice() == super::LINES.as_slice());
     Ok(())
 }
