@@ -6,7 +6,6 @@ pub mod CommandLemmas
 pub mod Feeding
 pub mod FrameLemmas
 pub mod Going
-pub mod Ipv6Lemmas
 pub mod KnownLemmas
 pub mod LineLemmas
 pub mod MemoryLemmas

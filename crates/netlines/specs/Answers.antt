@@ -2,8 +2,9 @@
 use Rattle.std.specs.Prelude.{◌≡◌, ℕ, false, List, [], ◌∷◌, ◌++◌, codes, decimal}
 use Rattle.std.specs.List.{flat_map}
 use Rattle.hex.specs.Hex.{encode_lower}
-use Rattle.netlines.specs.Class.{Class, class_of}
-use Rattle.netlines.specs.Class.Class.{Whole, Other, Refused}
+use Rattle.ep_packet.specs.Class.{Class, class_of}
+use Rattle.ep_packet.specs.Class.Class.{Whole, Cut, Other, Refused}
+use Rattle.netlines.specs.FrameClass.{as_addresses}
 use Rattle.netlines.specs.Lines.{Command, command_of, lines_of, ended_lines_of}
 use Rattle.netlines.specs.Lines.Command.{Frame, Bad}
 use Rattle.netlines.specs.Replies.{Meaning, replies_to, replies_to_ended}
@@ -25,8 +26,10 @@ abbrev pub message_answer : ℕ → Verdict → List ℕ → List ℕ
 message_answer number verdict message =
     codes "message " ++ decimal number ++ codes " " ++ verdict_word verdict ++ codes " " ++ hex_word message
 
+-- a part of a message is not put together with others yet
 abbrev pub class_answer : Class → List ℕ
-class_answer (Whole addresses number bytes message) = message_answer number (verdict_of addresses message) bytes
+class_answer (Whole addresses number bytes message) = message_answer number (verdict_of (as_addresses addresses) message) bytes
+class_answer (Cut name offset more bytes) = codes "other"
 class_answer Other = codes "other"
 class_answer Refused = codes "refused frame"
 

@@ -1,10 +1,7 @@
 pub mod Answers
 pub mod Calls
 pub mod ChangedWord
-pub mod Class
-pub mod Ethernet
 pub mod FrameClass
-pub mod Ipv6
 pub mod Known
 pub mod Letter
 pub mod Lines

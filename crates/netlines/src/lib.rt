@@ -7,7 +7,6 @@ mod answer;
 mod answerer;
 mod command;
 pub mod device;
-mod ethernet;
 mod frame;
 mod frame_answerer;
 mod in_memory;

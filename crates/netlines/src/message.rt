@@ -1,10 +1,13 @@
 //! Messages that are read.
 ghost use Rattle.std.specs.Prelude.{◌≡◌};
 ghost use Rattle.ep_packet.specs.Readable.{message_at};
-ghost use Rattle.netlines.specs.ReadMessage.{as_answer};
+ghost use Rattle.ep_ipslice.specs.Packet.{IpPayload};
+ghost use Rattle.ep_packet.specs.Class.{message_told};
+ghost use Rattle.netlines.specs.ReadMessage.{as_answer, as_read};
 
 use ep_base::IpNumber;
 use ep_icmp::{Icmpv4Slice, Icmpv6Slice};
+use ep_packet::TransportSlice;
 use ep_packet::err::packet::SliceError;
 use ep_tcpudp::err::tcp::HeaderSliceError;
 use ep_tcpudp::{TcpSlice, UdpSlice};
@@ -51,5 +54,21 @@ pub fn read_message(ip_number: IpNumber, message: &[u8]) -> Result<Message<'_>, 
             Err(error) => Err(SliceError::Len(error)),
         },
         _ => Ok(Message::Raw(message)),
+    }
+}
+
+/// A message as it was sliced, or all its bytes where nothing is known of its protocol.
+pub(crate) fn message_of<'m>(
+    transport: Option<TransportSlice<'m>>,
+    bytes: &'m [u8],
+) -> Message<'m>
+    ensures { (p : IpPayload) → p.payload ≡ bytes.now → as_read result ≡ message_told p transport.entry }
+{
+    match transport {
+        Some(TransportSlice::Icmpv4(message)) => Message::Icmpv4(message),
+        Some(TransportSlice::Tcp(segment)) => Message::Tcp(segment),
+        Some(TransportSlice::Udp(datagram)) => Message::Udp(datagram),
+        Some(TransportSlice::Icmpv6(message)) => Message::Icmpv6(message),
+        None => Message::Raw(bytes),
     }
 }

@@ -2,28 +2,29 @@ use Rattle.std.proofs.Common.{refl}
 use Rattle.std.specs.Fmt.{digits}
 use Rattle.hex.specs.Hex.{encode_with, decode_pairs}
 use Rattle.ep_base.specs.Sum.{total}
+use Rattle.ep_packet.specs.Tags.{tags_in}
 use Rattle.netlines.specs.Answers.{answer_of}
 use Rattle.netlines.specs.Lines.{command_of}
 use Rattle.netlines.proofs.laws.examples.lines_have_answers.Goals as goal
 
 pub returns-clause-good : goal.returns-clause-good
-unfolding answer_of command_of decode_pairs encode_with total digits
+unfolding answer_of command_of decode_pairs tags_in encode_with total digits
 returns-clause-good c = refl
 
 pub returns-clause-bad : goal.returns-clause-bad
-unfolding answer_of command_of decode_pairs encode_with total digits
+unfolding answer_of command_of decode_pairs tags_in encode_with total digits
 returns-clause-bad c = refl
 
 pub returns-clause-none : goal.returns-clause-none
-unfolding answer_of command_of decode_pairs encode_with total digits
+unfolding answer_of command_of decode_pairs tags_in encode_with total digits
 returns-clause-none c = refl
 
 pub returns-clause-other : goal.returns-clause-other
-unfolding answer_of command_of decode_pairs
+unfolding answer_of command_of decode_pairs tags_in
 returns-clause-other c = refl
 
 pub returns-clause-refused : goal.returns-clause-refused
-unfolding answer_of command_of decode_pairs
+unfolding answer_of command_of decode_pairs tags_in
 returns-clause-refused c = refl
 
 pub returns-clause-bad_line : goal.returns-clause-bad_line

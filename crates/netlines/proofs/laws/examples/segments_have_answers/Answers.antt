@@ -3,22 +3,23 @@ use Rattle.std.specs.Fmt.{digits}
 use Rattle.hex.specs.Hex.{encode_with, decode_pairs}
 use Rattle.ep_base.specs.Sum.{total}
 use Rattle.ep_ipslice.specs.Ipv6Walk.{pieces_within}
+use Rattle.ep_packet.specs.Tags.{tags_in}
 use Rattle.netlines.specs.Answers.{answer_of}
 use Rattle.netlines.specs.Lines.{command_of}
 use Rattle.netlines.proofs.laws.examples.segments_have_answers.Goals as goal
 
 pub returns-clause-v4 : goal.returns-clause-v4
-unfolding answer_of command_of decode_pairs encode_with total digits
+unfolding answer_of command_of decode_pairs tags_in encode_with total digits
 returns-clause-v4 c = refl
 
 pub returns-clause-v6 : goal.returns-clause-v6
-unfolding answer_of command_of decode_pairs encode_with total digits pieces_within
+unfolding answer_of command_of decode_pairs tags_in encode_with total digits pieces_within
 returns-clause-v6 c = refl
 
 pub returns-clause-zero : goal.returns-clause-zero
-unfolding answer_of command_of decode_pairs encode_with total digits
+unfolding answer_of command_of decode_pairs tags_in encode_with total digits
 returns-clause-zero c = refl
 
 pub returns-clause-refused : goal.returns-clause-refused
-unfolding answer_of command_of decode_pairs
+unfolding answer_of command_of decode_pairs tags_in
 returns-clause-refused c = refl
