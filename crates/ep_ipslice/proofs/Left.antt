@@ -1,18 +1,20 @@
 -- The headers that are left to go over.
-use Rattle.std.proofs.Common.{◌≡◌, ℕ, ◌+◌, ◌*◌, suc, zero, ◌≤◌, ◌==◌, Bool, true, false, cond, List, [], ◌∷◌, ◌++◌, length, drop, Option, Some, None, Ok, refl, sym, ap, ◌∙◌, subst, append-nil, append_assoc, length-append, arith}
+use Rattle.std.proofs.Common.{◌≡◌, ℕ, ◌+◌, ◌*◌, suc, zero, ◌≤◌, ◌==◌, Bool, true, false, cond, List, [], ◌∷◌, ◌++◌, length, drop, Option, Some, None, Result, Ok, Err, refl, sym, ap, ◌∙◌, subst, append-nil, append_assoc, length-append, arith}
 use Rattle.std.proofs.lemmas.List.{drop_at, get_or_append_left}
 use Rattle.ep_base.specs.Bytes.{num}
 use Rattle.ep_base.specs.declared.net.ip_number.IpNumber.{IpNumber}
 use Rattle.ep_ext.specs.Auth.{IsAuth, auth_len}
-use Rattle.ep_ext.specs.Chain.{IsPiece, Row, front_of}
+use Rattle.ep_ext.specs.Chain.{Chain, IsPiece, Row, front_of}
 use Rattle.ep_ext.specs.Place.{Order, in_front}
 use Rattle.ep_ext.specs.Raw.{IsRawExt, raw_len}
 use Rattle.ep_ext.specs.Value.{Piece, bytes_of, places}
 use Rattle.ep_ext.specs.declared.net.ipv6_ext_place.Ipv6ExtPlace.{Ipv6ExtPlace}
 use Rattle.ep_ext.specs.declared.net.ipv6_ext_place.Ipv6ExtPlace.TheVariants.{HopByHop, Destination, Routing, Fragment, Authentication, FinalDestination}
+use Rattle.ep_ext.specs.declared.err.ipv6_exts.header_slice_error.HeaderSliceError.{HeaderSliceError}
 use Rattle.ep_ipslice.specs.Ipv6Ext.{ext_len, ext_of, piece_of}
 use Rattle.ep_ipslice.specs.Ipv6Exts.{Ipv6Exts, IsView, exts_of, first_header_of, place_behind, view_order}
 use Rattle.ep_ipslice.specs.Ipv6Walk.{IsLeft, any_order, front_piece, piece_then, pieces_left, pieces_within, whole_piece}
+use Rattle.ep_ipslice.proofs.Fronts.{front_begins}
 
 -- laws of whole headers, as they are called
 abbrev pub IsFound : Type 0
@@ -63,6 +65,25 @@ walk_is found least (suc most) order passed number (piece ∷ pieces) last rest 
     ∙ ap (λ (xs : List ℕ). piece ∷ pieces_within most order (passed ++ piece.0 ∷ []) (num piece.1 0 1) xs) (drop_at piece.1 (bytes_of pieces ++ rest) (length piece.1) refl)
     ∙ ap (λ (ps : List Piece). piece ∷ ps)
     (walk_is found least most order (passed ++ piece.0 ∷ []) (num piece.1 0 1) pieces last rest row.2 shorter (ap (λ (ps : List Ipv6ExtPlace). front_piece (order ps last) rest) passed_here ∙ closed))
+
+-- where no whole header begins the rest, none is found
+none_whole : (place : Ipv6ExtPlace) (rest : List ℕ) (r : Result (List ℕ) HeaderSliceError) → front_of place rest ≡ r → ((header behind : List ℕ) → IsPiece place header → rest ≡ header ++ behind → ⊥) →
+    whole_piece place r ≡ None
+none_whole place rest (Ok header) is ended =
+    let begins = front_begins place rest header is in
+    absurd (ended header begins.1.0 begins.0 begins.1.1)
+none_whole place rest (Err e) is ended = refl
+
+none_found : (place : Option Ipv6ExtPlace) (rest : List ℕ) → ((p : Ipv6ExtPlace) (header behind : List ℕ) → place ≡ Some p → IsPiece p header → rest ≡ header ++ behind → ⊥) → front_piece place rest ≡ None
+none_found None rest ended = refl
+none_found (Some p) rest ended = none_whole p rest (front_of p rest) refl (λ header behind. ended p header behind refl)
+
+-- headers in a row, as far as the order has a place for one, are those that the walk finds
+pub row_found : IsFound → HasLeast → (order : Order) (first : ℕ) (bytes : List ℕ) (pieces : List Piece) (last : ℕ) (rest : List ℕ) → Chain order first bytes pieces last rest →
+    pieces_within (length bytes) order [] first bytes ≡ pieces
+row_found found least order first bytes pieces last rest chain =
+    ap (pieces_within (length bytes) order [] first) chain.cut
+    ∙ walk_is found least (length bytes) order [] first pieces last rest chain.row (omega (arith, ap length chain.cut, length-append (bytes_of pieces) rest)) (none_found (order (places pieces) last) rest chain.ended)
 
 any_step : (zero : Bool) (passed : List Ipv6ExtPlace) (r : Option Ipv6ExtPlace) (place : Ipv6ExtPlace) → cond zero (in_front passed) r ≡ Some place → cond zero (Some HopByHop) r ≡ Some place
 any_step true [] r place open_here = open_here

@@ -12,6 +12,7 @@ ghost use Rattle.ep_ipslice.specs.FaultPlace.{ip_place, ipv4_place, ipv6_place};
 ghost use Rattle.ep_ipslice.specs.IpSlice.{IsIpFault, IsIpFaultIn, IsWhole};
 ghost use Rattle.ep_ipslice.specs.Ipv4Packet.{ipv4_packet_at};
 ghost use Rattle.ep_ipslice.specs.Ipv6Packet.{extensions_in, ipv6_packet_at};
+ghost use Rattle.ep_ipslice.specs.Ipv6Walk.{pieces_within};
 ghost use Rattle.ep_ipslice.specs.Ipv6Fault.{IsFaultIn, IsIpv6Fault, IsRowFault, of_exts_fault};
 ghost use Rattle.ep_ipslice.specs.declared.err.ip.slice_error.SliceError.{SliceError as IpFault};
 ghost use Rattle.ep_ipslice.specs.declared.err.ipv4.slice_error.SliceError.{SliceError as Ipv4Fault};
@@ -71,6 +72,15 @@ pub fn packets_are_their_parts(slice: &[u8])
     // For the proof alone.
     let _ipv4 = Ipv4Slice::from_slice(slice);
     let _ipv6 = Ipv6Slice::from_slice(slice);
+}
+
+/// Headers in a row in front of a rest, as far as the order has a place for one, are those that are found
+/// one by one.
+pub fn rows_are_found()
+    ensures { (order : Order) (first : ℕ) (bytes : List ℕ) (pieces : List Piece) (last : ℕ) (rest : List ℕ)
+        → Chain order first bytes pieces last rest → pieces_within (length bytes) order [] first bytes ≡ pieces }
+{
+    laws::whole_header_is_found();
 }
 
 /// The place of a fault lies within the bytes, so that it can be moved by what stands in front of
