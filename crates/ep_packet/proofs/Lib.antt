@@ -1,6 +1,7 @@
 mod ClassLemmas
 mod FaultLemmas
 mod FoundLemmas
+mod HeadersAt
 mod PacketViewLemmas
 mod PartsLemmas
 mod ReadHeaders

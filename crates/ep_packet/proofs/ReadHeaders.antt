@@ -15,7 +15,7 @@ use Rattle.ep_ip.specs.Ipv6 as v6
 use Rattle.ep_ip.specs.declared.net.ipv6_header.Ipv6Header.{Ipv6Header}
 use Rattle.ep_ipslice.specs.Ipv4Packet.{ipv4_packet_at}
 use Rattle.ep_ipslice.specs.Ipv6Fault.{IsFaultIn, IsFrontFault, InHeader, InLength, OfHeader, OfLength}
-use Rattle.ep_ipslice.specs.Packet.{IpPayload, Ipv4Packet, IsIpv4Packet}
+use Rattle.ep_ipslice.specs.Packet.{IpPayload, Ipv4Packet, IsIpv4Packet, IsIpv6Body}
 use Rattle.ep_ipslice.specs.declared.err.ip.headers_slice_error.HeadersSliceError.{HeadersSliceError}
 use Rattle.ep_ipslice.specs.declared.err.ipv4.slice_error.SliceError.{SliceError as Ipv4Fault}
 use Rattle.ep_ipslice.specs.declared.err.ipv6.slice_error.SliceError.{SliceError as Ipv6Fault}
@@ -74,6 +74,24 @@ chain_same first number body other pieces last rest named cut chain =
 -- a row that ends without a fault isn't refused
 pub never_refused : (pieces : List Piece) (last : ℕ) (rest : List ℕ) (fault : Fault) → fault_of place_of pieces last rest ≡ None → fault_of place_of pieces last rest ≡ Some fault → ⊥
 never_refused pieces last rest fault ended found = none_some fault (sym ended ∙ found)
+
+-- headers stand where their header, their body and their extension headers were found
+pub ipv6_found : (bytes : List ℕ) (h : Ipv6Header) (header : List ℕ) (source : LenSource) (body : List ℕ) (first : ℕ) (pieces : List Piece) (last : ℕ) (rest : List ℕ) (exts : Ipv6Extensions) (number : IpNumber) (fragmented : Bool) (left : List ℕ) →
+    h ≡ v6.header_of header → IsIpv6Body bytes header source body → first ≡ v6.next_header_of header → Chain place_of first body pieces last rest → exts ≡ value_of pieces → number.0 ≡ last → left ≡ rest →
+    fault_of place_of pieces last rest ≡ None → fragmented ≡ option_map_or fragments exts.fragment false →
+    IsIpv6Headers bytes (Ipv6 h exts) (record { ip_number = number; fragmented = fragmented; len_source = source; payload = left })
+ipv6_found bytes h header source body first pieces last rest exts number fragmented left fields begins named chain exts_is numbered left_is ended parted = record {
+  header = header;
+  source = source;
+  body = body;
+  pieces = pieces;
+  last = last;
+  begins = begins;
+  chain = subst (λ (n : ℕ). Chain place_of n body pieces last left) named (subst (λ (xs : List ℕ). Chain place_of first body pieces last xs) (sym left_is) chain);
+  ended = ap (fault_of place_of pieces last) left_is ∙ ended;
+  value = λ i. Ipv6 (fields i) (exts_is i);
+  told = λ i. record { ip_number = record { 0 = numbered i }; fragmented = parted i; len_source = source; payload = left };
+}
 
 -- what is read of the headers is what stands there
 pub ipv6_only : (bytes : List ℕ) (headers : IpHeaders) (payload : IpPayload) (is : IsIpv6Headers bytes headers payload) (h : Ipv6Header) (header : List ℕ) (exts : Ipv6Extensions) (number : IpNumber) (fragmented : Bool) (source : LenSource) (rest : List ℕ) →

@@ -2,6 +2,7 @@ pub mod Class
 pub mod HeadersWriteError
 pub mod IpHeaders
 pub mod IsTagged
+pub mod IpHeadersAt
 pub mod NetHeaders
 pub mod NetSlice
 pub mod PacketView

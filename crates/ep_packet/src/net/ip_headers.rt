@@ -9,12 +9,12 @@ ghost use Rattle.ep_ip.specs.Ipv4.{header_len};
 ghost use Rattle.ep_ip.specs.declared.net.ipv4_header.Ipv4Header.{Ipv4Header};
 ghost use Rattle.ep_ip.specs.declared.net.ipv6_header.Ipv6Header.{Ipv6Header};
 ghost use Rattle.ep_ext.specs.Place.{place_of};
-ghost use Rattle.ep_ipslice.specs.Ipv4Packet.{ipv4_packet_at};
+ghost use Rattle.ep_packet.specs.IpHeadersAt.{ip_headers_at, ipv4_headers_at, ipv6_headers_at};
 ghost use Rattle.ep_ipslice.specs.Ipv6Fault.{IsFaultIn};
 ghost use Rattle.ep_ipslice.specs.Packet.{IpPayload};
 ghost use Rattle.ep_packet.specs.ReadIpHeaders.{IsIpHeaders, IsIpHeadersFault, IsIpv4Headers, IsIpv6Headers};
 ghost use Rattle.ep_packet.specs.declared.net.ip_headers.IpHeaders.{IpHeaders};
-ghost use Rattle.ep_packet.specs.IpHeaders.{AppendsHeaders, AppendsIpv4, AppendsIpv6, IsLinked, ether_type_of, ip_headers_len, ipv4_in, ipv4_parts, ipv6_in, is_fragmenting, or_ipv4, or_ipv6, with_ipv4_headers, with_payload_len};
+ghost use Rattle.ep_packet.specs.IpHeaders.{AppendsHeaders, AppendsIpv4, AppendsIpv6, IsLinked, ether_type_of, ip_headers_len, ipv4_in, ipv4_parts, ipv6_in, is_fragmenting, or_ipv4, or_ipv6, with_payload_len};
 ghost use Rattle.ep_packet.specs.declared.err.ip.headers_write_error.HeadersWriteError.TheVariants.{Memory};
 ghost use Rattle.ep_packet.specs.declared.net.ip_headers.IpHeaders.TheVariants as headers;
 
@@ -72,6 +72,7 @@ impl IpHeaders {
             → result ≡ Ok (headers, payload) }
         // Else it is the first fault.
         ensures refused { IfErr result (λ e. IsIpHeadersFault slice.now e) }
+        ensures exact { result ≡ ip_headers_at slice.now }
     {
         if slice.is_empty() {
             return Err(HeadersSliceError::Len(LenError {
@@ -126,7 +127,7 @@ impl IpHeaders {
         ensures only { (headers : IpHeaders) (payload : IpPayload) → IsIpv4Headers slice.now headers payload
             → result ≡ Ok (headers, payload) }
         // Else it is the first fault.
-        ensures exact { result ≡ with_ipv4_headers (ipv4_packet_at slice.now) }
+        ensures exact { result ≡ ipv4_headers_at slice.now }
     {
         match Ipv4Slice::from_slice(slice) {
             Ok(packet) => Ok(ipv4_parts(&packet)),
@@ -151,8 +152,10 @@ impl IpHeaders {
             → result ≡ Ok (headers, payload) }
         // Else it is the first fault.
         ensures refused { IfErr result (λ e. IsFaultIn place_of slice.now e) }
+        ensures exact { result ≡ ipv6_headers_at slice.now }
     {
         laws::bodies_lie_within();
+        laws::rows_are_found();
         let (header, len_source, body) = match Ipv6Slice::header_and_body(slice) {
             Ok(parts) => parts,
             Err(error) => return Err(error),
