@@ -1,6 +1,7 @@
 mod ClassLemmas
 mod FaultLemmas
 mod FoundLemmas
+mod HeaderLemmas
 mod HeadersAt
 mod PacketViewLemmas
 mod PartsLemmas

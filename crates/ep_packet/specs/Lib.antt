@@ -1,11 +1,14 @@
 pub mod Class
+pub mod HeaderLayers
 pub mod HeadersWriteError
 pub mod IpHeaders
 pub mod IsTagged
 pub mod IpHeadersAt
 pub mod NetHeaders
 pub mod NetSlice
+pub mod PacketHeaders
 pub mod PacketView
+pub mod PayloadParts
 pub mod Parts
 pub mod Payload
 pub mod Readable

@@ -3,8 +3,10 @@
 
 pub mod err;
 pub mod laws;
+mod layer_headers;
 mod layer_slices;
 mod net;
+mod packet_headers;
 mod payload_slice;
 mod slice_fault;
 mod sliced_packet;
@@ -12,6 +14,7 @@ mod tagged_slice;
 mod transport;
 
 pub use net::{IpHeader, IpHeaders, NetHeaders, NetSlice};
+pub use packet_headers::PacketHeaders;
 pub use payload_slice::PayloadSlice;
 pub use sliced_packet::SlicedPacket;
 pub use transport::{TransportHeader, TransportSlice};

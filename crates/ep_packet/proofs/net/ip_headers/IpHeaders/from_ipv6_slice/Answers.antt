@@ -9,12 +9,15 @@ use Rattle.ep_packet.proofs.ReadHeaders.{Parts, chain_same, front_fault, ipv6_fo
 use Rattle.ep_packet.proofs.net.ip_headers.IpHeaders.from_ipv6_slice.Goals as goal
 
 abbrev parts : goal.After-to_header → Parts
-parts c = (Ipv6 c.to_header.result c.in-Ok-from_slice.extensions, record {
-  ip_number = c.in-Ok-from_slice.ip_number;
-  fragmented = c.is_fragmenting_payload-fragmented.result;
-  len_source = c.in-Ok.parts.1;
-  payload = c.in-Ok-from_slice.payload.now;
-})
+parts c = (
+  Ipv6 c.to_header.result c.in-Ok-from_slice.extensions,
+  record {
+    ip_number = c.in-Ok-from_slice.ip_number;
+    fragmented = c.is_fragmenting_payload-fragmented.result;
+    len_source = c.in-Ok.parts.1;
+    payload = c.in-Ok-from_slice.payload.now;
+  },
+)
 
 found : (c : goal.After-to_header) → IsIpv6Headers c.args.slice.now (parts c).0 (parts c).1
 found c =

@@ -1,0 +1,239 @@
+ghost use Rattle.std.specs.Prelude.{◌≡◌, ◌≤◌, ◌<◌, ◌+◌, ◌^◌, ℕ, length, map, IfErr, IfSome};
+ghost use Rattle.std.specs.Option.{option_map};
+ghost use Rattle.ep_packet.specs.PacketHeaders.{ether_type_headers, ethernet_headers, headers_behind, ids_of, ip_packet_headers, layers_behind, modified_behind, result_told, vlan_headers, vlan_of};
+ghost use Rattle.ep_packet.specs.PacketView.{is_cut, source_behind};
+ghost use Rattle.ep_packet.specs.Payload.{payload_told};
+ghost use Rattle.ep_packet.specs.SliceFault.{later, place_of};
+ghost use Rattle.ep_tag.specs.LinkExt.{fields_of};
+
+use crate::err::packet::SliceError;
+use crate::layer_headers::LayerHeaders;
+use crate::tagged_slice::TaggedSlice;
+use crate::{NetHeaders, PayloadSlice, TransportHeader, slice_fault};
+use arrayvec::ArrayVec;
+use ep_base::{EtherType, LenSource};
+use ep_link::{Ethernet2Header, Ethernet2Slice, LinkHeader};
+use ep_tag::{
+    DoubleVlanHeader, EtherPayloadSlice, LinkExtHeader, LinkExtSlice, MacsecPayloadSlice,
+    SingleVlanHeader, VlanHeader, VlanId,
+};
+
+/// The headers of a packet, as values, and what stands behind the last of them, borrowed.
+#[derive(Clone, Debug, PartialEq, Eq, Drop)]
+pub struct PacketHeaders<'a> {
+    /// The link header.
+    pub link: Option<LinkHeader>,
+    /// The VLAN tags and MACsec headers behind it, in their order.
+    pub link_exts: ArrayVec<LinkExtHeader, 3>,
+    /// The headers of the network layer, with extension headers.
+    pub net: Option<NetHeaders>,
+    /// The header of the transport layer.
+    pub transport: Option<TransportHeader>,
+    /// What stands behind the last header that was read.
+    pub payload: PayloadSlice<'a>,
+}
+
+impl<'a> PacketHeaders<'a> {
+    /// The greatest number of tags behind a link header.
+    pub const LINK_EXTS_CAP: usize = 3;
+
+    /// The headers of an Ethernet II frame (RFC 894; IEEE 802.3, clause 3).
+    ///
+    /// They are those of the layers that `SlicedPacket::from_ethernet` slices, but for two: the length
+    /// field of UDP isn't looked at, so that all of an IP payload behind the header is payload; and
+    /// extension headers of IPv6 that an `Ipv6Extensions` doesn't take end the headers, so that the IP
+    /// payload begins with them.
+    ///
+    /// Refused is the first layer that isn't whole or breaks its format, with the error of that layer.
+    /// The place of a want of bytes counts from the front of the frame; what a header wants within an IP
+    /// payload has the source of that payload's length.
+    pub fn from_ethernet_slice(slice: &'a [u8]) -> Result<PacketHeaders<'a>, SliceError>
+        ensures { result_told result ≡ ethernet_headers slice.now }
+    {
+        let frame = match Ethernet2Slice::from_slice_without_fcs(slice) {
+            Ok(frame) => frame,
+            Err(error) => return Err(SliceError::Len(error)),
+        };
+        let link = LinkHeader::Ethernet2(frame.to_header());
+        Self::behind_link(Some(link), frame.payload(), Ethernet2Header::LEN)
+    }
+
+    /// The headers of the bytes behind an ether type, without a link header. The errors are as those of
+    /// [`PacketHeaders::from_ethernet_slice`].
+    pub fn from_ether_type(
+        ether_type: EtherType,
+        slice: &'a [u8],
+    ) -> Result<PacketHeaders<'a>, SliceError>
+        ensures { result_told result ≡ ether_type_headers ether_type slice.now }
+    {
+        let payload = EtherPayloadSlice {
+            ether_type,
+            len_source: LenSource::Slice,
+            payload: slice,
+        };
+        Self::behind_link(None, payload, 0)
+    }
+
+    /// The headers of an IP packet of the version that its first half byte tells, without a link header.
+    /// The errors are as those of [`PacketHeaders::from_ethernet_slice`].
+    pub fn from_ip_slice(slice: &'a [u8]) -> Result<PacketHeaders<'a>, SliceError>
+        ensures { result_told result ≡ ip_packet_headers slice.now }
+    {
+        match LayerHeaders::from_ip(slice) {
+            Ok(layers) => Ok(PacketHeaders {
+                link: None,
+                link_exts: ArrayVec::new(),
+                net: layers.net,
+                transport: layers.transport,
+                payload: layers.payload,
+            }),
+            Err(error) => Err(error),
+        }
+    }
+
+    // The headers of what an ether type names, `link_len` bytes behind the front.
+    fn behind_link(
+        link: Option<LinkHeader>,
+        payload: EtherPayloadSlice<'a>,
+        link_len: usize,
+    ) -> Result<PacketHeaders<'a>, SliceError>
+        requires { link_len + length payload.payload < 2 ^ 64 }
+        ensures { result_told result ≡ later link_len (headers_behind link payload.entry) }
+    {
+        let tagged = match TaggedSlice::from_ether_payload(payload) {
+            Ok(tagged) => tagged,
+            Err(error) => return Err(slice_fault::moved(error, link_len)),
+        };
+        let len = tagged.len;
+        let last = tagged.last;
+        let tags = tagged.tags;
+        let layers = match layers_behind(&tags, last) {
+            Ok(layers) => layers,
+            Err(error) => return Err(slice_fault::moved(error, link_len + len)),
+        };
+        Ok(PacketHeaders {
+            link,
+            link_exts: headers_of(&tags),
+            net: layers.net,
+            transport: layers.transport,
+            payload: layers.payload,
+        })
+    }
+
+    /// The first two VLAN tags, or the one that there is; MACsec headers may stand between them.
+    pub fn vlan(&self) -> Option<VlanHeader>
+        ensures { result ≡ vlan_of (vlan_headers self.now.link_exts.items) }
+    {
+        let mut outer: Option<&SingleVlanHeader> = None;
+        for tag in self.link_exts.as_slice() {
+            if let LinkExtHeader::Vlan(tag) = tag {
+                match outer {
+                    Some(outer) => {
+                        return Some(VlanHeader::Double(DoubleVlanHeader {
+                            outer: same_tag(outer),
+                            inner: same_tag(tag),
+                        }));
+                    }
+                    None => outer = Some(tag),
+                }
+            }
+        }
+        match outer {
+            Some(tag) => Some(VlanHeader::Single(same_tag(tag))),
+            None => None,
+        }
+    }
+
+    /// The identifiers of all VLAN tags, the outer one first.
+    pub fn vlan_ids(&self) -> ArrayVec<VlanId, 3>
+        ensures { result.items ≡ ids_of self.now.link_exts.items }
+    {
+        let mut ids = ArrayVec::new();
+        for tag in self.link_exts.as_slice() {
+            if let LinkExtHeader::Vlan(tag) = tag {
+                ids.push(tag.vlan_id);
+            }
+        }
+        ids
+    }
+}
+
+// The layers in what the last ether type behind the tags names, or the payload that a modified MACsec
+// header has.
+fn layers_behind<'a>(
+    tags: &ArrayVec<LinkExtSlice<'a>, 3>,
+    last: Option<EtherPayloadSlice<'a>>,
+) -> Result<LayerHeaders<'a>, SliceError>
+    ensures layers { result ≡ layers_behind tags.now.items last.entry }
+    ensures place { IfErr result (λ e. IfSome last.entry (λ q. (n : ℕ) → length q.payload + n < 2 ^ 64 → place_of e + n < 2 ^ 64)) }
+{
+    match last {
+        Some(payload) => LayerHeaders::from_ether_payload(EtherPayloadSlice {
+            len_source: source_behind(tags),
+            ..payload
+        }),
+        None => Ok(LayerHeaders {
+            net: None,
+            transport: None,
+            payload: modified_behind(tags.as_slice().last()),
+        }),
+    }
+}
+
+// What bounds the bytes behind the tags.
+fn source_behind(tags: &ArrayVec<LinkExtSlice<'_>, 3>) -> LenSource
+    ensures { result ≡ source_behind tags.now.items }
+{
+    for tag in tags.as_slice() {
+        if is_cut(tag) {
+            return LenSource::MacsecShortLength;
+        }
+    }
+    LenSource::Slice
+}
+
+// A MACsec header with a short length.
+fn is_cut(tag: &LinkExtSlice<'_>) -> bool
+    ensures { result ≡ is_cut tag.now }
+{
+    match tag {
+        LinkExtSlice::Vlan(_) => false,
+        LinkExtSlice::Macsec(macsec) => macsec.header.short_len().value() != 0,
+    }
+}
+
+// The payload of a MACsec header that was changed.
+fn modified_behind<'a>(tag: Option<&LinkExtSlice<'a>>) -> PayloadSlice<'a>
+    ensures { payload_told result ≡ modified_behind (option_map (λ t. t.now) tag.entry) }
+{
+    match tag {
+        Some(LinkExtSlice::Macsec(macsec)) => match &macsec.payload {
+            MacsecPayloadSlice::Modified(bytes) => PayloadSlice::MacsecMod(bytes),
+            MacsecPayloadSlice::Unmodified(_) => PayloadSlice::Empty,
+        },
+        _ => PayloadSlice::Empty,
+    }
+}
+
+// The fields of the tags.
+fn headers_of(tags: &ArrayVec<LinkExtSlice<'_>, 3>) -> ArrayVec<LinkExtHeader, 3>
+    ensures { result.items ≡ map fields_of tags.now.items }
+{
+    let mut headers = ArrayVec::new();
+    for tag in tags.as_slice() {
+        headers.push(tag.to_header());
+    }
+    headers
+}
+
+// The tag again: to clone it is a call that could fail.
+fn same_tag(tag: &SingleVlanHeader) -> SingleVlanHeader
+    ensures { result ≡ tag.now }
+{
+    SingleVlanHeader {
+        pcp: tag.pcp,
+        drop_eligible_indicator: tag.drop_eligible_indicator,
+        vlan_id: tag.vlan_id,
+        ether_type: tag.ether_type,
+    }
+}
