@@ -4,6 +4,7 @@ mod ip_headers;
 mod laws;
 mod net_headers;
 mod net_slice;
+mod packet_headers;
 mod read_ip_headers;
 mod transport_header;
 mod transport_slice;

@@ -1,0 +1,174 @@
+//! Headers of frames. The bytes were worked out by hand after IEEE 802.1Q and 802.1AE and RFC 768, 791,
+//! 792, 826, 8200 and 9293; addresses are zero.
+use crate::err::packet::SliceError;
+use crate::{PacketHeaders, PayloadSlice, SlicedPacket};
+use ep_base::err::{Layer, LenError};
+use ep_base::{EtherType, IpNumber, LenSource};
+use ep_ipslice::err::ip;
+use ep_tag::{EtherPayloadSlice, VlanHeader};
+
+// Two VLAN tags in front of an IPv4 packet of 36 bytes: UDP with this length field, eight bytes of
+// payload and two of padding.
+fn udp_frame(length: u8) -> [u8; 60] {
+    let mut frame = [0; 60];
+    frame[12..24].copy_from_slice(&[0x88, 0xa8, 0, 5, 0x81, 0, 0, 9, 8, 0, 0x45, 0]);
+    frame[24..32].copy_from_slice(&[0, 36, 0, 7, 0, 0, 64, 17]);
+    frame[42..50].copy_from_slice(&[0, 1, 0, 2, 0, length, 0, 0]);
+    frame[50..].copy_from_slice(&[1, 2, 3, 4, 5, 6, 7, 8, 9, 9]);
+    frame
+}
+
+fn len_error(layer: Layer, required_len: usize, len: usize, place: usize) -> LenError {
+    LenError {
+        required_len,
+        len,
+        len_source: LenSource::Slice,
+        layer,
+        layer_start_offset: place,
+    }
+}
+
+#[test]
+fn headers_of_a_udp_frame(rt: HostRuntime) {
+    let frame = udp_frame(16);
+    let headers = PacketHeaders::from_ethernet_slice(&frame);
+    assert!(rt; headers.is_ok());
+    if let Ok(headers) = headers {
+        assert!(rt; headers.link.is_some());
+        assert!(rt; headers.net.is_some_and(|net| net.is_ipv4()));
+        assert!(rt;
+            headers
+                .transport
+                .is_some_and(|header| header.udp().is_some())
+        );
+        assert!(rt; headers.payload == PayloadSlice::Udp(&[1, 2, 3, 4, 5, 6, 7, 8]));
+    }
+}
+
+#[test]
+fn tags_of_a_frame(rt: HostRuntime) {
+    let frame = udp_frame(16);
+    if let Ok(headers) = PacketHeaders::from_ethernet_slice(&frame) {
+        let ids = headers.vlan_ids();
+        assert!(rt; ids.len() == 2);
+        assert!(rt; ids.first().map(|id| id.value()) == Some(5));
+        assert!(rt; matches!(headers.vlan(), Some(VlanHeader::Double(_))));
+    }
+    assert!(rt; PacketHeaders::LINK_EXTS_CAP == 3);
+}
+
+// A UDP length above the bytes that are there is no fault of the headers.
+#[test]
+fn udp_length_is_not_looked_at(rt: HostRuntime) {
+    let frame = udp_frame(17);
+    assert!(rt; PacketHeaders::from_ethernet_slice(&frame).is_ok());
+    assert!(rt; SlicedPacket::from_ethernet(&frame).is_err());
+}
+
+// A MACsec header whose short length leaves two bytes behind the ether type of a VLAN tag.
+#[test]
+fn vlan_tag_beyond_a_short_length(rt: HostRuntime) {
+    let mut frame = [0; 25];
+    frame[12..].copy_from_slice(&[0x88, 0xe5, 0, 4, 0, 0, 0, 1, 0x81, 0, 0, 5, 0xff]);
+    let want = len_error(Layer::VlanHeader, 4, 2, 22);
+    let refused = PacketHeaders::from_ethernet_slice(&frame).err();
+    assert!(rt; refused == Some(SliceError::Len(want)));
+}
+
+// A timestamp message of ICMPv4 that has eight bytes in place of 20.
+#[test]
+fn want_of_a_message(rt: HostRuntime) {
+    let mut frame = [0; 42];
+    frame[12..24].copy_from_slice(&[8, 0, 0x45, 0, 0, 28, 0, 7, 0, 0, 64, 1]);
+    frame[34] = 13;
+    let want = LenError {
+        len_source: LenSource::Ipv4HeaderTotalLen,
+        ..len_error(Layer::Icmpv4Timestamp, 20, 8, 34)
+    };
+    let refused = PacketHeaders::from_ethernet_slice(&frame).err();
+    assert!(rt; refused == Some(SliceError::Len(want)));
+    let want = LenError {
+        layer_start_offset: 20,
+        ..want
+    };
+    let refused = PacketHeaders::from_ip_slice(&frame[14..]).err();
+    assert!(rt; refused == Some(SliceError::Len(want)));
+}
+
+#[test]
+fn faults_of_ip(rt: HostRuntime) {
+    let other = ip::HeaderError::UnsupportedIpVersion { version_number: 5 };
+    let refused = PacketHeaders::from_ip_slice(&[0x50]).err();
+    assert!(rt; refused == Some(SliceError::Ip(other)));
+    let want = len_error(Layer::Ipv6Header, 40, 1, 0);
+    let refused = PacketHeaders::from_ether_type(EtherType::IPV6, &[0x60]).err();
+    assert!(rt; refused == Some(SliceError::Len(want)));
+}
+
+// The payload behind an ether type, or why there is none.
+fn payload_of(ether_type: u16, bytes: &[u8]) -> Result<PayloadSlice<'_>, SliceError> {
+    match PacketHeaders::from_ether_type(EtherType(ether_type), bytes) {
+        Ok(headers) => Ok(headers.payload),
+        Err(error) => Err(error),
+    }
+}
+
+#[test]
+fn payloads_without_a_message(rt: HostRuntime) {
+    let arp = [0, 1, 8, 0, 0, 0, 0, 1];
+    assert!(rt; payload_of(0x0806, &arp) == Ok(PayloadSlice::Empty));
+    let encrypted = [12, 0, 0, 0, 0, 1, 7];
+    assert!(rt; payload_of(0x88e5, &encrypted) == Ok(PayloadSlice::MacsecMod(&[7])));
+    let other = EtherPayloadSlice {
+        ether_type: EtherType(0x1234),
+        len_source: LenSource::Slice,
+        payload: &[7],
+    };
+    assert!(rt; payload_of(0x1234, &[7]) == Ok(PayloadSlice::Ether(other)));
+}
+
+// A short length bounds what a tag within it names.
+#[test]
+fn payload_within_a_short_length(rt: HostRuntime) {
+    let bytes = [0, 6, 0, 0, 0, 1, 0x81, 0, 0, 5, 0x12, 0x34, 7];
+    let named = EtherPayloadSlice {
+        ether_type: EtherType(0x1234),
+        len_source: LenSource::MacsecShortLength,
+        payload: &[],
+    };
+    assert!(rt; payload_of(0x88e5, &bytes) == Ok(PayloadSlice::Ether(named)));
+}
+
+// An IPv6 packet whose payload length is 16: a fragment header that names this number, with these two
+// bytes of offset and flag, and eight bytes more.
+fn number_behind(next: u8, more: u8) -> Option<IpNumber> {
+    let mut packet = [0; 56];
+    packet[..8].copy_from_slice(&[0x60, 0, 0, 0, 0, 16, 44, 64]);
+    packet[40..44].copy_from_slice(&[next, 0, 0, more]);
+    match PacketHeaders::from_ip_slice(&packet) {
+        Ok(
+            PacketHeaders {
+                payload: PayloadSlice::Ip(payload),
+                ..
+            },
+        ) => Some(payload.ip_number),
+        _ => None,
+    }
+}
+
+#[test]
+fn payloads_of_ip(rt: HostRuntime) {
+    // A part of a message, another protocol, and a second fragment header.
+    assert!(rt; number_behind(17, 1) == Some(IpNumber(17)));
+    assert!(rt; number_behind(253, 0) == Some(IpNumber(253)));
+    assert!(rt; number_behind(44, 0) == Some(IpNumber(44)));
+    assert!(rt; number_behind(17, 0) == None);
+}
+
+#[test]
+fn payloads_in_order(rt: HostRuntime) {
+    assert!(rt; PayloadSlice::Udp(&[9]) < PayloadSlice::Tcp(&[]));
+    assert!(rt; PayloadSlice::Udp(&[1]) < PayloadSlice::Udp(&[1, 0]));
+    assert!(rt; PayloadSlice::Icmpv4(&[3]).slice().len() == 1);
+    assert!(rt; PayloadSlice::Empty.slice().is_empty());
+}
