@@ -1,0 +1,6 @@
+pub mod Accepted
+pub mod Complete
+pub mod Members
+pub mod Push
+pub mod Sections
+pub mod Written

@@ -1,0 +1,20 @@
+use Rattle.std.proofs.Common.{subst, sym, refl, inl, inr, arith, ◌++◌, ◌∷◌, []}
+use Rattle.etherparse.specs.Fragments.{fragment}
+use Rattle.etherparse.specs.IpDefragBuf.{Contents, Shows}
+use Rattle.etherparse.proofs.Push.{shows_add}
+use Rattle.etherparse.proofs.defrag.ip_defrag_buf.IpDefragBuf.add.Goals as goal
+use Rattle.etherparse.proofs.defrag.ip_defrag_buf.IpDefragBuf.add.Goals.{then-not-more_fragments, else-not-more_fragments}
+
+pub returns-clause-accepted : goal.returns-clause-accepted
+returns-clause-accepted c fs shows =
+    let had = subst (λ (b : Contents). Shows b fs) (sym c.self.view_is) shows in
+    elim c.if-not-more_fragments.branch [
+      | then-not-more_fragments w ↦ subst (λ (b : Contents). Shows b (fs ++ fragment c.args.offset c.args.more_fragments c.args.bytes.now ∷ [])) (sym w.self-is)
+          (shows_add _ _ fs (fragment c.args.offset c.args.more_fragments c.args.bytes.now) _ c.write_at.new.«data».items _ _ _ _ had c.in_ok-end.ensures
+          c.try_reserve.ensures.items c.try_reserve-else-is_err.ensures.items (omega arith) (omega arith) c.write_at.ensures c.add_range.ensures
+          (inr (w.if-not-more_fragments.true, rw c.from-len.ensures at w.truncate.ensures.items, refl)))
+      | else-not-more_fragments w ↦ subst (λ (b : Contents). Shows b (fs ++ fragment c.args.offset c.args.more_fragments c.args.bytes.now ∷ [])) (sym w.self-is)
+          (shows_add _ _ fs (fragment c.args.offset c.args.more_fragments c.args.bytes.now) _ c.write_at.new.«data».items _ _ _ _ had c.in_ok-end.ensures
+          c.try_reserve.ensures.items c.try_reserve-else-is_err.ensures.items (omega arith) (omega arith) c.write_at.ensures c.add_range.ensures
+          (inl (w.if-not-more_fragments.false, refl, refl)))
+    ]

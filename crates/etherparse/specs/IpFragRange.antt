@@ -1,0 +1,56 @@
+-- Ranges of numbers, as the sections of a message are told.
+use Rattle.std.specs.Prelude.{ℕ, ◌<◌, ◌≤◌, ◌==◌, Bool, false, ◌||◌, ◌&&◌, if◌then◌else◌, min, max, nat_eq, nat_le, Option, Some, None, List, [], ◌∷◌, ◌⊎◌, ⊤, unwrap_or, is_none, fold, filter, ◌++◌}
+use Rattle.std.specs.Ordering.{on, eq_of_both}
+use Rattle.std.specs.List.{AllByRecursion}
+use Rattle.etherparse.specs.declared.defrag.ip_frag_range.IpFragRange.{IpFragRange}
+
+-- the number lies in the closed range
+abbrev pub has_number : IpFragRange → ℕ → Bool
+has_number r n = nat_le r.start n && nat_le n r.end
+
+-- the least start and the greatest end
+abbrev pub hull : IpFragRange → IpFragRange → IpFragRange
+hull r s = record { start = min r.start s.start; end = max r.end s.end }
+
+-- whether start or end of one lies in the other
+abbrev pub touches : IpFragRange → IpFragRange → Bool
+touches r s = (has_number r s.start || has_number r s.end) || (has_number s r.start || has_number s r.end)
+
+-- both as one, where they touch
+abbrev pub merged : IpFragRange → IpFragRange → Option IpFragRange
+merged r s = (if touches r s then Some (hull r s) else None)
+
+-- both fields are equal
+abbrev pub same_range : IpFragRange → IpFragRange → Bool
+same_range = eq_of_both (on (λ r. r.start) nat_eq) (on (λ r. r.end) nat_eq)
+
+-- a number of the closed range
+abbrev pub HasNumber : IpFragRange → ℕ → Type 0
+HasNumber r n = (r.start ≤ n) × (n ≤ r.end)
+
+-- a place of the range, whose end is none
+abbrev pub HasPlace : IpFragRange → ℕ → Type 0
+HasPlace r p = (r.start ≤ p) × (p < r.end)
+
+-- no number is in both
+abbrev pub Apart : IpFragRange → IpFragRange → Type 0
+Apart r s = (r.end < s.start) ⊎ (s.end < r.start)
+
+-- each starts before it ends, and no two share a number
+abbrev pub AreApart : List IpFragRange → Type 0
+AreApart [] = ⊤
+AreApart (r ∷ rs) = (r.start ≤ r.end) × AllByRecursion (Apart r) rs × AreApart rs
+
+-- the range with each section that it comes to touch
+abbrev pub joined_with : List IpFragRange → IpFragRange → IpFragRange
+joined_with rs r = fold (λ joined s. unwrap_or (merged joined s) joined) r rs
+
+-- there is one range, and it starts at 0
+abbrev pub is_one_from_zero : List IpFragRange → Bool
+is_one_from_zero [] = false
+is_one_from_zero (r ∷ []) = r.start == 0
+is_one_from_zero (r ∷ s ∷ rs) = false
+
+-- the sections after a range is added: it and those that it comes to touch are one
+abbrev pub with_range : List IpFragRange → IpFragRange → List IpFragRange
+with_range rs r = let joined = joined_with rs r in filter (λ s. is_none (merged joined s)) rs ++ joined ∷ []

@@ -1,0 +1,4 @@
+pub mod Fragments
+pub mod IpDefragBuf
+pub mod IpFragRange
+pub mod Picture

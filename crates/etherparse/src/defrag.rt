@@ -1,0 +1,15 @@
+//! Reassembly of fragmented IP packets (RFC 791, section 3.2; RFC 8200, section 4.5).
+
+mod ip_defrag_buf;
+mod ip_defrag_error;
+mod ip_frag_range;
+
+pub use ip_defrag_buf::IpDefragBuf;
+pub use ip_defrag_error::IpDefragError;
+pub use ip_frag_range::IpFragRange;
+
+/// The greatest length of a message, in bytes.
+pub const MAX_IP_DEFRAG_LEN: usize = 65535;
+
+/// The greatest length of a message, in bytes.
+pub const MAX_IP_DEFRAG_LEN_U16: u16 = 65535;

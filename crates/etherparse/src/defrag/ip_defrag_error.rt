@@ -1,0 +1,41 @@
+//! Why a fragment isn't taken.
+
+use ep_base::IpFragOffset;
+use thiserror::Error;
+
+/// Why a fragment isn't taken.
+#[derive(Clone, Copy, Debug, PartialEq, Eq, Hash, PartialOrd, Ord, Error)]
+pub enum IpDefragError {
+    /// More fragments follow, and the payload's length is no multiple of 8.
+    #[error("Payload length {payload_len} of IP fragment (offset {offset}) is not a multiple of 8. This is only allowed for the last fragment packet.")]
+    UnalignedFragmentPayloadLen {
+        /// Where the fragment begins, in units of 8 bytes.
+        offset: IpFragOffset,
+        /// The number of its bytes.
+        payload_len: usize,
+    },
+    /// The fragment ends behind the greatest length of a message.
+    #[error("Overall length of IP fragment (offset {offset}, payload len: {payload_len}) bigger then the maximum allowed size of {max}.")]
+    SegmentTooBig {
+        /// Where the fragment begins, in units of 8 bytes.
+        offset: IpFragOffset,
+        /// The number of its bytes.
+        payload_len: usize,
+        /// The greatest length of a message.
+        max: u16,
+    },
+    /// The fragment ends behind the end of the message, or it is a last one and has another end.
+    #[error("Received a IP fragment (offset + len: {conflicting_end}) which conflicts a package that previously set the end to {previous_end}.")]
+    ConflictingEnd {
+        /// The end of the message, in bytes, as an earlier last fragment named it.
+        previous_end: u16,
+        /// The end of this fragment, in bytes.
+        conflicting_end: u16,
+    },
+    /// No memory was left for the fragment.
+    #[error("Failed to allocate {len} bytes of memory to reconstruct the fragmented IP packets.")]
+    AllocationFailure {
+        /// The end of the fragment, in bytes.
+        len: usize,
+    },
+}
