@@ -2,5 +2,6 @@ pub mod Accepted
 pub mod Complete
 pub mod Members
 pub mod Push
+pub mod SameBuffers
 pub mod Sections
 pub mod Written

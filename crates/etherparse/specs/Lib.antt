@@ -1,4 +1,5 @@
 pub mod Fragments
 pub mod IpDefragBuf
+pub mod IpDefragError
 pub mod IpFragRange
 pub mod Picture

@@ -1,13 +1,22 @@
 //! Laws: functions that do nothing, and whose contracts are what the definitions promise.
 
-ghost use Rattle.std.specs.Prelude.{◌≡◌};
+ghost use Rattle.std.specs.Prelude.{◌≡◌, ◌↔◌, IsTrue, List};
+ghost use Rattle.etherparse.specs.Fragments.{Fragment, is_complete, Complete};
 ghost use Rattle.etherparse.specs.IpDefragBuf.{Cover};
 ghost use Rattle.etherparse.specs.declared.defrag.TheConstants.{MAX_IP_DEFRAG_LEN, MAX_IP_DEFRAG_LEN_U16};
+
+pub mod examples;
+pub mod traits;
 
 /// Whatever fragments a buffer shows, empty, overlapping and late ones included: an end is known and there
 /// is one section, from 0 on, exactly where an end is named and no place below the greatest end is open.
 pub fn cover()
     ensures { Cover }
+{}
+
+/// The test of completeness is what it means.
+pub fn complete_is_tested()
+    ensures { (fs : List Fragment) → IsTrue (is_complete fs) ↔ Complete fs }
 {}
 
 /// The greatest length of a message, as IPv4's 16 bits for the length allow it (RFC 791, section 3.1).

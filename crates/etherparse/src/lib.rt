@@ -3,3 +3,5 @@
 
 pub mod defrag;
 pub mod laws;
+#[cfg(test)]
+mod tests;

@@ -1,0 +1,47 @@
+//! What `Clone`, `PartialEq`, `Ord` and `Hash` of the types here mean, each clause about the relation
+//! that the type's own impl names.
+ghost use Rattle.std.specs.Prelude.{◌≡◌, ◌++◌, [], ◌∷◌};
+ghost use Rattle.std.specs.Cmp.Lexicographic.{slice_cmp};
+ghost use Rattle.std.specs.Hash as fed;
+ghost use Rattle.std.specs.Ordering.{nat_cmp};
+ghost use Rattle.ep_base.specs.Traits.{CopyIsValue, CopyNeverFails, EqualIsSame};
+ghost use Rattle.etherparse.specs.IpDefragError.{hashed_as, ordered_as};
+ghost use Rattle.etherparse.specs.declared.defrag.ip_defrag_error.IpDefragError.{IpDefragError};
+ghost use Rattle.etherparse.specs.declared.defrag.ip_frag_range.IpFragRange.{IpFragRange};
+
+use crate::defrag::{IpDefragBuf, IpDefragError, IpFragRange};
+use std::hash::Hash;
+
+/// A copy is the value.
+pub fn copies_are_values()
+    ensures ip_defrag_error { CopyIsValue ⟦<IpDefragError as Clone>⟧.is_clone }
+    ensures ip_frag_range { CopyIsValue ⟦<IpFragRange as Clone>⟧.is_clone }
+{}
+
+/// To copy one of these takes no memory and doesn't fail.
+pub fn copies_never_fail()
+    ensures ip_defrag_error { CopyNeverFails ⟦<IpDefragError as Clone>⟧.is_infallible }
+    ensures ip_frag_range { CopyNeverFails ⟦<IpFragRange as Clone>⟧.is_infallible }
+{}
+
+/// Equal are the values that are the same: all fields, of a buffer also the order of its sections.
+pub fn equals_are_same()
+    ensures ip_defrag_buf { EqualIsSame ⟦<IpDefragBuf as PartialEq>⟧.eq }
+    ensures ip_defrag_error { EqualIsSame ⟦<IpDefragError as PartialEq>⟧.eq }
+    ensures ip_frag_range { EqualIsSame ⟦<IpFragRange as PartialEq>⟧.eq }
+{}
+
+/// Refusals are ordered as they are declared, and one kind by its fields in their order; a hasher is fed
+/// the kind and the fields.
+pub fn errors_by_kind_and_fields()
+    ensures order { (a b : IpDefragError) → ⟦<IpDefragError as Ord>⟧.cmp a b
+        ≡ slice_cmp nat_cmp (ordered_as a) (ordered_as b) }
+    ensures hash { (a : IpDefragError) → ⟦<IpDefragError as Hash>⟧.hash_input a ≡ hashed_as a }
+{}
+
+/// Ranges are ordered by where they start, then by where they end; a hasher is fed both.
+pub fn ranges_by_start_and_end()
+    ensures order { (a b : IpFragRange) → ⟦<IpFragRange as Ord>⟧.cmp a b
+        ≡ slice_cmp nat_cmp (a.start ∷ a.end ∷ []) (b.start ∷ b.end ∷ []) }
+    ensures hash { (a : IpFragRange) → ⟦<IpFragRange as Hash>⟧.hash_input a ≡ fed.u16 a.start ++ fed.u16 a.end }
+{}
