@@ -6,7 +6,7 @@ use Rattle.etherparse.specs.declared.defrag.ip_defrag_error.IpDefragError.TheVar
 use Rattle.etherparse.specs.Fragments.{Fragment, end_of, refusal_of, with_accepted, accepted}
 use Rattle.etherparse.specs.IpDefragBuf.{Contents, Shows, Stops}
 
-accepted-push : (fs pieces : List Fragment) (f : Fragment) → accepted fs (pieces ++ f ∷ []) ≡ with_accepted (accepted fs pieces) f
+pub accepted-push : (fs pieces : List Fragment) (f : Fragment) → accepted fs (pieces ++ f ∷ []) ≡ with_accepted (accepted fs pieces) f
 accepted-push fs [] f = refl
 accepted-push fs (p ∷ pieces) f = accepted-push (with_accepted fs p) pieces f
 

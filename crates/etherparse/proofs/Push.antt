@@ -1,5 +1,6 @@
 -- A buffer that shows fragments, with one more of them.
-use Rattle.std.proofs.Common.{◌≡◌, ℕ, ◌-◌, ◌%◌, ◌<◌, ◌≤◌, Bool, true, false, cond, not, ◌&&◌, ◌||◌, ltb, ◌⊎◌, ◌↔◌, inl, inr, Option, Some, None, Ok, List, [], ◌∷◌, ◌++◌, length, max, take, get_or, unwrap_or, arith, sym, ap, ◌∙◌, refl, subst}
+use Rattle.std.proofs.Common.{◌≡◌, ℕ, ◌-◌, ◌%◌, ◌<◌, ◌≤◌, Bool, true, false, cond, not, ◌&&◌, ◌||◌, ltb, ◌⊎◌, ◌↔◌, inl, inr, Option, Some, None, is_some, Ok, List, [], ◌∷◌, ◌++◌, length, max, take, get_or, unwrap_or, arith, sym, ap, ◌∙◌, refl, subst}
+use mathlib.Core.Logic.{∥∥₁_map}
 use Rattle.std.proofs.lemmas.Bool.{cases_lt, cases_Bool, or_parts, ltb-false, eqb-true}
 use Rattle.std.proofs.lemmas.Bool.Decides.{nat_tests}
 use Rattle.std.proofs.lemmas.List.{get_or-take, get_or_past, length-take}
@@ -10,10 +11,11 @@ use Rattle.std.specs.Option.{option_or}
 use Rattle.etherparse.specs.declared.defrag.ip_frag_range.IpFragRange.{IpFragRange}
 use Rattle.etherparse.specs.declared.defrag.ip_defrag_error.IpDefragError.{IpDefragError}
 use Rattle.etherparse.specs.declared.defrag.ip_defrag_error.IpDefragError.TheVariants.{SegmentTooBig, UnalignedFragmentPayloadLen, ConflictingEnd}
-use Rattle.etherparse.specs.Fragments.{Fragment, start_of, end_of, named_end, greatest_end, Covered, refusal_at}
+use Rattle.etherparse.specs.Fragments.{Fragment, start_of, end_of, named_end, greatest_end, Covered, refusal_at, with_accepted, IsAccepted}
 use Rattle.etherparse.specs.IpFragRange.{HasNumber, HasPlace, AreApart, with_range}
 use Rattle.etherparse.specs.Picture.{byte_of, byte_at, kept_bytes, Touched}
-use Rattle.etherparse.specs.IpDefragBuf.{Contents, Shows, Writes, unless_refused}
+use Rattle.etherparse.specs.IpDefragBuf.{Contents, Shows, IsPicture, Writes, unless_refused}
+use Rattle.etherparse.proofs.Accepted.{accepted-push}
 use Rattle.etherparse.proofs.Members.{AnyOf, AnyOf-from_Any, Any-from_AnyOf, AnyOf-push, push-AnyOf}
 use Rattle.etherparse.proofs.Sections.{adds_range}
 
@@ -61,6 +63,23 @@ byte_of-here f p a b = grind (arith, nat_tests)
 
 byte_of-before : (f : Fragment) (p : ℕ) → p < start_of f → byte_of f p ≡ None
 byte_of-before f p h = grind (arith, nat_tests)
+
+-- ---- buffers that show the same
+
+-- an empty buffer
+pub shows_none : (buf : Contents) → buf.bytes ≡ [] → buf.sections ≡ [] → buf.end ≡ None → Shows buf []
+shows_none buf bytes sections end = record {
+  ended = end;
+  kept = bytes;
+  apart = rw sections tt;
+  numbers = λ n. rw sections ((λ h. let below = h.2 in absurd (omega arith)), (λ h. let below = h.2 in absurd (omega arith)));
+  places = λ p. rw sections ((λ h. let below = h.2 in absurd (omega arith)), (λ h. let below = h.2 in absurd (omega arith)));
+}
+
+-- a buffer of the same fields
+pub picture_same : (old new : Contents) → new.ip_number ≡ old.ip_number → new.bytes ≡ old.bytes → new.sections ≡ old.sections → new.end ≡ old.end → IsPicture old → IsPicture new
+picture_same old new number bytes sections end =
+    subst IsPicture (λ i. record { ip_number = sym number i; bytes = sym bytes i; sections = sym sections i; end = sym end i })
 
 -- ---- what a fragment that is not refused meets
 
@@ -207,3 +226,20 @@ shows_add old new fs f reserved mid sections place start end shows checked same_
       | inl h ↦ shows_push old new fs f mid shows ok.0 w' (h.1 ∙ rw h.0 refl) range (h.2 ∙ rw h.0 refl)
       | inr h ↦ shows_push old new fs f mid shows ok.0 w' (h.1 ∙ rw (h.0, ok.1) refl) range (h.2 ∙ rw (h.0, ok.1) refl)
     ]
+
+accepted_after : (fs : List Fragment) (f : Fragment) (old : Contents) → IsAccepted fs → Shows old fs → refusal_at old.end f ≡ None → IsAccepted (fs ++ f ∷ [])
+accepted_after fs f old is shows none =
+    accepted-push [] fs f ∙ ap (λ (gs : List Fragment). with_accepted gs f) is
+    ∙ ap (λ (o : Option IpDefragError). cond (is_some o) fs (fs ++ f ∷ [])) (subst (λ (o : Option ℕ). refusal_at o f ≡ None) shows.ended none)
+
+-- the same, of a buffer that shows some accepted fragments
+pub picture_add : (old new : Contents) (f : Fragment) (reserved mid : List ℕ) (sections : List IpFragRange) (place start end : ℕ) → IsPicture old → Ok end ≡ unless_refused (refusal_at old.end f) (end_of f)
+    → reserved ≡ old.bytes → sections ≡ old.sections → place ≡ start_of f → start ≡ start_of f
+    → Writes reserved mid place f.bytes → new.sections ≡ with_range sections record { start = start; end = end }
+    → ((f.more ≡ true) × (new.bytes ≡ mid) × (new.end ≡ old.end)) ⊎ ((f.more ≡ false) × (new.bytes ≡ take end mid) × (new.end ≡ Some end)) → IsPicture new
+picture_add old new f reserved mid sections place start end picture checked same_bytes same_sections at begins w ranges cut =
+    ∥∥₁_map picture (λ p. (
+      p.0 ++ f ∷ [],
+      accepted_after p.0 f old p.1 p.2 (unless_ok (refusal_at old.end f) (end_of f) end checked).0,
+      shows_add old new p.0 f reserved mid sections place start end p.2 checked same_bytes same_sections at begins w ranges cut,
+    ))

@@ -1,6 +1,6 @@
 -- The fragments of one message, the oldest first (RFC 791, section 3.2; RFC 8200, section 4.5): where each ends,
 -- which of them are accepted, and when the message is complete.
-use Rattle.std.specs.Prelude.{zero, suc, is_some, ℕ, ◌+◌, ◌*◌, ◌%◌, ◌<◌, ◌≤◌, ◌==◌, nat_lt, nat_le, Bool, true, not, ◌&&◌, ◌||◌, if◌then◌else◌, max, Option, Some, None, IsSome, List, [], ◌∷◌, ◌++◌, length, Any}
+use Rattle.std.specs.Prelude.{◌≡◌, zero, suc, is_some, ℕ, ◌+◌, ◌*◌, ◌%◌, ◌<◌, ◌≤◌, ◌==◌, nat_lt, nat_le, Bool, true, not, ◌&&◌, ◌||◌, if◌then◌else◌, max, Option, Some, None, IsSome, List, [], ◌∷◌, ◌++◌, length, Any}
 use Rattle.std.specs.List.{list_any}
 use Rattle.etherparse.specs.declared.defrag.ip_defrag_error.IpDefragError.{IpDefragError}
 use Rattle.etherparse.specs.declared.defrag.ip_defrag_error.IpDefragError.TheVariants.{SegmentTooBig, UnalignedFragmentPayloadLen, ConflictingEnd}
@@ -69,6 +69,10 @@ with_accepted fs f = (if is_some (refusal_of fs f) then fs else fs ++ f ∷ [])
 abbrev pub accepted : List Fragment → List Fragment → List Fragment
 accepted fs [] = fs
 accepted fs (f ∷ rest) = accepted (with_accepted fs f) rest
+
+-- each member was accepted behind those before it
+abbrev pub IsAccepted : List Fragment → Type 0
+IsAccepted fs = accepted [] fs ≡ fs
 
 -- ---- the tests of these facts
 

@@ -4,7 +4,7 @@ use Rattle.ep_base.specs.declared.net.ip_number.IpNumber.{IpNumber}
 use Rattle.etherparse.specs.declared.defrag.ip_defrag_error.IpDefragError.{IpDefragError}
 use Rattle.etherparse.specs.declared.defrag.ip_defrag_error.IpDefragError.TheVariants.{AllocationFailure}
 use Rattle.etherparse.specs.declared.defrag.ip_frag_range.IpFragRange.{IpFragRange}
-use Rattle.etherparse.specs.Fragments.{Fragment, end_of, named_end, refusal_of, accepted, Covered, Complete}
+use Rattle.etherparse.specs.Fragments.{Fragment, end_of, named_end, refusal_of, accepted, IsAccepted, Covered, Complete}
 use Rattle.etherparse.specs.IpFragRange.{AreApart, HasNumber, HasPlace, is_one_from_zero}
 use Rattle.etherparse.specs.Picture.{kept_bytes, Touched}
 
@@ -22,6 +22,10 @@ pub record Shows (buf : Contents) (fs : List Fragment) : Type 0 where
   pub apart : AreApart buf.sections
   pub numbers : (n : ℕ) → Any (λ s. HasNumber s n) buf.sections ↔ Touched fs n
   pub places : (p : ℕ) → Any (λ s. HasPlace s p) buf.sections ↔ Covered fs p
+
+-- the buffer is the picture of fragments, each of which was accepted
+abbrev pub IsPicture : Contents → Type 0
+IsPicture buf = ∥ ((fs : List Fragment) × IsAccepted fs × Shows buf fs) ∥₁
 
 -- an end is known, and there is one section, from 0 on
 abbrev pub is_whole : Contents → Bool

@@ -2,8 +2,10 @@
 
 ghost use Rattle.std.specs.Prelude.{◌≡◌, ◌↔◌, IsTrue, List};
 ghost use Rattle.etherparse.specs.Fragments.{Fragment, is_complete, Complete};
-ghost use Rattle.etherparse.specs.IpDefragBuf.{Cover};
+ghost use Rattle.etherparse.specs.IpDefragBuf.{Cover, IsPicture};
 ghost use Rattle.etherparse.specs.declared.defrag.TheConstants.{MAX_IP_DEFRAG_LEN, MAX_IP_DEFRAG_LEN_U16};
+
+use crate::defrag::IpDefragBuf;
 
 pub mod examples;
 pub mod traits;
@@ -13,6 +15,14 @@ pub mod traits;
 pub fn cover()
     ensures { Cover }
 {}
+
+/// Every buffer there is shows some fragments, each of which was accepted behind those before it.
+pub fn every_buffer_is_a_picture(buf: &IpDefragBuf)
+    ensures { IsPicture buf.now }
+{
+    // For the proof alone.
+    let _whole = buf.is_complete();
+}
 
 /// The test of completeness is what it means.
 pub fn complete_is_tested()

@@ -7,7 +7,7 @@ ghost use Rattle.std.specs.Option.{option_eq};
 ghost use Rattle.std.specs.Ordering.{on, eq_of_both};
 ghost use Rattle.std.proofs.Common.{rules};
 ghost use Rattle.etherparse.specs.Fragments.{Fragment, fragment, accepted, end_of, refusal_at, refusal_of, with_accepted, is_complete, Complete};
-ghost use Rattle.etherparse.specs.IpDefragBuf.{Contents, Shows, AnswersAdd, Stops, Writes, unless_refused, is_whole};
+ghost use Rattle.etherparse.specs.IpDefragBuf.{Contents, Shows, IsPicture, AnswersAdd, Stops, Writes, unless_refused, is_whole};
 ghost use Rattle.etherparse.specs.IpFragRange.{is_one_from_zero, same_range, with_range};
 ghost use Rattle.etherparse.specs.Picture.{text_of};
 
@@ -29,6 +29,13 @@ impl Model for IpDefragBuf {
     ghost Value = { Contents };
 
     ghost view = { λ buf. record {
+      ip_number = buf.ip_number;
+      bytes = buf.data.items;
+      sections = buf.sections.items;
+      end = buf.end;
+    } };
+
+    ghost invariant = { λ buf. IsPicture record {
       ip_number = buf.ip_number;
       bytes = buf.data.items;
       sections = buf.sections.items;
@@ -280,6 +287,7 @@ impl IpDefragBuf {
 
     /// Whether the message is there as a whole.
     pub fn is_complete(&self) -> bool
+        ensures picture { IsPicture self.now }
         ensures test { result ≡ is_whole self.now }
         ensures decided { (fs : List Fragment) → Shows self.now fs → result ≡ is_complete fs }
         ensures complete { (fs : List Fragment) → Shows self.now fs → IsTrue result ↔ Complete fs }

@@ -1,7 +1,7 @@
 use Rattle.std.proofs.Common.{subst, sym, refl, inl, inr, arith, ◌++◌, ◌∷◌, []}
 use Rattle.etherparse.specs.Fragments.{fragment}
 use Rattle.etherparse.specs.IpDefragBuf.{Contents, Shows}
-use Rattle.etherparse.proofs.Push.{shows_add}
+use Rattle.etherparse.proofs.Push.{shows_add, picture_add, picture_same}
 use Rattle.etherparse.proofs.defrag.ip_defrag_buf.IpDefragBuf.add.Goals as goal
 use Rattle.etherparse.proofs.defrag.ip_defrag_buf.IpDefragBuf.add.Goals.{then-not-more_fragments, else-not-more_fragments}
 
@@ -18,3 +18,21 @@ returns-clause-accepted c fs shows =
           c.try_reserve.ensures.items c.try_reserve-else-is_err.ensures.items (omega arith) (omega arith) c.write_at.ensures c.add_range.ensures
           (inl (w.if-not-more_fragments.false, refl, refl)))
     ]
+
+pub invariant_of-self-then-not-more_fragments : goal.invariant_of-self-then-not-more_fragments
+invariant_of-self-then-not-more_fragments c =
+    picture_add _ _ (fragment c.args.offset c.args.more_fragments c.args.bytes.now) _ c.write_at.new.«data».items _ _ _ _ c.self.invariant c.in_ok-end.ensures
+    c.try_reserve.ensures.items c.try_reserve-else-is_err.ensures.items (omega arith) (omega arith) c.write_at.ensures c.add_range.ensures
+    (inr (c.if-not-more_fragments.true, rw c.from-len.ensures at c.truncate.ensures.items, refl))
+
+pub invariant_of-self-else-not-more_fragments : goal.invariant_of-self-else-not-more_fragments
+invariant_of-self-else-not-more_fragments c =
+    picture_add _ _ (fragment c.args.offset c.args.more_fragments c.args.bytes.now) _ c.write_at.new.«data».items _ _ _ _ c.self.invariant c.in_ok-end.ensures
+    c.try_reserve.ensures.items c.try_reserve-else-is_err.ensures.items (omega arith) (omega arith) c.write_at.ensures c.add_range.ensures
+    (inl (c.if-not-more_fragments.false, refl, refl))
+
+pub invariant_of-self : goal.invariant_of-self
+invariant_of-self c = picture_same _ _ refl c.try_reserve.ensures.items refl refl c.self.invariant
+
+pub invariant_of-self-then-is_err-2 : goal.invariant_of-self-then-is_err-2
+invariant_of-self-then-is_err-2 c = picture_same _ _ refl c.try_reserve.ensures.items c.try_reserve-else-is_err.ensures.items refl c.self.invariant

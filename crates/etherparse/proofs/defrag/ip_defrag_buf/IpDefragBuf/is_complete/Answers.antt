@@ -2,7 +2,7 @@ use Rattle.std.proofs.Common.{Bool, true, List, ◌≡◌, ◌∙◌, ap, subst,
 use Rattle.std.proofs.lemmas.Bool.Decides.{same_from_decides}
 use Rattle.std.specs.Prelude.{IsTrue}
 use Rattle.etherparse.specs.Fragments.{Fragment, Complete, is_complete}
-use Rattle.etherparse.specs.IpDefragBuf.{is_whole}
+use Rattle.etherparse.specs.IpDefragBuf.{IsPicture, is_whole}
 use Rattle.etherparse.proofs.Complete.{whole_iff, complete_Decides}
 use Rattle.etherparse.proofs.defrag.ip_defrag_buf.IpDefragBuf.is_complete.Goals as goal
 
@@ -18,3 +18,6 @@ pub returns-clause-complete : goal.returns-clause-complete
 returns-clause-complete c fs shows =
     let test = rw c.deref.ensures.value at c.is_one_whole.ensures ∙ ap is_whole c.self.view_is in
     subst (λ (b : Bool). IsTrue b ↔ Complete fs) (sym test) (whole_iff c.args.self.now fs shows)
+
+pub returns-clause-picture : goal.returns-clause-picture
+returns-clause-picture c = subst IsPicture c.self.view_is c.self.invariant
