@@ -1,4 +1,5 @@
 pub mod Accepted
+pub mod AcceptedLists
 pub mod Complete
 pub mod Members
 pub mod Push

@@ -58,7 +58,7 @@ byte_at-past [] p h = refl
 byte_at-past (f ∷ fs) p h =
     ap (λ (o : Option ℕ). option_or o (byte_of f p)) (byte_at-past fs p (omega arith)) ∙ byte_of-past f p (omega arith)
 
-byte_of-here : (f : Fragment) (p : ℕ) → start_of f ≤ p → p < end_of f → byte_of f p ≡ Some (get_or f.bytes (p - start_of f) 0)
+pub byte_of-here : (f : Fragment) (p : ℕ) → start_of f ≤ p → p < end_of f → byte_of f p ≡ Some (get_or f.bytes (p - start_of f) 0)
 byte_of-here f p a b = grind (arith, nat_tests)
 
 byte_of-before : (f : Fragment) (p : ℕ) → p < start_of f → byte_of f p ≡ None
@@ -83,11 +83,11 @@ picture_same old new number bytes sections end =
 
 -- ---- what a fragment that is not refused meets
 
-abbrev Agrees : Option ℕ → Fragment → Type 0
+abbrev pub Agrees : Option ℕ → Fragment → Type 0
 Agrees None f = Unit {0}
 Agrees (Some e) f = (end_of f ≤ e) × (f.more ≡ false → end_of f ≡ e)
 
-cond_none : {X : Type 0} (b : Bool) (x : X) (o : Option X) → cond b (Some x) o ≡ None → (b ≡ false) × (o ≡ None)
+pub cond_none : {X : Type 0} (b : Bool) (x : X) (o : Option X) → cond b (Some x) o ≡ None → (b ≡ false) × (o ≡ None)
 cond_none true x o h = cc
 cond_none false x o h = (refl, h)
 
@@ -96,7 +96,7 @@ last_test true test h e = cc
 last_test false true h e = refl
 last_test false false h e = cc
 
-agrees : (named : Option ℕ) (f : Fragment) → refusal_at named f ≡ None → Agrees named f
+pub agrees : (named : Option ℕ) (f : Fragment) → refusal_at named f ≡ None → Agrees named f
 agrees None f h = tt
 agrees (Some e) f h =
     let inner = cond_none (ltb 65535 (end_of f)) (SegmentTooBig f.offset (length f.bytes) 65535) _ h in
@@ -130,7 +130,7 @@ size_push fs f old mid ok is w =
       ]
     ] ok is)
 
-end_push : (fs : List Fragment) (f : Fragment) → Agrees (named_end fs) f → end_after (named_end fs) f ≡ named_end (fs ++ f ∷ [])
+pub end_push : (fs : List Fragment) (f : Fragment) → Agrees (named_end fs) f → end_after (named_end fs) f ≡ named_end (fs ++ f ∷ [])
 end_push fs f ok =
     rw (named_end-push fs f)
     (elim (named_end fs) as (λ (o : Option ℕ). Agrees o f → end_after o f ≡ option_or o (own_end f)) [

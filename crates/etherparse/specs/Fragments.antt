@@ -1,6 +1,6 @@
 -- The fragments of one message, the oldest first (RFC 791, section 3.2; RFC 8200, section 4.5): where each ends,
 -- which of them are accepted, and when the message is complete.
-use Rattle.std.specs.Prelude.{◌≡◌, zero, suc, is_some, ℕ, ◌+◌, ◌*◌, ◌%◌, ◌<◌, ◌≤◌, ◌==◌, nat_lt, nat_le, Bool, true, not, ◌&&◌, ◌||◌, if◌then◌else◌, max, Option, Some, None, IsSome, List, [], ◌∷◌, ◌++◌, length, Any}
+use Rattle.std.specs.Prelude.{◌≡◌, zero, suc, is_some, ℕ, ◌+◌, ◌*◌, ◌%◌, ◌<◌, ◌≤◌, ◌==◌, nat_lt, nat_le, Bool, true, false, not, ◌&&◌, ◌||◌, if◌then◌else◌, max, Option, Some, None, IsSome, List, [], ◌∷◌, ◌++◌, length, All, Any}
 use Rattle.std.specs.List.{list_any}
 use Rattle.etherparse.specs.declared.defrag.ip_defrag_error.IpDefragError.{IpDefragError}
 use Rattle.etherparse.specs.declared.defrag.ip_defrag_error.IpDefragError.TheVariants.{SegmentTooBig, UnalignedFragmentPayloadLen, ConflictingEnd}
@@ -73,6 +73,16 @@ accepted fs (f ∷ rest) = accepted (with_accepted fs f) rest
 -- each member was accepted behind those before it
 abbrev pub IsAccepted : List Fragment → Type 0
 IsAccepted fs = accepted [] fs ≡ fs
+
+-- a member fits into the greatest message, more follows it only behind whole units of 8 bytes, and a last one names the end
+pub record AgreesWith (fs : List Fragment) (f : Fragment) : Type 0 where
+  pub short : end_of f ≤ 65535
+  pub whole_units : f.more ≡ true → length f.bytes % 8 ≡ 0
+  pub end : f.more ≡ false → named_end fs ≡ Some (end_of f)
+
+-- so do all members of an accepted list: all last ones name the same end
+abbrev pub MembersAgree : Type 0
+MembersAgree = (fs : List Fragment) → IsAccepted fs → All (AgreesWith fs) fs
 
 -- ---- the tests of these facts
 

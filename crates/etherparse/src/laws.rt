@@ -1,8 +1,9 @@
 //! Laws: functions that do nothing, and whose contracts are what the definitions promise.
 
 ghost use Rattle.std.specs.Prelude.{◌≡◌, ◌↔◌, IsTrue, List};
-ghost use Rattle.etherparse.specs.Fragments.{Fragment, is_complete, Complete};
+ghost use Rattle.etherparse.specs.Fragments.{Fragment, is_complete, Complete, MembersAgree};
 ghost use Rattle.etherparse.specs.IpDefragBuf.{Cover, IsPicture};
+ghost use Rattle.etherparse.specs.Picture.{LastByteCounts, OpenPlaceHasNone};
 ghost use Rattle.etherparse.specs.declared.defrag.TheConstants.{MAX_IP_DEFRAG_LEN, MAX_IP_DEFRAG_LEN_U16};
 
 use crate::defrag::IpDefragBuf;
@@ -23,6 +24,19 @@ pub fn every_buffer_is_a_picture(buf: &IpDefragBuf)
     // For the proof alone.
     let _whole = buf.is_complete();
 }
+
+/// In a list of accepted fragments each ends at 65535 at most, more follows only behind whole units of 8
+/// bytes, and all last ones name the same end (RFC 791, section 3.2).
+pub fn members_agree()
+    ensures { MembersAgree }
+{}
+
+/// Wherever a fragment stands in a list: a place that it holds, and none behind it, has its byte. A place
+/// that none holds has no byte.
+pub fn last_byte_counts()
+    ensures last { LastByteCounts }
+    ensures none { OpenPlaceHasNone }
+{}
 
 /// The test of completeness is what it means.
 pub fn complete_is_tested()
