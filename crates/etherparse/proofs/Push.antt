@@ -11,13 +11,12 @@ use Rattle.std.specs.Option.{option_or}
 use Rattle.etherparse.specs.declared.defrag.ip_frag_range.IpFragRange.{IpFragRange}
 use Rattle.etherparse.specs.declared.defrag.ip_defrag_error.IpDefragError.{IpDefragError}
 use Rattle.etherparse.specs.declared.defrag.ip_defrag_error.IpDefragError.TheVariants.{SegmentTooBig, UnalignedFragmentPayloadLen, ConflictingEnd}
-use Rattle.etherparse.specs.Fragments.{Fragment, start_of, end_of, named_end, greatest_end, Covered, refusal_at, with_accepted, IsAccepted}
-use Rattle.etherparse.specs.IpFragRange.{HasNumber, HasPlace, AreApart, with_range}
-use Rattle.etherparse.specs.Picture.{byte_of, byte_at, kept_bytes, Touched}
+use Rattle.etherparse.specs.Fragments.{Fragment, start_of, end_of, named_end, greatest_end, refusal_at, with_accepted, IsAccepted}
+use Rattle.etherparse.specs.IpFragRange.{HasNumber, HasPlace, AreApart, AddsRange}
+use Rattle.etherparse.specs.Picture.{byte_of, byte_at, kept_bytes}
 use Rattle.etherparse.specs.IpDefragBuf.{Contents, Shows, IsPicture, Writes, unless_refused}
 use Rattle.etherparse.proofs.Accepted.{accepted-push}
-use Rattle.etherparse.proofs.Members.{AnyOf, AnyOf-from_Any, Any-from_AnyOf, AnyOf-push, push-AnyOf}
-use Rattle.etherparse.proofs.Sections.{adds_range}
+use Rattle.etherparse.proofs.Members.{AnyOf-from_Any, Any-from_AnyOf, AnyOf-push, push-AnyOf}
 
 -- from its first place to behind its last
 abbrev pub range_of : Fragment → IpFragRange
@@ -187,44 +186,53 @@ kept_push fs f old mid ok kept w =
     ])
 
 -- which numbers or places the ranges of the members have, with one more of each
-any_push : (Q : IpFragRange → Type 0) (old new : List IpFragRange) (fs : List Fragment) (f : Fragment) → Any Q old ↔ Any (λ g. Q (range_of g)) fs → AnyOf Q new ↔ (AnyOf Q old ⊎ Q (range_of f)) → Any Q new ↔ Any (λ g. Q (range_of g)) (fs ++ f ∷ [])
+any_push : (Q : IpFragRange → Type 0) (old new : List IpFragRange) (fs : List Fragment) (f : Fragment) → Any Q old ↔ Any (λ g. Q (range_of g)) fs → Any Q new ↔ (Any Q old ⊎ Q (range_of f)) → Any Q new ↔ Any (λ g. Q (range_of g)) (fs ++ f ∷ [])
 any_push Q old new fs f had adds = (
-  (λ h. Any-from_AnyOf (λ g. Q (range_of g)) (fs ++ f ∷ []) (push-AnyOf (λ g. Q (range_of g)) fs f (elim (adds.0 (AnyOf-from_Any Q new h)) [ inl k ↦ inl (AnyOf-from_Any (λ g. Q (range_of g)) fs (had.0 (Any-from_AnyOf Q old k))) | inr k ↦ inr k ]))),
-  (λ h. Any-from_AnyOf Q new (adds.1 (elim (AnyOf-push (λ g. Q (range_of g)) fs f (AnyOf-from_Any (λ g. Q (range_of g)) (fs ++ f ∷ []) h)) [ inl k ↦ inl (AnyOf-from_Any Q old (had.1 (Any-from_AnyOf (λ g. Q (range_of g)) fs k))) | inr k ↦ inr k ]))),
+  (λ h. Any-from_AnyOf (λ g. Q (range_of g)) (fs ++ f ∷ []) (push-AnyOf (λ g. Q (range_of g)) fs f (elim (adds.0 h) [ inl k ↦ inl (AnyOf-from_Any (λ g. Q (range_of g)) fs (had.0 k)) | inr k ↦ inr k ]))),
+  (λ h. adds.1 (elim (AnyOf-push (λ g. Q (range_of g)) fs f (AnyOf-from_Any (λ g. Q (range_of g)) (fs ++ f ∷ []) h)) [ inl k ↦ inl (had.1 (Any-from_AnyOf (λ g. Q (range_of g)) fs k)) | inr k ↦ inr k ])),
 )
 
 -- the buffer with one more fragment shows one more fragment
 shows_push : (old new : Contents) (fs : List Fragment) (f : Fragment) (mid : List ℕ) → Shows old fs → refusal_at old.end f ≡ None
-    → Writes old.bytes mid (start_of f) f.bytes → new.bytes ≡ bytes_after f mid → new.sections ≡ with_range old.sections (range_of f) → new.end ≡ end_after old.end f
-    → Shows new (fs ++ f ∷ [])
-shows_push old new fs f mid shows none w bytes sections end =
+    → Writes old.bytes mid (start_of f) f.bytes → new.bytes ≡ bytes_after f mid → AddsRange old.sections new.sections (range_of f) → new.end ≡ end_after old.end f → Shows new (fs ++ f ∷ [])
+shows_push old new fs f mid shows none w bytes added end =
     let ok = agrees (named_end fs) f (subst (λ (o : Option ℕ). refusal_at o f ≡ None) shows.ended none) in
-    let added = adds_range old.sections (range_of f) shows.apart (omega arith) in
     record {
       ended = end ∙ ap (λ (o : Option ℕ). end_after o f) shows.ended ∙ end_push fs f ok;
       kept = bytes ∙ kept_push fs f old.bytes mid ok shows.kept w;
-      apart = subst AreApart (sym sections) added.apart;
-      numbers = λ n. subst (λ (rs : List IpFragRange). Any (λ s. HasNumber s n) rs ↔ Touched (fs ++ f ∷ []) n) (sym sections) (any_push (λ s. HasNumber s n) old.sections _ fs f (shows.numbers n) (added.numbers n));
-      places = λ p. subst (λ (rs : List IpFragRange). Any (λ s. HasPlace s p) rs ↔ Covered (fs ++ f ∷ []) p) (sym sections) (any_push (λ s. HasPlace s p) old.sections _ fs f (shows.places p) (added.places p));
+      apart = added.apart;
+      numbers = λ n. any_push (λ s. HasNumber s n) old.sections new.sections fs f (shows.numbers n) (added.numbers n);
+      places = λ p. any_push (λ s. HasPlace s p) old.sections new.sections fs f (shows.places p) (added.places p);
     }
 
 pub unless_ok : {X : Type 0} (r : Option IpDefragError) (x y : X) → Ok y ≡ unless_refused r x → (r ≡ None) × (y ≡ x)
 unless_ok None x y h = (refl, cc)
 unless_ok (Some e) x y h = cc
 
--- the same, as `add` goes: the memory made first, the write, the range, and the cut
-pub shows_add : (old new : Contents) (fs : List Fragment) (f : Fragment) (reserved mid : List ℕ) (sections : List IpFragRange) (place start end : ℕ) → Shows old fs → Ok end ≡ unless_refused (refusal_at old.end f) (end_of f)
-    → reserved ≡ old.bytes → sections ≡ old.sections → place ≡ start_of f → start ≡ start_of f
-    → Writes reserved mid place f.bytes → new.sections ≡ with_range sections record { start = start; end = end }
-    → ((f.more ≡ true) × (new.bytes ≡ mid) × (new.end ≡ old.end)) ⊎ ((f.more ≡ false) × (new.bytes ≡ take end mid) × (new.end ≡ Some end)) → Shows new (fs ++ f ∷ [])
-shows_add old new fs f reserved mid sections place start end shows checked same_bytes same_sections at begins w ranges cut =
-    let ok = unless_ok (refusal_at old.end f) (end_of f) end checked in
-    let w' : Writes old.bytes mid (start_of f) f.bytes = subst (λ (xs : List ℕ). Writes xs mid (start_of f) f.bytes) same_bytes (subst (λ (n : ℕ). Writes reserved mid n f.bytes) at w) in
-    let range : new.sections ≡ with_range old.sections (range_of f) = ranges ∙ ap (λ (rs : List IpFragRange). with_range rs record { start = start; end = end }) same_sections
-    ∙ ap (λ (n : ℕ). with_range old.sections record { start = n; end = end }) begins ∙ ap (λ (n : ℕ). with_range old.sections record { start = start_of f; end = n }) ok.1 in
-    elim cut [
-      | inl h ↦ shows_push old new fs f mid shows ok.0 w' (h.1 ∙ rw h.0 refl) range (h.2 ∙ rw h.0 refl)
-      | inr h ↦ shows_push old new fs f mid shows ok.0 w' (h.1 ∙ rw (h.0, ok.1) refl) range (h.2 ∙ rw (h.0, ok.1) refl)
+-- what `add` does: the memory made first, the write, the range, and the cut
+pub record Goes (old new : Contents) (f : Fragment) (reserved mid : List ℕ) (sections : List IpFragRange) (place start end : ℕ) : Type 0 where
+  pub checked : Ok end ≡ unless_refused (refusal_at old.end f) (end_of f)
+  pub same_bytes : reserved ≡ old.bytes
+  pub same_sections : sections ≡ old.sections
+  pub place_is : place ≡ start_of f
+  pub start_is : start ≡ start_of f
+  pub writes : Writes reserved mid place f.bytes
+  pub adds : AreApart sections → start ≤ end → AddsRange sections new.sections record { start = start; end = end }
+  pub cut : ((f.more ≡ true) × (new.bytes ≡ mid) × (new.end ≡ old.end)) ⊎ ((f.more ≡ false) × (new.bytes ≡ take end mid) × (new.end ≡ Some end))
+
+pub shows_add : (old new : Contents) (fs : List Fragment) (f : Fragment) (reserved mid : List ℕ) (sections : List IpFragRange) (place start end : ℕ) → Shows old fs → Goes old new f reserved mid sections place start end → Shows new (fs ++ f ∷ [])
+shows_add old new fs f reserved mid sections place start end shows goes =
+    let ok = unless_ok (refusal_at old.end f) (end_of f) end goes.checked in
+    let w : Writes old.bytes mid (start_of f) f.bytes = subst (λ (xs : List ℕ). Writes xs mid (start_of f) f.bytes) goes.same_bytes (subst (λ (n : ℕ). Writes reserved mid n f.bytes) goes.place_is goes.writes) in
+    let ordered : start ≤ end = omega (arith, goes.start_is, ok.1) in
+    let added = goes.adds (subst AreApart (sym goes.same_sections) shows.apart) ordered in
+    let range : AddsRange old.sections new.sections (range_of f) =
+    subst (λ (n : ℕ). AddsRange old.sections new.sections record { start = start_of f; end = n }) ok.1
+    (subst (λ (n : ℕ). AddsRange old.sections new.sections record { start = n; end = end }) goes.start_is
+    (subst (λ (rs : List IpFragRange). AddsRange rs new.sections record { start = start; end = end }) goes.same_sections added)) in
+    elim goes.cut [
+      | inl h ↦ shows_push old new fs f mid shows ok.0 w (h.1 ∙ rw h.0 refl) range (h.2 ∙ rw h.0 refl)
+      | inr h ↦ shows_push old new fs f mid shows ok.0 w (h.1 ∙ rw (h.0, ok.1) refl) range (h.2 ∙ rw (h.0, ok.1) refl)
     ]
 
 accepted_after : (fs : List Fragment) (f : Fragment) (old : Contents) → IsAccepted fs → Shows old fs → refusal_at old.end f ≡ None → IsAccepted (fs ++ f ∷ [])
@@ -233,13 +241,10 @@ accepted_after fs f old is shows none =
     ∙ ap (λ (o : Option IpDefragError). cond (is_some o) fs (fs ++ f ∷ [])) (subst (λ (o : Option ℕ). refusal_at o f ≡ None) shows.ended none)
 
 -- the same, of a buffer that shows some accepted fragments
-pub picture_add : (old new : Contents) (f : Fragment) (reserved mid : List ℕ) (sections : List IpFragRange) (place start end : ℕ) → IsPicture old → Ok end ≡ unless_refused (refusal_at old.end f) (end_of f)
-    → reserved ≡ old.bytes → sections ≡ old.sections → place ≡ start_of f → start ≡ start_of f
-    → Writes reserved mid place f.bytes → new.sections ≡ with_range sections record { start = start; end = end }
-    → ((f.more ≡ true) × (new.bytes ≡ mid) × (new.end ≡ old.end)) ⊎ ((f.more ≡ false) × (new.bytes ≡ take end mid) × (new.end ≡ Some end)) → IsPicture new
-picture_add old new f reserved mid sections place start end picture checked same_bytes same_sections at begins w ranges cut =
+pub picture_add : (old new : Contents) (f : Fragment) (reserved mid : List ℕ) (sections : List IpFragRange) (place start end : ℕ) → IsPicture old → Goes old new f reserved mid sections place start end → IsPicture new
+picture_add old new f reserved mid sections place start end picture goes =
     ∥∥₁_map picture (λ p. (
       p.0 ++ f ∷ [],
-      accepted_after p.0 f old p.1 p.2 (unless_ok (refusal_at old.end f) (end_of f) end checked).0,
-      shows_add old new p.0 f reserved mid sections place start end p.2 checked same_bytes same_sections at begins w ranges cut,
+      accepted_after p.0 f old p.1 p.2 (unless_ok (refusal_at old.end f) (end_of f) end goes.checked).0,
+      shows_add old new p.0 f reserved mid sections place start end p.2 goes,
     ))

@@ -1,11 +1,12 @@
 -- The sections of a buffer, as a range is added to them.
-use Rattle.std.proofs.Common.{◌≡◌, ℕ, ◌≤◌, Bool, true, false, cond, ◌⊎◌, ◌↔◌, inl, inr, Some, None, is_none, List, [], ◌∷◌, ◌++◌, filter, max, unwrap_or, arith, sym, ◌∙◌, refl, subst}
-use Rattle.std.proofs.lemmas.Bool.{cases_lt, cases_Bool, false≢true}
-use Rattle.std.proofs.lemmas.Bool.Decides.{nat_tests}
-use Rattle.std.specs.List.{AllByRecursion}
+use Rattle.std.proofs.Common.{◌≡◌, ℕ, suc, ◌+◌, ◌≤◌, ◌<◌, ◌⊎◌, ◌↔◌, inl, inr, List, [], ◌∷◌, ◌++◌, length, take, drop, get_or, add-one, drop-cons, append_assoc, arith, ap, refl, sym, ◌∙◌, subst}
+use Rattle.std.proofs.Math.ListN.{drop_of_length-le}
+use Rattle.std.proofs.lemmas.Bool.{cases_lt}
+use Rattle.std.proofs.lemmas.List.{append-nil, take_more, take_all, take_at, drop_at, length-take}
+use Rattle.std.specs.List.{Any, AllByRecursion, remove}
 use Rattle.etherparse.specs.declared.defrag.ip_frag_range.IpFragRange.{IpFragRange}
-use Rattle.etherparse.specs.IpFragRange.{touches, hull, merged, HasNumber, HasPlace, Apart, AreApart, joined_with, with_range}
-use Rattle.etherparse.proofs.Members.{AnyOf, AnyOf-left, AnyOf-right, AnyOf-push, AllByRecursion-push}
+use Rattle.etherparse.specs.IpFragRange.{hull, HasNumber, HasPlace, Apart, AreApart, AddsRange}
+use Rattle.etherparse.proofs.Members.{AnyOf, AnyOf-from_Any, Any-from_AnyOf, AnyOf-append, AnyOf-left, AnyOf-right, AnyOf-push, push-AnyOf, AllByRecursion-push}
 
 -- some range has the number
 abbrev pub NumberOf : List IpFragRange → ℕ → Type 0
@@ -15,184 +16,137 @@ NumberOf rs n = AnyOf (λ r. HasNumber r n) rs
 abbrev pub PlaceOf : List IpFragRange → ℕ → Type 0
 PlaceOf rs p = AnyOf (λ r. HasPlace r p) rs
 
--- ---- two ranges
-
-apart_if : (r s : IpFragRange) → r.start ≤ r.end → s.start ≤ s.end → touches r s ≡ false → Apart r s
-apart_if r s a b h = grind (arith, nat_tests)
-
-touch_if : (r s : IpFragRange) → r.start ≤ r.end → s.start ≤ s.end → touches r s ≡ true → (r.start ≤ s.end) × (s.start ≤ r.end)
-touch_if r s a b h = grind (arith, nat_tests)
-
-untouched : (r s : IpFragRange) → r.start ≤ r.end → s.start ≤ s.end → Apart s r → touches r s ≡ false
-untouched r s a b (inl h) = grind (arith, nat_tests)
-untouched r s a b (inr h) = grind (arith, nat_tests)
-
--- the one is part of the other
-abbrev Within : IpFragRange → IpFragRange → Type 0
-Within r s = (s.start ≤ r.start) × (r.end ≤ s.end)
-
-apart_or_shared : (r s : IpFragRange) → r.start ≤ r.end → s.start ≤ s.end → Apart r s ⊎ HasNumber r (max r.start s.start) × HasNumber s (max r.start s.start)
-apart_or_shared r s a b =
-    elim (cases_lt r.end s.start) [
-      | inl h ↦ inl (inl h)
-      | inr h ↦ elim (cases_lt s.end r.start) [ inl k ↦ inl (inr k) | inr k ↦ inr ((omega arith, omega arith), (omega arith, omega arith)) ]
-    ]
-
-not_shared : (r s : IpFragRange) (n : ℕ) → Apart r s → HasNumber r n → HasNumber s n → ⊥
-not_shared r s n (inl h) a b = omega arith
-not_shared r s n (inr h) a b = omega arith
-
--- ---- a range with those that it comes to touch
-
--- one step
-abbrev step : IpFragRange → IpFragRange → IpFragRange
-step j s = unwrap_or (merged j s) j
-
--- j is r with the sections that it comes to touch, and it touches no other
-record Joins (rs : List IpFragRange) (r j : IpFragRange) : Type 0 where
-  ordered : j.start ≤ j.end
-  within : Within r j
-  numbers : (n : ℕ) → HasNumber j n → HasNumber r n ⊎ NumberOf rs n
-  places : (p : ℕ) → HasPlace j p → HasPlace r p ⊎ PlaceOf rs p
-  each : AllByRecursion (λ s. Within s j ⊎ Apart s j) rs
-
--- what one step does
-record Steps (s r j : IpFragRange) : Type 0 where
-  ordered : j.start ≤ j.end
-  within : Within r j
-  numbers : (n : ℕ) → HasNumber j n → HasNumber r n ⊎ HasNumber s n
-  places : (p : ℕ) → HasPlace j p → HasPlace r p ⊎ HasPlace s p
-  decided : Within s j ⊎ ((j ≡ r) × Apart s r)
-
-apart_sym : (r s : IpFragRange) → Apart r s → Apart s r
-apart_sym r s (inl h) = inr h
-apart_sym r s (inr h) = inl h
-
-hull_steps : (s r : IpFragRange) → s.start ≤ s.end → r.start ≤ r.end → touches r s ≡ true → Steps s r (hull r s)
-hull_steps s r a b t =
-    let both = touch_if r s b a t in
-    record {
-      ordered = omega arith;
-      within = (omega arith, omega arith);
-      numbers = λ n h. elim (cases_lt n r.start) [ inl k ↦ inr (omega arith, omega arith) | inr k ↦ elim (cases_lt r.end n) [ inl m ↦ inr (omega arith, omega arith) | inr m ↦ inl (k, m) ] ];
-      places = λ n h. elim (cases_lt n r.start) [ inl k ↦ inr (omega arith, omega arith) | inr k ↦ elim (cases_lt n r.end) [ inr m ↦ inr (omega arith, omega arith) | inl m ↦ inl (k, m) ] ];
-      decided = inl (omega arith, omega arith);
-    }
-
-step_steps : (s r : IpFragRange) → s.start ≤ s.end → r.start ≤ r.end → Steps s r (step r s)
-step_steps s r a b =
-    elim (cases_Bool (touches r s)) [
-      | inl t ↦ subst (λ (c : Bool). Steps s r (unwrap_or (cond c (Some (hull r s)) None) r)) (sym t) (hull_steps s r a b t)
-      | inr t ↦ subst (λ (c : Bool). Steps s r (unwrap_or (cond c (Some (hull r s)) None) r)) (sym t) record {
-        ordered = b;
-        within = (omega arith, omega arith);
-        numbers = λ n h. inl h;
-        places = λ p h. inl h;
-        decided = inr (refl, apart_sym r s (apart_if r s b a t));
-      }
-    ]
-
--- what is apart from r and from each of rs is apart from what they make
-apart_from_all : (s : IpFragRange) (rs : List IpFragRange) (n : ℕ) → AllByRecursion (Apart s) rs → HasNumber s n → NumberOf rs n → ⊥
-apart_from_all s [] n all h k = k
-apart_from_all s (r ∷ rs) n all h (inl k) = not_shared s r n all.0 h k
-apart_from_all s (r ∷ rs) n all h (inr k) = apart_from_all s rs n all.1 h k
-
-joins : (rs : List IpFragRange) (r : IpFragRange) → AreApart rs → r.start ≤ r.end → Joins rs r (joined_with rs r)
-joins [] r all o = record { ordered = o; within = (omega arith, omega arith); numbers = λ n h. inl h; places = λ p h. inl h; each = tt }
-joins (s ∷ rs) r all o =
-    let one = step_steps s r all.0 o in
-    let rest = joins rs (step r s) all.2 one.ordered in
-    let j = joined_with rs (step r s) in
-    record {
-      ordered = rest.ordered;
-      within = (omega (arith, one.within.0, rest.within.0), omega (arith, one.within.1, rest.within.1));
-      numbers = λ n h. elim (rest.numbers n h) [ inl k ↦ elim (one.numbers n k) [ inl m ↦ inl m | inr m ↦ inr (inl m) ] | inr k ↦ inr (inr k) ];
-      places = λ p h. elim (rest.places p h) [ inl k ↦ elim (one.places p k) [ inl m ↦ inl m | inr m ↦ inr (inl m) ] | inr k ↦ inr (inr k) ];
-      each = (
-        elim one.decided [
-          | inl w ↦ inl (omega (arith, w.0, rest.within.0), omega (arith, w.1, rest.within.1))
-          | inr w ↦ elim (apart_or_shared s j all.0 rest.ordered) [
-            | inl a ↦ inr a
-            | inr k ↦ absurd (elim (rest.numbers _ k.1) [
-              | inl m ↦ not_shared s r _ w.1 k.0 (subst (λ (x : IpFragRange). HasNumber x (max s.start j.start)) w.0 m)
-              | inr m ↦ apart_from_all s rs _ all.1 k.0 m
-            ])
-          ]
-        ],
-        rest.each,
-      );
-    }
-
--- ---- the sections after a range is added
-
--- what is added to the sections, and that they stay apart
-pub record AddsRange (old new : List IpFragRange) (r : IpFragRange) : Type 0 where
-  pub apart : AreApart new
-  pub numbers : (n : ℕ) → NumberOf new n ↔ (NumberOf old n ⊎ HasNumber r n)
-  pub places : (p : ℕ) → PlaceOf new p ↔ (PlaceOf old p ⊎ HasPlace r p)
-
-abbrev untouched_by : IpFragRange → IpFragRange → Bool
-untouched_by j s = is_none (merged j s)
-
--- a filter by a test, one section at a time
-filter_cases : (P : List IpFragRange → Type 0) (j s : IpFragRange) (rs : List IpFragRange) → (touches j s ≡ true → P (filter (untouched_by j) rs)) → (touches j s ≡ false → P (s ∷ filter (untouched_by j) rs)) → P (filter (untouched_by j) (s ∷ rs))
-filter_cases P j s rs gone stays =
-    elim (cases_Bool (touches j s)) [
-      | inl t ↦ subst (λ (c : Bool). P (cond (is_none (cond c (Some (hull j s)) None)) (s ∷ filter (untouched_by j) rs) (filter (untouched_by j) rs))) (sym t) (gone t)
-      | inr t ↦ subst (λ (c : Bool). P (cond (is_none (cond c (Some (hull j s)) None)) (s ∷ filter (untouched_by j) rs) (filter (untouched_by j) rs))) (sym t) (stays t)
-    ]
-
-kept_of : (Q : IpFragRange → Type 0) (j : IpFragRange) (rs : List IpFragRange) → AnyOf Q (filter (untouched_by j) rs) → AnyOf Q rs
-kept_of Q j [] = λ h. h
-kept_of Q j (s ∷ rs) =
-    filter_cases (λ xs. AnyOf Q xs → AnyOf Q (s ∷ rs)) j s rs
-    (λ _ h. inr (kept_of Q j rs h))
-    (λ _. elim [ inl h ↦ inl h | inr h ↦ inr (kept_of Q j rs h) ])
-
-kept_or_joined : (Q : IpFragRange → Type 0) (j : IpFragRange) (rs : List IpFragRange) → j.start ≤ j.end → AreApart rs → AllByRecursion (λ s. Within s j ⊎ Apart s j) rs → ((s : IpFragRange) → Within s j → Q s → Q j) → AnyOf Q rs → AnyOf Q (filter (untouched_by j) rs) ⊎ Q j
-kept_or_joined Q j [] o all each grows = λ h. absurd h
-kept_or_joined Q j (s ∷ rs) o all each grows =
-    let rest = kept_or_joined Q j rs o all.2 each.1 grows in
-    filter_cases (λ xs. AnyOf Q (s ∷ rs) → AnyOf Q xs ⊎ Q j) j s rs
-    (λ t. elim [ inl h ↦ elim each.0 [ inl w ↦ inr (grows s w h) | inr a ↦ absurd (false≢true (sym (untouched j s o all.0 a) ∙ t)) ] | inr h ↦ rest h ])
-    (λ t. elim [ inl h ↦ inl (inl h) | inr h ↦ elim (rest h) [ inl k ↦ inl (inr k) | inr k ↦ inr k ] ])
-
-kept_all : (Q : IpFragRange → Type 0) (j : IpFragRange) (rs : List IpFragRange) → AllByRecursion Q rs → AllByRecursion Q (filter (untouched_by j) rs)
-kept_all Q j [] h = h
-kept_all Q j (s ∷ rs) h = filter_cases (AllByRecursion Q) j s rs (λ _. kept_all Q j rs h.1) (λ _. (h.0, kept_all Q j rs h.1))
-
-kept_apart : (j : IpFragRange) (rs : List IpFragRange) → AreApart rs → AreApart (filter (untouched_by j) rs)
-kept_apart j [] h = h
-kept_apart j (s ∷ rs) h = filter_cases AreApart j s rs (λ _. kept_apart j rs h.2) (λ _. (h.0, kept_all (Apart s) j rs h.1, kept_apart j rs h.2))
-
-apart_from_kept : (j : IpFragRange) (rs : List IpFragRange) → j.start ≤ j.end → AreApart rs → AllByRecursion (λ s. Apart s j) (filter (untouched_by j) rs)
-apart_from_kept j [] o h = tt
-apart_from_kept j (s ∷ rs) o h = filter_cases (AllByRecursion (λ s. Apart s j)) j s rs (λ _. apart_from_kept j rs o h.2) (λ t. (apart_sym j s (apart_if j s o h.0 t), apart_from_kept j rs o h.2))
+-- ---- a range among others
 
 AreApart-push : (rs : List IpFragRange) (j : IpFragRange) → j.start ≤ j.end → AreApart rs → AllByRecursion (λ s. Apart s j) rs → AreApart (rs ++ j ∷ [])
 AreApart-push [] j o h k = (o, tt, tt)
 AreApart-push (s ∷ rs) j o h k = (h.0, AllByRecursion-push (Apart s) rs j h.1 k.0, AreApart-push rs j o h.2 k.1)
 
-pub adds_range : (rs : List IpFragRange) (r : IpFragRange) → AreApart rs → r.start ≤ r.end → AddsRange rs (with_range rs r) r
-adds_range rs r all o =
-    let j = joined_with rs r in
-    let made = joins rs r all o in
-    let kept = filter (untouched_by j) rs in
+-- what is left where a range is taken out, and what is known of it
+record Among (front : List IpFragRange) (s : IpFragRange) (back : List IpFragRange) : Type 0 where
+  rest : AreApart (front ++ back)
+  ordered : s.start ≤ s.end
+  before : AllByRecursion (λ t. Apart t s) front
+
+apart_without : (t : IpFragRange) (front : List IpFragRange) (s : IpFragRange) (back : List IpFragRange) → AllByRecursion (Apart t) (front ++ s ∷ back) → AllByRecursion (Apart t) (front ++ back) × Apart t s
+apart_without t [] s back h = (h.1, h.0)
+apart_without t (u ∷ front) s back h = let rest = apart_without t front s back h.1 in ((h.0, rest.0), rest.1)
+
+among : (front : List IpFragRange) (s : IpFragRange) (back : List IpFragRange) → AreApart (front ++ s ∷ back) → Among front s back
+among [] s back h = record { rest = h.2; ordered = h.0; before = tt }
+among (t ∷ front) s back h =
+    let inner = among front s back h.2 in
+    let apart = apart_without t front s back h.1 in
+    record { rest = (h.0, apart.0, inner.rest); ordered = inner.ordered; before = (apart.1, inner.before) }
+
+-- ---- the loop
+
+-- the front was looked at, the range j is the added one with those that were taken out
+pub record Joining (old : List IpFragRange) (r : IpFragRange) (front back : List IpFragRange) (j : IpFragRange) : Type 0 where
+  pub apart : AreApart (front ++ back)
+  pub ordered : j.start ≤ j.end
+  pub passed : AllByRecursion (λ t. Apart t j) front
+  pub numbers : (n : ℕ) → (NumberOf (front ++ back) n ⊎ HasNumber j n) ↔ (NumberOf old n ⊎ HasNumber r n)
+  pub places : (p : ℕ) → (PlaceOf (front ++ back) p ⊎ HasPlace j p) ↔ (PlaceOf old p ⊎ HasPlace r p)
+
+pub begins : (old : List IpFragRange) (r : IpFragRange) → AreApart old → r.start ≤ r.end → Joining old r [] old r
+begins old r apart o = record { apart = apart; ordered = o; passed = tt; numbers = λ n. ((λ h. h), (λ h. h)); places = λ p. ((λ h. h), (λ h. h)) }
+
+pub passes : (old : List IpFragRange) (r : IpFragRange) (front : List IpFragRange) (s : IpFragRange) (back : List IpFragRange) (j : IpFragRange) → Joining old r front (s ∷ back) j → Apart s j → Joining old r (front ++ s ∷ []) back j
+passes old r front s back j h apart =
+    let same : (front ++ s ∷ []) ++ back ≡ front ++ s ∷ back = append_assoc front (s ∷ []) back in
     record {
-      apart = AreApart-push kept j made.ordered (kept_apart j rs all) (apart_from_kept j rs made.ordered all);
-      numbers = λ n. (
-        (λ h. elim (AnyOf-push (λ s. HasNumber s n) kept j h) [ inl k ↦ inl (kept_of (λ s. HasNumber s n) j rs k) | inr k ↦ elim (made.numbers n k) [ inl m ↦ inr m | inr m ↦ inl m ] ]),
-        elim [
-          | inl h ↦ elim (kept_or_joined (λ s. HasNumber s n) j rs made.ordered all made.each (λ s w q. (omega arith, omega arith)) h) [ inl k ↦ AnyOf-left (λ s. HasNumber s n) kept (j ∷ []) k | inr k ↦ AnyOf-right (λ s. HasNumber s n) kept (j ∷ []) (inl k) ]
-          | inr h ↦ AnyOf-right (λ s. HasNumber s n) kept (j ∷ []) (inl (omega (arith, made.within.0), omega (arith, made.within.1)))
-        ],
-      );
-      places = λ n. (
-        (λ h. elim (AnyOf-push (λ s. HasPlace s n) kept j h) [ inl k ↦ inl (kept_of (λ s. HasPlace s n) j rs k) | inr k ↦ elim (made.places n k) [ inl m ↦ inr m | inr m ↦ inl m ] ]),
-        elim [
-          | inl h ↦ elim (kept_or_joined (λ s. HasPlace s n) j rs made.ordered all made.each (λ s w q. (omega arith, omega arith)) h) [ inl k ↦ AnyOf-left (λ s. HasPlace s n) kept (j ∷ []) k | inr k ↦ AnyOf-right (λ s. HasPlace s n) kept (j ∷ []) (inl k) ]
-          | inr h ↦ AnyOf-right (λ s. HasPlace s n) kept (j ∷ []) (inl (omega (arith, made.within.0), omega (arith, made.within.1)))
-        ],
-      );
+      apart = subst AreApart (sym same) h.apart;
+      ordered = h.ordered;
+      passed = AllByRecursion-push (λ t. Apart t j) front s h.passed apart;
+      numbers = λ n. subst (λ (rs : List IpFragRange). (NumberOf rs n ⊎ HasNumber j n) ↔ (NumberOf old n ⊎ HasNumber r n)) (sym same) (h.numbers n);
+      places = λ p. subst (λ (rs : List IpFragRange). (PlaceOf rs p ⊎ HasPlace j p) ↔ (PlaceOf old p ⊎ HasPlace r p)) (sym same) (h.places p);
     }
+
+-- what is apart from two ranges that share a number is apart from their hull
+apart_from_hull : (t j s : IpFragRange) → t.start ≤ t.end → j.start ≤ s.end → s.start ≤ j.end → Apart t j → Apart t s → Apart t (hull j s)
+apart_from_hull t j s o a b (inl h) (inl k) = inl (omega arith)
+apart_from_hull t j s o a b (inl h) (inr k) = absurd (omega arith)
+apart_from_hull t j s o a b (inr h) (inl k) = absurd (omega arith)
+apart_from_hull t j s o a b (inr h) (inr k) = inr (omega arith)
+
+passed_by_hull : (front back : List IpFragRange) (j s : IpFragRange) → AreApart (front ++ back) → j.start ≤ s.end → s.start ≤ j.end → AllByRecursion (λ t. Apart t j) front → AllByRecursion (λ t. Apart t s) front → AllByRecursion (λ t. Apart t (hull j s)) front
+passed_by_hull [] back j s apart a b h k = tt
+passed_by_hull (t ∷ front) back j s apart a b h k = (apart_from_hull t j s apart.0 a b h.0 k.0, passed_by_hull front back j s apart.2 a b h.1 k.1)
+
+-- one of the ranges is taken out, and its numbers are those of a greater one
+taken_out : (Q : IpFragRange → Type 0) (front : List IpFragRange) (s : IpFragRange) (back : List IpFragRange) (j k : IpFragRange) (W : Type 0) → (Q s → Q k) → (Q j → Q k) → (Q k → Q j ⊎ Q s)
+    → (AnyOf Q (front ++ s ∷ back) ⊎ Q j) ↔ W → (AnyOf Q (front ++ back) ⊎ Q k) ↔ W
+taken_out Q front s back j k W from_s from_j parts h = (
+  elim [
+    | inl m ↦ h.0 (inl (elim (AnyOf-append Q front back m) [ inl a ↦ AnyOf-left Q front (s ∷ back) a | inr b ↦ AnyOf-right Q front (s ∷ back) (inr b) ]))
+    | inr q ↦ elim (parts q) [ inl a ↦ h.0 (inr a) | inr b ↦ h.0 (inl (AnyOf-right Q front (s ∷ back) (inl b))) ]
+  ],
+  (λ w. elim (h.1 w) [
+    | inl m ↦ elim (AnyOf-append Q front (s ∷ back) m) [
+      | inl a ↦ inl (AnyOf-left Q front back a)
+      | inr b ↦ elim b [ inl q ↦ inr (from_s q) | inr c ↦ inl (AnyOf-right Q front back c) ]
+    ]
+    | inr q ↦ inr (from_j q)
+  ]),
+)
+
+number_parts : (j s : IpFragRange) (n : ℕ) → j.start ≤ s.end → s.start ≤ j.end → HasNumber (hull j s) n → HasNumber j n ⊎ HasNumber s n
+number_parts j s n a b h = elim (cases_lt n j.start) [ inl k ↦ inr (omega arith, omega arith) | inr k ↦ elim (cases_lt j.end n) [ inl m ↦ inr (omega arith, omega arith) | inr m ↦ inl (k, m) ] ]
+
+place_parts : (j s : IpFragRange) (p : ℕ) → j.start ≤ s.end → s.start ≤ j.end → HasPlace (hull j s) p → HasPlace j p ⊎ HasPlace s p
+place_parts j s p a b h = elim (cases_lt p j.start) [ inl k ↦ inr (omega arith, omega arith) | inr k ↦ elim (cases_lt p j.end) [ inr m ↦ inr (omega arith, omega arith) | inl m ↦ inl (k, m) ] ]
+
+pub joins : (old : List IpFragRange) (r : IpFragRange) (front : List IpFragRange) (s : IpFragRange) (back : List IpFragRange) (j : IpFragRange) → Joining old r front (s ∷ back) j → j.start ≤ s.end → s.start ≤ j.end
+    → Joining old r front back (hull j s)
+joins old r front s back j h a b =
+    let m = among front s back h.apart in
+    record {
+      apart = m.rest;
+      ordered = omega (arith, h.ordered);
+      passed = passed_by_hull front back j s m.rest a b h.passed m.before;
+      numbers = λ n. taken_out (λ t. HasNumber t n) front s back j (hull j s) _ (λ q. (omega arith, omega arith)) (λ q. (omega arith, omega arith)) (number_parts j s n a b) (h.numbers n);
+      places = λ p. taken_out (λ t. HasPlace t p) front s back j (hull j s) _ (λ q. (omega arith, omega arith)) (λ q. (omega arith, omega arith)) (place_parts j s p a b) (h.places p);
+    }
+
+-- a list with one more at its end, by std's word
+any_added : (Q : IpFragRange → Type 0) (old : List IpFragRange) (r : IpFragRange) (rs : List IpFragRange) (j : IpFragRange) → (AnyOf Q rs ⊎ Q j) ↔ (AnyOf Q old ⊎ Q r) → Any Q (rs ++ j ∷ []) ↔ (Any Q old ⊎ Q r)
+any_added Q old r rs j h = (
+  (λ m. elim (h.0 (AnyOf-push Q rs j (AnyOf-from_Any Q (rs ++ j ∷ []) m))) [ inl a ↦ inl (Any-from_AnyOf Q old a) | inr b ↦ inr b ]),
+  (λ m. Any-from_AnyOf Q (rs ++ j ∷ []) (push-AnyOf Q rs j (h.1 (elim m [ inl a ↦ inl (AnyOf-from_Any Q old a) | inr b ↦ inr b ])))),
+)
+
+pub ends : (old : List IpFragRange) (r : IpFragRange) (rs : List IpFragRange) (j : IpFragRange) → Joining old r rs [] j → AddsRange old (rs ++ j ∷ []) r
+ends old r rs j h =
+    let all : rs ++ [] ≡ rs = append-nil rs in
+    record {
+      apart = AreApart-push rs j h.ordered (subst AreApart all h.apart) h.passed;
+      numbers = λ n. any_added (λ s. HasNumber s n) old r rs j (subst (λ (xs : List IpFragRange). (NumberOf xs n ⊎ HasNumber j n) ↔ (NumberOf old n ⊎ HasNumber r n)) all (h.numbers n));
+      places = λ p. any_added (λ s. HasPlace s p) old r rs j (subst (λ (xs : List IpFragRange). (PlaceOf xs p ⊎ HasPlace j p) ↔ (PlaceOf old p ⊎ HasPlace r p)) all (h.places p));
+    }
+
+-- ---- the same at the place of a loop
+
+-- the section s at this place is next
+next_section : (rs : List IpFragRange) (place : ℕ) (s : IpFragRange) → place < length rs → s ≡ get_or rs place s → drop place rs ≡ s ∷ drop (place + 1) rs
+next_section rs place s below is = rw add-one (drop-cons rs place s below) ∙ ap (λ (x : IpFragRange). x ∷ drop (place + 1) rs) (sym is)
+
+pub passes_at : (old : List IpFragRange) (r : IpFragRange) (rs : List IpFragRange) (place : ℕ) (s j : IpFragRange) → place < length rs → s ≡ get_or rs place s
+    → Joining old r (take place rs) (drop place rs) j → Apart s j → Joining old r (take (place + 1) rs) (drop (place + 1) rs) j
+passes_at old r rs place s j below is h apart =
+    let front : take (place + 1) rs ≡ take place rs ++ s ∷ [] = take_more rs place s below ∙ ap (λ (x : IpFragRange). take place rs ++ x ∷ []) (sym is) in
+    subst (λ (xs : List IpFragRange). Joining old r xs (drop (place + 1) rs) j) (sym front)
+    (passes old r (take place rs) s (drop (place + 1) rs) j (subst (λ (xs : List IpFragRange). Joining old r (take place rs) xs j) (next_section rs place s below is) h) apart)
+
+pub joins_at : (old : List IpFragRange) (r : IpFragRange) (rs : List IpFragRange) (place : ℕ) (s j : IpFragRange) → place < length rs → s ≡ get_or rs place s
+    → Joining old r (take place rs) (drop place rs) j → j.start ≤ s.end → s.start ≤ j.end → Joining old r (take place (remove rs place)) (drop place (remove rs place)) (hull j s)
+joins_at old r rs place s j below is h a b =
+    let long : length (take place rs) ≡ place = length-take place rs ∙ omega arith in
+    let joined = joins old r (take place rs) s (drop (place + 1) rs) j (subst (λ (xs : List IpFragRange). Joining old r (take place rs) xs j) (next_section rs place s below is) h) a b in
+    let rest : drop (place + 1) rs ≡ drop (suc place) rs = rw add-one refl in
+    subst (λ (xs : List IpFragRange). Joining old r xs (drop place (remove rs place)) (hull j s)) (sym (take_at (take place rs) (drop (suc place) rs) place long))
+    (subst (λ (xs : List IpFragRange). Joining old r (take place rs) xs (hull j s)) (rest ∙ sym (drop_at (take place rs) (drop (suc place) rs) place long)) joined)
+
+pub ends_at : (old : List IpFragRange) (r : IpFragRange) (rs : List IpFragRange) (place : ℕ) (j : IpFragRange) → length rs ≤ place → Joining old r (take place rs) (drop place rs) j → AddsRange old (rs ++ j ∷ []) r
+ends_at old r rs place j past h =
+    ends old r rs j (subst (λ (xs : List IpFragRange). Joining old r xs [] j) (take_all place rs past) (subst (λ (xs : List IpFragRange). Joining old r (take place rs) xs j) (drop_of_length-le rs past) h))

@@ -1,5 +1,5 @@
 -- Ranges of numbers, as the sections of a message are told.
-use Rattle.std.specs.Prelude.{ℕ, ◌<◌, ◌≤◌, ◌==◌, Bool, false, ◌||◌, ◌&&◌, if◌then◌else◌, min, max, nat_eq, nat_le, Option, Some, None, List, [], ◌∷◌, ◌⊎◌, ⊤, unwrap_or, is_none, fold, filter, ◌++◌}
+use Rattle.std.specs.Prelude.{ℕ, ◌<◌, ◌≤◌, ◌==◌, Bool, false, ◌||◌, ◌&&◌, if◌then◌else◌, min, max, nat_eq, nat_le, Option, Some, None, List, [], ◌∷◌, ◌⊎◌, ⊤, ◌↔◌, Any}
 use Rattle.std.specs.Ordering.{on, eq_of_both}
 use Rattle.std.specs.List.{AllByRecursion}
 use Rattle.etherparse.specs.declared.defrag.ip_frag_range.IpFragRange.{IpFragRange}
@@ -41,16 +41,14 @@ abbrev pub AreApart : List IpFragRange → Type 0
 AreApart [] = ⊤
 AreApart (r ∷ rs) = (r.start ≤ r.end) × AllByRecursion (Apart r) rs × AreApart rs
 
--- the range with each section that it comes to touch
-abbrev pub joined_with : List IpFragRange → IpFragRange → IpFragRange
-joined_with rs r = fold (λ joined s. unwrap_or (merged joined s) joined) r rs
-
 -- there is one range, and it starts at 0
 abbrev pub is_one_from_zero : List IpFragRange → Bool
 is_one_from_zero [] = false
 is_one_from_zero (r ∷ []) = r.start == 0
 is_one_from_zero (r ∷ s ∷ rs) = false
 
--- the sections after a range is added: it and those that it comes to touch are one
-abbrev pub with_range : List IpFragRange → IpFragRange → List IpFragRange
-with_range rs r = let joined = joined_with rs r in filter (λ s. is_none (merged joined s)) rs ++ joined ∷ []
+-- sections with a range added: they stay apart, and have its numbers and places besides their own
+pub record AddsRange (old new : List IpFragRange) (r : IpFragRange) : Type 0 where
+  pub apart : AreApart new
+  pub numbers : (n : ℕ) → Any (λ s. HasNumber s n) new ↔ (Any (λ s. HasNumber s n) old ⊎ HasNumber r n)
+  pub places : (p : ℕ) → Any (λ s. HasPlace s p) new ↔ (Any (λ s. HasPlace s p) old ⊎ HasPlace r p)

@@ -8,7 +8,7 @@ ghost use Rattle.std.specs.Ordering.{on, eq_of_both};
 ghost use Rattle.std.proofs.Common.{rules};
 ghost use Rattle.etherparse.specs.Fragments.{Fragment, fragment, accepted, end_of, refusal_at, refusal_of, with_accepted, is_complete, Complete};
 ghost use Rattle.etherparse.specs.IpDefragBuf.{Contents, Shows, IsPicture, AnswersAdd, Stops, Writes, unless_refused, is_whole};
-ghost use Rattle.etherparse.specs.IpFragRange.{is_one_from_zero, same_range, with_range};
+ghost use Rattle.etherparse.specs.IpFragRange.{is_one_from_zero, same_range, AddsRange, AreApart};
 ghost use Rattle.etherparse.specs.Picture.{text_of};
 
 use super::{IpDefragError, IpFragRange, MAX_IP_DEFRAG_LEN_U16};
@@ -73,13 +73,23 @@ fn write_at(data: &mut Vec<u8>, start: usize, bytes: &[u8])
     data[start..end].copy_from_slice(bytes);
 }
 
-// Adds a range. There is memory for one more section.
+// Adds a range to sections that are apart: it and those that it comes to touch are one. There is memory for
+// one more section.
 fn add_range(sections: &mut Vec<IpFragRange>, range: IpFragRange)
     requires { vec_len sections.old < vec_capacity sections.old }
-    ensures { sections.new.items ≡ with_range sections.old.items range }
+    ensures { AreApart sections.old.items → range.start ≤ range.end → AddsRange sections.old.items sections.new.items range }
 {
-    let joined = range.joined(sections);
-    sections.retain(|section| joined.merge(*section).is_none());
+    let mut joined = range;
+    let mut at = 0;
+    while at < sections.len() {
+        let section = sections[at];
+        if section.end < joined.start || joined.end < section.start {
+            at += 1;
+        } else {
+            joined = joined.hull(section);
+            sections.remove(at);
+        }
+    }
     sections.push(joined).unwrap();
 }
 

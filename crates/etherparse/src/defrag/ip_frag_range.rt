@@ -12,7 +12,7 @@ pub struct IpFragRange {
 
 impl IpFragRange {
     ghost use Rattle.std.specs.Prelude.{◌≡◌, ◌≤◌, ◌↔◌, ℕ, IfSome, IsSome};
-    ghost use Rattle.etherparse.specs.IpFragRange.{has_number, hull, joined_with, merged, HasNumber};
+    ghost use Rattle.etherparse.specs.IpFragRange.{has_number, hull, merged, HasNumber};
 
     /// Both ranges as one, where `start` or `end` of one lies in the other.
     pub fn merge(&self, other: IpFragRange) -> Option<IpFragRange>
@@ -26,10 +26,7 @@ impl IpFragRange {
             || other.contains(self.start)
             || other.contains(self.end)
         {
-            Some(IpFragRange {
-                start: self.start.min(other.start),
-                end: self.end.max(other.end),
-            })
+            Some(self.hull(other))
         } else {
             None
         }
@@ -41,13 +38,13 @@ impl IpFragRange {
         self.start <= number && number <= self.end
     }
 
-    // This range with each section that it comes to touch.
-    pub(crate) fn joined(self, sections: &[IpFragRange]) -> IpFragRange
-        ensures { result ≡ joined_with sections.now self }
+    // The least start and the greatest end.
+    pub(crate) fn hull(self, other: IpFragRange) -> IpFragRange
+        ensures { result ≡ hull self other }
     {
-        sections.iter().fold(
-            self,
-            |joined, section| joined.merge(*section).unwrap_or(joined),
-        )
+        IpFragRange {
+            start: self.start.min(other.start),
+            end: self.end.max(other.end),
+        }
     }
 }

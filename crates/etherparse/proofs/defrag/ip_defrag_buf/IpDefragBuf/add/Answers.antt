@@ -10,26 +10,54 @@ returns-clause-accepted c fs shows =
     let had = subst (λ (b : Contents). Shows b fs) (sym c.self.view_is) shows in
     elim c.if-not-more_fragments.branch [
       | then-not-more_fragments w ↦ subst (λ (b : Contents). Shows b (fs ++ fragment c.args.offset c.args.more_fragments c.args.bytes.now ∷ [])) (sym w.self-is)
-          (shows_add _ _ fs (fragment c.args.offset c.args.more_fragments c.args.bytes.now) _ c.write_at.new.«data».items _ _ _ _ had c.in_ok-end.ensures
-          c.try_reserve.ensures.items c.try_reserve-else-is_err.ensures.items (omega arith) (omega arith) c.write_at.ensures c.add_range.ensures
-          (inr (w.if-not-more_fragments.true, rw c.from-len.ensures at w.truncate.ensures.items, refl)))
+          (shows_add _ _ fs (fragment c.args.offset c.args.more_fragments c.args.bytes.now) c.try_reserve.new.self.items c.write_at.new.«data».items c.try_reserve-else-is_err.new.self.items c.from.result c.byte_offset-start.result c.in_ok-end.end had record {
+            checked = c.in_ok-end.ensures;
+            same_bytes = c.try_reserve.ensures.items;
+            same_sections = c.try_reserve-else-is_err.ensures.items;
+            place_is = omega arith;
+            start_is = omega arith;
+            writes = c.write_at.ensures;
+            adds = c.add_range.ensures;
+            cut = inr (w.if-not-more_fragments.true, rw c.from-len.ensures at w.truncate.ensures.items, refl);
+          })
       | else-not-more_fragments w ↦ subst (λ (b : Contents). Shows b (fs ++ fragment c.args.offset c.args.more_fragments c.args.bytes.now ∷ [])) (sym w.self-is)
-          (shows_add _ _ fs (fragment c.args.offset c.args.more_fragments c.args.bytes.now) _ c.write_at.new.«data».items _ _ _ _ had c.in_ok-end.ensures
-          c.try_reserve.ensures.items c.try_reserve-else-is_err.ensures.items (omega arith) (omega arith) c.write_at.ensures c.add_range.ensures
-          (inl (w.if-not-more_fragments.false, refl, refl)))
+          (shows_add _ _ fs (fragment c.args.offset c.args.more_fragments c.args.bytes.now) c.try_reserve.new.self.items c.write_at.new.«data».items c.try_reserve-else-is_err.new.self.items c.from.result c.byte_offset-start.result c.in_ok-end.end had record {
+            checked = c.in_ok-end.ensures;
+            same_bytes = c.try_reserve.ensures.items;
+            same_sections = c.try_reserve-else-is_err.ensures.items;
+            place_is = omega arith;
+            start_is = omega arith;
+            writes = c.write_at.ensures;
+            adds = c.add_range.ensures;
+            cut = inl (w.if-not-more_fragments.false, refl, refl);
+          })
     ]
 
 pub invariant_of-self-then-not-more_fragments : goal.invariant_of-self-then-not-more_fragments
 invariant_of-self-then-not-more_fragments c =
-    picture_add _ _ (fragment c.args.offset c.args.more_fragments c.args.bytes.now) _ c.write_at.new.«data».items _ _ _ _ c.self.invariant c.in_ok-end.ensures
-    c.try_reserve.ensures.items c.try_reserve-else-is_err.ensures.items (omega arith) (omega arith) c.write_at.ensures c.add_range.ensures
-    (inr (c.if-not-more_fragments.true, rw c.from-len.ensures at c.truncate.ensures.items, refl))
+    picture_add _ _ (fragment c.args.offset c.args.more_fragments c.args.bytes.now) c.try_reserve.new.self.items c.write_at.new.«data».items c.try_reserve-else-is_err.new.self.items c.from.result c.byte_offset-start.result c.in_ok-end.end c.self.invariant record {
+      checked = c.in_ok-end.ensures;
+      same_bytes = c.try_reserve.ensures.items;
+      same_sections = c.try_reserve-else-is_err.ensures.items;
+      place_is = omega arith;
+      start_is = omega arith;
+      writes = c.write_at.ensures;
+      adds = c.add_range.ensures;
+      cut = inr (c.if-not-more_fragments.true, rw c.from-len.ensures at c.truncate.ensures.items, refl);
+    }
 
 pub invariant_of-self-else-not-more_fragments : goal.invariant_of-self-else-not-more_fragments
 invariant_of-self-else-not-more_fragments c =
-    picture_add _ _ (fragment c.args.offset c.args.more_fragments c.args.bytes.now) _ c.write_at.new.«data».items _ _ _ _ c.self.invariant c.in_ok-end.ensures
-    c.try_reserve.ensures.items c.try_reserve-else-is_err.ensures.items (omega arith) (omega arith) c.write_at.ensures c.add_range.ensures
-    (inl (c.if-not-more_fragments.false, refl, refl))
+    picture_add _ _ (fragment c.args.offset c.args.more_fragments c.args.bytes.now) c.try_reserve.new.self.items c.write_at.new.«data».items c.try_reserve-else-is_err.new.self.items c.from.result c.byte_offset-start.result c.in_ok-end.end c.self.invariant record {
+      checked = c.in_ok-end.ensures;
+      same_bytes = c.try_reserve.ensures.items;
+      same_sections = c.try_reserve-else-is_err.ensures.items;
+      place_is = omega arith;
+      start_is = omega arith;
+      writes = c.write_at.ensures;
+      adds = c.add_range.ensures;
+      cut = inl (c.if-not-more_fragments.false, refl, refl);
+    }
 
 pub invariant_of-self : goal.invariant_of-self
 invariant_of-self c = picture_same _ _ refl c.try_reserve.ensures.items refl refl c.self.invariant
