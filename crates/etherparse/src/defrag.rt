@@ -11,5 +11,5 @@ pub use ip_frag_range::IpFragRange;
 /// The greatest length of a message, in bytes.
 pub const MAX_IP_DEFRAG_LEN: usize = 65535;
 
-/// The greatest length of a message, in bytes.
+/// The same as a number of 16 bits.
 pub const MAX_IP_DEFRAG_LEN_U16: u16 = 65535;

@@ -146,7 +146,7 @@ impl IpDefragBuf {
         mut sections: Vec<IpFragRange>,
     ) -> IpDefragBuf
         ensures empty { Shows result [] }
-        ensures ip_number { result.ip_number ≡ ip_number }
+        ensures value { result ≡ record { ip_number = ip_number; bytes = []; sections = []; end = None } }
     {
         data.clear();
         sections.clear();
