@@ -2,7 +2,7 @@
 ghost use Rattle.std.specs.Prelude.{◌≡◌, ◌≤◌, ℕ, true, false, [], ◌∷◌, ◌++◌, None, Some, replicate};
 ghost use Rattle.std.specs.List.{range_with_len};
 ghost use Rattle.etherparse.specs.Fragments.{fragment, accepted, greatest_end, is_complete, named_end, refusal_of, Covered};
-ghost use Rattle.etherparse.specs.IpFragRange.{merged};
+ghost use Rattle.etherparse.specs.IpFragRange.{is_one_from_zero, merged, AreApart};
 ghost use Rattle.etherparse.specs.Picture.{byte_at, kept_bytes, text_of, Touched};
 ghost use Rattle.etherparse.specs.declared.defrag.ip_defrag_error.IpDefragError.TheVariants.{ConflictingEnd, SegmentTooBig, UnalignedFragmentPayloadLen};
 
@@ -14,6 +14,16 @@ pub fn merged_ranges()
     ensures behind { merged (record { start = 8; end = 16 }) (record { start = 0; end = 8 }) ≡ Some (record { start = 0; end = 16 }) }
     ensures neighbours { merged (record { start = 0; end = 1 }) (record { start = 2; end = 3 }) ≡ None }
     ensures turned { merged (record { start = 5; end = 3 }) (record { start = 1; end = 8 }) ≡ Some (record { start = 1; end = 8 }) }
+{}
+
+/// Sections are apart where no two share a number, and each starts before it ends.
+pub fn sections_that_are_apart()
+    ensures apart { AreApart (record { start = 8; end = 16 } ∷ record { start = 0; end = 7 } ∷ []) }
+    ensures shared { AreApart (record { start = 0; end = 8 } ∷ record { start = 8; end = 16 } ∷ []) → ⊥ }
+    ensures turned { AreApart (record { start = 9; end = 8 } ∷ []) → ⊥ }
+    ensures whole { is_one_from_zero (record { start = 0; end = 8 } ∷ []) ≡ true }
+    ensures behind { is_one_from_zero (record { start = 8; end = 16 } ∷ []) ≡ false }
+    ensures two { is_one_from_zero (record { start = 0; end = 7 } ∷ record { start = 8; end = 16 } ∷ []) ≡ false }
 {}
 
 /// The last part of a message, its middle and its front, in this order: complete with the third.
@@ -72,5 +82,7 @@ pub fn a_part_without_its_front()
     ensures byte { byte_at (fragment 1 true (range_with_len 1 8) ∷ []) 15 ≡ Some 8 }
     ensures behind { byte_at (fragment 1 true (range_with_len 1 8) ∷ []) 16 ≡ None }
     ensures covered { Covered (fragment 1 true (range_with_len 1 8) ∷ []) 15 }
+    ensures not_covered { Covered (fragment 1 true (range_with_len 1 8) ∷ []) 16 → ⊥ }
     ensures touched { Touched (fragment 1 true (range_with_len 1 8) ∷ []) 16 }
+    ensures not_touched { Touched (fragment 1 true (range_with_len 1 8) ∷ []) 17 → ⊥ }
 {}

@@ -90,7 +90,7 @@ fn all_of_a_repeat_and_its_end(rt: HostRuntime) {
 }
 
 #[test]
-fn all_but_one_beyond_the_end(rt: HostRuntime) {
+fn all_but_one_beyond_the_end(rt: HostRuntime) -> Result<(), Fail> {
     let mut buf = empty(&rt);
     let all = [
         (offset(&rt, 4), true, &ZEROS[..0]),
@@ -110,6 +110,8 @@ fn all_but_one_beyond_the_end(rt: HostRuntime) {
             conflicting_end
         })
     );
+    assert!(rt; buf.try_clone()? == buf);
+    Ok(())
 }
 
 #[test]
