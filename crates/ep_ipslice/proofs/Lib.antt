@@ -7,6 +7,7 @@ mod Ipv4Parts
 mod Ipv6At
 mod Ipv6Parts
 mod Left
+mod Placed
 mod SamePayloads
 mod SameViews
 mod ViewWalk

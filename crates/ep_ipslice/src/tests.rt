@@ -1,4 +1,5 @@
 mod errors;
+mod header_and_body;
 mod packets;
 mod refusals;
 mod views;

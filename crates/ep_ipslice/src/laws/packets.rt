@@ -1,12 +1,13 @@
 //! Laws of the definitions of IP packets.
 ghost use Rattle.std.specs.Prelude.{◌≡◌, ◌↔◌, ◌<◌, ◌≤◌, ◌+◌, ◌^◌, ℕ, List, [], ◌∷◌, ◌++◌, length, None, Some, Ok, Err, IsOkAnd, false, replicate};
-ghost use Rattle.std.specs.Option.{option_map};
+ghost use Rattle.std.specs.Option.{option_map, option_map_or};
 ghost use Rattle.ep_ip.specs.Ipv6.{next_header_of};
 ghost use Rattle.ep_ip.specs.Skip.{is_skipped};
 ghost use Rattle.ep_base.specs.declared.len_source.LenSource.{LenSource};
-ghost use Rattle.ep_ext.specs.Chain.{Chain, Fault, fault_of};
-ghost use Rattle.ep_ext.specs.Place.{KeepsNumbers, Order};
-ghost use Rattle.ep_ext.specs.Value.{Piece};
+ghost use Rattle.ep_ext.specs.Chain.{Chain, Fault, Row, fault_of};
+ghost use Rattle.ep_ext.specs.Fragment.{fragments};
+ghost use Rattle.ep_ext.specs.Place.{KeepsNumbers, Order, place_of};
+ghost use Rattle.ep_ext.specs.Value.{Piece, bytes_of, value_of};
 ghost use Rattle.ep_ext.specs.declared.net.ipv6_ext_place.Ipv6ExtPlace.TheVariants as place;
 ghost use Rattle.ep_ipslice.specs.FaultPlace.{ip_place, ipv4_place, ipv6_place};
 ghost use Rattle.ep_ipslice.specs.IpSlice.{IsIpFault, IsIpFaultIn, IsWhole};
@@ -17,7 +18,7 @@ ghost use Rattle.ep_ipslice.specs.Ipv6Fault.{IsFaultIn, IsIpv6Fault, IsRowFault,
 ghost use Rattle.ep_ipslice.specs.declared.err.ip.slice_error.SliceError.{SliceError as IpFault};
 ghost use Rattle.ep_ipslice.specs.declared.err.ipv4.slice_error.SliceError.{SliceError as Ipv4Fault};
 ghost use Rattle.ep_ipslice.specs.declared.err.ipv6.slice_error.SliceError.{SliceError as Ipv6Fault};
-ghost use Rattle.ep_ipslice.specs.Ipv6Exts.{view_order};
+ghost use Rattle.ep_ipslice.specs.Ipv6Exts.{is_any_fragmenting, view_order};
 ghost use Rattle.ep_ipslice.specs.Packet.{Ipv4Packet, Ipv6Packet, IsIpv4Packet, IsIpv6Body, IsIpv6Packet, body_len, fragment_fields, ipv4_fragment_fields, ipv6_fragment_fields};
 
 use crate::{IpSlice, Ipv4Slice, Ipv6Slice};
@@ -73,6 +74,14 @@ pub fn packets_are_their_parts(slice: &[u8])
     let _ipv4 = Ipv4Slice::from_slice(slice);
     let _ipv6 = Ipv6Slice::from_slice(slice);
 }
+
+/// Headers in a row, each at a place of its own, are headers in a row of a view, with the same bytes. One
+/// of these is that of a part of a message where the fragment header of a value is.
+pub fn placed_rows_are_views()
+    ensures { (first : ℕ) (pieces : List Piece) (last : ℕ) → Row place_of [] first pieces last
+        → (q : List Piece) × Row view_order [] first q last × (bytes_of q ≡ bytes_of pieces)
+        × (is_any_fragmenting q ≡ option_map_or fragments (value_of pieces).fragment false) }
+{}
 
 /// Headers in a row in front of a rest, as far as the order has a place for one, are those that are found
 /// one by one.
