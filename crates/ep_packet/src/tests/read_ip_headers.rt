@@ -47,12 +47,18 @@ fn extension_header_cut_off(rt: HostRuntime) {
     assert!(rt; refused == Some(HeadersSliceError::Len(want)));
 }
 
+// The number behind the headers, if there are any.
+fn number_behind(packet: &[u8]) -> Option<IpNumber> {
+    match IpHeaders::from_ipv6_slice(packet) {
+        Ok((_, payload)) => Some(payload.ip_number),
+        Err(_) => None,
+    }
+}
+
 // A second fragment header ends the headers, since a value holds one.
 #[test]
 fn second_fragment_header(rt: HostRuntime) {
-    let packet = ipv6_packet(44);
-    let payload = IpHeaders::from_ipv6_slice(&packet).map(|(_, payload)| payload.ip_number);
-    assert!(rt; payload == Ok(IpNumber(44)));
+    assert!(rt; number_behind(&ipv6_packet(44)) == Some(IpNumber(44)));
 }
 
 #[test]
