@@ -63,14 +63,14 @@ impl Eq for IpDefragBuf {
 
 // Writes bytes at a place, over those that are there, and 0 at each new place before it. There is memory
 // for them.
-fn write_at(data: &mut Vec<u8>, start: usize, bytes: &[u8])
-    requires room { start + length bytes.now ≤ vec_capacity data.old }
+fn write_at(buffer: &mut Vec<u8>, start: usize, bytes: &[u8])
+    requires room { start + length bytes.now ≤ vec_capacity buffer.old }
     requires fits { start + length bytes.now ≤ 65535 }
-    ensures { Writes data.old.items data.new.items start bytes.now }
+    ensures { Writes buffer.old.items buffer.new.items start bytes.now }
 {
     let end = start + bytes.len();
-    data.resize(data.len().max(end), 0).unwrap();
-    data[start..end].copy_from_slice(bytes);
+    buffer.resize(buffer.len().max(end), 0).unwrap();
+    buffer[start..end].copy_from_slice(bytes);
 }
 
 // Adds a range to sections that are apart: it and those that it comes to touch are one. There is memory for

@@ -10,7 +10,7 @@ returns-clause-accepted c fs shows =
     let had = subst (λ (b : Contents). Shows b fs) (sym c.self.view_is) shows in
     elim c.if-not-more_fragments.branch [
       | then-not-more_fragments w ↦ subst (λ (b : Contents). Shows b (fs ++ fragment c.args.offset c.args.more_fragments c.args.bytes.now ∷ [])) (sym w.self-is)
-          (shows_add _ _ fs (fragment c.args.offset c.args.more_fragments c.args.bytes.now) c.try_reserve.new.self.items c.write_at.new.«data».items c.try_reserve-else-is_err.new.self.items c.from.result c.byte_offset-start.result c.in_ok-end.end had record {
+          (shows_add _ _ fs (fragment c.args.offset c.args.more_fragments c.args.bytes.now) c.try_reserve.new.self.items c.write_at.new.buffer.items c.try_reserve-else-is_err.new.self.items c.from.result c.byte_offset-start.result c.in_ok-end.end had record {
             checked = c.in_ok-end.ensures;
             same_bytes = c.try_reserve.ensures.items;
             same_sections = c.try_reserve-else-is_err.ensures.items;
@@ -21,7 +21,7 @@ returns-clause-accepted c fs shows =
             cut = inr (w.if-not-more_fragments.true, rw c.from-len.ensures at w.truncate.ensures.items, refl);
           })
       | else-not-more_fragments w ↦ subst (λ (b : Contents). Shows b (fs ++ fragment c.args.offset c.args.more_fragments c.args.bytes.now ∷ [])) (sym w.self-is)
-          (shows_add _ _ fs (fragment c.args.offset c.args.more_fragments c.args.bytes.now) c.try_reserve.new.self.items c.write_at.new.«data».items c.try_reserve-else-is_err.new.self.items c.from.result c.byte_offset-start.result c.in_ok-end.end had record {
+          (shows_add _ _ fs (fragment c.args.offset c.args.more_fragments c.args.bytes.now) c.try_reserve.new.self.items c.write_at.new.buffer.items c.try_reserve-else-is_err.new.self.items c.from.result c.byte_offset-start.result c.in_ok-end.end had record {
             checked = c.in_ok-end.ensures;
             same_bytes = c.try_reserve.ensures.items;
             same_sections = c.try_reserve-else-is_err.ensures.items;
@@ -35,7 +35,7 @@ returns-clause-accepted c fs shows =
 
 pub invariant_of-self-then-not-more_fragments : goal.invariant_of-self-then-not-more_fragments
 invariant_of-self-then-not-more_fragments c =
-    picture_add _ _ (fragment c.args.offset c.args.more_fragments c.args.bytes.now) c.try_reserve.new.self.items c.write_at.new.«data».items c.try_reserve-else-is_err.new.self.items c.from.result c.byte_offset-start.result c.in_ok-end.end c.self.invariant record {
+    picture_add _ _ (fragment c.args.offset c.args.more_fragments c.args.bytes.now) c.try_reserve.new.self.items c.write_at.new.buffer.items c.try_reserve-else-is_err.new.self.items c.from.result c.byte_offset-start.result c.in_ok-end.end c.self.invariant record {
       checked = c.in_ok-end.ensures;
       same_bytes = c.try_reserve.ensures.items;
       same_sections = c.try_reserve-else-is_err.ensures.items;
@@ -48,7 +48,7 @@ invariant_of-self-then-not-more_fragments c =
 
 pub invariant_of-self-else-not-more_fragments : goal.invariant_of-self-else-not-more_fragments
 invariant_of-self-else-not-more_fragments c =
-    picture_add _ _ (fragment c.args.offset c.args.more_fragments c.args.bytes.now) c.try_reserve.new.self.items c.write_at.new.«data».items c.try_reserve-else-is_err.new.self.items c.from.result c.byte_offset-start.result c.in_ok-end.end c.self.invariant record {
+    picture_add _ _ (fragment c.args.offset c.args.more_fragments c.args.bytes.now) c.try_reserve.new.self.items c.write_at.new.buffer.items c.try_reserve-else-is_err.new.self.items c.from.result c.byte_offset-start.result c.in_ok-end.end c.self.invariant record {
       checked = c.in_ok-end.ensures;
       same_bytes = c.try_reserve.ensures.items;
       same_sections = c.try_reserve-else-is_err.ensures.items;
