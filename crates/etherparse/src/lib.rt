@@ -3,5 +3,3 @@
 
 pub mod defrag;
 pub mod laws;
-#[cfg(test)]
-mod tests;

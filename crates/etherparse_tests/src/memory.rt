@@ -1,8 +1,8 @@
 //! Want of memory. To be run with each allocation failing in turn, too: then one of the calls wants
 //! memory and leaves its buffer as it was, and the next one gets it.
 
-use super::fragments::{ZEROS, empty, holds, offset};
-use crate::defrag::IpDefragError;
+use crate::fragments::{ZEROS, empty, holds, offset};
+use etherparse::defrag::IpDefragError;
 use std::test::*;
 
 #[test]

@@ -1,7 +1,7 @@
 //! Fragments of no honest sender.
 
-use super::fragments::{add_zeros, completes, empty, holds, is_one_section, offset};
-use crate::defrag::IpDefragError;
+use crate::fragments::{add_zeros, completes, empty, holds, is_one_section, offset};
+use etherparse::defrag::IpDefragError;
 use std::test::*;
 
 const ONES: [u8; 32] = [1; 32];
@@ -26,7 +26,7 @@ fn open_places_are_zero(rt: HostRuntime) {
     let mut buf = empty(&rt);
     assert!(rt; buf.add(offset(&rt, 2), true, &ONES).is_ok());
     let (bytes, sections) = buf.take_bufs();
-    let mut buf = crate::defrag::IpDefragBuf::new(ep_base::IpNumber::UDP, bytes, sections);
+    let mut buf = etherparse::defrag::IpDefragBuf::new(ep_base::IpNumber::UDP, bytes, sections);
     assert!(rt; buf.add(offset(&rt, 1), true, &TWOS[..8]).is_ok());
     assert!(rt; holds(&buf, &[0, 0, 0, 0, 0, 0, 0, 0, 2, 2, 2, 2, 2, 2, 2, 2]));
 }

@@ -1,6 +1,6 @@
 //! Ranges of places.
 
-use crate::defrag::IpFragRange;
+use etherparse::defrag::IpFragRange;
 use std::test::*;
 
 fn merged(a: (u16, u16), b: (u16, u16)) -> Option<(u16, u16)> {

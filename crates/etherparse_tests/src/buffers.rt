@@ -1,8 +1,8 @@
 //! Messages put together, with memory enough.
 
-use super::fragments::{ZEROS, add_zeros, completes, empty, holds, is_one_section, offset};
-use crate::defrag::IpDefragError;
+use crate::fragments::{ZEROS, add_zeros, completes, empty, holds, is_one_section, offset};
 use ep_base::IpNumber;
+use etherparse::defrag::IpDefragError;
 use std::test::*;
 
 #[test]
@@ -132,7 +132,7 @@ fn buffers_serve_again(rt: HostRuntime) {
     assert!(rt; completes(&rt, &mut buf, 0, false, 9));
     let (bytes, sections) = buf.take_bufs();
     assert!(rt; bytes.len() == 9);
-    let mut again = crate::defrag::IpDefragBuf::new(IpNumber::TCP, bytes, sections);
+    let mut again = etherparse::defrag::IpDefragBuf::new(IpNumber::TCP, bytes, sections);
     assert!(rt; again.data().is_empty());
     assert!(rt; again.sections().is_empty());
     assert!(rt; !completes(&rt, &mut again, 1, true, 8));

@@ -1,7 +1,7 @@
 //! Fragments and buffers, as the tests make them.
 
-use crate::defrag::{IpDefragBuf, IpDefragError};
 use ep_base::{IpFragOffset, IpNumber};
+use etherparse::defrag::{IpDefragBuf, IpDefragError};
 use std::process::Abort;
 use std::test::*;
 

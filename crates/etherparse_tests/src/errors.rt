@@ -1,7 +1,7 @@
 //! Why fragments are refused: the texts and their order.
 
-use super::fragments::offset;
-use crate::defrag::IpDefragError;
+use crate::fragments::offset;
+use etherparse::defrag::IpDefragError;
 use std::alloc::AllocError;
 use std::test::*;
 

@@ -1,0 +1,16 @@
+//! Tests of `etherparse` over its public calls. They stand in a crate of their own, so that they are proved
+//! beside it and not with each of its functions once more.
+#![tactic(auto)]
+
+#[cfg(test)]
+mod buffers;
+#[cfg(test)]
+mod errors;
+#[cfg(test)]
+mod fragments;
+#[cfg(test)]
+mod hostile;
+#[cfg(test)]
+mod memory;
+#[cfg(test)]
+mod ranges;
