@@ -1,3 +1,4 @@
+mod Agreement
 mod ClassLemmas
 mod FaultLemmas
 mod FoundLemmas

@@ -1,6 +1,8 @@
 //! Laws: functions that do nothing, and whose contracts are what the definitions promise.
 
+mod headers;
 mod readable;
 pub mod traits;
 
+pub use headers::ipv6_headers_agree_with_view;
 pub use readable::{messages_by_hand, readable_messages};

@@ -5,6 +5,7 @@ use crate::laws;
 fn laws_are_called() {
     laws::readable_messages(&[]);
     laws::messages_by_hand();
+    laws::ipv6_headers_agree_with_view(&[]);
     laws::traits::copies_are_values();
     laws::traits::copies_of_ip_headers_are_values();
     laws::traits::copies_of_net_are_values();
