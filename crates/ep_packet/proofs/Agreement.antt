@@ -1,5 +1,5 @@
 -- Headers of an IPv6 packet as values beside its view.
-use Rattle.std.proofs.Common.{◌≡◌, ◌∙◌, ℕ, ◌-◌, false, List, [], ◌++◌, length, refl, sym, ap, subst, append_assoc, length-append}
+use Rattle.std.proofs.Common.{◌≡◌, ◌∙◌, ℕ, false, List, [], ◌++◌, length, refl, sym, ap, append_assoc, length-append}
 use Rattle.std.specs.Option.{option_map_or}
 use Rattle.ep_ext.specs.Chain.{Row}
 use Rattle.ep_ext.specs.Follow.{has_place}
@@ -9,7 +9,7 @@ use Rattle.ep_ext.specs.Value.{Piece, bytes_of, value_of}
 use Rattle.ep_ext.specs.declared.net.ipv6_extensions.Ipv6Extensions.{Ipv6Extensions}
 use Rattle.ep_ip.specs.Ipv6.{header_of, next_header_of}
 use Rattle.ep_ipslice.specs.Ipv6Exts.{exts_of, is_any_fragmenting, view_order}
-use Rattle.ep_ipslice.specs.Packet.{IpPayload, Ipv6Packet, IsIpv6Packet, body_source}
+use Rattle.ep_ipslice.specs.Packet.{IpPayload, Ipv6Packet, IsIpv6Packet}
 use Rattle.ep_packet.specs.IpHeaders.{is_fragmenting}
 use Rattle.ep_packet.specs.ReadIpHeaders.{IsIpv6Headers}
 use Rattle.ep_packet.specs.declared.net.ip_headers.IpHeaders.{IpHeaders}
@@ -48,8 +48,7 @@ pub agree : (bytes : List ℕ) → PlacedAreViews → ((p q : Ipv6Packet) → Is
 agree bytes placed alone packet headers payload begins is none =
     let q = placed (next_header_of is.header) is.pieces is.last is.chain.row in
     let mine : Ipv6Packet = record { header = is.header; exts = exts_of (next_header_of is.header) q.0; payload = payload } in
-    let same : mine ≡ packet = alone mine packet (view_is bytes headers payload is q.0 q.1 q.2 q.3 none) begins in
-    (
+    let same : mine ≡ packet = alone mine packet (view_is bytes headers payload is q.0 q.1 q.2 q.3 none) begins in (
       ap (λ (p : Ipv6Packet). p.payload) same,
       (value_of is.pieces, is.value ∙ ap (λ (p : Ipv6Packet). ip.Ipv6 (header_of p.header) (value_of is.pieces)) same),
     )
