@@ -1,4 +1,5 @@
 pub mod Class
+pub mod Examples
 pub mod HeaderLayers
 pub mod HeadersWriteError
 pub mod IpHeaders

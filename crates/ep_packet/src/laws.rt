@@ -2,6 +2,7 @@
 
 mod headers;
 mod readable;
+pub mod sliced;
 pub mod traits;
 
 pub use headers::ipv6_headers_agree_with_view;

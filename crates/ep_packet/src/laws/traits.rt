@@ -9,7 +9,9 @@ ghost use Rattle.ep_packet.specs.declared.payload_slice.PayloadSlice.{PayloadSli
 
 use crate::err::ip::HeadersWriteError;
 use crate::err::packet::{SliceError, TransportChecksumError};
-use crate::{IpHeaders, NetHeaders, NetSlice, PayloadSlice, TransportHeader, TransportSlice};
+use crate::{
+    IpHeaders, NetHeaders, NetSlice, PayloadSlice, SlicedPacket, TransportHeader, TransportSlice,
+};
 
 /// A copy is the value: of a header its fields, of a slice its bytes.
 pub fn copies_are_values<'a>()
@@ -36,6 +38,16 @@ pub fn copies_of_net_are_values<'a>()
     ep_ip::laws::traits::copies_are_values();
     ep_ext::laws::traits::copies_are_values();
     ep_link::laws::traits::copies_are_values();
+}
+
+/// So is a copy of the parts of a packet.
+pub fn copies_of_packets_are_values<'a>()
+    ensures { CopyIsValue ⟦<SlicedPacket<'a> as Clone>⟧.is_clone }
+{
+    copies_are_values();
+    copies_of_net_are_values();
+    ep_link::laws::traits::copies_are_values();
+    ep_tag::laws::traits::copies_are_values();
 }
 
 /// To copy one of these takes no memory and doesn't fail.

@@ -6,9 +6,17 @@ fn laws_are_called() {
     laws::readable_messages(&[]);
     laws::messages_by_hand();
     laws::ipv6_headers_agree_with_view(&[]);
+    laws::sliced::types_of_tags();
+    laws::sliced::classes_by_hand();
+    laws::sliced::ipv6_classes_by_hand();
+    laws::sliced::tags_by_hand();
+    laws::sliced::faults_by_hand();
+    laws::sliced::views_by_hand();
+    laws::sliced::lengths_by_hand();
     laws::traits::copies_are_values();
     laws::traits::copies_of_ip_headers_are_values();
     laws::traits::copies_of_net_are_values();
+    laws::traits::copies_of_packets_are_values();
     laws::traits::copies_never_fail();
     laws::traits::equals_are_same();
     laws::traits::equal_net_is_same();

@@ -1,0 +1,82 @@
+-- Frames from outside, at which laws state the definitions' values (IEEE 802.3, 802.1Q and 802.1AE; RFC
+-- 768, 791, 826 and 8200).
+use Rattle.std.specs.Prelude.{ℕ, List, [], ◌∷◌, ◌++◌, None}
+use Rattle.ep_base.specs.declared.len_source.LenSource.TheVariants.{Slice}
+use Rattle.ep_ipslice.specs.Packet.{Ipv4Packet}
+use Rattle.ep_packet.specs.Class.{Addresses}
+use Rattle.ep_packet.specs.Class.Addresses.{V4}
+use Rattle.ep_tag.specs.Ether.{EtherPayload}
+
+-- the addresses of a frame
+abbrev pub frame_addresses : List ℕ
+frame_addresses = 2 ∷ 0 ∷ 0 ∷ 0 ∷ 0 ∷ 2 ∷ 2 ∷ 0 ∷ 0 ∷ 0 ∷ 0 ∷ 1 ∷ []
+
+-- a UDP message without payload, from port 1 to port 2
+abbrev pub udp_message : List ℕ
+udp_message = 0 ∷ 1 ∷ 0 ∷ 2 ∷ 0 ∷ 8 ∷ 0 ∷ 0 ∷ []
+
+-- the IPv4 header of an uncut UDP message of eight bytes, from 10.0.0.1 to 10.0.0.2
+abbrev pub ipv4_header : List ℕ
+ipv4_header = 0x45 ∷ 0 ∷ 0 ∷ 28 ∷ 0 ∷ 7 ∷ 0 ∷ 0 ∷ 64 ∷ 17 ∷ 0 ∷ 0 ∷ 10 ∷ 0 ∷ 0 ∷ 1 ∷ 10 ∷ 0 ∷ 0 ∷ 2 ∷ []
+
+abbrev pub ipv4_packet : Ipv4Packet
+ipv4_packet = record { header = ipv4_header; auth = None; payload = udp_message }
+
+abbrev pub ipv4_addresses : Addresses
+ipv4_addresses = V4 (10 ∷ 0 ∷ 0 ∷ 1 ∷ []) (10 ∷ 0 ∷ 0 ∷ 2 ∷ [])
+
+-- that of eight bytes of one from byte 24 on, identification 0102, more fragments
+abbrev pub ipv4_fragment_header : List ℕ
+ipv4_fragment_header = 0x45 ∷ 0 ∷ 0 ∷ 28 ∷ 1 ∷ 2 ∷ 0x20 ∷ 3 ∷ 64 ∷ 17 ∷ 0 ∷ 0 ∷ 10 ∷ 0 ∷ 0 ∷ 1 ∷ 10 ∷ 0 ∷ 0 ∷ 2 ∷ []
+
+abbrev pub eight_bytes : List ℕ
+eight_bytes = 1 ∷ 2 ∷ 3 ∷ 4 ∷ 5 ∷ 6 ∷ 7 ∷ 8 ∷ []
+
+-- a VLAN tag with identifier 5 in front of the uncut message
+abbrev pub whole_frame : List ℕ
+whole_frame = frame_addresses ++ 0x81 ∷ 0 ∷ 0 ∷ 5 ∷ 8 ∷ 0 ∷ [] ++ ipv4_header ++ udp_message
+
+-- tags with identifiers 5, of priority 1, and 9 in front of the part
+abbrev pub cut_frame : List ℕ
+cut_frame = frame_addresses ++ 0x88 ∷ 0xa8 ∷ 0x20 ∷ 5 ∷ 0x81 ∷ 0 ∷ 0 ∷ 9 ∷ 8 ∷ 0 ∷ [] ++ ipv4_fragment_header ++ eight_bytes
+
+abbrev pub ipv6_source : List ℕ
+ipv6_source = 0xfd ∷ 0 ∷ 0 ∷ 0 ∷ 0 ∷ 0 ∷ 0 ∷ 0 ∷ 0 ∷ 0 ∷ 0 ∷ 0 ∷ 0 ∷ 0 ∷ 0 ∷ 1 ∷ []
+
+abbrev pub ipv6_destination : List ℕ
+ipv6_destination = 0xfd ∷ 0 ∷ 0 ∷ 0 ∷ 0 ∷ 0 ∷ 0 ∷ 0 ∷ 0 ∷ 0 ∷ 0 ∷ 0 ∷ 0 ∷ 0 ∷ 0 ∷ 2 ∷ []
+
+-- an IPv6 header with this payload length, and a fragment header behind it
+abbrev pub ipv6_header : ℕ → List ℕ
+ipv6_header payload_len = 0x60 ∷ 0 ∷ 0 ∷ 0 ∷ 0 ∷ payload_len ∷ 44 ∷ 64 ∷ ipv6_source ++ ipv6_destination
+
+-- fragment headers: of a message that isn't cut, with another fragment header behind it; and of a part
+-- from byte 8 on, identification 01020304, more fragments
+abbrev pub atomic_fragment : List ℕ
+atomic_fragment = 44 ∷ 0 ∷ 0 ∷ 0 ∷ 0 ∷ 0 ∷ 0 ∷ 7 ∷ []
+
+abbrev pub second_fragment : List ℕ
+second_fragment = 17 ∷ 0 ∷ 0 ∷ 9 ∷ 1 ∷ 2 ∷ 3 ∷ 4 ∷ []
+
+abbrev pub ipv6_cut_frame : List ℕ
+ipv6_cut_frame = frame_addresses ++ 0x86 ∷ 0xdd ∷ [] ++ ipv6_header 16 ++ second_fragment ++ eight_bytes
+
+abbrev pub ipv6_other_frame : List ℕ
+ipv6_other_frame = frame_addresses ++ 0x86 ∷ 0xdd ∷ [] ++ ipv6_header 24 ++ atomic_fragment ++ second_fragment ++ eight_bytes
+
+-- VLAN tags with identifiers 4 to 1, each in front of the one before
+abbrev pub tag_4 : List ℕ
+tag_4 = 0 ∷ 4 ∷ 8 ∷ 0 ∷ []
+
+abbrev pub tag_3 : List ℕ
+tag_3 = 0 ∷ 3 ∷ 0x81 ∷ 0 ∷ tag_4
+
+abbrev pub tag_2 : List ℕ
+tag_2 = 0 ∷ 2 ∷ 0x91 ∷ 0 ∷ tag_3
+
+abbrev pub tag_1 : List ℕ
+tag_1 = 0 ∷ 1 ∷ 0x88 ∷ 0xa8 ∷ tag_2
+
+-- bytes behind the ether type of a VLAN tag
+abbrev pub vlan_named : List ℕ → EtherPayload
+vlan_named bytes = record { ether_type = record { 0 = 0x8100 }; len_source = Slice; payload = bytes }

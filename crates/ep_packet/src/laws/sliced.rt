@@ -1,0 +1,153 @@
+//! Laws of the parts of a frame at frames from outside: the answers were worked out by hand after IEEE
+//! 802.3, 802.1Q and 802.1AE and RFC 768, 791, 826 and 8200, so that a definition can't change with the
+//! code.
+ghost use Rattle.std.specs.Prelude.{◌≡◌, [], ◌∷◌, ◌++◌, true, false, Ok, Err, Some, None};
+ghost use Rattle.ep_base.specs.declared.err.layer.Layer.TheVariants as layer;
+ghost use Rattle.ep_base.specs.declared.len_source.LenSource.TheVariants as source;
+ghost use Rattle.ep_link.specs.declared.link.link_slice.LinkSlice.TheVariants as link;
+ghost use Rattle.ep_packet.specs.Class.{class_of};
+ghost use Rattle.ep_packet.specs.Class.Addresses.{V6};
+ghost use Rattle.ep_packet.specs.Class.Class.{Cut, Other, Refused, Whole};
+ghost use Rattle.ep_packet.specs.Examples.{cut_frame, eight_bytes, frame_addresses, ipv4_addresses, ipv4_header, ipv4_packet, ipv6_cut_frame, ipv6_destination, ipv6_other_frame, ipv6_source, tag_1, tag_2, tag_3, tag_4, udp_message, vlan_named, whole_frame};
+ghost use Rattle.ep_packet.specs.PacketView.{last_payload, source_behind, vlan_of};
+ghost use Rattle.ep_packet.specs.Parts.{headers_len, tags_len};
+ghost use Rattle.ep_packet.specs.Readable.ReadMessage.{Udp};
+ghost use Rattle.ep_packet.specs.SliceFault.{bounded_by, moved, within};
+ghost use Rattle.ep_packet.specs.Tags.{is_macsec_type, is_vlan_type, tags_in, vlan_ids_of};
+ghost use Rattle.ep_packet.specs.declared.err.packet.slice_error.SliceError.TheVariants as slice_error;
+ghost use Rattle.ep_packet.specs.declared.net.net_slice.NetSlice.TheVariants as net;
+ghost use Rattle.ep_tag.specs.MacsecPayload.MacsecPayload.{Modified};
+ghost use Rattle.ep_tag.specs.declared.link.link_ext_slice.LinkExtSlice.TheVariants as tag;
+ghost use Rattle.ep_tag.specs.declared.link.vlan_slice.VlanSlice.TheVariants.{DoubleVlan, SingleVlan};
+ghost use Rattle.ep_tcpudp.specs.declared.err.tcp.header_error.HeaderError.TheVariants.{DataOffsetTooSmall};
+
+/// The ether types that name a tag.
+pub fn types_of_tags()
+    ensures customer { is_vlan_type (record { 0 = 33024 }) ≡ true }
+    ensures service { is_vlan_type (record { 0 = 34984 }) ≡ true }
+    ensures double { is_vlan_type (record { 0 = 37120 }) ≡ true }
+    ensures no_vlan { is_vlan_type (record { 0 = 35045 }) ≡ false }
+    ensures macsec { is_macsec_type (record { 0 = 35045 }) ≡ true }
+    ensures no_macsec { is_macsec_type (record { 0 = 33024 }) ≡ false }
+    ensures ipv4_is_no_vlan { is_vlan_type (record { 0 = 2048 }) ≡ false }
+    ensures ipv4_is_no_macsec { is_macsec_type (record { 0 = 2048 }) ≡ false }
+{}
+
+/// What frames are: a UDP message behind a VLAN tag, which tells nothing of the tag; a part of one behind
+/// two tags, which does; an unknown ether type, an ARP packet; a header that is cut off, and a frame of
+/// 13 bytes.
+pub fn classes_by_hand()
+    ensures whole { class_of whole_frame ≡ Whole ipv4_addresses 17 udp_message (Udp udp_message) }
+    ensures part { class_of cut_frame ≡ Cut (record {
+      vlan_ids = 5 ∷ 9 ∷ [];
+      addresses = ipv4_addresses;
+      identification = 258;
+      number = 17;
+    }) 3 true eight_bytes }
+    ensures unknown { class_of (frame_addresses ++ 18 ∷ 52 ∷ []) ≡ Other }
+    ensures arp { class_of (frame_addresses ++ 8 ∷ 6 ∷ 0 ∷ 1 ∷ 8 ∷ 0 ∷ 0 ∷ 0 ∷ 0 ∷ 1 ∷ []) ≡ Other }
+    ensures cut_off { class_of (frame_addresses ++ 8 ∷ 0 ∷ 69 ∷ []) ≡ Refused }
+    ensures too_short { class_of (frame_addresses ++ 8 ∷ []) ≡ Refused }
+{}
+
+/// What frames with IPv6 are: a part of a message, if the first fragment header says so, and something
+/// else where only a later one does.
+pub fn ipv6_classes_by_hand()
+    ensures part { class_of ipv6_cut_frame ≡ Cut (record {
+      vlan_ids = [];
+      addresses = V6 ipv6_source ipv6_destination;
+      identification = 16909060;
+      number = 17;
+    }) 1 true eight_bytes }
+    ensures later { class_of ipv6_other_frame ≡ Other }
+{}
+
+/// Three of four VLAN tags are read; nothing is named behind a modified payload, here an encrypted one;
+/// and the place of a cut-off tag counts from the front of the tag before.
+pub fn tags_by_hand()
+    ensures four { tags_in 3 (vlan_named tag_1) ≡ Ok (record {
+      tags = tag.Vlan tag_1 ∷ tag.Vlan tag_2 ∷ tag.Vlan tag_3 ∷ [];
+      len = 12;
+      last = Some (vlan_named tag_4);
+    }) }
+    ensures modified { tags_in 3 (vlan_named (0 ∷ 5 ∷ 136 ∷ 229 ∷ 12 ∷ 0 ∷ 0 ∷ 0 ∷ 0 ∷ 1 ∷ 9 ∷ [])) ≡ Ok (record {
+      tags = tag.Vlan (0 ∷ 5 ∷ 136 ∷ 229 ∷ 12 ∷ 0 ∷ 0 ∷ 0 ∷ 0 ∷ 1 ∷ 9 ∷ [])
+          ∷ tag.Macsec (record { header = 12 ∷ 0 ∷ 0 ∷ 0 ∷ 0 ∷ 1 ∷ []; payload = Modified (9 ∷ []) }) ∷ [];
+      len = 10;
+      last = None;
+    }) }
+    ensures cut_off { tags_in 3 (vlan_named (0 ∷ 5 ∷ 129 ∷ 0 ∷ 0 ∷ 6 ∷ [])) ≡ Err (slice_error.Len (record {
+      required_len = 4;
+      len = 2;
+      len_source = source.Slice;
+      layer = layer.VlanHeader;
+      layer_start_offset = 4;
+    })) }
+    ensures ids { vlan_ids_of (tag.Vlan tag_1 ∷ tag.Macsec (record { header = []; payload = Modified [] }) ∷ tag.Vlan tag_2 ∷ [])
+        ≡ 1 ∷ 2 ∷ [] }
+{}
+
+/// A want of bytes seen from 14 bytes earlier, and within what bounds it; a fault of the content is the
+/// same.
+pub fn faults_by_hand()
+    ensures moved { moved 14 (slice_error.Len (record {
+      required_len = 4;
+      len = 2;
+      len_source = source.Slice;
+      layer = layer.VlanHeader;
+      layer_start_offset = 8;
+    })) ≡ slice_error.Len (record {
+      required_len = 4;
+      len = 2;
+      len_source = source.Slice;
+      layer = layer.VlanHeader;
+      layer_start_offset = 22;
+    }) }
+    ensures content { moved 14 (slice_error.Tcp (DataOffsetTooSmall 4)) ≡ slice_error.Tcp (DataOffsetTooSmall 4) }
+    ensures within { within source.Ipv4HeaderTotalLen (slice_error.Len (record {
+      required_len = 8;
+      len = 7;
+      len_source = source.Slice;
+      layer = layer.UdpHeader;
+      layer_start_offset = 0;
+    })) ≡ slice_error.Len (record {
+      required_len = 8;
+      len = 7;
+      len_source = source.Ipv4HeaderTotalLen;
+      layer = layer.UdpHeader;
+      layer_start_offset = 0;
+    }) }
+    ensures outer { bounded_by source.Ipv6HeaderPayloadLen source.Slice ≡ source.Ipv6HeaderPayloadLen }
+    ensures own { bounded_by source.Ipv4HeaderTotalLen source.UdpHeaderLen ≡ source.UdpHeaderLen }
+{}
+
+/// What a packet tells of its tags: the first two VLAN tags, what bounds the bytes behind them, and what
+/// the last ether type names.
+pub fn views_by_hand()
+    ensures no_vlan { vlan_of [] ≡ None }
+    ensures single { vlan_of (tag_1 ∷ []) ≡ Some (SingleVlan tag_1) }
+    ensures double { vlan_of (tag_1 ∷ tag_2 ∷ tag_3 ∷ []) ≡ Some (DoubleVlan (record { outer = tag_1; inner = tag_2 })) }
+    ensures slice { source_behind (tag.Vlan tag_1 ∷ tag.Macsec (record { header = 0 ∷ 0 ∷ 0 ∷ 0 ∷ 0 ∷ 1 ∷ 8 ∷ 0 ∷ []; payload = Modified [] }) ∷ [])
+        ≡ source.Slice }
+    ensures short_length { source_behind (tag.Macsec (record { header = 0 ∷ 6 ∷ 0 ∷ 0 ∷ 0 ∷ 1 ∷ 8 ∷ 0 ∷ []; payload = Modified [] }) ∷ tag.Vlan tag_1 ∷ [])
+        ≡ source.MacsecShortLength }
+    ensures no_link { last_payload None [] ≡ None }
+    ensures link { last_payload (Some (link.EtherPayload (vlan_named tag_1))) [] ≡ Some (vlan_named tag_1) }
+    ensures last_tag { last_payload (Some (link.EtherPayload (vlan_named tag_2))) (tag.Vlan tag_2 ∷ tag.Vlan tag_3 ∷ [])
+        ≡ Some (vlan_named tag_4) }
+{}
+
+/// How long the parts are in front of a payload.
+pub fn lengths_by_hand()
+    ensures no_tags { tags_len [] ≡ 0 }
+    ensures tags { tags_len (tag.Vlan tag_1 ∷ tag.Macsec (record { header = 0 ∷ 0 ∷ 0 ∷ 0 ∷ 0 ∷ 1 ∷ 8 ∷ 0 ∷ []; payload = Modified [] }) ∷ [])
+        ≡ 12 }
+    ensures no_headers { headers_len None ≡ 0 }
+    ensures ipv4 { headers_len (Some (net.Ipv4 ipv4_packet)) ≡ 20 }
+    ensures auth { headers_len (Some (net.Ipv4 (record {
+      header = ipv4_header;
+      auth = Some (17 ∷ 1 ∷ 0 ∷ 0 ∷ eight_bytes);
+      payload = [];
+    }))) ≡ 32 }
+    ensures arp { headers_len (Some (net.Arp (0 ∷ 1 ∷ 8 ∷ 0 ∷ 0 ∷ 0 ∷ 0 ∷ 1 ∷ []))) ≡ 8 }
+{}
