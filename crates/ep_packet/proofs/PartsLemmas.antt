@@ -113,7 +113,7 @@ ipv4_in bytes packet is =
     let auth = auth_bytes packet.auth in
     let parts = is.cut in (
       at_parts bytes [] packet.header (auth ++ packet.payload ++ is.padding) 0 refl
-      (parts ∙ ap (λ (xs : List ℕ). xs ++ is.padding) (append_assoc packet.header auth packet.payload) ∙ append_assoc packet.header (auth ++ packet.payload) is.padding),
+          (parts ∙ ap (λ (xs : List ℕ). xs ++ is.padding) (append_assoc packet.header auth packet.payload) ∙ append_assoc packet.header (auth ++ packet.payload) is.padding),
       at_parts bytes packet.header auth (packet.payload ++ is.padding) (0 + length packet.header) (omega arith) (parts ∙ append_assoc (packet.header ++ auth) packet.payload is.padding),
       at_parts bytes (packet.header ++ auth) packet.payload is.padding (0 + length packet.header + length auth) (omega (arith, length-append packet.header auth)) parts,
     )
@@ -125,7 +125,7 @@ ipv6_in bytes packet is =
     let same : bytes_of is.pieces ≡ exts = sym (ap (λ (e : Ipv6Exts). e.slice) is.exts) in
     let parts : bytes ≡ packet.header ++ exts ++ payload ++ is.padding = is.cut ∙ ap (λ (xs : List ℕ). packet.header ++ xs ++ payload ++ is.padding) same in (
       at_parts bytes [] packet.header (exts ++ payload ++ is.padding) 0 refl
-      (parts ∙ ap (λ (xs : List ℕ). xs ++ is.padding) (append_assoc packet.header exts payload) ∙ append_assoc packet.header (exts ++ payload) is.padding),
+          (parts ∙ ap (λ (xs : List ℕ). xs ++ is.padding) (append_assoc packet.header exts payload) ∙ append_assoc packet.header (exts ++ payload) is.padding),
       at_parts bytes packet.header exts (payload ++ is.padding) (0 + length packet.header) (omega arith) (parts ∙ append_assoc (packet.header ++ exts) payload is.padding),
       at_parts bytes (packet.header ++ exts) payload is.padding (0 + length packet.header + length exts) (omega (arith, length-append packet.header exts)) parts,
     )

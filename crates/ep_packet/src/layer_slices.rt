@@ -51,9 +51,7 @@ impl<'a> LayerSlices<'a> {
         }
     }
 
-    fn from_ether_payload(
-        payload: &EtherPayloadSlice<'a>,
-    ) -> Result<LayerSlices<'a>, SliceError>
+    fn from_ether_payload(payload: &EtherPayloadSlice<'a>) -> Result<LayerSlices<'a>, SliceError>
         ensures layers { result ≡ layers_of payload.now }
         ensures parts { IfOk result (λ layers. LayersIn payload.now.payload 0 layers) }
         ensures place { IfErr result (λ e. (n : ℕ) → length payload.now.payload + n < 2 ^ 64 → place_of e + n < 2 ^ 64) }
@@ -168,9 +166,7 @@ fn ipv6_headers_len(packet: &Ipv6Slice<'_>) -> usize
 }
 
 // The message that the payload is, unless it is a part of one or its protocol is another.
-fn transport_in<'a>(
-    payload: &IpPayloadSlice<'a>,
-) -> Result<Option<TransportSlice<'a>>, SliceError>
+fn transport_in<'a>(payload: &IpPayloadSlice<'a>) -> Result<Option<TransportSlice<'a>>, SliceError>
     ensures message { result ≡ transport_in payload.now }
     ensures parts { IfOk result (λ o. IfSome o (λ message. IsAt payload.now.payload 0 (transport_bytes message))) }
     ensures place { IfErr result (λ e. place_of e ≡ 0) }

@@ -80,7 +80,9 @@ fn tag_of<'a>(payload: &EtherPayloadSlice<'a>) -> Result<Option<LinkExtSlice<'a>
     match payload.ether_type {
         EtherType::VLAN_TAGGED_FRAME
         | EtherType::PROVIDER_BRIDGING
-        | EtherType::VLAN_DOUBLE_TAGGED_FRAME => match SingleVlanSlice::from_slice(payload.payload) {
+        | EtherType::VLAN_DOUBLE_TAGGED_FRAME => match SingleVlanSlice::from_slice(
+            payload.payload,
+        ) {
             Ok(vlan) => Ok(Some(LinkExtSlice::Vlan(vlan))),
             Err(error) => Err(SliceError::Len(error)),
         },

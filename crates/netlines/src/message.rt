@@ -58,10 +58,7 @@ pub fn read_message(ip_number: IpNumber, message: &[u8]) -> Result<Message<'_>, 
 }
 
 /// A message as it was sliced, or all its bytes where nothing is known of its protocol.
-pub(crate) fn message_of<'m>(
-    transport: Option<TransportSlice<'m>>,
-    bytes: &'m [u8],
-) -> Message<'m>
+pub(crate) fn message_of<'m>(transport: Option<TransportSlice<'m>>, bytes: &'m [u8]) -> Message<'m>
     ensures { (p : IpPayload) → p.payload ≡ bytes.now → as_read result ≡ message_told p transport.entry }
 {
     match transport {

@@ -51,13 +51,13 @@ pub loop-count-preserved : goal.loop-count-preserved
 loop-count-preserved c = record {
   count = omega arith;
   so_far =
-    goes_on_some _ c.loop-count.tags.items c.push.new.self.items c.loop-count.len c.header_len-len.result (3 - (c.loop-count._count + 1)) (3 - c.loop-count._count) c.loop-count.rest c.in-Ok-Some.tag c.in-Some.payload
-    c.loop-count.invariant.so_far (omega arith) (sym c.tag_of.ensures.tag ∙ c.in-Ok-Some.is ∙ ap Ok c.in-Ok-Some.field-0-is)
-    c.push.ensures.items c.header_len-len.ensures.len (sym c.ether_payload-next.ensures ∙ c.in-Some.is);
+      goes_on_some _ c.loop-count.tags.items c.push.new.self.items c.loop-count.len c.header_len-len.result (3 - (c.loop-count._count + 1)) (3 - c.loop-count._count) c.loop-count.rest c.in-Ok-Some.tag c.in-Some.payload
+      c.loop-count.invariant.so_far (omega arith) (sym c.tag_of.ensures.tag ∙ c.in-Ok-Some.is ∙ ap Ok c.in-Ok-Some.field-0-is)
+      c.push.ensures.items c.header_len-len.ensures.len (sym c.ether_payload-next.ensures ∙ c.in-Some.is);
   passed =
-    passed_more _ c.loop-count.tags.items c.push.new.self.items c.loop-count.len c.header_len-len.result c.loop-count.rest.payload c.in-Some.payload.payload c.in-Ok-Some.tag c.loop-count.invariant.passed
-    (tag_found c.loop-count.rest.payload c.in-Ok-Some.field-0 c.in-Ok-Some.tag c.in-Ok-Some.ensures.parts c.in-Ok-Some.field-0-is) c.push.ensures.items c.header_len-len.ensures.len
-    (next_at c.loop-count.rest.payload c.in-Ok-Some.tag c.in-Some.payload (tag_found c.loop-count.rest.payload c.in-Ok-Some.field-0 c.in-Ok-Some.tag c.in-Ok-Some.ensures.parts c.in-Ok-Some.field-0-is) (sym c.ether_payload-next.ensures ∙ c.in-Some.is));
+      passed_more _ c.loop-count.tags.items c.push.new.self.items c.loop-count.len c.header_len-len.result c.loop-count.rest.payload c.in-Some.payload.payload c.in-Ok-Some.tag c.loop-count.invariant.passed
+      (tag_found c.loop-count.rest.payload c.in-Ok-Some.field-0 c.in-Ok-Some.tag c.in-Ok-Some.ensures.parts c.in-Ok-Some.field-0-is) c.push.ensures.items c.header_len-len.ensures.len
+      (next_at c.loop-count.rest.payload c.in-Ok-Some.tag c.in-Some.payload (tag_found c.loop-count.rest.payload c.in-Ok-Some.field-0 c.in-Ok-Some.tag c.in-Ok-Some.ensures.parts c.in-Ok-Some.field-0-is) (sym c.ether_payload-next.ensures ∙ c.in-Some.is));
 }
 
 pub returns-clause-tags : goal.returns-clause-tags
