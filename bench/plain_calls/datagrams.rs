@@ -27,9 +27,9 @@ impl Job for UdpDatagrams {
     }
 }
 
-struct Datagram<'a> {
-    header: &'a [u8; HEADER],
-    payload: &'a [u8],
+pub struct Datagram<'a> {
+    pub header: &'a [u8; HEADER],
+    pub payload: &'a [u8],
     len_source: u8,
 }
 
@@ -37,7 +37,7 @@ const HEADER: usize = 8;
 
 impl<'a> Datagram<'a> {
     /// As RFC 768 has it; a length of 0 stands for all bytes (RFC 2675, section 4).
-    fn parse(bytes: &'a [u8]) -> Result<Datagram<'a>, Fault> {
+    pub fn parse(bytes: &'a [u8]) -> Result<Datagram<'a>, Fault> {
         let Some((header, behind)) = bytes.split_first_chunk() else {
             return Err(Fault::Short {
                 needed: HEADER,

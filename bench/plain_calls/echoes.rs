@@ -49,9 +49,9 @@ fn echo(random: &mut Random, type_u8: u8) -> Vec<u8> {
     packet
 }
 
-struct Message<'a> {
-    header: &'a [u8; HEADER],
-    payload: &'a [u8],
+pub struct Message<'a> {
+    pub header: &'a [u8; HEADER],
+    pub payload: &'a [u8],
 }
 
 const HEADER: usize = 8;
@@ -129,7 +129,7 @@ impl Echo {
 }
 
 impl<'a> Message<'a> {
-    fn parse(bytes: &'a [u8]) -> Result<Message<'a>, Fault> {
+    pub fn parse(bytes: &'a [u8]) -> Result<Message<'a>, Fault> {
         let (header, payload) = bytes.split_first_chunk().ok_or(Fault::Short {
             needed: HEADER,
             found: bytes.len(),
@@ -139,7 +139,7 @@ impl<'a> Message<'a> {
     }
 
     /// The same, and timestamp messages have 20 bytes (RFC 792).
-    fn parse_icmpv4(bytes: &'a [u8]) -> Result<Message<'a>, Fault> {
+    pub fn parse_icmpv4(bytes: &'a [u8]) -> Result<Message<'a>, Fault> {
         let message = Message::parse(bytes)?;
         if matches!(message.header, [13 | 14, 0, ..]) && bytes.len() != 20 {
             return Err(Fault::Length(bytes.len()));

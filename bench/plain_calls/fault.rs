@@ -16,6 +16,20 @@ pub enum Fault {
     HopByHopBehindOthers,
 }
 
+impl Fault {
+    /// The same fault of bytes that start so much further on.
+    pub fn moved(self, offset: usize) -> Fault {
+        match self {
+            Fault::Short { needed, found, at } => Fault::Short {
+                needed,
+                found,
+                at: at + offset,
+            },
+            content => content,
+        }
+    }
+}
+
 /// Whether so many bytes are there.
 pub fn need(needed: usize, bytes: &[u8], at: usize) -> Result<(), Fault> {
     let found = bytes.len();

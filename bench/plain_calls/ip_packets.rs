@@ -79,29 +79,29 @@ enum Packet<'a> {
     V6(Ipv6<'a>),
 }
 
-struct Ipv4<'a> {
-    header: &'a [u8],
-    authentication: Option<&'a [u8]>,
-    payload: Payload<'a>,
+pub struct Ipv4<'a> {
+    pub header: &'a [u8],
+    pub authentication: Option<&'a [u8]>,
+    pub payload: Payload<'a>,
 }
 
-struct Ipv6<'a> {
-    header: &'a [u8; IPV6_HEADER],
-    extensions: Extensions<'a>,
-    payload: Payload<'a>,
+pub struct Ipv6<'a> {
+    pub header: &'a [u8; IPV6_HEADER],
+    pub extensions: Extensions<'a>,
+    pub payload: Payload<'a>,
 }
 
-struct Extensions<'a> {
+pub struct Extensions<'a> {
     first: Option<u8>,
     is_fragment: bool,
-    bytes: &'a [u8],
+    pub bytes: &'a [u8],
 }
 
-struct Payload<'a> {
-    number: u8,
-    is_fragment: bool,
+pub struct Payload<'a> {
+    pub number: u8,
+    pub is_fragment: bool,
     source: LenSource,
-    bytes: &'a [u8],
+    pub bytes: &'a [u8],
 }
 
 /// What the length of the payload came from, by the numbers that the library gives them.
@@ -152,7 +152,7 @@ impl<'a> Packet<'a> {
 }
 
 impl<'a> Ipv4<'a> {
-    fn parse(bytes: &'a [u8]) -> Result<Ipv4<'a>, Fault> {
+    pub fn parse(bytes: &'a [u8]) -> Result<Ipv4<'a>, Fault> {
         let header = whole_header(bytes)?;
         let total_len = usize::from(u16::from_be_bytes([header[2], header[3]]));
         if total_len < header.len() {
@@ -184,7 +184,7 @@ impl<'a> Ipv4<'a> {
         })
     }
 
-    fn address(&self, at: usize) -> Ipv4Addr {
+    pub fn address(&self, at: usize) -> Ipv4Addr {
         Ipv4Addr::new(
             self.header[at],
             self.header[at + 1],
@@ -195,7 +195,7 @@ impl<'a> Ipv4<'a> {
 }
 
 impl<'a> Ipv6<'a> {
-    fn parse(bytes: &'a [u8]) -> Result<Ipv6<'a>, Fault> {
+    pub fn parse(bytes: &'a [u8]) -> Result<Ipv6<'a>, Fault> {
         let Some((header, behind)) = bytes.split_first_chunk() else {
             return Err(Fault::Short {
                 needed: IPV6_HEADER,
@@ -227,7 +227,7 @@ impl<'a> Ipv6<'a> {
         })
     }
 
-    fn address(&self, at: usize) -> Ipv6Addr {
+    pub fn address(&self, at: usize) -> Ipv6Addr {
         let mut octets = [0; 16];
         octets.copy_from_slice(&self.header[at..at + 16]);
         Ipv6Addr::from(octets)

@@ -61,33 +61,33 @@ impl Job for ArpPackets {
     }
 }
 
-struct Frame<'a> {
-    header: &'a [u8; 14],
-    payload: &'a [u8],
+pub struct Frame<'a> {
+    pub header: &'a [u8; 14],
+    pub payload: &'a [u8],
 }
 
-struct Tag<'a> {
-    header: &'a [u8; 4],
-    payload: &'a [u8],
+pub struct Tag<'a> {
+    pub header: &'a [u8; 4],
+    pub payload: &'a [u8],
 }
 
-struct Arp<'a> {
-    fixed: &'a [u8; 8],
-    sender_hardware: &'a [u8],
-    sender_protocol: &'a [u8],
-    target_hardware: &'a [u8],
-    target_protocol: &'a [u8],
+pub struct Arp<'a> {
+    pub fixed: &'a [u8; 8],
+    pub sender_hardware: &'a [u8],
+    pub sender_protocol: &'a [u8],
+    pub target_hardware: &'a [u8],
+    pub target_protocol: &'a [u8],
 }
 
 impl<'a> Frame<'a> {
-    fn parse(bytes: &'a [u8]) -> Result<Frame<'a>, Fault> {
+    pub fn parse(bytes: &'a [u8]) -> Result<Frame<'a>, Fault> {
         let (header, payload) = header_in(bytes)?;
         Ok(Frame { header, payload })
     }
 }
 
 impl<'a> Tag<'a> {
-    fn parse(bytes: &'a [u8]) -> Result<Tag<'a>, Fault> {
+    pub fn parse(bytes: &'a [u8]) -> Result<Tag<'a>, Fault> {
         let (header, payload) = header_in(bytes)?;
         Ok(Tag { header, payload })
     }
@@ -95,7 +95,7 @@ impl<'a> Tag<'a> {
 
 impl<'a> Arp<'a> {
     /// As RFC 826 has it ("Packet format").
-    fn parse(bytes: &'a [u8]) -> Result<Arp<'a>, Fault> {
+    pub fn parse(bytes: &'a [u8]) -> Result<Arp<'a>, Fault> {
         let (fixed, rest) = header_in::<8>(bytes)?;
         let (hardware, protocol) = (usize::from(fixed[4]), usize::from(fixed[5]));
         need(8 + 2 * hardware + 2 * protocol, bytes, 0)?;
@@ -120,7 +120,7 @@ fn header_in<const LEN: usize>(bytes: &[u8]) -> Result<(&[u8; LEN], &[u8]), Faul
     })
 }
 
-fn word(high: u8, low: u8) -> u64 {
+pub fn word(high: u8, low: u8) -> u64 {
     u64::from(u16::from_be_bytes([high, low]))
 }
 
@@ -136,7 +136,7 @@ fn sum_of_frame(frame: &Frame) -> u64 {
         + (header_len + payload_len)
 }
 
-fn sum_of_address([a, b, c, d, e, f]: [u8; 6]) -> u64 {
+pub fn sum_of_address([a, b, c, d, e, f]: [u8; 6]) -> u64 {
     u64::from(u32::from_be_bytes([a, b, c, d])) + word(e, f)
 }
 
@@ -168,7 +168,7 @@ fn sum_of_arp(packet: &Arp) -> u64 {
 }
 
 /// The length, the first and the last byte.
-fn sum_of_bytes(bytes: &[u8]) -> u64 {
+pub fn sum_of_bytes(bytes: &[u8]) -> u64 {
     match bytes {
         [first, .., last] => bytes.len() as u64 + u64::from(*first) + u64::from(*last),
         _ => 1,

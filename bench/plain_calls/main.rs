@@ -12,6 +12,7 @@ mod job;
 mod links;
 mod random;
 mod segments;
+mod sliced_packets;
 
 use crate::checksums::Checksums;
 use crate::datagrams::UdpDatagrams;
@@ -22,6 +23,7 @@ use crate::ipv6_extensions::{ReadExtensions, SkippedExtensions};
 use crate::job::{Measured, Repeats};
 use crate::links::{ArpPackets, EthernetFrames, VlanTags};
 use crate::segments::TcpSegments;
+use crate::sliced_packets::{SlicedFrames, SlicedMix};
 use std::process::ExitCode;
 
 fn main() -> ExitCode {
@@ -76,6 +78,15 @@ fn measure(name: &str, repeats: Repeats) -> Option<Measured> {
         "arp_packets" => job::measure::<ArpPackets>(repeats),
         "icmpv4_echoes" => job::measure::<Icmpv4Echoes>(repeats),
         "icmpv6_echoes" => job::measure::<Icmpv6Echoes>(repeats),
+        "sliced_udp_ipv4" => job::measure::<SlicedFrames<0>>(repeats),
+        "sliced_tcp_ipv4" => job::measure::<SlicedFrames<1>>(repeats),
+        "sliced_udp_ipv6" => job::measure::<SlicedFrames<2>>(repeats),
+        "sliced_one_vlan" => job::measure::<SlicedFrames<3>>(repeats),
+        "sliced_two_vlans" => job::measure::<SlicedFrames<4>>(repeats),
+        "sliced_ipv6_options" => job::measure::<SlicedFrames<5>>(repeats),
+        "sliced_arp" => job::measure::<SlicedFrames<6>>(repeats),
+        "sliced_refused" => job::measure::<SlicedFrames<7>>(repeats),
+        "sliced_mix" => job::measure::<SlicedMix>(repeats),
         _ => return None,
     };
     Some(measured)

@@ -53,17 +53,17 @@ fn append_options(kind: u8, random: &mut Random, packet: &mut Vec<u8>) {
     }
 }
 
-struct Segment<'a> {
-    fixed: &'a [u8; FIXED],
-    options: &'a [u8],
-    payload: &'a [u8],
+pub struct Segment<'a> {
+    pub fixed: &'a [u8; FIXED],
+    pub options: &'a [u8],
+    pub payload: &'a [u8],
 }
 
 const FIXED: usize = 20;
 
 impl<'a> Segment<'a> {
     /// As RFC 9293 has it (section 3.1).
-    fn parse(bytes: &'a [u8]) -> Result<Segment<'a>, Fault> {
+    pub fn parse(bytes: &'a [u8]) -> Result<Segment<'a>, Fault> {
         let Some((fixed, behind)) = bytes.split_first_chunk::<FIXED>() else {
             return Err(Fault::Short {
                 needed: FIXED,

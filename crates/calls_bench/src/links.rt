@@ -86,7 +86,7 @@ fn sum_of_frame(frame: &Ethernet2Slice) -> u64 {
 }
 
 /// It has no contract: the sum is compared with that of a plain program.
-fn sum_of_address(address: [u8; 6]) -> u64 {
+pub fn sum_of_address(address: [u8; 6]) -> u64 {
     let [a, b, c, d, e, f] = address;
     u64::from(u32::from_be_bytes([a, b, c, d])).wrapping_add(u64::from(u16::from_be_bytes([e, f])))
 }
@@ -125,7 +125,7 @@ fn sum_of_arp(packet: &ArpPacketSlice) -> u64 {
 
 /// The length, the first and the last byte; it has no contract, as the sum is compared with that of a
 /// plain program.
-fn sum_of_bytes(bytes: &[u8]) -> u64 {
+pub fn sum_of_bytes(bytes: &[u8]) -> u64 {
     match bytes {
         [first, .., last] => (bytes.len() as u64)
             .wrapping_add(u64::from(*first))

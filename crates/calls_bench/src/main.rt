@@ -16,6 +16,7 @@ mod job;
 mod links;
 mod random;
 mod segments;
+mod sliced_packets;
 
 use crate::checksums::Checksums;
 use crate::datagrams::UdpDatagrams;
@@ -26,6 +27,7 @@ use crate::ipv6_extensions::{ReadExtensions, SkippedExtensions};
 use crate::job::{Measured, Repeats};
 use crate::links::{ArpPackets, EthernetFrames, VlanTags};
 use crate::segments::TcpSegments;
+use crate::sliced_packets::{SlicedFrames, SlicedMix};
 use std::process::ExitCode;
 use std::{env, io};
 
@@ -83,6 +85,15 @@ fn measure(rt: &HostRuntime, name: &str, repeats: Repeats) -> io::Result<Option<
         "arp_packets" => job::measure::<ArpPackets>(rt, repeats)?,
         "icmpv4_echoes" => job::measure::<Icmpv4Echoes>(rt, repeats)?,
         "icmpv6_echoes" => job::measure::<Icmpv6Echoes>(rt, repeats)?,
+        "sliced_udp_ipv4" => job::measure::<SlicedFrames<0>>(rt, repeats)?,
+        "sliced_tcp_ipv4" => job::measure::<SlicedFrames<1>>(rt, repeats)?,
+        "sliced_udp_ipv6" => job::measure::<SlicedFrames<2>>(rt, repeats)?,
+        "sliced_one_vlan" => job::measure::<SlicedFrames<3>>(rt, repeats)?,
+        "sliced_two_vlans" => job::measure::<SlicedFrames<4>>(rt, repeats)?,
+        "sliced_ipv6_options" => job::measure::<SlicedFrames<5>>(rt, repeats)?,
+        "sliced_arp" => job::measure::<SlicedFrames<6>>(rt, repeats)?,
+        "sliced_refused" => job::measure::<SlicedFrames<7>>(rt, repeats)?,
+        "sliced_mix" => job::measure::<SlicedMix>(rt, repeats)?,
         _ => return Ok(None),
     };
     Ok(Some(measured))
