@@ -6,5 +6,7 @@ mod net_headers;
 mod net_slice;
 mod packet_headers;
 mod read_ip_headers;
+mod slice_faults;
+mod sliced_packet;
 mod transport_header;
 mod transport_slice;
