@@ -8,6 +8,7 @@ mod PacketViewLemmas
 mod PartsLemmas
 mod ReadHeaders
 mod SameNet
+mod SamePackets
 mod SlicedLemmas
 mod TaggedLaws
 mod TagsLemmas

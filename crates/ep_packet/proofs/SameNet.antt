@@ -19,11 +19,11 @@ use Rattle.ep_packet.specs.declared.net.net_headers.NetHeaders.TheVariants as ne
 use Rattle.ep_packet.specs.declared.net.net_slice.NetSlice.{NetSlice}
 use Rattle.ep_packet.specs.declared.net.net_slice.NetSlice.TheVariants as slice
 
-and_true : (p q : Bool) → (p && q) ≡ true → (p ≡ true) × (q ≡ true)
+pub and_true : (p q : Bool) → (p && q) ≡ true → (p ≡ true) × (q ≡ true)
 and_true true q e = (refl, e)
 and_true false q e = cc
 
-true_and : (p q : Bool) → p ≡ true → q ≡ true → (p && q) ≡ true
+pub true_and : (p q : Bool) → p ≡ true → q ≡ true → (p && q) ≡ true
 true_and true q e f = f
 true_and false q e f = cc
 

@@ -92,6 +92,16 @@ pub fn equal_net_is_same<'a>()
     ep_link::laws::traits::equals_are_same();
 }
 
+/// So are the parts of a packet.
+pub fn equal_packets_are_same<'a>()
+    ensures { EqualIsSame ⟦<SlicedPacket<'a> as PartialEq>⟧.eq }
+{
+    equals_are_same();
+    equal_net_is_same();
+    ep_link::laws::traits::equals_are_same();
+    ep_tag::laws::traits::equals_are_same();
+}
+
 /// A copy of a payload tells the same.
 pub fn copies_of_payloads_are_values<'a>()
     ensures value { (value copy : PayloadSlice) → ⟦<PayloadSlice<'a> as Clone>⟧.is_clone value copy

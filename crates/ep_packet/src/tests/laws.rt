@@ -20,6 +20,7 @@ fn laws_are_called() {
     laws::traits::copies_never_fail();
     laws::traits::equals_are_same();
     laws::traits::equal_net_is_same();
+    laws::traits::equal_packets_are_same();
     laws::traits::copies_of_payloads_are_values();
     laws::traits::payloads_are_told_apart();
 }
