@@ -166,6 +166,7 @@ fn ipv6_headers_len(packet: &Ipv6Slice<'_>) -> usize
 }
 
 // The message that the payload is, unless it is a part of one or its protocol is another.
+#[inline(always)]
 fn transport_in<'a>(payload: &IpPayloadSlice<'a>) -> Result<Option<TransportSlice<'a>>, SliceError>
     ensures message { result ≡ transport_in payload.now }
     ensures parts { IfOk result (λ o. IfSome o (λ message. IsAt payload.now.payload 0 (transport_bytes message))) }
@@ -180,6 +181,7 @@ fn transport_in<'a>(payload: &IpPayloadSlice<'a>) -> Result<Option<TransportSlic
     }
 }
 
+#[inline(always)]
 fn read_transport(
     ip_number: IpNumber,
     payload: &[u8],

@@ -1,14 +1,13 @@
 ghost use Rattle.std.specs.Prelude.{◌≡◌, ◌≤◌, ◌<◌, ◌+◌, ◌^◌, ℕ, length, map, IfErr, IfSome};
 ghost use Rattle.std.specs.Option.{option_map};
 ghost use Rattle.ep_packet.specs.PacketHeaders.{ether_type_headers, ethernet_headers, headers_behind, ids_of, ip_packet_headers, layers_behind, modified_behind, result_told, vlan_headers, vlan_of};
-ghost use Rattle.ep_packet.specs.PacketView.{is_cut, source_behind};
 ghost use Rattle.ep_packet.specs.Payload.{payload_told};
 ghost use Rattle.ep_packet.specs.SliceFault.{later, place_of};
 ghost use Rattle.ep_tag.specs.LinkExt.{fields_of};
 
 use crate::err::packet::SliceError;
 use crate::layer_headers::LayerHeaders;
-use crate::tagged_slice::TaggedSlice;
+use crate::tagged_slice::{TaggedSlice, source_behind};
 use crate::{NetHeaders, PayloadSlice, TransportHeader, slice_fault};
 use arrayvec::ArrayVec;
 use ep_base::{EtherType, LenSource};
@@ -177,28 +176,6 @@ fn layers_behind<'a>(
             transport: None,
             payload: modified_behind(tags.as_slice().last()),
         }),
-    }
-}
-
-// What bounds the bytes behind the tags.
-fn source_behind(tags: &ArrayVec<LinkExtSlice<'_>, 3>) -> LenSource
-    ensures { result ≡ source_behind tags.now.items }
-{
-    for tag in tags.as_slice() {
-        if is_cut(tag) {
-            return LenSource::MacsecShortLength;
-        }
-    }
-    LenSource::Slice
-}
-
-// A MACsec header with a short length.
-fn is_cut(tag: &LinkExtSlice<'_>) -> bool
-    ensures { result ≡ is_cut tag.now }
-{
-    match tag {
-        LinkExtSlice::Vlan(_) => false,
-        LinkExtSlice::Macsec(macsec) => macsec.header.short_len().value() != 0,
     }
 }
 

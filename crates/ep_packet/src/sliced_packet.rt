@@ -6,7 +6,7 @@ ghost use Rattle.ep_link.specs.SllPayload.{named_payload, payload_of as sll_payl
 ghost use Rattle.ep_link.specs.declared.link.link_slice.LinkSlice.TheVariants as link_slice;
 ghost use Rattle.ep_packet.specs.Class.{class_of, class_told};
 ghost use Rattle.ep_packet.specs.Class.Class.{Refused};
-ghost use Rattle.ep_packet.specs.PacketView.{ether_payload_in, ip_payload_of, is_cut, is_part, last_payload, payload_ether_type_in, source_behind, vlan_of, vlan_tags};
+ghost use Rattle.ep_packet.specs.PacketView.{ether_payload_in, ip_payload_of, is_part, last_payload, payload_ether_type_in, vlan_of, vlan_tags};
 ghost use Rattle.ep_packet.specs.Parts.{ArePartsOf};
 ghost use Rattle.ep_packet.specs.SliceFault.{later};
 ghost use Rattle.ep_packet.specs.Sliced.{IsSliced, ether_payload, packet_behind, sliced_ether_type, sliced_ethernet, sliced_ip, sliced_linux_sll};
@@ -14,7 +14,7 @@ ghost use Rattle.ep_packet.specs.Tags.{vlan_ids_of};
 
 use crate::err::packet::SliceError;
 use crate::layer_slices::LayerSlices;
-use crate::tagged_slice::TaggedSlice;
+use crate::tagged_slice::{TaggedSlice, source_behind};
 use crate::{NetSlice, TransportSlice, slice_fault};
 use arrayvec::ArrayVec;
 use ep_base::{EtherType, LenSource};
@@ -170,7 +170,7 @@ impl<'a> SlicedPacket<'a> {
     {
         match self.last_payload() {
             Some(payload) => Some(EtherPayloadSlice {
-                len_source: self.tags_len_source(),
+                len_source: source_behind(&self.link_exts),
                 ..payload
             }),
             None => None,
@@ -188,18 +188,6 @@ impl<'a> SlicedPacket<'a> {
                 None => None,
             },
         }
-    }
-
-    // What bounds the bytes behind the tags.
-    fn tags_len_source(&self) -> LenSource
-        ensures { result ≡ source_behind self.now.link_exts.items }
-    {
-        for tag in self.link_exts.as_slice() {
-            if is_cut(tag) {
-                return LenSource::MacsecShortLength;
-            }
-        }
-        LenSource::Slice
     }
 
     /// The payload of an IP packet, if there is one.
@@ -283,16 +271,6 @@ impl<'a> SlicedPacket<'a> {
             net: layers.net,
             transport: layers.transport,
         })
-    }
-}
-
-// A MACsec header with a short length.
-fn is_cut(tag: &LinkExtSlice<'_>) -> bool
-    ensures { result ≡ is_cut tag.now }
-{
-    match tag {
-        LinkExtSlice::Vlan(_) => false,
-        LinkExtSlice::Macsec(macsec) => macsec.header.short_len().value() != 0,
     }
 }
 

@@ -1,5 +1,6 @@
 //! The tags in front of a payload.
 ghost use Rattle.std.specs.Prelude.{◌≡◌, ◌≤◌, length, IfErr, IfOk, IfSome};
+ghost use Rattle.ep_packet.specs.PacketView.{is_cut, source_behind};
 ghost use Rattle.ep_packet.specs.Parts.{TagIn, TagsIn};
 ghost use Rattle.ep_packet.specs.SliceFault.{place_of};
 ghost use Rattle.ep_packet.specs.Tags.{Tagged, most_tags, tag_at, tags_in};
@@ -7,7 +8,7 @@ ghost use Rattle.ep_packet.specs.Tags.{Tagged, most_tags, tag_at, tags_in};
 use crate::err::packet::SliceError;
 use crate::slice_fault;
 use arrayvec::ArrayVec;
-use ep_base::EtherType;
+use ep_base::{EtherType, LenSource};
 use ep_tag::{EtherPayloadSlice, LinkExtSlice, MacsecSlice, SingleVlanSlice};
 use std::marker::Model;
 
@@ -91,5 +92,27 @@ fn tag_of<'a>(payload: &EtherPayloadSlice<'a>) -> Result<Option<LinkExtSlice<'a>
             Err(error) => Err(slice_fault::of_macsec(error)),
         },
         _ => Ok(None),
+    }
+}
+
+/// What bounds the bytes behind the tags: a MACsec header's short length, if one has it.
+pub(crate) fn source_behind(tags: &ArrayVec<LinkExtSlice<'_>, 3>) -> LenSource
+    ensures { result ≡ source_behind tags.now.items }
+{
+    for tag in tags.as_slice() {
+        if is_cut(tag) {
+            return LenSource::MacsecShortLength;
+        }
+    }
+    LenSource::Slice
+}
+
+// A MACsec header with a short length.
+fn is_cut(tag: &LinkExtSlice<'_>) -> bool
+    ensures { result ≡ is_cut tag.now }
+{
+    match tag {
+        LinkExtSlice::Vlan(_) => false,
+        LinkExtSlice::Macsec(macsec) => macsec.header.short_len().value() != 0,
     }
 }
