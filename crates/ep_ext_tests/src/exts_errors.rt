@@ -8,7 +8,7 @@ use std::fmt::Display;
 use std::io::ErrorKind;
 use std::test::*;
 
-// Whether this is the text of an error.
+/// Whether this is the text of an error. It has no contract: tests alone call it, and are run.
 pub fn reads_as<E: Display>(rt: &HostRuntime, error: &E, text: &str) -> Result<bool, AllocError> {
     let found = format!(in rt.alloc(); "{error}")?;
     Ok(found.as_str() == text)

@@ -12,6 +12,7 @@ pub struct PieceReader<'a> {
     pub fault: Option<(usize, ErrorKind)>,
 }
 
+/// A reader that fails at no call. It has no contract: tests alone call it, and are run.
 pub fn reader_of(bytes: &[u8], piece: usize) -> PieceReader<'_> {
     PieceReader {
         rest: bytes,
@@ -21,6 +22,7 @@ pub fn reader_of(bytes: &[u8], piece: usize) -> PieceReader<'_> {
     }
 }
 
+/// A reader that fails at this call. It has no contract: tests alone call it, and are run.
 pub fn failing_reader(bytes: &[u8], piece: usize, call: usize, kind: ErrorKind) -> PieceReader<'_> {
     PieceReader {
         rest: bytes,

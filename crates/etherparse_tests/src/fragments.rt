@@ -1,4 +1,5 @@
-//! Fragments and buffers, as the tests make them.
+//! Fragments and buffers, as the tests make them. The functions have no contracts: tests alone call them,
+//! and are run.
 
 use ep_base::{IpFragOffset, IpNumber};
 use etherparse::defrag::{IpDefragBuf, IpDefragError};
@@ -7,11 +8,12 @@ use std::test::*;
 
 pub const ZEROS: [u8; 64] = [0; 64];
 
+/// An empty buffer; no contract, as above.
 pub fn empty(rt: &HostRuntime) -> IpDefragBuf {
     IpDefragBuf::new(IpNumber::UDP, Vec::new(rt.alloc()), Vec::new(rt.alloc()))
 }
 
-// The offset of so many units of 8 bytes.
+/// The offset of so many units of 8 bytes; no contract, as above.
 pub fn offset(rt: &impl Abort, units: u16) -> IpFragOffset {
     let Ok(offset) = IpFragOffset::try_new(units) else {
         panic!(rt; "{units} is no offset");
@@ -19,7 +21,7 @@ pub fn offset(rt: &impl Abort, units: u16) -> IpFragOffset {
     offset
 }
 
-// Takes a fragment of so many zero bytes.
+/// Takes a fragment of so many zero bytes; no contract, as above.
 pub fn add_zeros(
     rt: &impl Abort,
     buf: &mut IpDefragBuf,
@@ -31,7 +33,7 @@ pub fn add_zeros(
     buf.add(offset(rt, units), more_fragments, &ZEROS[..len])
 }
 
-// Takes a fragment of so many zero bytes, and tells whether the message is complete.
+/// Takes a fragment of so many zero bytes, and tells whether the message is complete; no contract, as above.
 pub fn completes(
     rt: &impl Abort,
     buf: &mut IpDefragBuf,
@@ -43,12 +45,12 @@ pub fn completes(
     buf.is_complete()
 }
 
-// Whether these are the bytes of a buffer.
+/// Whether these are the bytes of a buffer; no contract, as above.
 pub fn holds(buf: &IpDefragBuf, bytes: &[u8]) -> bool {
     buf.data().as_slice() == bytes
 }
 
-// Whether a buffer has one section, with these ends.
+/// Whether a buffer has one section, with these ends; no contract, as above.
 pub fn is_one_section(buf: &IpDefragBuf, start: u16, end: u16) -> bool {
     matches!(buf.sections().as_slice(), [section] if section.start == start && section.end == end)
 }
