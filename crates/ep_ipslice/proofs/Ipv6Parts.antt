@@ -29,7 +29,7 @@ use Rattle.ep_ipslice.proofs.ViewWalk.{EndsClosed}
 
 -- the order has no place for a number, and it is not that of hop-by-hop options: it is none of the
 -- five
-closed_all : (zero hop routing fragment auth destination : Bool) (x : Option Ipv6ExtPlace) → zero ≡ false →
+pub closed_all : (zero hop routing fragment auth destination : Bool) (x : Option Ipv6ExtPlace) → zero ≡ false →
     cond zero x (cond routing (Some Routing) (cond fragment (Some Fragment) (cond auth (Some Authentication) (cond destination (Some Destination) None)))) ≡ None →
     (zero || (routing || (fragment || (auth || (destination || false))))) ≡ false
 closed_all true hop routing fragment auth destination x none closed = cc
@@ -61,7 +61,7 @@ no_fault_in : (layer : Layer) (offset : ℕ) (r : Result (List ℕ) HeaderSliceE
 no_fault_in layer offset (Ok header) none = (header, refl)
 no_fault_in layer offset (Err e) none = cc
 
-not_misplaced : (zero : Bool) (fault : Fault) → cond zero (Some fault) None ≡ None → zero ≡ false
+pub not_misplaced : (zero : Bool) (fault : Fault) → cond zero (Some fault) None ≡ None → zero ≡ false
 not_misplaced true fault none = cc
 not_misplaced false fault none = refl
 

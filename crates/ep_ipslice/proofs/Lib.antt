@@ -1,6 +1,7 @@
 mod Cuts
 mod FaultPlaces
 mod Faults
+mod Found
 mod Fronts
 mod IpParts
 mod Ipv4Parts

@@ -75,6 +75,11 @@ pub fn packets_are_their_parts(slice: &[u8])
     let _ipv6 = Ipv6Slice::from_slice(slice);
 }
 
+/// The IPv6 packet that is found at the front of bytes is one that they begin with.
+pub fn ipv6_packet_found_is_there()
+    ensures { (bytes : List ℕ) (packet : Ipv6Packet) → ipv6_packet_at bytes ≡ Ok packet → IsIpv6Packet bytes packet }
+{}
+
 /// Headers in a row, each at a place of its own, are headers in a row of a view, with the same bytes. One
 /// of these is that of a part of a message where the fragment header of a value is.
 pub fn placed_rows_are_views()
