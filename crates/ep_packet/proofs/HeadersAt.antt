@@ -31,7 +31,7 @@ RowsFound =
     → Chain order first bytes pieces last rest → pieces_within (length bytes) order [] first bytes ≡ pieces
 
 -- the number that a row names last
-number_is : (order : Order) (passed : List Ipv6ExtPlace) (number : ℕ) (pieces : List Piece) (last : ℕ) → Row order passed number pieces last → number_behind number pieces ≡ last
+pub number_is : (order : Order) (passed : List Ipv6ExtPlace) (number : ℕ) (pieces : List Piece) (last : ℕ) → Row order passed number pieces last → number_behind number pieces ≡ last
 number_is order passed number [] last row = row
 number_is order passed number (piece ∷ pieces) last row = number_is order (passed ++ piece.0 ∷ []) (num piece.1 0 1) pieces last row.2
 

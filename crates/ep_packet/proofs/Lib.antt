@@ -4,6 +4,10 @@ mod FaultLemmas
 mod FoundLemmas
 mod HeaderLemmas
 mod HeadersAt
+mod HeadersOfLayers
+mod HeadersOfMessages
+mod HeadersOfPackets
+mod HeadersOfTags
 mod PacketViewLemmas
 mod PartsLemmas
 mod ReadHeaders

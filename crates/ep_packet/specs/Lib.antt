@@ -14,6 +14,7 @@ pub mod Parts
 pub mod Payload
 pub mod Readable
 pub mod ReadIpHeaders
+pub mod SameHeaders
 pub mod Sliced
 pub mod SliceFault
 pub mod Tags

@@ -2,6 +2,7 @@
 
 mod headers;
 mod readable;
+pub mod same_headers;
 pub mod sliced;
 pub mod traits;
 

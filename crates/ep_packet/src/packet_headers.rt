@@ -1,8 +1,11 @@
-ghost use Rattle.std.specs.Prelude.{◌≡◌, ◌≤◌, ◌<◌, ◌+◌, ◌^◌, ℕ, length, map, IfErr, IfSome};
+ghost use Rattle.std.specs.Prelude.{◌≡◌, ◌≤◌, ◌<◌, ◌+◌, ◌^◌, ℕ, length, map, IfErr, IfSome, Ok};
 ghost use Rattle.std.specs.Option.{option_map};
-ghost use Rattle.ep_packet.specs.PacketHeaders.{ether_type_headers, ethernet_headers, headers_behind, ids_of, ip_packet_headers, layers_behind, modified_behind, result_told, vlan_headers, vlan_of};
+ghost use Rattle.ep_packet.specs.PacketHeaders.{Headers, ether_type_headers, ethernet_headers, headers_behind, ids_of, ip_packet_headers, layers_behind, modified_behind, result_told, vlan_headers, vlan_of};
 ghost use Rattle.ep_packet.specs.Payload.{payload_told};
+ghost use Rattle.ep_packet.specs.SameHeaders.{AreHeadersOf};
+ghost use Rattle.ep_packet.specs.Sliced.{sliced_ether_type, sliced_ethernet, sliced_ip};
 ghost use Rattle.ep_packet.specs.SliceFault.{later, place_of};
+ghost use Rattle.ep_packet.specs.declared.sliced_packet.SlicedPacket.{SlicedPacket};
 ghost use Rattle.ep_tag.specs.LinkExt.{fields_of};
 
 use crate::err::packet::SliceError;
@@ -11,6 +14,7 @@ use crate::tagged_slice::{TaggedSlice, source_behind};
 use crate::{NetHeaders, PayloadSlice, TransportHeader, slice_fault};
 use arrayvec::ArrayVec;
 use ep_base::{EtherType, LenSource};
+use ep_ipslice::laws;
 use ep_link::{Ethernet2Header, Ethernet2Slice, LinkHeader};
 use ep_tag::{
     DoubleVlanHeader, EtherPayloadSlice, LinkExtHeader, LinkExtSlice, MacsecPayloadSlice,
@@ -47,6 +51,18 @@ impl<'a> PacketHeaders<'a> {
     /// The place of a want of bytes counts from the front of the frame; what a header wants within an IP
     /// payload has the source of that payload's length.
     pub fn from_ethernet_slice(slice: &'a [u8]) -> Result<PacketHeaders<'a>, SliceError>
+        ensures exact { result_told result ≡ ethernet_headers slice.now }
+        // The headers of the slices, where their own headers and payloads are all the frame's.
+        ensures agrees { (packet : SlicedPacket) (headers : Headers) → sliced_ethernet slice.now ≡ Ok packet
+            → AreHeadersOf packet headers → result_told result ≡ Ok headers }
+    {
+        laws::rows_are_found();
+        laws::placed_rows_are_views();
+        laws::ipv6_packet_found_is_there();
+        Self::in_frame(slice)
+    }
+
+    fn in_frame(slice: &'a [u8]) -> Result<PacketHeaders<'a>, SliceError>
         ensures { result_told result ≡ ethernet_headers slice.now }
     {
         let frame = match Ethernet2Slice::from_slice_without_fcs(slice) {
@@ -63,8 +79,14 @@ impl<'a> PacketHeaders<'a> {
         ether_type: EtherType,
         slice: &'a [u8],
     ) -> Result<PacketHeaders<'a>, SliceError>
-        ensures { result_told result ≡ ether_type_headers ether_type slice.now }
+        ensures exact { result_told result ≡ ether_type_headers ether_type slice.now }
+        // The headers of the slices, as above.
+        ensures agrees { (packet : SlicedPacket) (headers : Headers) → sliced_ether_type ether_type slice.now ≡ Ok packet
+            → AreHeadersOf packet headers → result_told result ≡ Ok headers }
     {
+        laws::rows_are_found();
+        laws::placed_rows_are_views();
+        laws::ipv6_packet_found_is_there();
         let payload = EtherPayloadSlice {
             ether_type,
             len_source: LenSource::Slice,
@@ -76,6 +98,18 @@ impl<'a> PacketHeaders<'a> {
     /// The headers of an IP packet of the version that its first half byte tells, without a link header.
     /// The errors are as those of [`PacketHeaders::from_ethernet_slice`].
     pub fn from_ip_slice(slice: &'a [u8]) -> Result<PacketHeaders<'a>, SliceError>
+        ensures exact { result_told result ≡ ip_packet_headers slice.now }
+        // The headers of the slices, as above.
+        ensures agrees { (packet : SlicedPacket) (headers : Headers) → sliced_ip slice.now ≡ Ok packet
+            → AreHeadersOf packet headers → result_told result ≡ Ok headers }
+    {
+        laws::rows_are_found();
+        laws::placed_rows_are_views();
+        laws::ipv6_packet_found_is_there();
+        Self::in_ip_packet(slice)
+    }
+
+    fn in_ip_packet(slice: &'a [u8]) -> Result<PacketHeaders<'a>, SliceError>
         ensures { result_told result ≡ ip_packet_headers slice.now }
     {
         match LayerHeaders::from_ip(slice) {
