@@ -10,6 +10,3 @@ pub use link::{
     Ethernet2Slice, LinkHeader, LinkSlice, LinuxSllHeader, LinuxSllHeaderSlice, LinuxSllPacketType,
     LinuxSllPayloadSlice, LinuxSllProtocolType, LinuxSllSlice,
 };
-
-#[cfg(test)]
-mod tests;

@@ -1,9 +1,9 @@
 //! ARP packets (RFC 826).
-use crate::err::arp::{ArpHwAddrError, ArpNewError, ArpProtoAddrError};
-use crate::laws::arp::*;
-use crate::{ArpHardwareId, ArpOperation, ArpPacket, ArpPacketSlice, Ethernet2Slice};
 use ep_base::err::{Layer, LenError};
 use ep_base::{EtherType, LenSource};
+use ep_link::err::arp::{ArpHwAddrError, ArpNewError, ArpProtoAddrError};
+use ep_link::laws::arp::*;
+use ep_link::{ArpHardwareId, ArpOperation, ArpPacket, ArpPacketSlice, Ethernet2Slice};
 use std::test::Fail;
 
 // A request of an IPv4 host on Ethernet, as RFC 826 lays it out, and a byte behind it.

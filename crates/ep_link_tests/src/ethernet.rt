@@ -1,9 +1,9 @@
 //! Ethernet II headers (RFC 894).
-use crate::laws::ethernet::*;
-use crate::laws::traits::*;
-use crate::{Ethernet2Header, Ethernet2HeaderSlice, Ethernet2Slice};
 use ep_base::err::{Layer, LenError, SliceWriteSpaceError};
 use ep_base::{EtherType, LenSource};
+use ep_link::laws::ethernet::*;
+use ep_link::laws::traits::*;
+use ep_link::{Ethernet2Header, Ethernet2HeaderSlice, Ethernet2Slice};
 use std::test::Fail;
 
 // Destination 1 to 6, source 7 to 12, IPv4; and what stands behind it.

@@ -1,12 +1,12 @@
 //! Headers of Linux cooked captures.
-use crate::err::linux_sll::{HeaderError, HeaderSliceError};
-use crate::laws::linux_sll::*;
-use crate::{
+use ep_base::err::{Layer, LenError};
+use ep_base::{EtherType, LenSource};
+use ep_link::err::linux_sll::{HeaderError, HeaderSliceError};
+use ep_link::laws::linux_sll::*;
+use ep_link::{
     ArpHardwareId, LinuxSllHeader, LinuxSllHeaderSlice, LinuxSllPacketType, LinuxSllPayloadSlice,
     LinuxSllProtocolType, LinuxSllSlice,
 };
-use ep_base::err::{Layer, LenError};
-use ep_base::{EtherType, LenSource};
 use ep_tag::EtherPayloadSlice;
 use std::test::Fail;
 

@@ -1,9 +1,9 @@
 //! Link headers of either kind.
-use crate::{
+use ep_base::{EtherType, LenSource};
+use ep_link::{
     ArpHardwareId, Ethernet2Header, Ethernet2Slice, LinkHeader, LinkSlice, LinuxSllHeader,
     LinuxSllPacketType, LinuxSllPayloadSlice, LinuxSllProtocolType, LinuxSllSlice,
 };
-use ep_base::{EtherType, LenSource};
 use ep_tag::EtherPayloadSlice;
 use std::test::Fail;
 
