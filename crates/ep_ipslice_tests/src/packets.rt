@@ -1,12 +1,12 @@
 //! IP packets in slices. The bytes are made by the RFCs' tables.
 
-use crate::err::{ip, ipv4, ipv6};
-use crate::{
-    IpSlice, Ipv4ExtensionsSlice, Ipv4Slice, Ipv6ExtensionSlice, Ipv6ExtensionsSlice, Ipv6Slice,
-};
 use ep_base::err::{Layer, LenError};
 use ep_base::{IpNumber, LenSource};
 use ep_ext::err::{ip_auth, ipv6_exts};
+use ep_ipslice::err::{ip, ipv4, ipv6};
+use ep_ipslice::{
+    IpSlice, Ipv4ExtensionsSlice, Ipv4Slice, Ipv6ExtensionSlice, Ipv6ExtensionsSlice, Ipv6Slice,
+};
 use std::net::IpAddr;
 use std::process::Abort;
 use std::test::*;
@@ -33,12 +33,12 @@ fn ipv4_with_an_authentication_header(rt: HostRuntime) -> Result<(), Fail> {
     let Ok(packet) = Ipv4Slice::from_slice(&bytes) else {
         panic!(rt; "no packet");
     };
-    assert_eq!(rt; packet.payload_ip_number(), IpNumber::UDP);
-    assert_eq!(rt; packet.payload().payload, [0xaa, 0xbb].as_slice());
-    assert_eq!(rt; packet.payload().len_source, LenSource::Ipv4HeaderTotalLen);
-    assert_eq!(rt; packet.is_payload_fragmented(), false);
-    assert_eq!(rt; packet.header().slice(), &IPV4[..20]);
-    assert_eq!(rt; packet.extensions().is_empty(), false);
+    assert!(rt; packet.payload_ip_number() == IpNumber::UDP);
+    assert!(rt; packet.payload().payload == [0xaa, 0xbb].as_slice());
+    assert!(rt; packet.payload().len_source == LenSource::Ipv4HeaderTotalLen);
+    assert!(rt; !packet.is_payload_fragmented());
+    assert!(rt; packet.header().slice() == &IPV4[..20]);
+    assert!(rt; !packet.extensions().is_empty());
     Ok(())
 }
 
@@ -48,14 +48,11 @@ fn ipv6_with_all_extension_headers(rt: HostRuntime) -> Result<(), Fail> {
     let Ok(packet) = Ipv6Slice::from_slice(&bytes) else {
         panic!(rt; "no packet");
     };
-    assert_eq!(rt; packet.payload_ip_number(), IpNumber::UDP);
-    assert_eq!(rt; packet.payload().payload, [0xaa, 0xbb].as_slice());
-    assert_eq!(rt;
-        packet.payload().len_source,
-        LenSource::Ipv6HeaderPayloadLen
-    );
-    assert_eq!(rt; packet.is_payload_fragmented(), true);
-    assert_eq!(rt; packet.extensions().slice(), &IPV6[40..84]);
+    assert!(rt; packet.payload_ip_number() == IpNumber::UDP);
+    assert!(rt; packet.payload().payload == [0xaa, 0xbb].as_slice());
+    assert!(rt; packet.payload().len_source == LenSource::Ipv6HeaderPayloadLen);
+    assert!(rt; packet.is_payload_fragmented());
+    assert!(rt; packet.extensions().slice() == &IPV6[40..84]);
     Ok(())
 }
 
@@ -75,7 +72,7 @@ fn extension_headers_in_their_order(rt: HostRuntime) -> Result<(), Fail> {
             Ipv6ExtensionSlice::DestinationOptions(_) => 60,
         })?;
     }
-    assert_eq!(rt; kinds.as_slice(), [0, 43, 44, 51, 60].as_slice());
+    assert!(rt; kinds.as_slice() == [0, 43, 44, 51, 60].as_slice());
     Ok(())
 }
 
@@ -86,10 +83,10 @@ fn repeated_fragment_headers(rt: HostRuntime) -> Result<(), Fail> {
     ];
     match Ipv6ExtensionsSlice::from_slice(IpNumber(44), &bytes) {
         Ok((extensions, number, rest)) => {
-            assert_eq!(rt; number, IpNumber::UDP);
-            assert_eq!(rt; rest, [0xaa, 0xbb].as_slice());
-            assert_eq!(rt; extensions.is_fragmenting_payload(), true);
-            assert_eq!(rt; extensions.first_header(), Some(IpNumber(44)));
+            assert!(rt; number == IpNumber::UDP);
+            assert!(rt; rest == [0xaa, 0xbb].as_slice());
+            assert!(rt; extensions.is_fragmenting_payload());
+            assert!(rt; extensions.first_header() == Some(IpNumber(44)));
         }
         Err(_) => panic!(rt; "refused"),
     }
@@ -112,9 +109,8 @@ fn which_headers_are_of_a_part(rt: HostRuntime) -> Result<(), Fail> {
         let Ok((extensions, _, _)) = Ipv6ExtensionsSlice::from_slice(IpNumber(first), bytes) else {
             panic!(rt; "refused");
         };
-        assert_eq!(rt;
-            extensions.is_fragmenting_payload(),
-            is_part,
+        assert!(rt;
+            extensions.is_fragmenting_payload() == is_part,
             "from {first}"
         );
     }
@@ -129,11 +125,11 @@ fn no_headers(rt: HostRuntime) -> Result<(), Fail> {
     else {
         panic!(rt; "refused");
     };
-    assert_eq!(rt; extensions.first_header(), None);
-    assert_eq!(rt; extensions.is_empty(), true);
-    assert_eq!(rt; number, IpNumber::TCP);
-    assert_eq!(rt; rest, bytes.as_slice());
-    assert_eq!(rt; extensions.iter().count(), 0);
+    assert!(rt; extensions.first_header().is_none());
+    assert!(rt; extensions.is_empty());
+    assert!(rt; number == IpNumber::TCP);
+    assert!(rt; rest == bytes.as_slice());
+    assert!(rt; extensions.iter().count() == 0);
     Ok(())
 }
 
@@ -145,13 +141,13 @@ fn hop_by_hop_options_behind_another_header(rt: HostRuntime) -> Result<(), Fail>
         &bytes,
     );
     let error = ipv6_exts::HeaderSliceError::Content(ipv6_exts::HeaderError::HopByHopNotAtStart);
-    assert_eq!(rt; fault, Some((error, Layer::Ipv6HopByHopHeader)));
-    assert_eq!(rt; number, IpNumber(0));
-    assert_eq!(rt; extensions.slice(), &bytes[..8]);
-    assert_eq!(rt; rest, &bytes[8..]);
+    assert!(rt; fault == Some((error, Layer::Ipv6HopByHopHeader)));
+    assert!(rt; number == IpNumber(0));
+    assert!(rt; extensions.slice() == &bytes[..8]);
+    assert!(rt; rest == &bytes[8..]);
     match Ipv6ExtensionsSlice::from_slice(IpNumber(60), &bytes) {
         Ok(_) => panic!(rt; "taken"),
-        Err(e) => assert_eq!(rt; e, error),
+        Err(e) => assert!(rt; e == error),
     }
     Ok(())
 }
@@ -162,14 +158,13 @@ fn an_authentication_header_of_length_zero(rt: HostRuntime) -> Result<(), Fail> 
     let content = ip_auth::HeaderError::ZeroPayloadLen;
     match Ipv6ExtensionsSlice::from_slice(IpNumber(51), &bytes) {
         Ok(_) => panic!(rt; "taken"),
-        Err(e) => assert_eq!(rt;
-            e,
-            ipv6_exts::HeaderSliceError::Content(ipv6_exts::HeaderError::IpAuth(content))
+        Err(e) => assert!(rt;
+            e == ipv6_exts::HeaderSliceError::Content(ipv6_exts::HeaderError::IpAuth(content))
         ),
     }
     match Ipv4ExtensionsSlice::from_slice(IpNumber(51), &bytes) {
         Ok(_) => panic!(rt; "taken"),
-        Err(e) => assert_eq!(rt; e, ip_auth::HeaderSliceError::Content(content)),
+        Err(e) => assert!(rt; e == ip_auth::HeaderSliceError::Content(content)),
     }
     Ok(())
 }
@@ -181,10 +176,10 @@ fn no_number_of_an_authentication_header(rt: HostRuntime) -> Result<(), Fail> {
         IpNumber::UDP,
         &bytes,
     );
-    assert_eq!(rt; extensions.is_empty(), true);
-    assert_eq!(rt; number, IpNumber::UDP);
-    assert_eq!(rt; rest, bytes.as_slice());
-    assert_eq!(rt; fault, None);
+    assert!(rt; extensions.is_empty());
+    assert!(rt; number == IpNumber::UDP);
+    assert!(rt; rest == bytes.as_slice());
+    assert!(rt; fault.is_none());
     Ok(())
 }
 
@@ -210,10 +205,10 @@ fn every_front_of_an_ipv4_packet(rt: HostRuntime) -> Result<(), Fail> {
         };
         match Ipv4Slice::from_slice(&bytes[..end]) {
             Ok(_) => panic!(rt; "taken"),
-            Err(e) => assert_eq!(rt; e, ipv4::SliceError::Len(required)),
+            Err(e) => assert!(rt; e == ipv4::SliceError::Len(required)),
         }
     }
-    assert_eq!(rt; Ipv4Slice::from_slice(&bytes[..34]).is_ok(), true);
+    assert!(rt; Ipv4Slice::from_slice(&bytes[..34]).is_ok());
     Ok(())
 }
 
@@ -228,10 +223,10 @@ fn every_front_of_an_ipv6_packet(rt: HostRuntime) -> Result<(), Fail> {
         };
         match Ipv6Slice::from_slice(&bytes[..end]) {
             Ok(_) => panic!(rt; "taken"),
-            Err(e) => assert_eq!(rt; e, ipv6::SliceError::Len(required)),
+            Err(e) => assert!(rt; e == ipv6::SliceError::Len(required)),
         }
     }
-    assert_eq!(rt; Ipv6Slice::from_slice(&bytes[..86]).is_ok(), true);
+    assert!(rt; Ipv6Slice::from_slice(&bytes[..86]).is_ok());
     Ok(())
 }
 
@@ -242,9 +237,8 @@ fn a_cut_extension_header(rt: HostRuntime) -> Result<(), Fail> {
     bytes[5] = 12;
     match Ipv6Slice::from_slice(&bytes) {
         Ok(_) => panic!(rt; "taken"),
-        Err(e) => assert_eq!(rt;
-            e,
-            ipv6::SliceError::Len(LenError {
+        Err(e) => assert!(rt;
+            e == ipv6::SliceError::Len(LenError {
                 required_len: 8,
                 len: 4,
                 len_source: LenSource::Ipv6HeaderPayloadLen,
@@ -257,9 +251,8 @@ fn a_cut_extension_header(rt: HostRuntime) -> Result<(), Fail> {
     bytes[3] = 25;
     match Ipv4Slice::from_slice(&bytes) {
         Ok(_) => panic!(rt; "taken"),
-        Err(e) => assert_eq!(rt;
-            e,
-            ipv4::SliceError::Len(LenError {
+        Err(e) => assert!(rt;
+            e == ipv4::SliceError::Len(LenError {
                 required_len: 12,
                 len: 5,
                 len_source: LenSource::Ipv4HeaderTotalLen,
@@ -279,16 +272,13 @@ fn a_payload_length_of_zero(rt: HostRuntime) -> Result<(), Fail> {
     let Ok(packet) = Ipv6Slice::from_slice(&bytes) else {
         panic!(rt; "no packet");
     };
-    assert_eq!(rt; packet.payload().payload.len(), 47);
-    assert_eq!(rt; packet.payload().len_source, LenSource::Slice);
+    assert!(rt; packet.payload().payload.len() == 47);
+    assert!(rt; packet.payload().len_source == LenSource::Slice);
     let Ok(packet) = Ipv6Slice::from_slice(&bytes[..40]) else {
         panic!(rt; "no packet");
     };
-    assert_eq!(rt; packet.payload().payload.len(), 0);
-    assert_eq!(rt;
-        packet.payload().len_source,
-        LenSource::Ipv6HeaderPayloadLen
-    );
+    assert!(rt; packet.payload().payload.len() == 0);
+    assert!(rt; packet.payload().len_source == LenSource::Ipv6HeaderPayloadLen);
     Ok(())
 }
 
@@ -298,9 +288,8 @@ fn a_total_length_below_the_header(rt: HostRuntime) -> Result<(), Fail> {
     bytes[3] = 19;
     match Ipv4Slice::from_slice(&bytes) {
         Ok(_) => panic!(rt; "taken"),
-        Err(e) => assert_eq!(rt;
-            e,
-            ipv4::SliceError::Len(LenError {
+        Err(e) => assert!(rt;
+            e == ipv4::SliceError::Len(LenError {
                 required_len: 20,
                 len: 19,
                 len_source: LenSource::Ipv4HeaderTotalLen,
@@ -318,22 +307,21 @@ fn packets_of_either_version(rt: HostRuntime) -> Result<(), Fail> {
     let Ok(packet) = IpSlice::from_slice(&bytes) else {
         panic!(rt; "no packet");
     };
-    assert_eq!(rt; packet.source_addr(), IpAddr::from([10, 0, 0, 1]));
-    assert_eq!(rt; packet.destination_addr(), IpAddr::from([10, 0, 0, 2]));
-    assert_eq!(rt; packet.ipv6().is_none(), true);
+    assert!(rt; packet.source_addr() == IpAddr::from([10, 0, 0, 1]));
+    assert!(rt; packet.destination_addr() == IpAddr::from([10, 0, 0, 2]));
+    assert!(rt; packet.ipv6().is_none());
     let bytes = IPV6;
     let Ok(packet) = IpSlice::from_slice(&bytes) else {
         panic!(rt; "no packet");
     };
-    assert_eq!(rt;
-        packet.source_addr(),
-        IpAddr::from([0xfd, 0, 0, 0, 0, 0, 0, 0, 0, 0, 0, 0, 0, 0, 0, 1])
+    assert!(rt;
+        packet.source_addr() == IpAddr::from([0xfd, 0, 0, 0, 0, 0, 0, 0, 0, 0, 0, 0, 0, 0, 0, 1])
     );
-    assert_eq!(rt;
-        packet.destination_addr(),
-        IpAddr::from([0xfd, 0, 0, 0, 0, 0, 0, 0, 0, 0, 0, 0, 0, 0, 0, 2])
+    assert!(rt;
+        packet.destination_addr()
+            == IpAddr::from([0xfd, 0, 0, 0, 0, 0, 0, 0, 0, 0, 0, 0, 0, 0, 0, 2])
     );
-    assert_eq!(rt; packet.payload_ip_number(), IpNumber::UDP);
+    assert!(rt; packet.payload_ip_number() == IpNumber::UDP);
     Ok(())
 }
 
@@ -341,22 +329,20 @@ fn packets_of_either_version(rt: HostRuntime) -> Result<(), Fail> {
 fn no_bytes_and_another_version(rt: HostRuntime) -> Result<(), Fail> {
     match IpSlice::from_slice(&[]) {
         Ok(_) => panic!(rt; "taken"),
-        Err(e) => assert_eq!(rt; e, ip::SliceError::Len(want(1, 0, Layer::IpHeader))),
+        Err(e) => assert!(rt; e == ip::SliceError::Len(want(1, 0, Layer::IpHeader))),
     }
     match IpSlice::from_slice(&[0x50]) {
         Ok(_) => panic!(rt; "taken"),
-        Err(e) => assert_eq!(rt;
-            e,
-            ip::SliceError::IpHeaders(ip::HeadersError::Ip(ip::HeaderError::UnsupportedIpVersion {
-                version_number: 5
-            }))
+        Err(e) => assert!(rt;
+            e == ip::SliceError::IpHeaders(ip::HeadersError::Ip(
+                ip::HeaderError::UnsupportedIpVersion { version_number: 5 }
+            ))
         ),
     }
     match IpSlice::from_slice(&[0x44; 20]) {
         Ok(_) => panic!(rt; "taken"),
-        Err(e) => assert_eq!(rt;
-            e,
-            ip::SliceError::IpHeaders(ip::HeadersError::Ip(
+        Err(e) => assert!(rt;
+            e == ip::SliceError::IpHeaders(ip::HeadersError::Ip(
                 ip::HeaderError::Ipv4HeaderLengthSmallerThanHeader { ihl: 4 }
             ))
         ),

@@ -1,9 +1,9 @@
 //! The header of an IPv6 packet and what its payload length gives it, by the packet of `packets`.
-use super::packets::IPV6;
-use crate::Ipv6Slice;
-use crate::err::ip::{HeadersSliceError, SliceError};
+use crate::packets::IPV6;
 use ep_base::LenSource;
 use ep_base::err::{Layer, LenError};
+use ep_ipslice::Ipv6Slice;
+use ep_ipslice::err::ip::{HeadersSliceError, SliceError};
 
 #[test]
 fn body_of_a_packet(rt: HostRuntime) {

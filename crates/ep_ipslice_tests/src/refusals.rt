@@ -1,11 +1,11 @@
 //! Why bytes begin with no IP packet. The bytes are those of `packets`, cut or changed.
 
-use super::packets::{IPV4, IPV6, want};
-use crate::err::{ip, ipv4, ipv6};
-use crate::{IpSlice, Ipv4ExtensionsSlice, Ipv4Slice, Ipv6ExtensionsSlice, Ipv6Slice};
+use crate::packets::{IPV4, IPV6, want};
 use ep_base::err::{Layer, LenError};
 use ep_base::{IpNumber, LenSource};
 use ep_ext::err::{ip_auth, ipv6_exts};
+use ep_ipslice::err::{ip, ipv4, ipv6};
+use ep_ipslice::{IpSlice, Ipv4ExtensionsSlice, Ipv4Slice, Ipv6ExtensionsSlice, Ipv6Slice};
 use std::process::Abort;
 use std::test::*;
 
@@ -23,7 +23,7 @@ const HEADERS: [(u8, u8, Layer); 5] = [
 fn assert_wants(rt: &impl Abort, bytes: &[u8], error: LenError) {
     match Ipv6Slice::from_slice(bytes) {
         Ok(_) => panic!(rt; "taken"),
-        Err(e) => assert_eq!(rt; e, ipv6::SliceError::Len(error)),
+        Err(e) => assert!(rt; e == ipv6::SliceError::Len(error)),
     }
 }
 
@@ -85,9 +85,8 @@ fn an_extension_header_longer_than_the_least(rt: HostRuntime) -> Result<(), Fail
 fn packets_of_the_other_version(rt: HostRuntime) -> Result<(), Fail> {
     match Ipv4Slice::from_slice(&IPV6) {
         Ok(_) => panic!(rt; "taken"),
-        Err(e) => assert_eq!(rt;
-            e,
-            ipv4::SliceError::Header(ep_ip::err::ipv4::HeaderError::UnexpectedVersion {
+        Err(e) => assert!(rt;
+            e == ipv4::SliceError::Header(ep_ip::err::ipv4::HeaderError::UnexpectedVersion {
                 version_number: 6
             })
         ),
@@ -96,9 +95,8 @@ fn packets_of_the_other_version(rt: HostRuntime) -> Result<(), Fail> {
     bytes[0] = 0x45;
     match Ipv6Slice::from_slice(&bytes) {
         Ok(_) => panic!(rt; "taken"),
-        Err(e) => assert_eq!(rt;
-            e,
-            ipv6::SliceError::Header(ep_ip::err::ipv6::HeaderError::UnexpectedVersion {
+        Err(e) => assert!(rt;
+            e == ipv6::SliceError::Header(ep_ip::err::ipv6::HeaderError::UnexpectedVersion {
                 version_number: 4
             })
         ),
@@ -110,7 +108,7 @@ fn packets_of_the_other_version(rt: HostRuntime) -> Result<(), Fail> {
 fn assert_refused(rt: &impl Abort, bytes: &[u8], error: ip::HeadersError) {
     match IpSlice::from_slice(bytes) {
         Ok(_) => panic!(rt; "taken"),
-        Err(e) => assert_eq!(rt; e, ip::SliceError::IpHeaders(error)),
+        Err(e) => assert!(rt; e == ip::SliceError::IpHeaders(error)),
     }
 }
 
@@ -121,17 +119,14 @@ fn an_authentication_header_that_breaks_its_format(rt: HostRuntime) -> Result<()
     bytes[21] = 0;
     match Ipv4Slice::from_slice(&bytes) {
         Ok(_) => panic!(rt; "taken"),
-        Err(e) => assert_eq!(rt; e, ipv4::SliceError::Exts(content)),
+        Err(e) => assert!(rt; e == ipv4::SliceError::Exts(content)),
     }
     assert_refused(&rt, &bytes, ip::HeadersError::Ipv4Ext(content));
     let mut bytes = IPV6;
     bytes[65] = 0;
     match Ipv6Slice::from_slice(&bytes) {
         Ok(_) => panic!(rt; "taken"),
-        Err(e) => assert_eq!(rt;
-            e,
-            ipv6::SliceError::Exts(ipv6_exts::HeaderError::IpAuth(content))
-        ),
+        Err(e) => assert!(rt; e == ipv6::SliceError::Exts(ipv6_exts::HeaderError::IpAuth(content))),
     }
     Ok(())
 }
@@ -143,7 +138,7 @@ fn hop_by_hop_options_behind_a_routing_header(rt: HostRuntime) -> Result<(), Fai
     let content = ipv6_exts::HeaderError::HopByHopNotAtStart;
     match Ipv6Slice::from_slice(&bytes) {
         Ok(_) => panic!(rt; "taken"),
-        Err(e) => assert_eq!(rt; e, ipv6::SliceError::Exts(content)),
+        Err(e) => assert!(rt; e == ipv6::SliceError::Exts(content)),
     }
     assert_refused(&rt, &bytes, ip::HeadersError::Ipv6Ext(content));
     Ok(())
@@ -159,7 +154,7 @@ fn a_want_of_either_version(rt: HostRuntime) -> Result<(), Fail> {
     for (bytes, error) in rows {
         match IpSlice::from_slice(&bytes) {
             Ok(_) => panic!(rt; "taken"),
-            Err(e) => assert_eq!(rt; e, ip::SliceError::Len(error)),
+            Err(e) => assert!(rt; e == ip::SliceError::Len(error)),
         }
     }
     Ok(())
@@ -171,29 +166,29 @@ fn a_fault_behind_which_nothing_is_read(rt: HostRuntime) -> Result<(), Fail> {
     let bytes = [17, 1, 0, 0, 1];
     let first = IpNumber::AUTHENTICATION_HEADER;
     let (extensions, number, rest, fault) = Ipv4ExtensionsSlice::from_slice_lax(first, &bytes);
-    assert_eq!(rt; extensions.is_empty(), true);
-    assert_eq!(rt; number, first);
-    assert_eq!(rt; rest, bytes.as_slice());
+    assert!(rt; extensions.is_empty());
+    assert!(rt; number == first);
+    assert!(rt; rest == bytes.as_slice());
     let error = ip_auth::HeaderSliceError::Len(want(12, 5, Layer::IpAuthHeader));
-    assert_eq!(rt; fault, Some(error));
+    assert!(rt; fault == Some(error));
     let bytes = [44, 0, 0, 0, 0, 0, 0, 0, 17, 0, 0];
     let (extensions, number, rest, fault) = Ipv6ExtensionsSlice::from_slice_lax(
         IpNumber(43),
         &bytes,
     );
-    assert_eq!(rt; extensions.slice(), &bytes[..8]);
-    assert_eq!(rt; number, IpNumber(44));
-    assert_eq!(rt; rest, &bytes[8..]);
+    assert!(rt; extensions.slice() == &bytes[..8]);
+    assert!(rt; number == IpNumber(44));
+    assert!(rt; rest == &bytes[8..]);
     let error = LenError {
         layer_start_offset: 8,
         ..want(8, 3, Layer::Ipv6FragHeader)
     };
-    assert_eq!(rt;
-        fault,
-        Some((
-            ipv6_exts::HeaderSliceError::Len(error),
-            Layer::Ipv6FragHeader
-        ))
+    assert!(rt;
+        fault
+            == Some((
+                ipv6_exts::HeaderSliceError::Len(error),
+                Layer::Ipv6FragHeader
+            ))
     );
     Ok(())
 }
@@ -212,9 +207,9 @@ fn a_want_further_on(rt: HostRuntime) -> Result<(), Fail> {
         layer_start_offset: 34,
         ..len
     });
-    assert_eq!(rt; error.add_slice_offset(14), moved);
+    assert!(rt; error.add_slice_offset(14) == moved);
     let version = ip::HeaderError::UnsupportedIpVersion { version_number: 5 };
     let content = ip::HeadersSliceError::Content(ip::HeadersError::Ip(version));
-    assert_eq!(rt; content.add_slice_offset(14), content);
+    assert!(rt; content.add_slice_offset(14) == content);
     Ok(())
 }

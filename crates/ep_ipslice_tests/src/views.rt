@@ -1,11 +1,11 @@
 //! What views tell of packets. The bytes are those of `packets`, or made by the RFCs' tables.
 
-use super::packets::{IPV4, IPV6};
-use crate::{
+use crate::packets::{IPV4, IPV6};
+use ep_base::{IpNumber, LenSource};
+use ep_ipslice::{
     IpPayloadSlice, IpSlice, Ipv4ExtensionsSlice, Ipv4Slice, Ipv6ExtensionSliceIter,
     Ipv6ExtensionsSlice, Ipv6Slice, laws,
 };
-use ep_base::{IpNumber, LenSource};
 use std::cmp::Ordering;
 use std::hash::{FoldHasher, Hasher};
 use std::test::*;
@@ -28,8 +28,8 @@ fn ipv4_fragments(rt: HostRuntime) -> Result<(), Fail> {
         let Ok(packet) = IpSlice::from_slice(&bytes) else {
             panic!(rt; "no packet");
         };
-        assert_eq!(rt; packet.is_fragmenting_payload(), is_part);
-        assert_eq!(rt; packet.payload().fragmented, is_part);
+        assert!(rt; packet.is_fragmenting_payload() == is_part);
+        assert!(rt; packet.payload().fragmented == is_part);
     }
     Ok(())
 }
@@ -44,9 +44,9 @@ fn fragment_fields_of_an_ipv4_packet(rt: HostRuntime) -> Result<(), Fail> {
         panic!(rt; "no packet");
     };
     let (identification, offset, more) = laws::ipv4_fragment_fields(&packet);
-    assert_eq!(rt; identification, 0x107);
-    assert_eq!(rt; offset.value(), 5);
-    assert_eq!(rt; more, true);
+    assert!(rt; identification == 0x107);
+    assert!(rt; offset.value() == 5);
+    assert!(rt; more);
     Ok(())
 }
 
@@ -59,9 +59,9 @@ fn fragment_fields_of_an_ipv6_packet(rt: HostRuntime) -> Result<(), Fail> {
     let Some((identification, offset, more)) = laws::ipv6_fragment_fields(&packet) else {
         panic!(rt; "no fragment header");
     };
-    assert_eq!(rt; identification, 7);
-    assert_eq!(rt; offset.value(), 1);
-    assert_eq!(rt; more, false);
+    assert!(rt; identification == 7);
+    assert!(rt; offset.value() == 1);
+    assert!(rt; !more);
     Ok(())
 }
 
@@ -77,11 +77,11 @@ fn the_first_fragment_header(rt: HostRuntime) -> Result<(), Fail> {
     let Some(header) = extensions.first_fragment_header() else {
         panic!(rt; "no fragment header");
     };
-    assert_eq!(rt; header.slice(), &bytes[8..16]);
+    assert!(rt; header.slice() == &bytes[8..16]);
     let Ok((extensions, _, _)) = Ipv6ExtensionsSlice::from_slice(IpNumber::UDP, &bytes) else {
         panic!(rt; "refused");
     };
-    assert_eq!(rt; extensions.first_fragment_header().is_none(), true);
+    assert!(rt; extensions.first_fragment_header().is_none());
     Ok(())
 }
 
@@ -93,8 +93,8 @@ fn authentication_headers_behind_one_another(rt: HostRuntime) -> Result<(), Fail
     let Ok(packet) = Ipv4Slice::from_slice(&bytes) else {
         panic!(rt; "no packet");
     };
-    assert_eq!(rt; packet.payload_ip_number(), IpNumber::AUTHENTICATION_HEADER);
-    assert_eq!(rt; packet.payload().payload, [0xaa, 0xbb].as_slice());
+    assert!(rt; packet.payload_ip_number() == IpNumber::AUTHENTICATION_HEADER);
+    assert!(rt; packet.payload().payload == [0xaa, 0xbb].as_slice());
     let bytes = [
         51, 1, 0, 0, 1, 2, 3, 4, 5, 6, 7, 8, 17, 1, 0, 0, 1, 2, 3, 4, 5, 6, 7, 8, 0xaa,
     ];
@@ -102,12 +102,12 @@ fn authentication_headers_behind_one_another(rt: HostRuntime) -> Result<(), Fail
     else {
         panic!(rt; "refused");
     };
-    assert_eq!(rt; number, IpNumber::UDP);
-    assert_eq!(rt; rest, [0xaa].as_slice());
+    assert!(rt; number == IpNumber::UDP);
+    assert!(rt; rest == [0xaa].as_slice());
     let mut headers = extensions.into_iter();
-    assert_eq!(rt; headers.next().is_some(), true);
-    assert_eq!(rt; headers.next().is_some(), true);
-    assert_eq!(rt; headers.next().is_none(), true);
+    assert!(rt; headers.next().is_some());
+    assert!(rt; headers.next().is_some());
+    assert!(rt; headers.next().is_none());
     Ok(())
 }
 
@@ -118,24 +118,24 @@ fn packets_of_a_version_as_packets_of_either(rt: HostRuntime) -> Result<(), Fail
         panic!(rt; "no packet");
     };
     let either = IpSlice::from(packet);
-    assert_eq!(rt; either.ipv4().is_some(), true);
-    assert_eq!(rt; either.ipv6().is_none(), true);
-    assert_eq!(rt; either.payload_ip_number(), IpNumber::UDP);
+    assert!(rt; either.ipv4().is_some());
+    assert!(rt; either.ipv6().is_none());
+    assert!(rt; either.payload_ip_number() == IpNumber::UDP);
     let bytes = IPV6;
     let Ok(packet) = Ipv6Slice::from_slice(&bytes) else {
         panic!(rt; "no packet");
     };
     let either = IpSlice::from(packet);
-    assert_eq!(rt; either.ipv4().is_none(), true);
-    assert_eq!(rt; either.ipv6().is_some(), true);
-    assert_eq!(rt; either.payload().payload, [0xaa, 0xbb].as_slice());
+    assert!(rt; either.ipv4().is_none());
+    assert!(rt; either.ipv6().is_some());
+    assert!(rt; either.payload().payload == [0xaa, 0xbb].as_slice());
     Ok(())
 }
 
 #[test]
 fn views_of_nothing(rt: HostRuntime) -> Result<(), Fail> {
-    assert_eq!(rt; Ipv4ExtensionsSlice::default().is_empty(), true);
-    assert_eq!(rt; Ipv6ExtensionSliceIter::default().next().is_none(), true);
+    assert!(rt; Ipv4ExtensionsSlice::default().is_empty());
+    assert!(rt; Ipv6ExtensionSliceIter::default().next().is_none());
     Ok(())
 }
 
@@ -148,9 +148,9 @@ fn an_authentication_header_with_its_own_fields(rt: HostRuntime) -> Result<(), F
     let Some(auth) = extensions.to_header().auth else {
         panic!(rt; "no header");
     };
-    assert_eq!(rt; auth.next_header, IpNumber::UDP);
-    assert_eq!(rt; auth.spi, 0x01020304);
-    assert_eq!(rt; auth.sequence_number, 0x05060708);
+    assert!(rt; auth.next_header == IpNumber::UDP);
+    assert!(rt; auth.spi == 0x01020304);
+    assert!(rt; auth.sequence_number == 0x05060708);
     Ok(())
 }
 
@@ -181,8 +181,8 @@ fn payloads_in_their_order(rt: HostRuntime) -> Result<(), Fail> {
     ];
     for (at, a) in rows.iter().enumerate() {
         for (other, b) in rows.iter().enumerate() {
-            assert_eq!(rt; a.cmp(b), at.cmp(&other));
-            assert_eq!(rt; a == b, at == other);
+            assert!(rt; a.cmp(b) == at.cmp(&other));
+            assert!(rt; (a == b) == (at == other));
         }
     }
     Ok(())
@@ -195,6 +195,6 @@ fn equal_payloads_are_hashed_alike(rt: HostRuntime) -> Result<(), Fail> {
     let source = LenSource::Ipv4HeaderTotalLen;
     laws::traits::payload_hashes_all_fields(&payload(17, true, source, &a), &mut one);
     laws::traits::payload_hashes_all_fields(&payload(17, true, source, &b), &mut other);
-    assert_eq!(rt; one.finish(), other.finish());
+    assert!(rt; one.finish() == other.finish());
     Ok(())
 }

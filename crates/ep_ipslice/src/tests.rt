@@ -1,5 +1,0 @@
-mod errors;
-mod header_and_body;
-mod packets;
-mod refusals;
-mod views;
