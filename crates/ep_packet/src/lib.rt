@@ -18,6 +18,3 @@ pub use packet_headers::PacketHeaders;
 pub use payload_slice::PayloadSlice;
 pub use sliced_packet::SlicedPacket;
 pub use transport::{TransportHeader, TransportSlice};
-
-#[cfg(test)]
-mod tests;

@@ -1,10 +1,10 @@
 //! Headers of frames. The bytes were worked out by hand after IEEE 802.1Q and 802.1AE and RFC 768, 791,
 //! 792, 826, 8200 and 9293; addresses are zero.
-use crate::err::packet::SliceError;
-use crate::{PacketHeaders, PayloadSlice, SlicedPacket};
 use ep_base::err::{Layer, LenError};
 use ep_base::{EtherType, IpNumber, LenSource};
 use ep_ipslice::err::ip;
+use ep_packet::err::packet::SliceError;
+use ep_packet::{PacketHeaders, PayloadSlice, SlicedPacket};
 use ep_tag::{EtherPayloadSlice, VlanHeader};
 
 // Two VLAN tags in front of an IPv4 packet of 36 bytes: UDP with this length field, eight bytes of

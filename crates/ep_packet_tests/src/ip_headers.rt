@@ -1,12 +1,12 @@
 //! Headers of IP packets. The bytes were worked out by hand after RFC 791, 4302 and 8200; the IPv4
 //! checksum is that of a worked frame.
-use crate::IpHeaders;
-use crate::err::ip::HeadersWriteError;
 use ep_base::err::{ValueTooBigError, ValueType};
 use ep_base::{EtherType, IpFragOffset, IpNumber};
 use ep_ext::err::{ip_exts, ipv6_exts};
 use ep_ext::{IpAuthHeader, Ipv4Extensions, Ipv6Extensions, Ipv6FragmentHeader};
 use ep_ip::{Ipv4Header, Ipv6Header};
+use ep_packet::IpHeaders;
+use ep_packet::err::ip::HeadersWriteError;
 use std::test::Fail;
 
 // An IPv4 header of a UDP message of 16 bytes.
@@ -35,9 +35,9 @@ fn ipv6_with_fragment(next_header: u8) -> IpHeaders {
 
 #[test]
 fn lengths_of_headers(rt: HostRuntime) {
-    assert_eq!(rt; ipv4_with_auth(51).map(|h| h.header_len()), Some(32));
-    assert_eq!(rt; ipv6_with_fragment(44).header_len(), 48);
-    assert_eq!(rt; IpHeaders::MAX_LEN, 9268);
+    assert!(rt; ipv4_with_auth(51).map(|h| h.header_len()) == Some(32));
+    assert!(rt; ipv6_with_fragment(44).header_len() == 48);
+    assert!(rt; IpHeaders::MAX_LEN == 9268);
 }
 
 #[test]
@@ -46,8 +46,8 @@ fn headers_of_one_version(rt: HostRuntime) {
     assert!(rt; ipv6.ipv6().is_some());
     assert!(rt; ipv6.ipv4().is_none());
     let ipv4 = ipv4_with_auth(51);
-    assert_eq!(rt; ipv4.as_ref().map(|h| h.ipv4().is_some()), Some(true));
-    assert_eq!(rt; ipv4.as_ref().map(|h| h.ipv6().is_none()), Some(true));
+    assert!(rt; ipv4.as_ref().map(|h| h.ipv4().is_some()) == Some(true));
+    assert!(rt; ipv4.as_ref().map(|h| h.ipv6().is_none()) == Some(true));
 }
 
 // The number behind the headers of `ipv6_with_fragment`.
@@ -57,14 +57,11 @@ fn number_behind(next_header: u8) -> Result<IpNumber, ip_exts::ExtsWalkError> {
 
 #[test]
 fn numbers_behind_headers(rt: HostRuntime) {
-    assert_eq!(rt; number_behind(44), Ok(IpNumber(17)));
+    assert!(rt; number_behind(44) == Ok(IpNumber(17)));
     let fault = ipv6_exts::ExtsWalkError::ExtNotReferenced {
         missing_ext: IpNumber(44),
     };
-    assert_eq!(rt;
-        number_behind(17),
-        Err(ip_exts::ExtsWalkError::Ipv6Exts(fault))
-    );
+    assert!(rt; number_behind(17) == Err(ip_exts::ExtsWalkError::Ipv6Exts(fault)));
 }
 
 // What `set_next_headers` answers, and the number that the headers name first then.
@@ -79,12 +76,9 @@ fn linked(mut headers: IpHeaders) -> (EtherType, IpNumber) {
 
 #[test]
 fn linked_headers(rt: HostRuntime) {
-    assert_eq!(rt;
-        linked(ipv6_with_fragment(0)),
-        (EtherType(0x86dd), IpNumber(44))
-    );
+    assert!(rt; linked(ipv6_with_fragment(0)) == (EtherType(0x86dd), IpNumber(44)));
     let ipv4 = ipv4_with_auth(17).map(linked);
-    assert_eq!(rt; ipv4, Some((EtherType(0x0800), IpNumber(51))));
+    assert!(rt; ipv4 == Some((EtherType(0x0800), IpNumber(51))));
 }
 
 // What `set_payload_len` answers to the headers of `ipv6_with_fragment`.
@@ -102,9 +96,9 @@ fn too_big(actual: usize) -> Option<ValueTooBigError<usize>> {
 
 #[test]
 fn lengths_of_payloads(rt: HostRuntime) {
-    assert_eq!(rt; refused_len(65527), None);
-    assert_eq!(rt; refused_len(65528), too_big(65536));
-    assert_eq!(rt; refused_len(usize::MAX), too_big(usize::MAX));
+    assert!(rt; refused_len(65527).is_none());
+    assert!(rt; refused_len(65528) == too_big(65536));
+    assert!(rt; refused_len(usize::MAX) == too_big(usize::MAX));
 }
 
 // The total length that a payload of this many bytes gives `ipv4_with_auth`, or why it is refused.
@@ -121,14 +115,14 @@ fn total_len(len: usize) -> Option<Result<u16, ValueTooBigError<usize>>> {
 
 #[test]
 fn total_lengths(rt: HostRuntime) {
-    assert_eq!(rt; total_len(100), Some(Ok(132)));
-    assert_eq!(rt; total_len(65503), Some(Ok(65535)));
+    assert!(rt; total_len(100) == Some(Ok(132)));
+    assert!(rt; total_len(65503) == Some(Ok(65535)));
     let refused = ValueTooBigError {
         actual: 65516,
         max_allowed: 65515,
         value_type: ValueType::Ipv4PayloadLength,
     };
-    assert_eq!(rt; total_len(65504), Some(Err(refused)));
+    assert!(rt; total_len(65504) == Some(Err(refused)));
 }
 
 #[test]
@@ -136,9 +130,9 @@ fn headers_of_a_packet(rt: HostRuntime) -> Result<(), Fail> {
     let mut packet = [9; 38];
     packet[..20].copy_from_slice(&IPV4);
     let (headers, payload) = IpHeaders::from_ipv4_slice(&packet)?;
-    assert_eq!(rt; headers.header_len(), 20);
-    assert_eq!(rt; payload.payload.len(), 16);
-    assert_eq!(rt; payload.ip_number, IpNumber(17));
+    assert!(rt; headers.header_len() == 20);
+    assert!(rt; payload.payload.len() == 16);
+    assert!(rt; payload.ip_number == IpNumber(17));
     assert!(rt; !payload.fragmented);
     assert!(rt; !headers.is_fragmenting_payload());
     assert!(rt; IpHeaders::from_ipv4_slice(&packet[..35]).is_err());
@@ -154,13 +148,13 @@ fn written_ipv4_headers(rt: HostRuntime) -> Result<(), Fail> {
     };
     let mut buffer = vec![in rt.alloc(); 0xaau8; 1]?;
     headers.write(&mut buffer)?;
-    assert_eq!(rt;
-        buffer.as_slice(),
-        [
-            0xaa, 0x45, 0, 0, 0x24, 0, 7, 0, 0, 0x40, 0x33, 0x66, 0x9e, 10, 0, 0, 1, 10, 0, 0, 2,
-            17, 1, 0, 0, 0, 0, 0, 5, 0, 0, 0, 6
-        ]
-        .as_slice()
+    assert!(rt;
+        buffer.as_slice()
+            == [
+                0xaa, 0x45, 0, 0, 0x24, 0, 7, 0, 0, 0x40, 0x33, 0x66, 0x9e, 10, 0, 0, 1, 10, 0, 0,
+                2, 17, 1, 0, 0, 0, 0, 0, 5, 0, 0, 0, 6
+            ]
+            .as_slice()
     );
     Ok(())
 }
@@ -172,13 +166,13 @@ fn headers_that_are_not_written(rt: HostRuntime) -> Result<(), Fail> {
         missing_ext: IpNumber(44),
     };
     let answer = ipv6_with_fragment(17).write(&mut buffer);
-    assert_eq!(rt; answer, Err(HeadersWriteError::Ipv6Exts(fault)));
-    assert_eq!(rt; buffer.as_slice(), [0xaa].as_slice());
+    assert!(rt; answer == Err(HeadersWriteError::Ipv6Exts(fault)));
+    assert!(rt; buffer.as_slice() == [0xaa].as_slice());
     let error = HeadersWriteError::Ipv6Exts(fault);
     assert!(rt; !error.memory());
-    assert_eq!(rt; error.ipv6_exts(), Some(fault));
+    assert!(rt; error.ipv6_exts() == Some(fault));
     assert!(rt; error.ipv4_exts().is_none());
     ipv6_with_fragment(44).write(&mut buffer)?;
-    assert_eq!(rt; buffer.len(), 49);
+    assert!(rt; buffer.len() == 49);
     Ok(())
 }

@@ -1,9 +1,9 @@
-use crate::TransportHeader;
-use crate::err::packet::TransportChecksumError;
 use ep_base::err::{ValueTooBigError, ValueType};
 use ep_base::{IpNumber, Ipv6FlowLabel};
 use ep_icmp::{IcmpEchoHeader, Icmpv4Header, Icmpv4Type, Icmpv6Header, Icmpv6Type};
 use ep_ip::{Ipv4Header, Ipv6Header};
+use ep_packet::TransportHeader;
+use ep_packet::err::packet::TransportChecksumError;
 use ep_tcpudp::{TcpHeader, UdpHeader};
 use std::test::*;
 
@@ -58,13 +58,13 @@ fn checksums_over_ipv4(rt: HostRuntime) -> Result<(), Fail> {
     let ip_header = ipv4_header()?;
     let mut header = udp();
     header.update_checksum_ipv4(&ip_header, &PAYLOAD)?;
-    assert_eq!(rt; header.udp().map(|udp| udp.checksum), Some(0xdbb4));
+    assert!(rt; header.udp().map(|udp| udp.checksum) == Some(0xdbb4));
     let mut header = tcp();
     header.update_checksum_ipv4(&ip_header, &[])?;
-    assert_eq!(rt; header.tcp().map(|tcp| tcp.checksum), Some(0x97da));
+    assert!(rt; header.tcp().map(|tcp| tcp.checksum) == Some(0x97da));
     let mut header = icmpv4();
     header.update_checksum_ipv4(&ip_header, &PAYLOAD)?;
-    assert_eq!(rt; header.icmpv4().map(|icmpv4| icmpv4.checksum), Some(0xe7e8));
+    assert!(rt; header.icmpv4().map(|icmpv4| icmpv4.checksum) == Some(0xe7e8));
     Ok(())
 }
 
@@ -74,16 +74,16 @@ fn checksums_over_ipv6(rt: HostRuntime) -> Result<(), Fail> {
     let ip_header = ipv6_header();
     let mut header = udp();
     header.update_checksum_ipv6(&ip_header, &PAYLOAD)?;
-    assert_eq!(rt; header.udp().map(|udp| udp.checksum), Some(0xf5b2));
+    assert!(rt; header.udp().map(|udp| udp.checksum) == Some(0xf5b2));
     let mut header = tcp();
     header.update_checksum_ipv6(&ip_header, &[])?;
-    assert_eq!(rt; header.tcp().map(|tcp| tcp.checksum), Some(0xb1d8));
+    assert!(rt; header.tcp().map(|tcp| tcp.checksum) == Some(0xb1d8));
     let mut header = icmpv4();
     header.update_checksum_ipv6(&ip_header, &PAYLOAD)?;
-    assert_eq!(rt; header.icmpv4().map(|icmpv4| icmpv4.checksum), Some(0xe7e8));
+    assert!(rt; header.icmpv4().map(|icmpv4| icmpv4.checksum) == Some(0xe7e8));
     let mut header = icmpv6();
     header.update_checksum_ipv6(&ip_header, &PAYLOAD)?;
-    assert_eq!(rt; header.icmpv6().map(|icmpv6| icmpv6.checksum), Some(0x7599));
+    assert!(rt; header.icmpv6().map(|icmpv6| icmpv6.checksum) == Some(0x7599));
     Ok(())
 }
 
@@ -99,37 +99,37 @@ fn refused_checksums(rt: HostRuntime) -> Result<(), Fail> {
         }))
     };
     let mut header = udp();
-    assert_eq!(rt;
-        header.update_checksum_ipv4(&ip_header, &payload),
-        too_long(ValueType::UdpPayloadLengthIpv4, 65527)
+    assert!(rt;
+        header.update_checksum_ipv4(&ip_header, &payload)
+            == too_long(ValueType::UdpPayloadLengthIpv4, 65527)
     );
-    assert_eq!(rt; header, udp());
+    assert!(rt; header == udp());
     let mut header = tcp();
-    assert_eq!(rt;
-        header.update_checksum_ipv4(&ip_header, &payload),
-        too_long(ValueType::TcpPayloadLengthIpv4, 65515)
+    assert!(rt;
+        header.update_checksum_ipv4(&ip_header, &payload)
+            == too_long(ValueType::TcpPayloadLengthIpv4, 65515)
     );
-    assert_eq!(rt; header, tcp());
+    assert!(rt; header == tcp());
     let mut header = icmpv6();
-    assert_eq!(rt;
-        header.update_checksum_ipv4(&ip_header, &PAYLOAD),
-        Err(TransportChecksumError::Icmpv6InIpv4)
+    assert!(rt;
+        header.update_checksum_ipv4(&ip_header, &PAYLOAD)
+            == Err(TransportChecksumError::Icmpv6InIpv4)
     );
-    assert_eq!(rt; header, icmpv6());
+    assert!(rt; header == icmpv6());
     Ok(())
 }
 
 // Each header is of one protocol alone.
 #[test]
 fn header_of_each_protocol(rt: HostRuntime) -> Result<(), Fail> {
-    assert_eq!(rt; udp().udp().is_some(), true);
-    assert_eq!(rt; udp().tcp(), None);
-    assert_eq!(rt; tcp().tcp().is_some(), true);
-    assert_eq!(rt; tcp().icmpv4(), None);
-    assert_eq!(rt; icmpv4().icmpv4().is_some(), true);
-    assert_eq!(rt; icmpv4().icmpv6(), None);
-    assert_eq!(rt; icmpv6().icmpv6().is_some(), true);
-    assert_eq!(rt; icmpv6().udp(), None);
+    assert!(rt; udp().udp().is_some());
+    assert!(rt; udp().tcp().is_none());
+    assert!(rt; tcp().tcp().is_some());
+    assert!(rt; tcp().icmpv4().is_none());
+    assert!(rt; icmpv4().icmpv4().is_some());
+    assert!(rt; icmpv4().icmpv6().is_none());
+    assert!(rt; icmpv6().icmpv6().is_some());
+    assert!(rt; icmpv6().udp().is_none());
     Ok(())
 }
 
@@ -139,26 +139,26 @@ fn headers_are_written_to(rt: HostRuntime) -> Result<(), Fail> {
     if let Some(udp) = header.mut_udp() {
         udp.checksum = 0xdbb4;
     }
-    assert_eq!(rt; header.mut_tcp().is_none(), true);
-    assert_eq!(rt; header.udp().map(|udp| udp.checksum), Some(0xdbb4));
+    assert!(rt; header.mut_tcp().is_none());
+    assert!(rt; header.udp().map(|udp| udp.checksum) == Some(0xdbb4));
     let mut header = tcp();
     if let Some(tcp) = header.mut_tcp() {
         tcp.checksum = 0x97da;
     }
-    assert_eq!(rt; header.mut_udp().is_none(), true);
-    assert_eq!(rt; header.tcp().map(|tcp| tcp.checksum), Some(0x97da));
+    assert!(rt; header.mut_udp().is_none());
+    assert!(rt; header.tcp().map(|tcp| tcp.checksum) == Some(0x97da));
     let mut header = icmpv4();
     if let Some(icmpv4) = header.mut_icmpv4() {
         icmpv4.checksum = 1;
     }
-    assert_eq!(rt; header.mut_icmpv6().is_none(), true);
-    assert_eq!(rt; header.icmpv4().map(|icmpv4| icmpv4.checksum), Some(1));
+    assert!(rt; header.mut_icmpv6().is_none());
+    assert!(rt; header.icmpv4().map(|icmpv4| icmpv4.checksum) == Some(1));
     let mut header = icmpv6();
     if let Some(icmpv6) = header.mut_icmpv6() {
         icmpv6.checksum = 2;
     }
-    assert_eq!(rt; header.mut_icmpv4().is_none(), true);
-    assert_eq!(rt; header.icmpv6().map(|icmpv6| icmpv6.checksum), Some(2));
+    assert!(rt; header.mut_icmpv4().is_none());
+    assert!(rt; header.icmpv6().map(|icmpv6| icmpv6.checksum) == Some(2));
     Ok(())
 }
 
@@ -169,12 +169,12 @@ fn headers_are_appended(rt: HostRuntime) -> Result<(), Fail> {
     for header in [udp(), tcp(), icmpv4(), icmpv6()] {
         let before = bytes.len();
         header.write(&mut bytes)?;
-        assert_eq!(rt; bytes.len() - before, header.header_len());
+        assert!(rt; bytes.len() - before == header.header_len());
     }
     let expected = [
         0, 1, 0, 2, 0, 16, 0, 0, 0, 1, 0, 2, 0, 0, 0, 3, 0, 0, 0, 0, 0x50, 2, 4, 0, 0, 0, 0, 0, 8,
         0, 0, 0, 0, 1, 0, 2, 128, 0, 0, 0, 0, 1, 0, 2,
     ];
-    assert_eq!(rt; bytes.as_slice() == &expected[..], true);
+    assert!(rt; bytes.as_slice() == &expected[..]);
     Ok(())
 }

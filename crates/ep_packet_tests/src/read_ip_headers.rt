@@ -1,9 +1,9 @@
 //! Headers of IP packets in slices. The bytes were worked out by hand after RFC 791 and 8200.
-use crate::IpHeaders;
 use ep_base::err::{Layer, LenError};
 use ep_base::{IpNumber, LenSource};
 use ep_ipslice::err::ip::{HeaderError, HeadersError, HeadersSliceError};
 use ep_ipslice::err::ipv6::SliceError;
+use ep_packet::IpHeaders;
 use std::test::Fail;
 
 // An IPv6 packet whose payload length is 16: a fragment header of a first fragment that names this

@@ -1,5 +1,5 @@
-use crate::TransportSlice;
 use ep_icmp::{Icmpv4Slice, Icmpv6Slice};
+use ep_packet::TransportSlice;
 use ep_tcpudp::{TcpSlice, UdpSlice};
 use std::test::*;
 
@@ -13,8 +13,8 @@ fn slices_of_each_protocol(rt: HostRuntime) -> Result<(), Fail> {
     let tcp = TransportSlice::Tcp(TcpSlice::from_slice(&bytes)?);
     let icmpv4 = TransportSlice::Icmpv4(Icmpv4Slice::from_slice(&bytes)?);
     let icmpv6 = TransportSlice::Icmpv6(Icmpv6Slice::from_slice(&bytes)?);
-    assert_eq!(rt; udp == tcp, false);
-    assert_eq!(rt; icmpv4 == icmpv6, false);
-    assert_eq!(rt; udp.clone()? == udp, true);
+    assert!(rt; udp != tcp);
+    assert!(rt; icmpv4 != icmpv6);
+    assert!(rt; udp.clone()? == udp);
     Ok(())
 }

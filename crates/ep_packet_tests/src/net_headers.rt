@@ -1,10 +1,10 @@
 //! Headers of the network layer.
-use crate::err::net::NetSetNextHeaderError;
-use crate::{IpHeaders, NetHeaders};
 use ep_base::{EtherType, IpNumber};
 use ep_ext::{Ipv4Extensions, Ipv6Extensions};
 use ep_ip::{Ipv4Header, Ipv6Header};
 use ep_link::{ArpHardwareId, ArpOperation, ArpPacket};
+use ep_packet::err::net::NetSetNextHeaderError;
+use ep_packet::{IpHeaders, NetHeaders};
 
 fn ipv4() -> NetHeaders {
     NetHeaders::from(IpHeaders::Ipv4(Ipv4Header::default(), Ipv4Extensions { auth: None }))
@@ -46,19 +46,10 @@ fn told(headers: &NetHeaders) -> ([bool; 4], [bool; 3], usize) {
 
 #[test]
 fn kinds_of_headers(rt: HostRuntime) {
-    assert_eq!(rt;
-        told(&ipv4()),
-        ([true, true, false, false], [true, false, false], 20)
-    );
-    assert_eq!(rt;
-        told(&ipv6()),
-        ([true, false, true, false], [false, true, false], 40)
-    );
+    assert!(rt; told(&ipv4()) == ([true, true, false, false], [true, false, false], 20));
+    assert!(rt; told(&ipv6()) == ([true, false, true, false], [false, true, false], 40));
     let arp = arp().map(|headers| told(&headers));
-    assert_eq!(rt;
-        arp,
-        Some(([false, false, false, true], [false, false, true], 28))
-    );
+    assert!(rt; arp == Some(([false, false, false, true], [false, false, true], 28)));
 }
 
 fn set(mut headers: NetHeaders) -> Result<EtherType, NetSetNextHeaderError> {
@@ -67,7 +58,7 @@ fn set(mut headers: NetHeaders) -> Result<EtherType, NetSetNextHeaderError> {
 
 #[test]
 fn numbers_behind_headers(rt: HostRuntime) {
-    assert_eq!(rt; set(ipv4()), Ok(EtherType(0x0800)));
-    assert_eq!(rt; set(ipv6()), Ok(EtherType(0x86dd)));
-    assert_eq!(rt; arp().map(set), Some(Err(NetSetNextHeaderError::ArpHeader)));
+    assert!(rt; set(ipv4()) == Ok(EtherType(0x0800)));
+    assert!(rt; set(ipv6()) == Ok(EtherType(0x86dd)));
+    assert!(rt; arp().map(set) == Some(Err(NetSetNextHeaderError::ArpHeader)));
 }

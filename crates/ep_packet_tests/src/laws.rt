@@ -1,5 +1,5 @@
 //! Each law is called once.
-use crate::laws;
+use ep_packet::laws;
 
 #[test]
 fn laws_are_called() {

@@ -1,12 +1,12 @@
 //! The texts of errors: each that of the layer at fault.
 
-use crate::err::packet::{SliceError, TransportChecksumError};
 use ep_base::LenSource;
 use ep_base::err::{Layer, LenError, ValueTooBigError, ValueType};
 use ep_ext::err::{ip_auth, ipv6_exts};
 use ep_ip::err::{ipv4, ipv6};
 use ep_ipslice::err::ip;
 use ep_link::err::linux_sll;
+use ep_packet::err::packet::{SliceError, TransportChecksumError};
 use ep_tag::err::macsec;
 use ep_tcpudp::err::tcp;
 use std::alloc::Global;
@@ -31,51 +31,33 @@ fn texts_of_faults_below_ip(rt: HostRuntime) -> Result<(), Fail> {
         layer: Layer::Ethernet2Header,
         layer_start_offset: 0,
     };
-    assert_eq!(rt; have_one_text(rt.alloc(), SliceError::Len(len), len)?, true);
+    assert!(rt; have_one_text(rt.alloc(), SliceError::Len(len), len)?);
     let sll = linux_sll::HeaderError::UnsupportedPacketTypeField { packet_type: 5 };
-    assert_eq!(rt;
-        have_one_text(rt.alloc(), SliceError::LinuxSll(sll), sll)?,
-        true
-    );
+    assert!(rt; have_one_text(rt.alloc(), SliceError::LinuxSll(sll), sll)?);
     let macsec = macsec::HeaderError::UnexpectedVersion;
-    assert_eq!(rt;
-        have_one_text(rt.alloc(), SliceError::Macsec(macsec), macsec)?,
-        true
-    );
+    assert!(rt; have_one_text(rt.alloc(), SliceError::Macsec(macsec), macsec)?);
     Ok(())
 }
 
 #[test]
 fn texts_of_faults_of_ip(rt: HostRuntime) -> Result<(), Fail> {
     let ip = ip::HeaderError::UnsupportedIpVersion { version_number: 5 };
-    assert_eq!(rt; have_one_text(rt.alloc(), SliceError::Ip(ip), ip)?, true);
+    assert!(rt; have_one_text(rt.alloc(), SliceError::Ip(ip), ip)?);
     let ipv4 = ipv4::HeaderError::UnexpectedVersion { version_number: 6 };
-    assert_eq!(rt;
-        have_one_text(rt.alloc(), SliceError::Ipv4(ipv4), ipv4)?,
-        true
-    );
+    assert!(rt; have_one_text(rt.alloc(), SliceError::Ipv4(ipv4), ipv4)?);
     let ipv6 = ipv6::HeaderError::UnexpectedVersion { version_number: 4 };
-    assert_eq!(rt;
-        have_one_text(rt.alloc(), SliceError::Ipv6(ipv6), ipv6)?,
-        true
-    );
+    assert!(rt; have_one_text(rt.alloc(), SliceError::Ipv6(ipv6), ipv6)?);
     Ok(())
 }
 
 #[test]
 fn texts_of_faults_behind_ip(rt: HostRuntime) -> Result<(), Fail> {
     let ip_auth = ip_auth::HeaderError::ZeroPayloadLen;
-    assert_eq!(rt;
-        have_one_text(rt.alloc(), SliceError::Ipv4Exts(ip_auth), ip_auth)?,
-        true
-    );
+    assert!(rt; have_one_text(rt.alloc(), SliceError::Ipv4Exts(ip_auth), ip_auth)?);
     let exts = ipv6_exts::HeaderError::HopByHopNotAtStart;
-    assert_eq!(rt;
-        have_one_text(rt.alloc(), SliceError::Ipv6Exts(exts), exts)?,
-        true
-    );
+    assert!(rt; have_one_text(rt.alloc(), SliceError::Ipv6Exts(exts), exts)?);
     let tcp = tcp::HeaderError::DataOffsetTooSmall { data_offset: 4 };
-    assert_eq!(rt; have_one_text(rt.alloc(), SliceError::Tcp(tcp), tcp)?, true);
+    assert!(rt; have_one_text(rt.alloc(), SliceError::Tcp(tcp), tcp)?);
     Ok(())
 }
 
@@ -88,11 +70,11 @@ fn texts_of_missing_checksums(rt: HostRuntime) -> Result<(), Fail> {
     };
     let text = format!(in rt.alloc(); "{too_long}")?;
     let error = TransportChecksumError::PayloadLen(too_long);
-    assert_eq!(rt; format!(in rt.alloc(); "{error}")?.as_str(), text.as_str());
+    assert!(rt; format!(in rt.alloc(); "{error}")?.as_str() == text.as_str());
     let error = TransportChecksumError::Icmpv6InIpv4;
-    assert_eq!(rt;
-        format!(in rt.alloc(); "{error}")?.as_str(),
-        "an ICMPv6 message over IPv4, which has no checksum"
+    assert!(rt;
+        format!(in rt.alloc(); "{error}")?.as_str()
+            == "an ICMPv6 message over IPv4, which has no checksum"
     );
     Ok(())
 }

@@ -1,10 +1,10 @@
 //! Parts of packets. The bytes were worked out by hand after IEEE 802.3, 802.1Q and 802.1AE, libpcap's
 //! page on LINKTYPE_LINUX_SLL, and RFC 768, 791, 8200 and 9293.
-use crate::err::packet::SliceError;
-use crate::{NetSlice, SlicedPacket, TransportSlice};
 use ep_base::{EtherType, LenSource};
 use ep_link::LinkSlice;
 use ep_link::err::linux_sll;
+use ep_packet::err::packet::SliceError;
+use ep_packet::{NetSlice, SlicedPacket, TransportSlice};
 use ep_tag::VlanSlice;
 
 // An IPv4 packet with a UDP message of eight bytes of payload, from 10.0.0.1 to 10.0.0.2.
