@@ -3,3 +3,12 @@ pub mod IpDefragBuf
 pub mod IpDefragError
 pub mod IpFragRange
 pub mod Picture
+pub use Rattle.ep_base.specs as base
+pub use Rattle.ep_ext.specs as ext
+pub use Rattle.ep_icmp.specs as icmp
+pub use Rattle.ep_ip.specs as ip
+pub use Rattle.ep_ipslice.specs as ipslice
+pub use Rattle.ep_link.specs as link
+pub use Rattle.ep_packet.specs as packet
+pub use Rattle.ep_tag.specs as tag
+pub use Rattle.ep_tcpudp.specs as tcpudp

@@ -1,4 +1,5 @@
-//! Laws: functions that do nothing, and whose contracts are what the definitions promise.
+//! Laws: functions that do nothing, and whose contracts are what the definitions promise. Those of the
+//! crates that this one stands on are modules of this one, each named as its crate.
 
 ghost use Rattle.std.specs.Prelude.{◌≡◌, ◌↔◌, IsTrue, List};
 ghost use Rattle.etherparse.specs.Fragments.{Fragment, is_complete, Complete, MembersAgree};
@@ -10,6 +11,16 @@ use crate::defrag::IpDefragBuf;
 
 pub mod examples;
 pub mod traits;
+
+pub use ep_base::laws as base;
+pub use ep_ext::laws as ext;
+pub use ep_icmp::laws as icmp;
+pub use ep_ip::laws as ip;
+pub use ep_ipslice::laws as ipslice;
+pub use ep_link::laws as link;
+pub use ep_packet::laws as packet;
+pub use ep_tag::laws as tag;
+pub use ep_tcpudp::laws as tcpudp;
 
 /// Whatever fragments a buffer shows, empty, overlapping and late ones included: an end is known and there
 /// is one section, from 0 on, exactly where an end is named and no place below the greatest end is open.

@@ -13,4 +13,6 @@ mod hostile;
 #[cfg(test)]
 mod memory;
 #[cfg(test)]
+mod paths;
+#[cfg(test)]
 mod ranges;

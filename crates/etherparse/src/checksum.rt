@@ -1,0 +1,7 @@
+//! The Internet checksum (RFC 1071), and the sums of pseudo headers, with which every transport checksum
+//! begins.
+
+pub use ep_base::checksum::{
+    Sum16BitWords, message_sum, sum_pieces, u32_16bit_word, u64_16bit_word,
+};
+pub use ep_ip::checksum::{pseudo_sum_v4, pseudo_sum_v6};

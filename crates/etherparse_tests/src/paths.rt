@@ -1,0 +1,240 @@
+//! Each name of `etherparse` at the path that it has in the Rust crate.
+
+use etherparse::checksum::{self, Sum16BitWords, u32_16bit_word, u64_16bit_word};
+use etherparse::{EtherType, IpNumber, err, icmpv4, icmpv6, laws};
+
+type Numbers = (
+    etherparse::EtherType,
+    etherparse::IpDscp,
+    etherparse::IpDscpKnown,
+    etherparse::IpDscpUnknownValueError,
+    etherparse::IpEcn,
+    etherparse::IpFragOffset,
+    etherparse::IpNumber,
+    etherparse::IpTrafficClass,
+    etherparse::Ipv4Dscp,
+    etherparse::Ipv4Ecn,
+    etherparse::Ipv6FlowLabel,
+    etherparse::LenSource,
+);
+
+type LinkHeaders<'a> = (
+    etherparse::ArpHardwareId,
+    etherparse::ArpOperation,
+    etherparse::ArpPacket,
+    etherparse::ArpPacketSlice<'a>,
+    etherparse::Ethernet2Header,
+    etherparse::Ethernet2HeaderSlice<'a>,
+    etherparse::Ethernet2Slice<'a>,
+    etherparse::LinkHeader,
+    etherparse::LinkSlice<'a>,
+    etherparse::LinuxSllHeader,
+    etherparse::LinuxSllHeaderSlice<'a>,
+    etherparse::LinuxSllPacketType,
+    etherparse::LinuxSllPayloadSlice<'a>,
+    etherparse::LinuxSllProtocolType,
+    etherparse::LinuxSllSlice<'a>,
+);
+
+type Tags<'a> = (
+    etherparse::DoubleVlanHeader,
+    etherparse::DoubleVlanSlice<'a>,
+    etherparse::EtherPayloadSlice<'a>,
+    etherparse::LinkExtHeader,
+    etherparse::LinkExtSlice<'a>,
+    etherparse::MacsecAn,
+    etherparse::MacsecHeader,
+    etherparse::MacsecHeaderSlice<'a>,
+    etherparse::MacsecPType,
+    etherparse::MacsecPayloadSlice<'a>,
+    etherparse::MacsecShortLen,
+    etherparse::MacsecSlice<'a>,
+    etherparse::SingleVlanHeader,
+    etherparse::SingleVlanHeaderSlice<'a>,
+    etherparse::SingleVlanSlice<'a>,
+    etherparse::VlanHeader,
+    etherparse::VlanId,
+    etherparse::VlanPcp,
+    etherparse::VlanSlice<'a>,
+);
+
+type IpPackets<'a> = (
+    etherparse::IpHeader,
+    etherparse::IpHeaders,
+    etherparse::IpPayloadSlice<'a>,
+    etherparse::IpSlice<'a>,
+    etherparse::Ipv4Header,
+    etherparse::Ipv4HeaderSlice<'a>,
+    etherparse::Ipv4Options,
+    etherparse::Ipv4Slice<'a>,
+    etherparse::Ipv6Header,
+    etherparse::Ipv6HeaderSlice<'a>,
+    etherparse::Ipv6Slice<'a>,
+    etherparse::LaxIpPayloadSlice<'a>,
+    etherparse::NetHeaders,
+    etherparse::NetSlice<'a>,
+);
+
+type Extensions<'a> = (
+    etherparse::IpAuthHeader,
+    etherparse::IpAuthHeaderSlice<'a>,
+    etherparse::Ipv4Extensions,
+    etherparse::Ipv4ExtensionsSlice<'a>,
+    etherparse::Ipv6ExtPlace,
+    etherparse::Ipv6ExtensionSlice<'a>,
+    etherparse::Ipv6ExtensionSliceIter<'a>,
+    etherparse::Ipv6Extensions,
+    etherparse::Ipv6ExtensionsSlice<'a>,
+    etherparse::Ipv6FragmentHeader,
+    etherparse::Ipv6FragmentHeaderSlice<'a>,
+    etherparse::Ipv6RawExtHeader,
+    etherparse::Ipv6RawExtHeaderSlice<'a>,
+    etherparse::Ipv6RoutingExtensions,
+    etherparse::io::LimitedReader<&'a [u8]>,
+);
+
+type Messages<'a> = (
+    etherparse::IcmpEchoHeader,
+    etherparse::Icmpv4Header,
+    etherparse::Icmpv4Slice<'a>,
+    etherparse::Icmpv4Type,
+    etherparse::Icmpv6Header,
+    etherparse::Icmpv6Slice<'a>,
+    etherparse::Icmpv6Type,
+    etherparse::TcpHeader,
+    etherparse::TcpHeaderSlice<'a>,
+    etherparse::TcpOptionElement,
+    etherparse::TcpOptionReadError,
+    etherparse::TcpOptionWriteError,
+    etherparse::TcpOptions,
+    etherparse::TcpOptionsIterator<'a>,
+    etherparse::TcpSlice<'a>,
+    etherparse::TransportHeader,
+    etherparse::TransportSlice<'a>,
+    etherparse::UdpHeader,
+    etherparse::UdpHeaderSlice<'a>,
+    etherparse::UdpSlice<'a>,
+);
+
+type IcmpKinds = (
+    icmpv4::DestUnreachableHeader,
+    icmpv4::ParameterProblemHeader,
+    icmpv4::RedirectCode,
+    icmpv4::RedirectHeader,
+    icmpv4::TimeExceededCode,
+    icmpv4::TimestampMessage,
+    icmpv6::DestUnreachableCode,
+    icmpv6::ParameterProblemCode,
+    icmpv6::ParameterProblemHeader,
+    icmpv6::TimeExceededCode,
+);
+
+type Packets<'a> = (
+    etherparse::PacketHeaders<'a>,
+    etherparse::PayloadSlice<'a>,
+    etherparse::SlicedPacket<'a>,
+    etherparse::defrag::IpDefragBuf,
+    etherparse::defrag::IpDefragError,
+    etherparse::defrag::IpFragRange,
+);
+
+type Errors = (
+    err::Layer,
+    err::LenError,
+    err::SliceWriteSpaceError,
+    err::ValueTooBigError<u8>,
+    err::ValueType,
+    err::arp::ArpHwAddrError,
+    err::arp::ArpNewError,
+    err::arp::ArpProtoAddrError,
+    err::linux_sll::HeaderError,
+    err::linux_sll::HeaderSliceError,
+    err::macsec::HeaderError,
+    err::macsec::HeaderSliceError,
+    err::net::NetSetNextHeaderError,
+    err::packet::SliceError,
+    err::packet::TransportChecksumError,
+    err::tcp::HeaderError,
+    err::tcp::HeaderSliceError,
+);
+
+type ErrorsOfIp = (
+    err::ip::HeaderError,
+    err::ip::HeadersError,
+    err::ip::HeadersSliceError,
+    err::ip::HeadersWriteError,
+    err::ip::IpDscpUnknownValueError,
+    err::ip::SliceError,
+    err::ipv4::BadOptionsLen,
+    err::ipv4::HeaderError,
+    err::ipv4::HeaderSliceError,
+    err::ipv4::SliceError,
+    err::ipv6::HeaderError,
+    err::ipv6::HeaderSliceError,
+    err::ipv6::SliceError,
+);
+
+type ErrorsOfExtensions = (
+    err::io::LimitedReadError,
+    err::ip_auth::HeaderError,
+    err::ip_auth::HeaderLimitedReadError,
+    err::ip_auth::HeaderReadError,
+    err::ip_auth::HeaderSliceError,
+    err::ip_auth::IcvLenError,
+    err::ip_exts::ExtsWalkError,
+    err::ip_exts::HeaderError,
+    err::ip_exts::HeadersSliceError,
+    err::ipv4_exts::ExtsWalkError,
+    err::ipv4_exts::HeaderWriteError,
+    err::ipv6_exts::ExtPayloadLenError,
+    err::ipv6_exts::ExtsWalkError,
+    err::ipv6_exts::HeaderError,
+    err::ipv6_exts::HeaderLimitedReadError,
+    err::ipv6_exts::HeaderReadError,
+    err::ipv6_exts::HeaderSliceError,
+    err::ipv6_exts::HeaderWriteError,
+);
+
+#[test]
+fn constants(rt: HostRuntime) {
+    assert!(rt; etherparse::ether_type::VLAN_TAGGED_FRAME == EtherType(0x8100));
+    assert!(rt; etherparse::ip_number::IPV6_DEST_OPTIONS == IpNumber(60));
+    assert!(rt; etherparse::tcp_option::KIND_TIMESTAMP == 8);
+    assert!(rt; etherparse::defrag::MAX_IP_DEFRAG_LEN == 65535);
+    assert!(rt; etherparse::defrag::MAX_IP_DEFRAG_LEN_U16 == 65535);
+}
+
+/// The eight bytes of RFC 1071, section 3, whose sum is ddf2.
+#[test]
+fn sums(rt: HostRuntime) {
+    let text = [0x00, 0x01, 0xf2, 0x03, 0xf4, 0xf5, 0xf6, 0xf7];
+    let checksum = 0x220du16.swap_bytes();
+    let none = Sum16BitWords::new();
+    assert!(rt; checksum::sum_pieces(&[&text]) == checksum);
+    assert!(rt; checksum::message_sum(none, &text, &[]).ones_complement() == checksum);
+    assert!(rt; u32_16bit_word::ones_complement(u32_16bit_word::add_slice(0, &text)) == checksum);
+    assert!(rt; u64_16bit_word::ones_complement(u64_16bit_word::add_slice(0, &text)) == checksum);
+}
+
+/// The sum of a pseudo header is that of its words: 10.0.0.1, 10.0.0.2, 17 and 16; and over IPv6 so too.
+#[test]
+fn pseudo_sums(rt: HostRuntime) {
+    let over_ipv4 = checksum::pseudo_sum_v4([10, 0, 0, 1], [10, 0, 0, 2], IpNumber::UDP, 16);
+    assert!(rt; over_ipv4.ones_complement() == (0xffffu16 - 0x1424).swap_bytes());
+    let over_ipv6 = checksum::pseudo_sum_v6([0; 16], [0; 16], IpNumber::UDP, 16);
+    assert!(rt; over_ipv6.ones_complement() == (0xffffu16 - 0x0021).swap_bytes());
+}
+
+/// The laws of each crate below.
+#[test]
+fn laws_of_members() {
+    laws::base::fold_of_pieces();
+    laws::ext::chain_is_alone();
+    laws::icmp::traits::equals_are_same();
+    laws::ip::traits::equals_are_same();
+    laws::ipslice::traits::equals_are_same();
+    laws::link::traits::equals_are_same();
+    laws::packet::traits::equals_are_same();
+    laws::tag::traits::equals_are_same();
+    laws::tcpudp::traits::equals_are_same();
+}
