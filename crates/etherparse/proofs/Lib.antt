@@ -1,6 +1,8 @@
 pub mod Accepted
 pub mod AcceptedLists
+pub mod AppendIp
 pub mod Complete
+pub mod LinkedExts
 pub mod Members
 pub mod Push
 pub mod SameBuffers

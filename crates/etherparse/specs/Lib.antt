@@ -1,3 +1,6 @@
+pub mod BuildWriteError
+pub mod Built
+pub mod BuiltSteps
 pub mod Fragments
 pub mod IpDefragBuf
 pub mod IpDefragError

@@ -6,6 +6,7 @@ pub mod checksum;
 pub mod defrag;
 pub mod err;
 pub mod laws;
+mod packet_builder;
 
 pub use ep_base::EtherType;
 pub use ep_base::IpDscp;
@@ -110,3 +111,4 @@ pub use ep_tcpudp::UdpHeader;
 pub use ep_tcpudp::UdpHeaderSlice;
 pub use ep_tcpudp::UdpSlice;
 pub use ep_tcpudp::tcp_option;
+pub use packet_builder::{LastStep, LinkStep, PacketBuilder, PacketBuilderStep, TransportStep};

@@ -1,0 +1,16 @@
+//! The steps by which a packet is put together.
+
+mod append;
+mod begin;
+mod last_step;
+mod link_steps;
+mod packet_impl;
+mod seal;
+mod step;
+mod tcp_steps;
+mod transport_steps;
+mod write;
+
+pub use begin::PacketBuilder;
+pub use last_step::{LastStep, LinkStep, TransportStep};
+pub use step::PacketBuilderStep;
