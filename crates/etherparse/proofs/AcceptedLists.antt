@@ -50,7 +50,7 @@ length-accepted fs (f ∷ rest) =
       | false ↦ omega (arith, length-accepted (fs ++ f ∷ []) rest, length-append fs (f ∷ []))
     ]
 
-members : (fs rest : List Fragment) → accepted fs rest ≡ fs ++ rest → AllByRecursion (AgreesWith fs) fs → AllByRecursion (AgreesWith (fs ++ rest)) (fs ++ rest)
+pub members : (fs rest : List Fragment) → accepted fs rest ≡ fs ++ rest → AllByRecursion (AgreesWith fs) fs → AllByRecursion (AgreesWith (fs ++ rest)) (fs ++ rest)
 members fs [] is h = rw append-nil h
 members fs (f ∷ rest) is h =
     elim (refusal_of fs f) as (λ (o : Option IpDefragError). refusal_of fs f ≡ o → AllByRecursion (AgreesWith (fs ++ f ∷ rest)) (fs ++ f ∷ rest)) [

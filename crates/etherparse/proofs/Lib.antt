@@ -2,9 +2,13 @@ pub mod Accepted
 pub mod AcceptedLists
 pub mod AppendIp
 pub mod Complete
+pub mod Lengths
 pub mod LinkedExts
 pub mod Members
+pub mod PartLemmas
+pub mod PoolLemmas
 pub mod Push
+pub mod Retaining
 pub mod SameBuffers
 pub mod Sections
 pub mod Written

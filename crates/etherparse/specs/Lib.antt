@@ -4,8 +4,11 @@ pub mod BuiltSteps
 pub mod Fragments
 pub mod IpDefragBuf
 pub mod IpDefragError
+pub mod IpDefragPool
+pub mod IpFragId
 pub mod IpFragRange
 pub mod Picture
+pub mod Streams
 pub use Rattle.ep_base.specs as base
 pub use Rattle.ep_ext.specs as ext
 pub use Rattle.ep_icmp.specs as icmp

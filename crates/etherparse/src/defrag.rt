@@ -2,11 +2,23 @@
 
 mod ip_defrag_buf;
 mod ip_defrag_error;
+mod ip_defrag_payload_vec;
+mod ip_defrag_pool;
+mod ip_frag_id;
 mod ip_frag_range;
+mod ip_frag_version_spec_id;
+mod part;
+mod retain_streams;
+mod stream;
+mod streams;
 
 pub use ip_defrag_buf::IpDefragBuf;
 pub use ip_defrag_error::IpDefragError;
+pub use ip_defrag_payload_vec::IpDefragPayloadVec;
+pub use ip_defrag_pool::IpDefragPool;
+pub use ip_frag_id::IpFragId;
 pub use ip_frag_range::IpFragRange;
+pub use ip_frag_version_spec_id::IpFragVersionSpecId;
 
 /// The greatest length of a message, in bytes.
 pub const MAX_IP_DEFRAG_LEN: usize = 65535;

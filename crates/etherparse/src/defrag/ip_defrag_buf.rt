@@ -310,6 +310,7 @@ impl IpDefragBuf {
         ensures bytes { result.0.items ≡ self.bytes }
         ensures sections { result.1.items ≡ self.sections }
         ensures text { (fs : List Fragment) → Shows self fs → Complete fs → result.0.items ≡ text_of fs }
+        ensures short { length result.0.items ≤ 65535 }
     {
         (self.data, self.sections)
     }

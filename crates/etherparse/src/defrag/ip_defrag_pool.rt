@@ -1,0 +1,151 @@
+//! Many fragmented messages, each put together by itself.
+
+ghost use Rattle.std.specs.Prelude.{◌≡◌, ◌≤◌, ◌++◌, ◌∷◌, [], List, None, Ok, false, OnOk, OnErr, IfOk, IfSome, option_map, length};
+ghost use Rattle.std.specs.Fn.{FnReturnsAt};
+ghost use Rattle.ep_packet.specs.Class.{packet_told};
+ghost use Rattle.etherparse.specs.Fragments.{Fragment, end_of, refusal_of};
+ghost use Rattle.etherparse.specs.IpDefragBuf.{AnswersAdd};
+ghost use Rattle.etherparse.specs.IpDefragPool.{payload_of, payload_told};
+ghost use Rattle.etherparse.specs.IpFragId.{fragment_in, id_named};
+ghost use Rattle.etherparse.specs.Picture.{text_of};
+ghost use Rattle.etherparse.specs.Streams.{Becomes, MayAsk, Retained, SameStreams, ShowsStream, fragment_of, stream_at};
+
+use super::part::{Part, part_in};
+use super::streams::Streams;
+use super::{IpDefragError, IpDefragPayloadVec, IpFragId};
+use ep_packet::SlicedPacket;
+use std::alloc::{AllocError, Global};
+use std::hash::{BuildHasher, BuildHasherDefault, FoldHasher, Hash};
+use std::marker::Model;
+
+/// The fragmented messages that are on their way, each under its name, [`IpFragId`].
+#[derive(Drop)]
+pub struct IpDefragPool<
+    Timestamp = (),
+    CustomChannelId: Eq + Hash = (),
+    S: BuildHasher = BuildHasherDefault<FoldHasher>,
+> {
+    streams: Streams<IpFragId<CustomChannelId>, Timestamp, S>,
+}
+
+impl<Timestamp, CustomChannelId: Eq + Hash, S: BuildHasher> Model
+    for IpDefragPool<Timestamp, CustomChannelId, S> {
+    ghost use Rattle.etherparse.specs.declared.defrag.ip_frag_id.IpFragId.{IpFragId};
+    ghost use Rattle.etherparse.specs.Streams.{Streams};
+
+    ghost Value = { Streams (IpFragId CustomChannelId) Timestamp };
+
+    ghost view = { λ pool. pool.streams };
+}
+
+impl<Timestamp: Drop, CustomChannelId: Eq + Hash + Drop> IpDefragPool<
+    Timestamp,
+    CustomChannelId,
+    BuildHasherDefault<FoldHasher>,
+> {
+    /// A pool with no message. It takes no memory.
+    pub fn new(alloc: Global) -> Self
+        ensures { result ≡ [] }
+    {
+        IpDefragPool {
+            streams: Streams::with_hasher(alloc, BuildHasherDefault::new()),
+        }
+    }
+}
+
+impl<Timestamp: Drop, CustomChannelId: Eq + Hash + Drop, S: BuildHasher> IpDefragPool<
+    Timestamp,
+    CustomChannelId,
+    S,
+> {
+    ghost use Rattle.etherparse.specs.declared.defrag.ip_frag_id.IpFragId.{IpFragId};
+
+    /// Takes a packet. If it is a fragment, it is added to those of its message that came before it, and
+    /// one that completes the message hands it out. Nothing is held of the message then. Any other packet
+    /// changes nothing.
+    ///
+    /// A fragment is refused as by [`super::IpDefragBuf::add`]. Then the message has the fragments and the
+    /// timestamp that it had.
+    pub fn process_sliced_packet(
+        &mut self,
+        packet: &SlicedPacket<'_>,
+        timestamp: Timestamp,
+        channel_id: CustomChannelId,
+    ) -> Result<Option<IpDefragPayloadVec>, IpDefragError>
+        // A packet that is no fragment changes nothing.
+        ensures passed { fragment_in (packet_told packet.now) ≡ None → (result ≡ Ok None) × (self.new ≡ self.old) }
+        // A fragment goes to the list of its name, and is refused by it or else at its end.
+        ensures accepted { IfSome (fragment_in (packet_told packet.now)) (λ told. (fs : List Fragment)
+            → ShowsStream (stream_at ⟦<IpFragId<CustomChannelId> as PartialEq>⟧.eq self.old (id_named told.0 channel_id)) fs
+            → IfOk result (λ payload. Becomes (λ gs whole. whole ≡ payload_of (id_named told.0 channel_id) (text_of gs)) (fs ++ told.1 ∷ []) timestamp
+            (stream_at ⟦<IpFragId<CustomChannelId> as PartialEq>⟧.eq self.new (id_named told.0 channel_id)) (option_map payload_told payload))) }
+        ensures refused { IfSome (fragment_in (packet_told packet.now)) (λ told. (fs : List Fragment)
+            → ShowsStream (stream_at ⟦<IpFragId<CustomChannelId> as PartialEq>⟧.eq self.old (id_named told.0 channel_id)) fs
+            → AnswersAdd (refusal_of fs told.1) (end_of told.1) result) }
+        // Every other name's list and timestamp stay, and after a refusal all of them do.
+        ensures others { IfSome (fragment_in (packet_told packet.now)) (λ told. (q : IpFragId CustomChannelId)
+            → ⟦<IpFragId<CustomChannelId> as PartialEq>⟧.eq (id_named told.0 channel_id) q ≡ false
+            → stream_at ⟦<IpFragId<CustomChannelId> as PartialEq>⟧.eq self.new q ≡ stream_at ⟦<IpFragId<CustomChannelId> as PartialEq>⟧.eq self.old q) }
+        ensures err { OnErr result (SameStreams ⟦<IpFragId<CustomChannelId> as PartialEq>⟧.eq self.old self.new) }
+        ensures short { IfOk result (λ payload. IfSome payload (λ whole. length whole.payload.items ≤ 65535)) }
+    {
+        match part_in(packet, channel_id) {
+            Some((id, part)) => self.add_part(id, &part, timestamp),
+            None => Ok(None),
+        }
+    }
+
+    // Takes a part of the message with this name.
+    fn add_part(
+        &mut self,
+        id: IpFragId<CustomChannelId>,
+        part: &Part<'_>,
+        timestamp: Timestamp,
+    ) -> Result<Option<IpDefragPayloadVec>, IpDefragError>
+        ensures accepted { let f = fragment_of part.now in (fs : List Fragment)
+            → ShowsStream (stream_at ⟦<IpFragId<CustomChannelId> as PartialEq>⟧.eq self.old id) fs
+            → IfOk result (λ payload. Becomes (λ gs whole. whole ≡ payload_of id (text_of gs)) (fs ++ f ∷ []) timestamp
+            (stream_at ⟦<IpFragId<CustomChannelId> as PartialEq>⟧.eq self.new id) (option_map payload_told payload)) }
+        ensures refused { let f = fragment_of part.now in (fs : List Fragment)
+            → ShowsStream (stream_at ⟦<IpFragId<CustomChannelId> as PartialEq>⟧.eq self.old id) fs
+            → AnswersAdd (refusal_of fs f) (end_of f) result }
+        ensures others { (q : IpFragId CustomChannelId) → ⟦<IpFragId<CustomChannelId> as PartialEq>⟧.eq id q ≡ false
+            → stream_at ⟦<IpFragId<CustomChannelId> as PartialEq>⟧.eq self.new q ≡ stream_at ⟦<IpFragId<CustomChannelId> as PartialEq>⟧.eq self.old q }
+        ensures err { OnErr result (SameStreams ⟦<IpFragId<CustomChannelId> as PartialEq>⟧.eq self.old self.new) }
+        ensures short { IfOk result (λ payload. IfSome payload (λ whole. length whole.payload.items ≤ 65535)) }
+    {
+        let ip_number = id.payload_ip_number;
+        let len_source = id.ip.len_source();
+        match self.streams.add(id, part, timestamp) {
+            Ok(Some(payload)) => Ok(Some(IpDefragPayloadVec {
+                ip_number,
+                len_source,
+                payload,
+            })),
+            Ok(None) => Ok(None),
+            Err(error) => Err(error),
+        }
+    }
+
+    /// Takes back the memory of a message that was handed out.
+    pub fn return_buf(&mut self, buf: IpDefragPayloadVec) -> Result<(), IpDefragPayloadVec>
+        ensures ok { result ≡ Ok tt }
+        ensures same { self.new ≡ self.old }
+    {
+        drop(buf);
+        Ok(())
+    }
+
+    /// Keeps exactly the messages to whose timestamp, that of the fragment accepted last, the test answers
+    /// `true`. It is asked once for each.
+    pub fn retain<F: Fn(&Timestamp) -> bool + Drop>(&mut self, keep: F) -> Result<(), AllocError>
+        requires { (q : IpFragId CustomChannelId) → MayAsk (F.pre keep) (stream_at ⟦<IpFragId<CustomChannelId> as PartialEq>⟧.eq self.old q) }
+        ensures retained { OnOk result ((q : IpFragId CustomChannelId) → Retained (FnReturnsAt F.Fn keep)
+            (stream_at ⟦<IpFragId<CustomChannelId> as PartialEq>⟧.eq self.old q) (stream_at ⟦<IpFragId<CustomChannelId> as PartialEq>⟧.eq self.new q)) }
+        ensures ok { result ≡ Ok tt }
+        ensures err { OnErr result (self.new ≡ self.old) }
+    {
+        self.streams.retain(&keep);
+        Ok(())
+    }
+}

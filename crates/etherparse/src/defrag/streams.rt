@@ -1,0 +1,76 @@
+//! The messages that are on their way.
+
+ghost use Rattle.std.specs.Prelude.{◌≡◌, ◌≤◌, ◌++◌, ◌∷◌, [], List, false, OnOk, OnErr, IfOk, IfSome, length, option_map};
+ghost use Rattle.std.specs.Fn.{FnReturnsAt};
+ghost use Rattle.etherparse.specs.Fragments.{Fragment, refusal_of, end_of};
+ghost use Rattle.etherparse.specs.IpDefragBuf.{AnswersAdd};
+ghost use Rattle.etherparse.specs.Picture.{text_of};
+ghost use Rattle.etherparse.specs.Streams.{Becomes, MayAsk, Retained, SameStreams, ShowsStream, fragment_of, stream_at};
+
+use super::IpDefragError;
+use super::part::Part;
+use super::retain_streams::retain_streams;
+use super::stream::{Stream, add_part};
+use indexmap::IndexMap;
+use std::alloc::Global;
+use std::hash::{BuildHasher, Hash};
+use std::marker::Model;
+
+/// The messages that are on their way, each under its name.
+#[derive(Drop)]
+pub(crate) struct Streams<K: Eq + Hash, T, S: BuildHasher> {
+    alloc: Global,
+    active: IndexMap<K, Stream<T>, S>,
+}
+
+impl<K: Eq + Hash, T, S: BuildHasher> Model for Streams<K, T, S> {
+    ghost use Rattle.etherparse.specs.Streams.{Streams};
+
+    ghost Value = { Streams K T };
+
+    ghost view = { λ streams. streams.active.entries };
+}
+
+impl<K: Eq + Hash + Drop, T: Drop, S: BuildHasher> Streams<K, T, S> {
+    /// No streams. It takes no memory.
+    pub(crate) fn with_hasher(alloc: Global, state: S) -> Self
+        ensures { result ≡ [] }
+    {
+        Streams {
+            alloc,
+            active: IndexMap::with_hasher(alloc, state),
+        }
+    }
+
+    /// Takes a part of the message with this name. One that completes it hands its bytes out, and ends
+    /// the stream.
+    pub(crate) fn add(
+        &mut self,
+        name: K,
+        part: &Part<'_>,
+        timestamp: T,
+    ) -> Result<Option<Vec<u8>>, IpDefragError>
+        ensures accepted { let f = fragment_of part.now in (fs : List Fragment) → ShowsStream (stream_at K.eq self.old name) fs →
+            IfOk result (λ text. Becomes (λ gs bytes. bytes ≡ text_of gs) (fs ++ f ∷ []) timestamp (stream_at K.eq self.new name) (option_map (λ bytes. bytes.items) text)) }
+        ensures refused { let f = fragment_of part.now in (fs : List Fragment) → ShowsStream (stream_at K.eq self.old name) fs →
+            AnswersAdd (refusal_of fs f) (end_of f) result }
+        ensures others { (q : K) → K.eq name q ≡ false → stream_at K.eq self.new q ≡ stream_at K.eq self.old q }
+        ensures err { OnErr result (SameStreams K.eq self.old self.new) }
+        ensures short { IfOk result (λ text. IfSome text (λ bytes. length bytes.items ≤ 65535)) }
+    {
+        let whole = add_part(self.alloc, &mut self.active, name, part, timestamp)?;
+        let Some(buf) = whole else {
+            return Ok(None);
+        };
+        let (bytes, _sections) = buf.take_bufs();
+        Ok(Some(bytes))
+    }
+
+    /// Keeps exactly the streams to whose timestamp the test answers `true`.
+    pub(crate) fn retain<F: Fn(&T) -> bool>(&mut self, keep: &F)
+        requires { (q : K) → MayAsk (F.pre keep.now) (stream_at K.eq self.old q) }
+        ensures { (q : K) → Retained (FnReturnsAt F.Fn keep.now) (stream_at K.eq self.old q) (stream_at K.eq self.new q) }
+    {
+        retain_streams(&mut self.active, keep);
+    }
+}
