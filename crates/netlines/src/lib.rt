@@ -27,19 +27,17 @@ mod sealed_message;
 mod verdict;
 
 pub use addresses::Addresses;
+pub use answerer::Answerer;
 pub use ep_tag::VlanId;
 pub use in_memory::answers;
 pub use ip_frag_version_spec_id::IpFragVersionSpecId;
 pub use letter::Letter;
-pub use limits::{LINE_LIMIT, READ_COUNT_LIMIT, READ_SIZE_LIMIT};
+pub use limits::{LINE_LIMIT, LINE_ROOM, READ_COUNT_LIMIT, READ_SIZE_LIMIT, REPLY_ROOM};
 pub use message::{Message, read_message};
 pub use post_error::PostError;
 pub use post_message::post;
 pub use run_error::RunError;
-pub use run_lines::{run, run_over};
+pub use run_lines::{run, run_over, run_with};
 pub use seal_error::SealError;
 pub use sealed_message::seal_message;
 pub use verdict::{Verdict, judge};
-
-#[cfg(test)]
-mod tests;

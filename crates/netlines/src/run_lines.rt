@@ -65,7 +65,7 @@ pub fn run_over<D: Device>(alloc: Global, device: &mut D, reads: u64) -> Result<
 }
 
 /// The same by any answerer, which has answered no line yet.
-pub(crate) fn run_with<A: Answerer + Drop, D: Device>(
+pub fn run_with<A: Answerer + Drop, D: Device>(
     alloc: Global,
     answerer: A,
     device: &mut D,

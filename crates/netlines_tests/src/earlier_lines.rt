@@ -1,13 +1,10 @@
 //! A run in which a reply depends on the lines before it, and memory is wanting in the midst of it.
-ghost use Rattle.std.specs.Prelude.{◌≡◌, ◌≤◌, ◌%◌, ◌==◌, codes, length, if◌then◌else◌};
+ghost use Rattle.std.specs.Prelude.{◌≡◌, ◌≤◌, ◌%◌, ◌==◌, codes, length, take, if◌then◌else◌};
 ghost use Rattle.std.specs.List.{list_any};
 ghost use Rattle.netlines.specs.Replies.{number_after};
 
-use crate::RunError;
-use crate::answerer::Answerer;
-use crate::device::ReaderWriter;
-use crate::output::append;
-use crate::run_lines::run_with;
+use netlines::device::ReaderWriter;
+use netlines::{Answerer, RunError, run_with};
 use std::alloc::AllocError;
 use std::test::Fail;
 
@@ -31,7 +28,7 @@ impl Answerer for Marker {
 
     fn answer(&mut self, number: u64, line: &[u8], out: &mut [u8]) -> Result<usize, AllocError> {
         if !line.is_empty() {
-            return Ok(append(out, 0, parity_text(number)));
+            return Ok(put(parity_text(number), out));
         }
         let Some(room) = self.room.checked_sub(1) else {
             return Err(AllocError);
@@ -39,8 +36,18 @@ impl Answerer for Marker {
         self.room = room;
         let text = mark_text(self.marked);
         self.marked = true;
-        Ok(append(out, 0, text))
+        Ok(put(text, out))
     }
+}
+
+// Puts a text into the front of a buffer, and tells its length.
+fn put(text: &[u8], out: &mut [u8]) -> usize
+    requires { length text.now ≤ length out.old }
+    ensures end { result ≡ length text.now }
+    ensures text { take result out.new ≡ text.now }
+{
+    out[..text.len()].copy_from_slice(text);
+    text.len()
 }
 
 fn parity_text(number: u64) -> &'static [u8]

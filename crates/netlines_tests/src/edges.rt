@@ -1,6 +1,6 @@
 //! Lines at the edges of the grammar and of the formats, with their answers. They were worked out by
 //! a program that is independent of this project.
-use crate::answers;
+use netlines::answers;
 use std::test::Fail;
 
 const LINES: &[u8] = b"\
@@ -133,6 +133,6 @@ const ANSWERS: &[u8] = b"\
 
 #[test]
 fn edges(rt: HostRuntime) -> Result<(), Fail> {
-    assert_eq!(rt; answers(rt.alloc(), LINES)?.as_slice(), ANSWERS);
+    assert!(rt; answers(rt.alloc(), LINES)?.as_slice() == ANSWERS);
     Ok(())
 }

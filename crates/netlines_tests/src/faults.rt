@@ -1,8 +1,8 @@
 //! Runs over readers and writers that give and take little, and fail.
 ghost use Rattle.std.specs.Prelude.{◌≡◌, IfOk};
 
-use crate::device::ReaderWriter;
-use crate::{RunError, answers, run, run_over};
+use netlines::device::ReaderWriter;
+use netlines::{RunError, answers, run, run_over};
 use std::alloc::{AllocError, Global};
 use std::io::{self, ErrorKind, Read, Write};
 use std::test::Fail;
@@ -154,12 +154,11 @@ fn answers_each_line_once(rt: HostRuntime) -> Result<(), Fail> {
         let want = bad_lines(rt.alloc(), count)?;
         let mut output = Vec::new(rt.alloc());
         run(rt.alloc(), &mut &*input, &mut output)?;
-        assert_eq!(rt; output.as_slice(), want.as_slice(), "{count} lines");
+        assert!(rt; output.as_slice() == want.as_slice(), "{count} lines");
         let mut output = writer_of(rt.alloc(), None);
         run(rt.alloc(), &mut reader_of(input, None), &mut output)?;
-        assert_eq!(rt;
-            output.taken.as_slice(),
-            want.as_slice(),
+        assert!(rt;
+            output.taken.as_slice() == want.as_slice(),
             "{count} lines by bytes"
         );
     }
@@ -172,14 +171,11 @@ fn answers_texts_in_memory(rt: HostRuntime) -> Result<(), Fail> {
     for (text, count) in cases {
         let want = bad_lines(rt.alloc(), count)?;
         let replies = answers(rt.alloc(), text)?;
-        assert_eq!(rt; replies.as_slice(), want.as_slice(), "{count} lines");
+        assert!(rt; replies.as_slice() == want.as_slice(), "{count} lines");
     }
     let many = vec![in rt.alloc(); b'\n'; 150_000]?;
     let replies = answers(rt.alloc(), many.as_slice())?;
-    assert_eq!(rt;
-        replies.as_slice(),
-        bad_lines(rt.alloc(), 150_000)?.as_slice()
-    );
+    assert!(rt; replies.as_slice() == bad_lines(rt.alloc(), 150_000)?.as_slice());
     Ok(())
 }
 
@@ -190,9 +186,8 @@ fn skips_the_rest_of_a_long_line(rt: HostRuntime) -> Result<(), Fail> {
         input.extend_from_slice(b"\nx\n")?;
         let mut output = Vec::new(rt.alloc());
         run(rt.alloc(), &mut input.as_slice(), &mut output)?;
-        assert_eq!(rt;
-            output.as_slice(),
-            b"bad line\nbad line\n".as_slice(),
+        assert!(rt;
+            output.as_slice() == b"bad line\nbad line\n".as_slice(),
             "{len} bytes"
         );
     }
@@ -206,10 +201,10 @@ fn stops_at_each_read_that_fails(rt: HostRuntime) -> Result<(), Fail> {
             let mut reader = reader_of(INPUT, Some((at, fault)));
             let mut output = Vec::new(rt.alloc());
             let result = run(rt.alloc(), &mut reader, &mut output);
-            assert_eq!(rt; result, Err(RunError::Read), "at {at}");
-            assert_eq!(rt; reader.calls, at.saturating_add(1), "at {at}");
+            assert!(rt; result == Err(RunError::Read), "at {at}");
+            assert!(rt; reader.calls == at.saturating_add(1), "at {at}");
             let want = bad_lines(rt.alloc(), ended_lines(&INPUT[..at]))?;
-            assert_eq!(rt; output.as_slice(), want.as_slice(), "at {at}");
+            assert!(rt; output.as_slice() == want.as_slice(), "at {at}");
         }
     }
     Ok(())
@@ -221,11 +216,11 @@ fn ends_at_a_read_that_gives_nothing(rt: HostRuntime) -> Result<(), Fail> {
         let mut reader = reader_of(INPUT, Some((at, Fault::Nothing)));
         let mut output = Vec::new(rt.alloc());
         run(rt.alloc(), &mut reader, &mut output)?;
-        assert_eq!(rt; reader.calls, at.saturating_add(1), "at {at}");
+        assert!(rt; reader.calls == at.saturating_add(1), "at {at}");
         let begun = at > 0 && INPUT[at - 1] != b'\n';
         let lines = ended_lines(&INPUT[..at]).saturating_add(begun as usize);
         let want = bad_lines(rt.alloc(), lines)?;
-        assert_eq!(rt; output.as_slice(), want.as_slice(), "at {at}");
+        assert!(rt; output.as_slice() == want.as_slice(), "at {at}");
     }
     Ok(())
 }
@@ -242,16 +237,17 @@ fn stops_at_each_write_that_fails(rt: HostRuntime) -> Result<(), Fail> {
         for at in 0..want.len() {
             let mut writer = writer_of(rt.alloc(), Some((at, fault)));
             let result = run(rt.alloc(), &mut reader_of(INPUT, None), &mut writer);
-            assert_eq!(rt; result, Err(error), "at {at}");
-            assert_eq!(rt; writer.calls, at.saturating_add(1), "at {at}");
-            assert_eq!(rt; writer.taken.as_slice(), &want.as_slice()[..at], "at {at}");
+            assert!(rt; result == Err(error), "at {at}");
+            assert!(rt; writer.calls == at.saturating_add(1), "at {at}");
+            assert!(rt;
+                writer.taken.as_slice() == &want.as_slice()[..at],
+                "at {at}"
+            );
         }
     }
     Ok(())
 }
 
-// Where an allocation fails, nothing is read and nothing written. The test holds in both cases, for
-// runs of it in which an allocation is made to fail.
 // A text of two lines takes three reads of one byte a line, and one more to tell the end.
 #[test]
 fn makes_no_more_reads_than_it_may(rt: HostRuntime) -> Result<(), Fail> {
@@ -268,9 +264,9 @@ fn makes_no_more_reads_than_it_may(rt: HostRuntime) -> Result<(), Fail> {
             reader: &mut reader,
             writer: &mut writer,
         };
-        assert_eq!(rt; run_over(rt.alloc(), &mut device, reads), answer);
-        assert_eq!(rt; reader.calls, calls);
-        assert_eq!(rt; writer.taken.as_slice(), written.as_bytes());
+        assert!(rt; run_over(rt.alloc(), &mut device, reads) == answer);
+        assert!(rt; reader.calls == calls);
+        assert!(rt; writer.taken.as_slice() == written.as_bytes());
     }
     Ok(())
 }
@@ -292,11 +288,13 @@ impl Read for SizeReader {
 fn reads_up_to_65536_bytes(rt: HostRuntime) -> Result<(), Fail> {
     let mut reader = SizeReader { size: 0 };
     let mut writer = writer_of(rt.alloc(), None);
-    assert_eq!(rt; run(rt.alloc(), &mut reader, &mut writer), Ok(()));
-    assert_eq!(rt; reader.size, 65536);
+    assert!(rt; run(rt.alloc(), &mut reader, &mut writer) == Ok(()));
+    assert!(rt; reader.size == 65536);
     Ok(())
 }
 
+// Where an allocation fails, nothing is read and nothing written. The test holds in both cases, for
+// runs of it in which an allocation is made to fail.
 #[test]
 fn makes_no_call_without_memory(rt: HostRuntime) {
     let mut reader = reader_of(INPUT, None);
@@ -304,10 +302,10 @@ fn makes_no_call_without_memory(rt: HostRuntime) {
     let result = run(rt.alloc(), &mut reader, &mut writer);
     let counts = (reader.calls, writer.calls, writer.bytes);
     if result == Err(RunError::Memory) {
-        assert_eq!(rt; counts, (0, 0, 0));
+        assert!(rt; counts == (0, 0, 0));
     } else {
-        assert_eq!(rt; result, Ok(()));
-        assert_eq!(rt; counts, (INPUT.len() + 1, 6, 54));
+        assert!(rt; result == Ok(()));
+        assert!(rt; counts == (INPUT.len() + 1, 6, 54));
     }
 }
 
@@ -318,8 +316,8 @@ fn writes_few_times(rt: HostRuntime) -> Result<(), Fail> {
         let input = vec![in rt.alloc(); b'\n'; lines]?;
         let mut writer = CountingWriter { calls: 0, bytes: 0 };
         run(rt.alloc(), &mut input.as_slice(), &mut writer)?;
-        assert_eq!(rt; writer.calls, calls, "{lines} lines");
-        assert_eq!(rt; writer.bytes, lines * BAD_LINE.len(), "{lines} lines");
+        assert!(rt; writer.calls == calls, "{lines} lines");
+        assert!(rt; writer.bytes == lines * BAD_LINE.len(), "{lines} lines");
     }
     Ok(())
 }

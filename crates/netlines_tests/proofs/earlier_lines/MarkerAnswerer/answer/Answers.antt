@@ -6,7 +6,7 @@ use Rattle.std.proofs.Math.Dec.{eqb-suc-zero}
 use Rattle.std.proofs.lemmas.List.Folds.{list_any-append}
 use Rattle.netlines.specs.Replies.{number_after}
 use Rattle.netlines.specs.declared.limits.TheConstants.{LINE_ROOM}
-use Rattle.netlines.proofs.tests.earlier_lines.MarkerAnswerer.answer.Goals as goal
+use Rattle.netlines_tests.proofs.earlier_lines.MarkerAnswerer.answer.Goals as goal
 
 abbrev is_empty : List ℕ → Bool
 is_empty line = length line == 0
@@ -26,7 +26,7 @@ pub returns-then-not-is_empty-clause-replies : goal.returns-then-not-is_empty-cl
 returns-then-not-is_empty-clause-replies c earlier whole asks =
     let some : is_empty c.args.line.now ≡ false = search rules in
     let none : is_empty whole ≡ false = sym (empty_alike LINE_ROOM (omega arith) c.args.line.now whole asks.first) ∙ some in (
-      c.append.ensures.text ∙ c.parity_text.ensures.text ∙ ap (λ n. if n % 2 == 0 then codes "even\n" else codes "odd\n") asks.numbered
+      c.put.ensures.text ∙ c.parity_text.ensures.text ∙ ap (λ n. if n % 2 == 0 then codes "even\n" else codes "odd\n") asks.numbered
           ∙ sym (ap (λ b. if b then (if list_any is_empty earlier then codes "again\n" else codes "first\n") else (if number_after earlier % 2 == 0 then codes "even\n" else codes "odd\n")) none),
       asks.shows ∙ sym (any_more earlier whole false none ∙ or-false (list_any is_empty earlier)),
     )
@@ -40,7 +40,7 @@ pub returns-clause-replies : goal.returns-clause-replies
 returns-clause-replies c earlier whole asks =
     let none : is_empty c.args.line.now ≡ true = search rules in
     let empty : is_empty whole ≡ true = sym (empty_alike LINE_ROOM (omega arith) c.args.line.now whole asks.first) ∙ none in (
-      c.append-2.ensures.text ∙ c.mark_text-text.ensures.text ∙ ap (λ b. if b then codes "again\n" else codes "first\n") asks.shows
+      c.put-2.ensures.text ∙ c.mark_text-text.ensures.text ∙ ap (λ b. if b then codes "again\n" else codes "first\n") asks.shows
           ∙ sym (ap (λ b. if b then (if list_any is_empty earlier then codes "again\n" else codes "first\n") else (if number_after earlier % 2 == 0 then codes "even\n" else codes "odd\n")) empty),
       sym (any_more earlier whole true empty ∙ or-true (list_any is_empty earlier)),
     )

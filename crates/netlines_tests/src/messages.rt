@@ -1,8 +1,5 @@
 //! Messages that are read, judged and sealed. Bytes and checksums were worked out by hand and by a
 //! separate program after RFC 768, 792, 1071, 4443 and 9293.
-use crate::{
-    Addresses, IpFragVersionSpecId, Message, SealError, Verdict, judge, read_message, seal_message,
-};
 use ep_base::err::{Layer, LenError};
 use ep_base::{IpNumber, LenSource};
 use ep_icmp::{IcmpEchoHeader, Icmpv4Header, Icmpv4Type, Icmpv6Header, Icmpv6Type};
@@ -10,6 +7,9 @@ use ep_packet::TransportHeader;
 use ep_packet::err::packet::SliceError;
 use ep_tcpudp::err::tcp::HeaderError;
 use ep_tcpudp::{TcpHeader, UdpHeader};
+use netlines::{
+    Addresses, IpFragVersionSpecId, Message, SealError, Verdict, judge, read_message, seal_message,
+};
 use std::test::Fail;
 
 const OVER_V4: Addresses = Addresses::V4 {
@@ -48,36 +48,36 @@ fn verdict(addresses: &Addresses, number: u8, message: &[u8]) -> Option<Verdict>
 
 #[test]
 fn icmp_all_ones(rt: HostRuntime) {
-    assert_eq!(rt; verdict(&OVER_V4, 1, &[0; 8]), Some(Verdict::Bad));
+    assert!(rt; verdict(&OVER_V4, 1, &[0; 8]) == Some(Verdict::Bad));
     let first = [0xff, 0xff, 0, 0, 0, 0, 0, 0];
-    assert_eq!(rt; verdict(&OVER_V4, 1, &first), Some(Verdict::Good));
+    assert!(rt; verdict(&OVER_V4, 1, &first) == Some(Verdict::Good));
     let twice = [0xff, 0xff, 0xff, 0xff, 0, 0, 0, 0];
-    assert_eq!(rt; verdict(&OVER_V4, 1, &twice), Some(Verdict::Good));
+    assert!(rt; verdict(&OVER_V4, 1, &twice) == Some(Verdict::Good));
 }
 
 #[test]
 fn messages_without_checksum(rt: HostRuntime) {
     let icmpv4 = [0xff, 0xff, 0, 0, 0, 0, 0, 0];
-    assert_eq!(rt; verdict(&OVER_V6, 1, &icmpv4), Some(Verdict::None));
+    assert!(rt; verdict(&OVER_V6, 1, &icmpv4) == Some(Verdict::None));
     let icmpv6 = [0x80, 0, 0, 0, 0, 0, 0, 0];
-    assert_eq!(rt; verdict(&OVER_V4, 58, &icmpv6), Some(Verdict::None));
+    assert!(rt; verdict(&OVER_V4, 58, &icmpv6) == Some(Verdict::None));
     let udp = [0, 1, 0, 2, 0, 8, 0, 0];
-    assert_eq!(rt; verdict(&OVER_V4, 17, &udp), Some(Verdict::None));
-    assert_eq!(rt; verdict(&OVER_V6, 17, &udp), Some(Verdict::None));
-    assert_eq!(rt; verdict(&OVER_V4, 253, &[]), Some(Verdict::None));
+    assert!(rt; verdict(&OVER_V4, 17, &udp) == Some(Verdict::None));
+    assert!(rt; verdict(&OVER_V6, 17, &udp) == Some(Verdict::None));
+    assert!(rt; verdict(&OVER_V4, 253, &[]) == Some(Verdict::None));
 }
 
 #[test]
 fn messages_with_checksum(rt: HostRuntime) {
     let udp = [0, 1, 0, 2, 0, 0x10, 0xdb, 0xb4, 1, 2, 3, 4, 5, 6, 7, 8];
-    assert_eq!(rt; verdict(&OVER_V4, 17, &udp), Some(Verdict::Good));
-    assert_eq!(rt; verdict(&OVER_V6, 17, &udp), Some(Verdict::Bad));
+    assert!(rt; verdict(&OVER_V4, 17, &udp) == Some(Verdict::Good));
+    assert!(rt; verdict(&OVER_V6, 17, &udp) == Some(Verdict::Bad));
     let echo = [0x80, 0, 0x24, 0x51, 0, 1, 0, 2, 0x61, 0x62];
-    assert_eq!(rt; verdict(&OVER_V6, 58, &echo), Some(Verdict::Good));
+    assert!(rt; verdict(&OVER_V6, 58, &echo) == Some(Verdict::Good));
     let segment = [
         0, 1, 0, 2, 0, 0, 0, 3, 0, 0, 0, 0, 0x50, 2, 4, 0, 0x97, 0xda, 0, 0,
     ];
-    assert_eq!(rt; verdict(&OVER_V4, 6, &segment), Some(Verdict::Good));
+    assert!(rt; verdict(&OVER_V4, 6, &segment) == Some(Verdict::Good));
 }
 
 #[test]
@@ -97,7 +97,7 @@ fn a_message_is_the_slice_of_its_protocol(rt: HostRuntime) {
             Err(_) => 0,
         };
     }
-    assert_eq!(rt; kinds, [1020, 2020, 3008, 4020, 5020, 5020]);
+    assert!(rt; kinds == [1020, 2020, 3008, 4020, 5020, 5020]);
 }
 
 // The error of a message that can't be read.
@@ -118,22 +118,16 @@ fn want_of_bytes(required_len: usize, len: usize, layer: Layer) -> Option<SliceE
 #[test]
 fn refusals_of_messages(rt: HostRuntime) {
     let zeros = [0; 19];
-    assert_eq!(rt; fault(1, &zeros[..7]), want_of_bytes(8, 7, Layer::Icmpv4));
-    assert_eq!(rt; fault(6, &zeros), want_of_bytes(20, 19, Layer::TcpHeader));
-    assert_eq!(rt;
-        fault(17, &zeros[..7]),
-        want_of_bytes(8, 7, Layer::UdpHeader)
-    );
-    assert_eq!(rt; fault(58, &zeros[..7]), want_of_bytes(8, 7, Layer::Icmpv6));
+    assert!(rt; fault(1, &zeros[..7]) == want_of_bytes(8, 7, Layer::Icmpv4));
+    assert!(rt; fault(6, &zeros) == want_of_bytes(20, 19, Layer::TcpHeader));
+    assert!(rt; fault(17, &zeros[..7]) == want_of_bytes(8, 7, Layer::UdpHeader));
+    assert!(rt; fault(58, &zeros[..7]) == want_of_bytes(8, 7, Layer::Icmpv6));
     let timestamp = [13, 0, 0, 0, 0, 0, 0, 0];
-    assert_eq!(rt;
-        fault(1, &timestamp),
-        want_of_bytes(20, 8, Layer::Icmpv4Timestamp)
-    );
+    assert!(rt; fault(1, &timestamp) == want_of_bytes(20, 8, Layer::Icmpv4Timestamp));
     let mut segment = [0; 20];
     segment[12] = 0x40;
     let too_small = HeaderError::DataOffsetTooSmall { data_offset: 4 };
-    assert_eq!(rt; fault(6, &segment), Some(SliceError::Tcp(too_small)));
+    assert!(rt; fault(6, &segment) == Some(SliceError::Tcp(too_small)));
 }
 
 #[test]
@@ -151,9 +145,8 @@ fn sealed_messages(rt: HostRuntime) -> Result<(), Fail> {
         TransportHeader::Udp(udp.clone()?),
         &payload,
     )?;
-    assert_eq!(rt;
-        over_v4.as_slice(),
-        [0, 1, 0, 2, 0, 0x10, 0xdb, 0xb4, 1, 2, 3, 4, 5, 6, 7, 8].as_slice()
+    assert!(rt;
+        over_v4.as_slice() == [0, 1, 0, 2, 0, 0x10, 0xdb, 0xb4, 1, 2, 3, 4, 5, 6, 7, 8].as_slice()
     );
     let over_v6 = seal_message(
         rt.alloc(),
@@ -161,9 +154,8 @@ fn sealed_messages(rt: HostRuntime) -> Result<(), Fail> {
         TransportHeader::Udp(udp),
         &payload,
     )?;
-    assert_eq!(rt;
-        over_v6.as_slice(),
-        [0, 1, 0, 2, 0, 0x10, 0xf5, 0xb2, 1, 2, 3, 4, 5, 6, 7, 8].as_slice()
+    assert!(rt;
+        over_v6.as_slice() == [0, 1, 0, 2, 0, 0x10, 0xf5, 0xb2, 1, 2, 3, 4, 5, 6, 7, 8].as_slice()
     );
     Ok(())
 }
@@ -175,19 +167,13 @@ fn sealed_icmp(rt: HostRuntime) -> Result<(), Fail> {
         checksum: 0,
     });
     let message = seal_message(rt.alloc(), &stream_v4(), reply, &[])?;
-    assert_eq!(rt;
-        message.as_slice(),
-        [0, 0, 0xff, 0xff, 0, 0, 0, 0].as_slice()
-    );
+    assert!(rt; message.as_slice() == [0, 0, 0xff, 0xff, 0, 0, 0, 0].as_slice());
     let request = TransportHeader::Icmpv6(Icmpv6Header {
         icmp_type: Icmpv6Type::EchoRequest(IcmpEchoHeader { id: 1, seq: 2 }),
         checksum: 0,
     });
     let message = seal_message(rt.alloc(), &stream_v6(), request, b"ab")?;
-    assert_eq!(rt;
-        message.as_slice(),
-        [0x80, 0, 0x24, 0x51, 0, 1, 0, 2, 0x61, 0x62].as_slice()
-    );
+    assert!(rt; message.as_slice() == [0x80, 0, 0x24, 0x51, 0, 1, 0, 2, 0x61, 0x62].as_slice());
     Ok(())
 }
 
@@ -196,12 +182,12 @@ fn sealed_segment(rt: HostRuntime) -> Result<(), Fail> {
     let mut header = TcpHeader::new(1, 2, 3, 0x400);
     header.syn = true;
     let message = seal_message(rt.alloc(), &stream_v4(), TransportHeader::Tcp(header), &[])?;
-    assert_eq!(rt;
-        message.as_slice(),
-        [
-            0, 1, 0, 2, 0, 0, 0, 3, 0, 0, 0, 0, 0x50, 2, 4, 0, 0x97, 0xda, 0, 0
-        ]
-        .as_slice()
+    assert!(rt;
+        message.as_slice()
+            == [
+                0, 1, 0, 2, 0, 0, 0, 3, 0, 0, 0, 0, 0x50, 2, 4, 0, 0x97, 0xda, 0, 0
+            ]
+            .as_slice()
     );
     Ok(())
 }
@@ -214,13 +200,13 @@ fn refusals_of_sealing(rt: HostRuntime) -> Result<(), Fail> {
         checksum: 0,
     });
     let answer = seal_message(rt.alloc(), &stream_v4(), icmpv6, &zeros);
-    assert_eq!(rt; answer.err(), Some(SealError::IcmpOfOtherVersion));
+    assert!(rt; answer.err() == Some(SealError::IcmpOfOtherVersion));
     let icmpv4 = TransportHeader::Icmpv4(Icmpv4Header {
         icmp_type: Icmpv4Type::EchoReply(IcmpEchoHeader { id: 0, seq: 0 }),
         checksum: 0,
     });
     let answer = seal_message(rt.alloc(), &stream_v6(), icmpv4, &[]);
-    assert_eq!(rt; answer.err(), Some(SealError::IcmpOfOtherVersion));
+    assert!(rt; answer.err() == Some(SealError::IcmpOfOtherVersion));
     let udp = UdpHeader {
         source_port: 1,
         destination_port: 2,
@@ -233,13 +219,13 @@ fn refusals_of_sealing(rt: HostRuntime) -> Result<(), Fail> {
         TransportHeader::Udp(udp.clone()?),
         &zeros,
     );
-    assert_eq!(rt; longer.err(), Some(SealError::TooLong));
+    assert!(rt; longer.err() == Some(SealError::TooLong));
     let greatest = seal_message(
         rt.alloc(),
         &stream_v4(),
         TransportHeader::Udp(udp),
         &zeros[..65527],
     )?;
-    assert_eq!(rt; greatest.len(), 65535);
+    assert!(rt; greatest.len() == 65535);
     Ok(())
 }

@@ -1,0 +1,16 @@
+//! Tests of `netlines` over its public calls. They stand in a crate of their own, so that they are proved beside it
+//! and not with each of its functions once more.
+#![tactic(auto)]
+
+#[cfg(test)]
+mod earlier_lines;
+#[cfg(test)]
+mod edges;
+#[cfg(test)]
+mod faults;
+#[cfg(test)]
+mod laws;
+#[cfg(test)]
+mod messages;
+#[cfg(test)]
+mod post;
