@@ -1,0 +1,57 @@
+//! The examples of the README, each a module of its own, and what they make of some packets.
+#![tactic(auto)]
+
+mod checksums;
+mod echo_request;
+mod extensions_and_options;
+mod frames;
+mod owned_headers;
+mod sliced_frame;
+mod tags_and_arp;
+
+/// It has no contract: what it prints is compared with what the packets hold.
+fn main(rt: HostRuntime) -> anyhow::Result<()> {
+    println!(rt; "A frame, sliced:")?;
+    sliced_frame::print_parts(&rt, frames::UDP_OVER_IPV4)?;
+    sliced_frame::print_parts(&rt, frames::TCP_OVER_IPV6)?;
+    sliced_frame::print_parts(&rt, frames::TAGGED_ARP)?;
+
+    println!(rt; "Headers as values:")?;
+    let packet = &frames::UDP_OVER_IPV4[14..];
+    if let Some(bytes) = owned_headers::handed_on(rt.alloc(), packet)? {
+        print_hex(&rt, bytes.as_slice())?;
+    }
+
+    println!(rt; "VLAN tags and ARP:")?;
+    tags_and_arp::print_tags(&rt, frames::TAGGED_ARP)?;
+    if let Some(bytes) = tags_and_arp::reply(rt.alloc(), frames::TAGGED_ARP, [2, 0, 0, 0, 0, 2])? {
+        print_hex(&rt, bytes.as_slice())?;
+    }
+
+    println!(rt; "Checksums:")?;
+    println!(rt; "{}", checksums::has_its_checksum(packet)?)?;
+    let bytes = checksums::datagram(
+        rt.alloc(),
+        [10, 0, 0, 1],
+        [10, 0, 0, 2],
+        &[1, 2, 3, 4, 5, 6, 7, 8],
+    )?;
+    print_hex(&rt, bytes.as_slice())?;
+
+    println!(rt; "Extension headers and options:")?;
+    extensions_and_options::print_all(&rt, frames::SYN_WITH_EXTENSIONS)?;
+
+    println!(rt; "An echo request:")?;
+    let bytes = echo_request::echo_request(rt.alloc(), 1, 2, b"ping")?;
+    print_hex(&rt, bytes.as_slice())?;
+    println!(rt; "{:?}", echo_request::echoed(frames::ECHO_REPLY))?;
+    Ok(())
+}
+
+fn print_hex(rt: &impl Print, bytes: &[u8]) -> anyhow::Result<()> {
+    for byte in bytes {
+        print!(rt; "{byte:02x}")?;
+    }
+    println!(rt; "")?;
+    Ok(())
+}
