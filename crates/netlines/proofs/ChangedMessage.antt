@@ -3,14 +3,14 @@ use Rattle.std.proofs.Common.{◌≡◌, ◌≢◌, ◌⊎◌, inl, inr, ◌∙�
 use Rattle.std.specs.Prelude.{nat_lt, if◌then◌else◌}
 use Rattle.std.proofs.lemmas.Bool.{eqb-true, ltb-false}
 use Rattle.std.proofs.lemmas.List.{get_or_append_left, length-take-le, take_at}
-use Rattle.ep_base.specs.declared.err.len_error.LenError.{LenError}
-use Rattle.ep_packet.specs.declared.err.packet.slice_error.SliceError.{SliceError}
-use Rattle.ep_packet.specs.declared.err.packet.slice_error.SliceError.TheVariants as slice_error
-use Rattle.ep_tcpudp.specs.Udp.{checksum_of, length_of, summed_udp}
-use Rattle.ep_tcpudp.specs.UdpFault.{cut_off, no_header, too_short}
+use Rattle.etherparse.specs.base.declared.err.len_error.LenError.{LenError}
+use Rattle.etherparse.specs.packet.declared.err.packet.slice_error.SliceError.{SliceError}
+use Rattle.etherparse.specs.packet.declared.err.packet.slice_error.SliceError.TheVariants as slice_error
+use Rattle.etherparse.specs.tcpudp.Udp.{checksum_of, length_of, summed_udp}
+use Rattle.etherparse.specs.tcpudp.UdpFault.{cut_off, no_header, too_short}
 use Rattle.netlines.specs.ChangedWord.{DifferInOneWord, verdict_after}
-use Rattle.ep_packet.specs.Readable.{ReadMessage, message_at, read_as}
-use Rattle.ep_packet.specs.Readable.ReadMessage.{Icmpv4, Tcp, Udp, Icmpv6, Raw}
+use Rattle.etherparse.specs.packet.Readable.{ReadMessage, message_at, read_as}
+use Rattle.etherparse.specs.packet.Readable.ReadMessage.{Icmpv4, Tcp, Udp, Icmpv6, Raw}
 use Rattle.netlines.specs.Verdict.{AddressesFit, is_unchecked, pseudo, pseudo_of, summed, summed_text, verdict_of}
 use Rattle.netlines.specs.declared.addresses.Addresses.{Addresses}
 use Rattle.netlines.specs.declared.verdict.Verdict.TheVariants as verdict

@@ -2,11 +2,11 @@
 use Rattle.std.proofs.Common.{◌≡◌, ◌≢◌, ◌⊎◌, inl, inr, ◌∙◌, sym, ap, refl, ℕ, ◌+◌, ◌%◌, ◌≤◌, ◌==◌, ◌&&◌, not, Bool, true, false, List, [], ◌∷◌, ◌++◌, length, get_or, subst, arith, append_assoc, length-append}
 use Rattle.std.specs.Prelude.{if◌then◌else◌}
 use Rattle.std.proofs.lemmas.Bool.Decides.{nat_tests}
-use Rattle.ep_base.specs.Bytes.{IsBytes}
-use Rattle.ep_base.specs.Sum.{all_ones, total}
+use Rattle.etherparse.specs.base.Bytes.{IsBytes}
+use Rattle.etherparse.specs.base.Sum.{all_ones, total}
 use Rattle.netlines.specs.ChangedWord.{DifferInOneWord, is_exchange, verdict_after}
-use Rattle.ep_tcpudp.specs.Udp.{checksum_of, length_of}
-use Rattle.ep_packet.specs.Readable.{ReadMessage}
+use Rattle.etherparse.specs.tcpudp.Udp.{checksum_of, length_of}
+use Rattle.etherparse.specs.packet.Readable.{ReadMessage}
 use Rattle.netlines.specs.Verdict.{is_unchecked, judged, pseudo, pseudo_of, summed, summed_text, verdict_of}
 use Rattle.netlines.specs.declared.addresses.Addresses.{Addresses}
 use Rattle.netlines.specs.declared.verdict.Verdict.{Verdict}

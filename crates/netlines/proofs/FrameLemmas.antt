@@ -1,17 +1,17 @@
 -- The class of a frame, from the parts of its packet.
 use Rattle.std.proofs.Common.{◌≡◌, ◌∙◌, sym, ap, ℕ, ◌+◌, ◌≤◌, Bool, true, false, cond, List, ◌++◌, length, Option, Some, None, Result, Ok, Err, IfSome, refl, arith, length-append}
-use Rattle.ep_ip.specs.Ipv4 as v4
-use Rattle.ep_ip.specs.Ipv6 as v6
-use Rattle.ep_ipslice.specs.Ipv6Packet.{fragment_fields_in}
-use Rattle.ep_ipslice.specs.Packet.{FragmentFields, IpPayload, Ipv4Packet, Ipv6Packet, ipv4_fragment_fields, ipv4_payload}
-use Rattle.ep_packet.specs.Class.{Addresses, Class, FragmentName, ipv4_addresses, ipv6_addresses, net_told, part_class, whole_told}
-use Rattle.ep_packet.specs.Class.Addresses.{V4, V6}
-use Rattle.ep_packet.specs.Class.Class.{Whole, Cut, Other, Refused}
-use Rattle.ep_packet.specs.Parts.{IsAt, IsNetAt}
-use Rattle.ep_packet.specs.Tags.{vlan_ids_of}
-use Rattle.ep_packet.specs.declared.net.net_slice.NetSlice.{NetSlice}
-use Rattle.ep_packet.specs.declared.net.net_slice.NetSlice.TheVariants as net
-use Rattle.ep_packet.specs.declared.transport.transport_slice.TransportSlice.{TransportSlice}
+use Rattle.etherparse.specs.ip.Ipv4 as v4
+use Rattle.etherparse.specs.ip.Ipv6 as v6
+use Rattle.etherparse.specs.ipslice.Ipv6Packet.{fragment_fields_in}
+use Rattle.etherparse.specs.ipslice.Packet.{FragmentFields, IpPayload, Ipv4Packet, Ipv6Packet, ipv4_fragment_fields, ipv4_payload}
+use Rattle.etherparse.specs.packet.Class.{Addresses, Class, FragmentName, ipv4_addresses, ipv6_addresses, net_told, part_class, whole_told}
+use Rattle.etherparse.specs.packet.Class.Addresses.{V4, V6}
+use Rattle.etherparse.specs.packet.Class.Class.{Whole, Cut, Other, Refused}
+use Rattle.etherparse.specs.packet.Parts.{IsAt, IsNetAt}
+use Rattle.etherparse.specs.packet.Tags.{vlan_ids_of}
+use Rattle.etherparse.specs.packet.declared.net.net_slice.NetSlice.{NetSlice}
+use Rattle.etherparse.specs.packet.declared.net.net_slice.NetSlice.TheVariants as net
+use Rattle.etherparse.specs.packet.declared.transport.transport_slice.TransportSlice.{TransportSlice}
 use Rattle.netlines.specs.Answers.{class_answer}
 use Rattle.netlines.specs.FrameClass.{as_addresses, class_addresses, uncut}
 use Rattle.netlines.specs.declared.addresses.Addresses.{Addresses as Own}

@@ -1,18 +1,18 @@
 -- What is read of bytes, where anything is.
 use Rattle.std.proofs.Common.{◌≡◌, ℕ, ◌*◌, ◌==◌, ◌&&◌, not, Bool, true, false, List, length, Ok, Err}
 use Rattle.std.specs.Prelude.{nat_lt, if◌then◌else◌}
-use Rattle.ep_base.specs.declared.err.layer.Layer.TheVariants as layer
-use Rattle.ep_base.specs.declared.err.len_error.LenError.{LenError}
-use Rattle.ep_icmp.specs.Icmpv4.{is_timestamp_request, is_timestamp_reply}
-use Rattle.ep_icmp.specs.Layout.{want_of_bytes}
-use Rattle.ep_packet.specs.declared.err.packet.slice_error.SliceError.TheVariants as slice_error
-use Rattle.ep_tcpudp.specs.Tcp.{data_offset_of}
-use Rattle.ep_tcpudp.specs.TcpFault.{too_short}
-use Rattle.ep_tcpudp.specs.declared.err.tcp.header_error.HeaderError.TheVariants.{DataOffsetTooSmall}
-use Rattle.ep_tcpudp.specs.declared.err.tcp.header_slice_error.HeaderSliceError.{HeaderSliceError}
-use Rattle.ep_tcpudp.specs.declared.err.tcp.header_slice_error.HeaderSliceError.TheVariants.{Len, Content}
-use Rattle.ep_packet.specs.Readable.{ReadMessage, message_at, read_as, tcp_fault}
-use Rattle.ep_packet.specs.Readable.ReadMessage.{Icmpv4, Tcp, Icmpv6}
+use Rattle.etherparse.specs.base.declared.err.layer.Layer.TheVariants as layer
+use Rattle.etherparse.specs.base.declared.err.len_error.LenError.{LenError}
+use Rattle.etherparse.specs.icmp.Icmpv4.{is_timestamp_request, is_timestamp_reply}
+use Rattle.etherparse.specs.icmp.Layout.{want_of_bytes}
+use Rattle.etherparse.specs.packet.declared.err.packet.slice_error.SliceError.TheVariants as slice_error
+use Rattle.etherparse.specs.tcpudp.Tcp.{data_offset_of}
+use Rattle.etherparse.specs.tcpudp.TcpFault.{too_short}
+use Rattle.etherparse.specs.tcpudp.declared.err.tcp.header_error.HeaderError.TheVariants.{DataOffsetTooSmall}
+use Rattle.etherparse.specs.tcpudp.declared.err.tcp.header_slice_error.HeaderSliceError.{HeaderSliceError}
+use Rattle.etherparse.specs.tcpudp.declared.err.tcp.header_slice_error.HeaderSliceError.TheVariants.{Len, Content}
+use Rattle.etherparse.specs.packet.Readable.{ReadMessage, message_at, read_as, tcp_fault}
+use Rattle.etherparse.specs.packet.Readable.ReadMessage.{Icmpv4, Tcp, Icmpv6}
 
 read_whole-one : (a : Bool) (e : LenError) (message : List ℕ → ReadMessage) (bytes : List ℕ) (read : ReadMessage)
     → read_as message (λ e. slice_error.Len e) (if a then Err e else Ok bytes) ≡ Ok read → read ≡ message bytes

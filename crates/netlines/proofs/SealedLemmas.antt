@@ -4,32 +4,32 @@ use Rattle.std.specs.Prelude.{nat_lt, if◌then◌else◌}
 use Rattle.std.specs.Int.{w16, w32, to_be_bytes}
 use Rattle.std.proofs.lemmas.Bool.{le-ltb, ltb-false, ne_eqb}
 use Rattle.std.proofs.lemmas.List.{take_all}
-use Rattle.ep_base.specs.Sum.{all_ones, checksum, no_zero}
-use Rattle.ep_icmp.specs.Icmpv4 as icmpv4_spec
-use Rattle.ep_icmp.specs.Icmpv6 as icmpv6_spec
-use Rattle.ep_icmp.specs.declared.transport.icmpv4_type.Icmpv4Type.{Icmpv4Type}
-use Rattle.ep_icmp.specs.declared.transport.icmpv6_type.Icmpv6Type.{Icmpv6Type}
-use Rattle.ep_packet.specs.declared.err.packet.slice_error.SliceError.TheVariants as slice_error
-use Rattle.ep_tcpudp.specs.Tcp as tcp_spec
-use Rattle.ep_tcpudp.specs.TcpChecksum as tcp_checksum
-use Rattle.ep_tcpudp.specs.TcpOptions.{IsTcpOptions}
-use Rattle.ep_tcpudp.specs.Udp as udp_spec
-use Rattle.ep_tcpudp.specs.UdpChecksum as udp_checksum
-use Rattle.ep_tcpudp.specs.UdpFault.{udp_at}
-use Rattle.ep_tcpudp.specs.declared.transport.tcp_header.TcpHeader.{TcpHeader}
-use Rattle.ep_tcpudp.specs.declared.transport.udp_header.UdpHeader.{UdpHeader}
-use Rattle.ep_packet.specs.Readable.{ReadMessage, message_at, read_as}
+use Rattle.etherparse.specs.base.Sum.{all_ones, checksum, no_zero}
+use Rattle.etherparse.specs.icmp.Icmpv4 as icmpv4_spec
+use Rattle.etherparse.specs.icmp.Icmpv6 as icmpv6_spec
+use Rattle.etherparse.specs.icmp.declared.transport.icmpv4_type.Icmpv4Type.{Icmpv4Type}
+use Rattle.etherparse.specs.icmp.declared.transport.icmpv6_type.Icmpv6Type.{Icmpv6Type}
+use Rattle.etherparse.specs.packet.declared.err.packet.slice_error.SliceError.TheVariants as slice_error
+use Rattle.etherparse.specs.tcpudp.Tcp as tcp_spec
+use Rattle.etherparse.specs.tcpudp.TcpChecksum as tcp_checksum
+use Rattle.etherparse.specs.tcpudp.TcpOptions.{IsTcpOptions}
+use Rattle.etherparse.specs.tcpudp.Udp as udp_spec
+use Rattle.etherparse.specs.tcpudp.UdpChecksum as udp_checksum
+use Rattle.etherparse.specs.tcpudp.UdpFault.{udp_at}
+use Rattle.etherparse.specs.tcpudp.declared.transport.tcp_header.TcpHeader.{TcpHeader}
+use Rattle.etherparse.specs.tcpudp.declared.transport.udp_header.UdpHeader.{UdpHeader}
+use Rattle.etherparse.specs.packet.Readable.{ReadMessage, message_at, read_as}
 use Rattle.netlines.proofs.PostedClass.{two_bytes}
 use Rattle.netlines.proofs.ReadLemmas.{icmpv4_is, icmpv6_is, segment_is}
-use Rattle.ep_packet.specs.Readable.ReadMessage.{Udp}
-use Rattle.ep_icmp.specs.declared.transport.icmpv4_header.Icmpv4Header.{Icmpv4Header}
-use Rattle.ep_icmp.specs.declared.transport.icmpv6_header.Icmpv6Header.{Icmpv6Header}
-use Rattle.ep_packet.specs.Transport.{transport_spelling}
+use Rattle.etherparse.specs.packet.Readable.ReadMessage.{Udp}
+use Rattle.etherparse.specs.icmp.declared.transport.icmpv4_header.Icmpv4Header.{Icmpv4Header}
+use Rattle.etherparse.specs.icmp.declared.transport.icmpv6_header.Icmpv6Header.{Icmpv6Header}
+use Rattle.etherparse.specs.packet.Transport.{transport_spelling}
 use Rattle.netlines.specs.declared.ip_frag_version_spec_id.IpFragVersionSpecId.{IpFragVersionSpecId}
 use Rattle.netlines.specs.declared.ip_frag_version_spec_id.IpFragVersionSpecId.TheVariants.{Ipv4, Ipv6}
 use Rattle.netlines.specs.declared.seal_error.SealError.TheVariants.{IcmpOfOtherVersion, TooLong}
-use Rattle.ep_packet.specs.declared.transport.transport_header.TransportHeader.{TransportHeader}
-use Rattle.ep_packet.specs.declared.transport.transport_header.TransportHeader.TheVariants as header
+use Rattle.etherparse.specs.packet.declared.transport.transport_header.TransportHeader.{TransportHeader}
+use Rattle.etherparse.specs.packet.declared.transport.transport_header.TransportHeader.TheVariants as header
 use Rattle.netlines.specs.Sealed.{HeaderFits, addresses_of, is_icmp_of_other_version, number_of, seal_refusal, sealed, sealed_header}
 use Rattle.netlines.specs.Verdict.{AddressesFit, judged, pseudo, verdict_of}
 use Rattle.netlines.specs.declared.addresses.Addresses.{Addresses}

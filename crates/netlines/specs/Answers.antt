@@ -2,8 +2,8 @@
 use Rattle.std.specs.Prelude.{◌≡◌, ℕ, false, List, [], ◌∷◌, ◌++◌, codes, decimal}
 use Rattle.std.specs.List.{flat_map}
 use Rattle.hex.specs.Hex.{encode_lower}
-use Rattle.ep_packet.specs.Class.{Class, class_of}
-use Rattle.ep_packet.specs.Class.Class.{Whole, Cut, Other, Refused}
+use Rattle.etherparse.specs.packet.Class.{Class, class_of}
+use Rattle.etherparse.specs.packet.Class.Class.{Whole, Cut, Other, Refused}
 use Rattle.netlines.specs.FrameClass.{as_addresses}
 use Rattle.netlines.specs.Lines.{Command, command_of, lines_of, ended_lines_of}
 use Rattle.netlines.specs.Lines.Command.{Frame, Bad}

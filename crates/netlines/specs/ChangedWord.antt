@@ -1,8 +1,8 @@
 -- Two texts that differ in one 16-bit word, as a checksum counts words (RFC 1071, section 1): an odd
 -- last byte is a word with a zero byte behind it.
 use Rattle.std.specs.Prelude.{◌≡◌, ◌≢◌, ◌⊎◌, ℕ, ◌%◌, ◌==◌, ◌&&◌, ◌||◌, not, Bool, if◌then◌else◌, List, [], ◌++◌, length}
-use Rattle.ep_base.specs.Bytes.{IsBytes}
-use Rattle.ep_base.specs.Sum.{total}
+use Rattle.etherparse.specs.base.Bytes.{IsBytes}
+use Rattle.etherparse.specs.base.Sum.{total}
 use Rattle.netlines.specs.declared.verdict.Verdict.{Verdict}
 use Rattle.netlines.specs.declared.verdict.Verdict.TheVariants as verdict
 

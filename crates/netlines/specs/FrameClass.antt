@@ -1,8 +1,8 @@
 -- What the code tells of a frame.
 use Rattle.std.specs.Prelude.{ℕ, length}
-use Rattle.ep_packet.specs.Class as packet
-use Rattle.ep_packet.specs.Class.Addresses.{V4, V6}
-use Rattle.ep_packet.specs.Class.Class.{Whole, Cut, Other, Refused}
+use Rattle.etherparse.specs.packet.Class as packet
+use Rattle.etherparse.specs.packet.Class.Addresses.{V4, V6}
+use Rattle.etherparse.specs.packet.Class.Class.{Whole, Cut, Other, Refused}
 use Rattle.netlines.specs.ReadMessage.{as_read}
 use Rattle.netlines.specs.declared.addresses.Addresses.{Addresses}
 use Rattle.netlines.specs.declared.addresses.Addresses.TheVariants as addresses

@@ -1,8 +1,8 @@
 -- What a contract sees of a message.
 use Rattle.std.specs.Prelude.{Result, Ok, Err}
-use Rattle.ep_packet.specs.declared.err.packet.slice_error.SliceError.{SliceError}
-use Rattle.ep_packet.specs.Readable.{ReadMessage}
-use Rattle.ep_packet.specs.Readable.ReadMessage.{Icmpv4, Tcp, Udp, Icmpv6, Raw}
+use Rattle.etherparse.specs.packet.declared.err.packet.slice_error.SliceError.{SliceError}
+use Rattle.etherparse.specs.packet.Readable.{ReadMessage}
+use Rattle.etherparse.specs.packet.Readable.ReadMessage.{Icmpv4, Tcp, Udp, Icmpv6, Raw}
 use Rattle.netlines.specs.declared.message.Message.{Message}
 use Rattle.netlines.specs.declared.message.Message.TheVariants as variant
 

@@ -1,17 +1,17 @@
 -- Messages with the length and the checksum that belong to them (RFC 768; RFC 792; RFC 4443, section
 -- 2.3; RFC 9293, section 3.1; RFC 8200, section 8.1).
 use Rattle.std.specs.Prelude.{◌≡◌, ℕ, ⊤, ◌+◌, nat_lt, Bool, true, false, if◌then◌else◌, List, ◌++◌, length, Option, Some, None}
-use Rattle.ep_icmp.specs.Icmpv4 as icmpv4_spec
-use Rattle.ep_icmp.specs.Icmpv6 as icmpv6_spec
-use Rattle.ep_icmp.specs.declared.transport.icmpv6_type.Icmpv6Type.{Icmpv6Type}
-use Rattle.ep_packet.specs.Transport.{transport_len, transport_spelling}
-use Rattle.ep_packet.specs.declared.transport.transport_header.TransportHeader.{TransportHeader}
-use Rattle.ep_packet.specs.declared.transport.transport_header.TransportHeader.TheVariants.{Udp, Tcp, Icmpv4, Icmpv6}
-use Rattle.ep_tcpudp.specs.Tcp.{header_len}
-use Rattle.ep_tcpudp.specs.TcpChecksum as tcp_checksum
-use Rattle.ep_tcpudp.specs.TcpOptions.{IsTcpOptions}
-use Rattle.ep_tcpudp.specs.UdpChecksum as udp_checksum
-use Rattle.ep_packet.specs.Readable.{icmpv4, icmpv6, tcp, udp}
+use Rattle.etherparse.specs.icmp.Icmpv4 as icmpv4_spec
+use Rattle.etherparse.specs.icmp.Icmpv6 as icmpv6_spec
+use Rattle.etherparse.specs.icmp.declared.transport.icmpv6_type.Icmpv6Type.{Icmpv6Type}
+use Rattle.etherparse.specs.packet.Transport.{transport_len, transport_spelling}
+use Rattle.etherparse.specs.packet.declared.transport.transport_header.TransportHeader.{TransportHeader}
+use Rattle.etherparse.specs.packet.declared.transport.transport_header.TransportHeader.TheVariants.{Udp, Tcp, Icmpv4, Icmpv6}
+use Rattle.etherparse.specs.tcpudp.Tcp.{header_len}
+use Rattle.etherparse.specs.tcpudp.TcpChecksum as tcp_checksum
+use Rattle.etherparse.specs.tcpudp.TcpOptions.{IsTcpOptions}
+use Rattle.etherparse.specs.tcpudp.UdpChecksum as udp_checksum
+use Rattle.etherparse.specs.packet.Readable.{icmpv4, icmpv6, tcp, udp}
 use Rattle.netlines.specs.Verdict.{pseudo}
 use Rattle.netlines.specs.declared.addresses.Addresses.{Addresses}
 use Rattle.netlines.specs.declared.addresses.Addresses.TheVariants.{V4, V6}

@@ -1,7 +1,7 @@
 //! The answer to one line.
 ghost use Rattle.std.specs.Prelude.{◌≡◌, ◌+◌, ◌*◌, ◌≤◌, ◌<◌, ◌++◌, codes, length, take};
 ghost use Rattle.netlines.specs.Answers.{answer_of, class_answer, message_answer, reply_of, verdict_word};
-ghost use Rattle.ep_packet.specs.Class.{class_of};
+ghost use Rattle.etherparse.specs.packet.Class.{class_of};
 
 use crate::command::frame_line;
 use crate::frame::{FrameClass, classify};

@@ -28,7 +28,7 @@ mod verdict;
 
 pub use addresses::Addresses;
 pub use answerer::Answerer;
-pub use ep_tag::VlanId;
+pub use etherparse::VlanId;
 pub use in_memory::answers;
 pub use ip_frag_version_spec_id::IpFragVersionSpecId;
 pub use letter::Letter;

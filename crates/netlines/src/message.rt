@@ -1,16 +1,13 @@
 //! Messages that are read.
 ghost use Rattle.std.specs.Prelude.{◌≡◌};
-ghost use Rattle.ep_packet.specs.Readable.{message_at};
-ghost use Rattle.ep_ipslice.specs.Packet.{IpPayload};
-ghost use Rattle.ep_packet.specs.Class.{message_told};
+ghost use Rattle.etherparse.specs.packet.Readable.{message_at};
+ghost use Rattle.etherparse.specs.ipslice.Packet.{IpPayload};
+ghost use Rattle.etherparse.specs.packet.Class.{message_told};
 ghost use Rattle.netlines.specs.ReadMessage.{as_answer, as_read};
 
-use ep_base::IpNumber;
-use ep_icmp::{Icmpv4Slice, Icmpv6Slice};
-use ep_packet::TransportSlice;
-use ep_packet::err::packet::SliceError;
-use ep_tcpudp::err::tcp::HeaderSliceError;
-use ep_tcpudp::{TcpSlice, UdpSlice};
+use etherparse::err::packet::SliceError;
+use etherparse::err::tcp::HeaderSliceError;
+use etherparse::{Icmpv4Slice, Icmpv6Slice, IpNumber, TcpSlice, TransportSlice, UdpSlice};
 
 /// A message of a transport protocol, borrowed. A contract sees the bytes that are read of it
 /// (`as_read`).

@@ -2,7 +2,7 @@
 ghost use Rattle.std.specs.Prelude.{◌≡◌};
 ghost use Rattle.netlines.specs.declared.seal_error.SealError.TheVariants.{Memory};
 
-use ep_packet::err::packet::TransportChecksumError;
+use etherparse::err::packet::TransportChecksumError;
 use std::alloc::AllocError;
 use thiserror::Error;
 

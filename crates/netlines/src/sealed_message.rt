@@ -1,12 +1,11 @@
 //! Headers and payloads that become messages.
 ghost use Rattle.std.specs.Prelude.{◌≡◌, IfOk, IsOk, IsOkUnless, MatchOption};
-ghost use Rattle.ep_packet.specs.declared.transport.transport_header.TransportHeader.{TransportHeader};
+ghost use Rattle.etherparse.specs.packet.declared.transport.transport_header.TransportHeader.{TransportHeader};
 ghost use Rattle.netlines.specs.Sealed.{addresses_of, seal_refusal, sealed, sealed_header};
 
 use crate::{IpFragVersionSpecId, SealError};
-use ep_ip::{Ipv4Header, Ipv6Header};
-use ep_packet::TransportHeader;
-use ep_packet::err::packet::TransportChecksumError;
+use etherparse::err::packet::TransportChecksumError;
+use etherparse::{Ipv4Header, Ipv6Header, TransportHeader};
 use std::alloc::Global;
 
 /// The greatest length of a message in bytes, header and payload.

@@ -1,14 +1,13 @@
 //! What a message's checksum tells.
 ghost use Rattle.std.specs.Prelude.{◌≡◌, ◌++◌, ℕ, List, length};
-ghost use Rattle.ep_base.specs.MessageSum.{SumsWords};
-ghost use Rattle.ep_base.specs.Sum.{fold, total};
+ghost use Rattle.etherparse.specs.base.MessageSum.{SumsWords};
+ghost use Rattle.etherparse.specs.base.Sum.{fold, total};
 ghost use Rattle.netlines.specs.ReadMessage.{as_read};
 ghost use Rattle.netlines.specs.Verdict.{judged, pseudo, verdict_of};
 
 use crate::{Addresses, Message};
-use ep_base::IpNumber;
-use ep_base::checksum::Sum16BitWords;
-use ep_ip::checksum::{pseudo_sum_v4, pseudo_sum_v6};
+use etherparse::IpNumber;
+use etherparse::checksum::{Sum16BitWords, pseudo_sum_v4, pseudo_sum_v6};
 
 /// Whether a message came as it was sent, as far as its checksum tells.
 #[derive(Clone, Copy, Debug, PartialEq, Eq, Hash)]

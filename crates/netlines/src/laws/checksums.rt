@@ -1,14 +1,14 @@
 //! Laws of checksums.
 ghost use Rattle.std.specs.Prelude.{◌≡◌, ◌≢◌, ℕ, List, ◌++◌, length, None, Ok};
 ghost use Rattle.netlines.specs.ChangedWord.{DifferInOneWord, verdict_after};
-ghost use Rattle.ep_packet.specs.Readable.{ReadMessage, message_at, udp as udp_number};
+ghost use Rattle.etherparse.specs.packet.Readable.{ReadMessage, message_at, udp as udp_number};
 ghost use Rattle.netlines.specs.Sealed.{HeaderFits, addresses_of, number_of, seal_refusal, sealed};
 ghost use Rattle.netlines.specs.Verdict.{AddressesFit, summed, summed_text, verdict_of};
 
 use crate::{Addresses, IpFragVersionSpecId, Verdict};
-use ep_icmp::laws::{icmpv4, icmpv6};
-use ep_packet::TransportHeader;
-use ep_tcpudp::laws::{tcp, udp};
+use etherparse::TransportHeader;
+use etherparse::laws::icmp::{icmpv4, icmpv6};
+use etherparse::laws::tcpudp::{tcp, udp};
 
 /// A sealed message that can be read is good under the addresses that it was sealed for.
 pub fn sealed_is_good(stream: &IpFragVersionSpecId, header: &TransportHeader, payload: &[u8])

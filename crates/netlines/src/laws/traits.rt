@@ -1,7 +1,7 @@
 //! What `Clone` and `PartialEq` of the types here mean. Each clause is about the relation that
 //! the type's own impl names and that its calls keep.
 ghost use Rattle.std.specs.Prelude.{◌≡◌, ◌↔◌, IsTrue};
-ghost use Rattle.ep_base.specs.Traits.{CopyIsValue, CopyNeverFails, EqualIsSame};
+ghost use Rattle.etherparse.specs.base.Traits.{CopyIsValue, CopyNeverFails, EqualIsSame};
 ghost use Rattle.netlines.specs.ReadMessage.{as_read};
 ghost use Rattle.netlines.specs.declared.message.Message.{Message as MessageValue};
 
@@ -42,7 +42,7 @@ pub fn equals_are_same()
     ensures seal_error { EqualIsSame ⟦<SealError as PartialEq>⟧.eq }
     ensures verdict { EqualIsSame ⟦<Verdict as PartialEq>⟧.eq }
 {
-    ep_packet::laws::traits::equals_are_same();
+    etherparse::laws::packet::traits::equals_are_same();
 }
 
 /// Messages are equal where they are of one protocol and have the same bytes.

@@ -1,5 +1,5 @@
 use Rattle.std.proofs.Common.{◌∙◌, ap}
-use Rattle.ep_packet.specs.Class.{class_of}
+use Rattle.etherparse.specs.packet.Class.{class_of}
 use Rattle.netlines.proofs.FrameLemmas.{addresses_again, uncut_answered}
 use Rattle.netlines.specs.ReadMessage.{as_read}
 use Rattle.netlines.specs.Verdict.{verdict_of}

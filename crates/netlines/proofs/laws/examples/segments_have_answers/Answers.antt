@@ -1,9 +1,9 @@
 use Rattle.std.proofs.Common.{refl}
 use Rattle.std.specs.Fmt.{digits}
 use Rattle.hex.specs.Hex.{encode_with, decode_pairs}
-use Rattle.ep_base.specs.Sum.{total}
-use Rattle.ep_ipslice.specs.Ipv6Walk.{pieces_within}
-use Rattle.ep_packet.specs.Tags.{tags_in}
+use Rattle.etherparse.specs.base.Sum.{total}
+use Rattle.etherparse.specs.ipslice.Ipv6Walk.{pieces_within}
+use Rattle.etherparse.specs.packet.Tags.{tags_in}
 use Rattle.netlines.specs.Answers.{answer_of}
 use Rattle.netlines.specs.Lines.{command_of}
 use Rattle.netlines.proofs.laws.examples.segments_have_answers.Goals as goal
