@@ -1,6 +1,7 @@
 pub mod Accepted
 pub mod AcceptedLists
 pub mod AppendIp
+pub mod BuiltSums
 pub mod Complete
 pub mod Lengths
 pub mod LinkedExts

@@ -1,5 +1,6 @@
 pub mod BuildWriteError
 pub mod Built
+pub mod BuiltLaws
 pub mod BuiltSteps
 pub mod Fragments
 pub mod IpDefragBuf

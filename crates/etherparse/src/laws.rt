@@ -9,6 +9,7 @@ ghost use Rattle.etherparse.specs.declared.defrag.TheConstants.{MAX_IP_DEFRAG_LE
 
 use crate::defrag::IpDefragBuf;
 
+pub mod builder;
 pub mod examples;
 pub mod traits;
 
