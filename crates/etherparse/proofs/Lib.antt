@@ -2,6 +2,7 @@ pub mod Accepted
 pub mod AcceptedLists
 pub mod AppendIp
 pub mod BuiltSums
+pub mod CallLemmas
 pub mod Complete
 pub mod Lengths
 pub mod LinkedExts
@@ -10,6 +11,7 @@ pub mod PartLemmas
 pub mod PoolLemmas
 pub mod Push
 pub mod Retaining
+pub mod Runs
 pub mod SameBuffers
 pub mod Sections
 pub mod Written

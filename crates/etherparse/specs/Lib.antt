@@ -9,6 +9,7 @@ pub mod IpDefragPool
 pub mod IpFragId
 pub mod IpFragRange
 pub mod Picture
+pub mod PoolCalls
 pub mod Streams
 pub use Rattle.ep_base.specs as base
 pub use Rattle.ep_ext.specs as ext

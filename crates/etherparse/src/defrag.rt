@@ -8,6 +8,7 @@ mod ip_frag_id;
 mod ip_frag_range;
 mod ip_frag_version_spec_id;
 mod part;
+mod pool_calls;
 mod retain_streams;
 mod stream;
 mod streams;
@@ -19,6 +20,7 @@ pub use ip_defrag_pool::IpDefragPool;
 pub use ip_frag_id::IpFragId;
 pub use ip_frag_range::IpFragRange;
 pub use ip_frag_version_spec_id::IpFragVersionSpecId;
+pub use pool_calls::{PoolCall, PoolReply, run_calls};
 
 /// The greatest length of a message, in bytes.
 pub const MAX_IP_DEFRAG_LEN: usize = 65535;

@@ -11,6 +11,7 @@ use crate::defrag::IpDefragBuf;
 
 pub mod builder;
 pub mod examples;
+pub mod names;
 pub mod traits;
 
 pub use ep_base::laws as base;

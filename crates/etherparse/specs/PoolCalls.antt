@@ -1,0 +1,137 @@
+-- Lists of calls of a pool, and what is answered to each, by recursion: the list of a name is that of its message alone.
+use Rattle.std.specs.Prelude.{◌≡◌, ◌≢◌, ℕ, ◌==◌, ◌&&◌, nat_lt, Bool, if◌then◌else◌, Option, Some, None, Result, Ok, Err, List, [], ◌∷◌, ◌++◌}
+use Rattle.ep_packet.specs.Class.{Class, FragmentName, class_of}
+use Rattle.ep_packet.specs.Class.Class.{Whole, Cut, Other, Refused as Faulty}
+use Rattle.ep_packet.specs.Sliced.{sliced_ethernet}
+use Rattle.ep_packet.specs.declared.err.packet.slice_error.SliceError.{SliceError}
+use Rattle.ep_packet.specs.declared.sliced_packet.SlicedPacket.{SlicedPacket}
+use Rattle.etherparse.specs.declared.defrag.ip_defrag_error.IpDefragError.{IpDefragError}
+use Rattle.etherparse.specs.declared.defrag.ip_defrag_error.IpDefragError.TheVariants.{AllocationFailure}
+use Rattle.etherparse.specs.declared.defrag.ip_defrag_payload_vec.IpDefragPayloadVec.{IpDefragPayloadVec}
+use Rattle.etherparse.specs.declared.defrag.ip_frag_id.IpFragId.{IpFragId}
+use Rattle.etherparse.specs.declared.defrag.pool_calls.PoolCall.{PoolCall}
+use Rattle.etherparse.specs.declared.defrag.pool_calls.PoolCall.TheVariants.{Frame, RetainFrom}
+use Rattle.etherparse.specs.declared.defrag.pool_calls.PoolReply.{PoolReply}
+use Rattle.etherparse.specs.declared.defrag.pool_calls.PoolReply.TheVariants as reply
+use Rattle.etherparse.specs.declared.defrag.stream.Stream.{Stream}
+use Rattle.etherparse.specs.Fragments.{Fragment, fragment, is_complete, refusal_of}
+use Rattle.etherparse.specs.IpDefragBuf.{Shows}
+use Rattle.etherparse.specs.IpDefragPool.{Payload, payload_of, payload_told}
+use Rattle.etherparse.specs.IpFragId.{id_named, same_name}
+use Rattle.etherparse.specs.Picture.{text_of}
+use Rattle.etherparse.specs.Streams.{Streams, stream_at}
+
+-- the fragments of a name that were accepted since its list was empty last, and the time of the last one
+pub record Held : Type 0 where
+  pub fragments : List Fragment
+  pub time : ℕ
+
+-- the list of each name and channel
+abbrev pub Lists : Type 0
+Lists = FragmentName → ℕ → Held
+
+-- what a reply tells
+pub data Told : Type 0 where
+  Nothing : Told
+  Delivered : (payload : Payload) → Told
+  Refused : (error : IpDefragError) → Told
+  NotSliced : (error : Option SliceError) → Told
+  Retained : Told
+  NoMemory : Told
+
+abbrev pub told : PoolReply → Told
+told reply.Nothing = Nothing
+told (reply.Payload payload) = Delivered (payload_told payload)
+told (reply.Refused error) = Refused error
+told (reply.NotSliced error) = NotSliced (Some error)
+told reply.Retained = Retained
+told reply.NoMemory = NoMemory
+
+-- what becomes of a packet, told
+abbrev pub told_outcome : Result (Option IpDefragPayloadVec) IpDefragError → Told
+told_outcome (Ok None) = Nothing
+told_outcome (Ok (Some payload)) = Delivered (payload_told payload)
+told_outcome (Err error) = Refused error
+
+-- no want of memory is told
+abbrev pub HasMemory : Told → Type 0
+HasMemory Nothing = Unit {0}
+HasMemory (Delivered payload) = Unit {0}
+HasMemory (Refused (AllocationFailure len)) = ⊥
+HasMemory (Refused error) = Unit {0}
+HasMemory (NotSliced error) = Unit {0}
+HasMemory Retained = Unit {0}
+HasMemory NoMemory = ⊥
+
+-- a list with a fragment that isn't refused: empty again where the message is complete with it
+abbrev pub with_taken : List Fragment → Fragment → List Fragment
+with_taken fs f = if is_complete (fs ++ f ∷ []) then [] else fs ++ f ∷ []
+
+abbrev pub held_with : Held → Fragment → ℕ → Option IpDefragError → Held
+held_with h f time (Some error) = h
+held_with h f time None = record { fragments = with_taken h.fragments f; time = time }
+
+-- what a frame of a class makes of the list of a name
+abbrev pub after_frame : FragmentName → ℕ → Class → ℕ → ℕ → Held → Held
+after_frame name channel (Cut other offset more bytes) time other_channel h =
+    let f = fragment offset more bytes in if same_name other name && (other_channel == channel) then held_with h f time (refusal_of h.fragments f) else h
+after_frame name channel (Whole addresses number bytes message) time other_channel h = h
+after_frame name channel Other time other_channel h = h
+after_frame name channel Faulty time other_channel h = h
+
+-- what is left of a list whose messages from a time on stay
+abbrev pub retained_from : ℕ → Held → Held
+retained_from from h = if nat_lt h.time from then record { fragments = []; time = h.time } else h
+
+-- what a call makes of the list of a name
+abbrev pub after : FragmentName → ℕ → PoolCall → Held → Held
+after name channel (Frame frame time other_channel) h = after_frame name channel (class_of frame.now) time other_channel h
+after name channel (RetainFrom from) h = retained_from from h
+
+-- what is answered to a fragment of a message with this name
+abbrev pub told_of : IpFragId ℕ → List Fragment → Fragment → Option IpDefragError → Told
+told_of id fs f (Some error) = Refused error
+told_of id fs f None = if is_complete (fs ++ f ∷ []) then Delivered (payload_of id (text_of (fs ++ f ∷ []))) else Nothing
+
+-- the fault of a frame that isn't sliced
+abbrev pub fault_in : Result SlicedPacket SliceError → Option SliceError
+fault_in (Ok packet) = None
+fault_in (Err error) = Some error
+
+-- what is answered to a frame, by its class and the lists of all names
+abbrev pub answer_to_frame : Lists → Class → ℕ → Option SliceError → Told
+answer_to_frame lists (Cut name offset more bytes) channel fault =
+    let f = fragment offset more bytes in let fs = (lists name channel).fragments in told_of (id_named name channel) fs f (refusal_of fs f)
+answer_to_frame lists (Whole addresses number bytes message) channel fault = Nothing
+answer_to_frame lists Other channel fault = Nothing
+answer_to_frame lists Faulty channel fault = NotSliced fault
+
+abbrev pub answer_to : Lists → PoolCall → Told
+answer_to lists (Frame frame time channel) = answer_to_frame lists (class_of frame.now) channel (fault_in (sliced_ethernet frame.now))
+answer_to lists (RetainFrom from) = Retained
+
+-- the lists after a call
+abbrev pub lists_with : Lists → PoolCall → Lists
+lists_with lists call name channel = after name channel call (lists name channel)
+
+abbrev pub answers : Lists → List PoolCall → List Told
+answers lists [] = []
+answers lists (call ∷ calls) = answer_to lists call ∷ answers (lists_with lists call) calls
+
+-- the lists after all calls
+abbrev pub lists_after : Lists → List PoolCall → Lists
+lists_after lists [] = lists
+lists_after lists (call ∷ calls) = lists_after (lists_with lists call) calls
+
+-- no fragment was accepted
+abbrev pub no_lists : Lists
+no_lists name channel = record { fragments = []; time = 0 }
+
+-- a stream is there exactly where the list has a fragment, and shows it
+abbrev pub ShowsHeld : Option (Stream ℕ) → Held → Type 0
+ShowsHeld None h = h.fragments ≡ []
+ShowsHeld (Some s) h = Shows s.buf h.fragments × (h.fragments ≢ []) × (s.timestamp ≡ h.time)
+
+-- each stream shows the list of its name
+abbrev pub ShowsLists : (IpFragId ℕ → IpFragId ℕ → Bool) → Streams (IpFragId ℕ) ℕ → Lists → Type 0
+ShowsLists same streams lists = (name : FragmentName) (channel : ℕ) → ShowsHeld (stream_at same streams (id_named name channel)) (lists name channel)

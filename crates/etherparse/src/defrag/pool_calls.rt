@@ -1,0 +1,143 @@
+//! Lists of calls of a pool.
+
+ghost use Rattle.std.specs.Prelude.{◌≡◌, Option, map, OnErr, IfOk, vec_len, length};
+ghost use Rattle.std.specs.List.{AllByRecursion};
+ghost use Rattle.ep_packet.specs.Class.{class_of, packet_told};
+ghost use Rattle.ep_packet.specs.Class.Class.{Refused};
+ghost use Rattle.ep_packet.specs.Sliced.{sliced_ethernet};
+ghost use Rattle.ep_packet.specs.declared.err.packet.slice_error.SliceError.{SliceError};
+ghost use Rattle.etherparse.specs.PoolCalls.{HasMemory, Lists, ShowsLists, after_frame, answer_to, answer_to_frame, answers, fault_in, lists_after, lists_with, retained_from, told, told_outcome};
+ghost use Rattle.etherparse.specs.PoolCalls.Told.{Retained};
+
+use super::{IpDefragError, IpDefragPayloadVec, IpDefragPool, IpFragId};
+use crate::laws::names::equal_names;
+use ep_packet::SlicedPacket;
+use ep_packet::err::packet::SliceError;
+use std::alloc::{AllocError, Global};
+
+/// What is asked of a pool.
+#[derive(Clone, Copy, Debug, PartialEq, Eq)]
+pub enum PoolCall<'a> {
+    /// An Ethernet II frame came.
+    Frame {
+        /// Its bytes.
+        frame: &'a [u8],
+        /// When it came.
+        timestamp: u64,
+        /// Where it came from.
+        channel: u32,
+    },
+    /// The messages whose last fragment came before this time are dropped.
+    RetainFrom(u64),
+}
+
+/// What a pool answers to a call.
+#[derive(Debug, PartialEq, Eq, Drop)]
+pub enum PoolReply {
+    /// The frame is no fragment, or its message isn't complete yet.
+    Nothing,
+    /// The fragment completed this message.
+    Payload(IpDefragPayloadVec),
+    /// The fragment was refused.
+    Refused(IpDefragError),
+    /// The frame breaks its format.
+    NotSliced(SliceError),
+    /// The other messages stay.
+    Retained,
+    /// No memory was left to drop messages. All of them stay.
+    NoMemory,
+}
+
+// Answers one call.
+fn answer(pool: &mut IpDefragPool<u64, u32>, call: &PoolCall<'_>) -> PoolReply
+    ensures told { (lists : Lists) → ShowsLists ⟦<IpFragId<u32> as PartialEq>⟧.eq pool.old lists → HasMemory (told result)
+        → told result ≡ answer_to lists call.now }
+    ensures lists { (lists : Lists) → ShowsLists ⟦<IpFragId<u32> as PartialEq>⟧.eq pool.old lists → HasMemory (told result)
+        → ShowsLists ⟦<IpFragId<u32> as PartialEq>⟧.eq pool.new (lists_with lists call.now) }
+{
+    match call {
+        PoolCall::Frame {
+            frame,
+            timestamp,
+            channel,
+        } => answer_frame(pool, frame, *timestamp, *channel),
+        PoolCall::RetainFrom(from) => retain_from(pool, *from),
+    }
+}
+
+fn answer_frame(
+    pool: &mut IpDefragPool<u64, u32>,
+    frame: &[u8],
+    timestamp: u64,
+    channel: u32,
+) -> PoolReply
+    ensures told { (lists : Lists) → ShowsLists ⟦<IpFragId<u32> as PartialEq>⟧.eq pool.old lists → HasMemory (told result)
+        → told result ≡ answer_to_frame lists (class_of frame.now) channel (fault_in (sliced_ethernet frame.now)) }
+    ensures lists { (lists : Lists) → ShowsLists ⟦<IpFragId<u32> as PartialEq>⟧.eq pool.old lists → HasMemory (told result)
+        → ShowsLists ⟦<IpFragId<u32> as PartialEq>⟧.eq pool.new (λ name other. after_frame name other (class_of frame.now) timestamp channel (lists name other)) }
+{
+    match SlicedPacket::from_ethernet(frame) {
+        Ok(packet) => answer_packet(pool, &packet, timestamp, channel),
+        Err(error) => PoolReply::NotSliced(error),
+    }
+}
+
+fn answer_packet(
+    pool: &mut IpDefragPool<u64, u32>,
+    packet: &SlicedPacket<'_>,
+    timestamp: u64,
+    channel: u32,
+) -> PoolReply
+    requires { packet_told packet.now ≡ Refused → ⊥ }
+    ensures told { (fault : Option SliceError) (lists : Lists) → ShowsLists ⟦<IpFragId<u32> as PartialEq>⟧.eq pool.old lists → HasMemory (told result)
+        → told result ≡ answer_to_frame lists (packet_told packet.now) channel fault }
+    ensures lists { (lists : Lists) → ShowsLists ⟦<IpFragId<u32> as PartialEq>⟧.eq pool.old lists → HasMemory (told result)
+        → ShowsLists ⟦<IpFragId<u32> as PartialEq>⟧.eq pool.new (λ name other. after_frame name other (packet_told packet.now) timestamp channel (lists name other)) }
+{
+    equal_names::<u32>();
+    reply_of(pool.process_sliced_packet(packet, timestamp, channel))
+}
+
+// The reply that tells what became of a packet.
+fn reply_of(outcome: Result<Option<IpDefragPayloadVec>, IpDefragError>) -> PoolReply
+    ensures { told result ≡ told_outcome outcome }
+{
+    match outcome {
+        Ok(Some(payload)) => PoolReply::Payload(payload),
+        Ok(None) => PoolReply::Nothing,
+        Err(error) => PoolReply::Refused(error),
+    }
+}
+
+fn retain_from(pool: &mut IpDefragPool<u64, u32>, from: u64) -> PoolReply
+    ensures told { told result ≡ Retained }
+    ensures lists { (lists : Lists) → ShowsLists ⟦<IpFragId<u32> as PartialEq>⟧.eq pool.old lists
+        → ShowsLists ⟦<IpFragId<u32> as PartialEq>⟧.eq pool.new (λ name channel. retained_from from (lists name channel)) }
+{
+    match pool.retain(|timestamp: &u64| *timestamp >= from) {
+        Ok(()) => PoolReply::Retained,
+        Err(_) => PoolReply::NoMemory,
+    }
+}
+
+/// Answers calls in turn. The replies have their room first, so that an error changes nothing.
+pub fn run_calls(
+    alloc: Global,
+    pool: &mut IpDefragPool<u64, u32>,
+    calls: &[PoolCall<'_>],
+) -> Result<Vec<PoolReply>, AllocError>
+    // Where no memory was wanting, each reply is that of its name's own list of fragments.
+    ensures told { IfOk result (λ replies. (lists : Lists) → ShowsLists ⟦<IpFragId<u32> as PartialEq>⟧.eq pool.old lists
+        → AllByRecursion (λ reply. HasMemory (told reply)) replies.items → map told replies.items ≡ answers lists calls.now) }
+    ensures lists { IfOk result (λ replies. (lists : Lists) → ShowsLists ⟦<IpFragId<u32> as PartialEq>⟧.eq pool.old lists
+        → AllByRecursion (λ reply. HasMemory (told reply)) replies.items → ShowsLists ⟦<IpFragId<u32> as PartialEq>⟧.eq pool.new (lists_after lists calls.now)) }
+    ensures len { IfOk result (λ replies. vec_len replies ≡ length calls.now) }
+    ensures err { OnErr result (pool.new ≡ pool.old) }
+{
+    let mut replies = Vec::with_capacity(alloc, calls.len())?;
+    for call in calls {
+        let reply = answer(pool, call);
+        replies.push(reply).unwrap();
+    }
+    Ok(replies)
+}
