@@ -6,8 +6,12 @@
 #![tactic(auto)]
 
 mod comparison;
+mod headers;
+mod lines;
 
 use crate::comparison::agrees;
+use crate::headers::Frames;
+use crate::lines::count_frames;
 use anyhow::{Context, Result};
 use std::process::ExitCode;
 use std::rt::Files;
@@ -16,6 +20,7 @@ use std::{env, fs};
 fn main(rt: HostRuntime) -> Result<ExitCode> {
     let names: Vec<String> = env::args(&rt)?.skip(1).collect(rt.alloc())?;
     let mut differing = 0usize;
+    let mut frames = Frames::default();
     for name in &names {
         let input = read(&rt, name.as_str(), "in")?;
         let wanted = read(&rt, name.as_str(), "out")?;
@@ -23,8 +28,13 @@ fn main(rt: HostRuntime) -> Result<ExitCode> {
             println!(rt; "{name} differs")?;
             differing += 1;
         }
+        count_frames(rt.alloc(), input.as_slice(), &mut frames)?;
     }
     println!(rt; "{} rows compared, {differing} of them differ", names.len())?;
+    println!(rt;
+        "{} frames have the same headers as slices, {} are refused alike, {} are read otherwise",
+        frames.same, frames.refused, frames.apart,
+    )?;
     Ok(if differing == 0 {
         ExitCode::SUCCESS
     } else {

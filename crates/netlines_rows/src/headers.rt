@@ -1,0 +1,163 @@
+//! The headers of frames as values, beside their slices.
+
+use ep_ext::Ipv6Extensions;
+use ep_packet::{
+    NetHeaders, NetSlice, PacketHeaders, PayloadSlice, SlicedPacket, TransportHeader,
+    TransportSlice,
+};
+use ep_tag::{LinkExtSlice, MacsecPayloadSlice};
+
+/// How many frames there are, by what their two readers tell.
+#[derive(Default, Drop)]
+pub struct Frames {
+    /// Frames whose headers and payload are those of the slices.
+    pub same: usize,
+    /// Frames that both refuse, with the same error.
+    pub refused: usize,
+    /// Frames of which they tell different things: those where the length field of UDP counts other bytes
+    /// than the payload's, and those with an extension header that has no place among values.
+    pub apart: usize,
+}
+
+impl Frames {
+    /// One frame more. (The numbers stay at the greatest one.)
+    pub fn count(&mut self, frame: &[u8]) {
+        let number = match compare(frame) {
+            Comparison::Same => &mut self.same,
+            Comparison::Refused => &mut self.refused,
+            Comparison::Apart => &mut self.apart,
+        };
+        *number = number.saturating_add(1);
+    }
+}
+
+#[derive(Drop)]
+enum Comparison {
+    Same,
+    Refused,
+    Apart,
+}
+
+fn compare(frame: &[u8]) -> Comparison {
+    let slicing = SlicedPacket::from_ethernet(frame);
+    let reading = PacketHeaders::from_ethernet_slice(frame);
+    match (&slicing, &reading) {
+        (Ok(packet), Ok(headers)) => {
+            if are_headers_of(packet, headers) {
+                return Comparison::Same;
+            }
+        }
+        (Err(slicing), Err(reading)) => {
+            if slicing == reading {
+                return Comparison::Refused;
+            }
+        }
+        _ => {}
+    }
+    Comparison::Apart
+}
+
+// Whether headers are those of a packet, part by part.
+fn are_headers_of(packet: &SlicedPacket, headers: &PacketHeaders) -> bool {
+    is_same_link(packet, headers)
+        && is_same_net(packet, headers)
+        && is_same_transport(packet, headers)
+        && is_same_payload(packet, headers)
+}
+
+fn is_same_link(packet: &SlicedPacket, headers: &PacketHeaders) -> bool {
+    let link = match &packet.link {
+        Some(link) => link.to_header(),
+        None => None,
+    };
+    if link != headers.link || packet.link_exts.len() != headers.link_exts.len() {
+        return false;
+    }
+    for (tag, fields) in packet
+        .link_exts
+        .as_slice()
+        .iter()
+        .zip(headers.link_exts.as_slice())
+    {
+        if tag.to_header() != *fields {
+            return false;
+        }
+    }
+    true
+}
+
+fn is_same_net(packet: &SlicedPacket, headers: &PacketHeaders) -> bool {
+    match (&packet.net, &headers.net) {
+        (None, None) => true,
+        (Some(NetSlice::Ipv4(packet)), Some(NetHeaders::Ipv4(header, extensions))) => {
+            packet.header().to_header() == *header && packet.extensions().to_header() == *extensions
+        }
+        (Some(NetSlice::Ipv6(packet)), Some(NetHeaders::Ipv6(header, extensions))) => {
+            let first = packet.header().next_header();
+            match Ipv6Extensions::from_slice(first, packet.extensions().slice()) {
+                Ok((read, _, rest)) => {
+                    packet.header().to_header() == *header && read == *extensions && rest.is_empty()
+                }
+                Err(_) => false,
+            }
+        }
+        (Some(NetSlice::Arp(packet)), Some(NetHeaders::Arp(fields))) => {
+            packet.to_packet() == *fields
+        }
+        _ => false,
+    }
+}
+
+fn is_same_transport(packet: &SlicedPacket, headers: &PacketHeaders) -> bool {
+    match (&packet.transport, &headers.transport) {
+        (None, None) => true,
+        (Some(TransportSlice::Udp(message)), Some(TransportHeader::Udp(header))) => {
+            message.to_header() == *header
+        }
+        (Some(TransportSlice::Tcp(message)), Some(TransportHeader::Tcp(header))) => {
+            message.to_header() == *header
+        }
+        (Some(TransportSlice::Icmpv4(message)), Some(TransportHeader::Icmpv4(header))) => {
+            message.header() == *header
+        }
+        (Some(TransportSlice::Icmpv6(message)), Some(TransportHeader::Icmpv6(header))) => {
+            message.header() == *header
+        }
+        _ => false,
+    }
+}
+
+fn is_same_payload(packet: &SlicedPacket, headers: &PacketHeaders) -> bool {
+    match (&packet.transport, &packet.net) {
+        (Some(message), _) => headers.payload == behind_message(message),
+        (None, Some(packet)) => match (packet.ip_payload_ref(), &headers.payload) {
+            (Some(payload), PayloadSlice::Ip(told)) => payload == told,
+            (None, PayloadSlice::Empty) => true,
+            _ => false,
+        },
+        (None, None) => headers.payload == behind_tags(packet),
+    }
+}
+
+fn behind_message<'a>(message: &TransportSlice<'a>) -> PayloadSlice<'a> {
+    match message {
+        TransportSlice::Udp(message) => PayloadSlice::Udp(message.payload()),
+        TransportSlice::Tcp(message) => PayloadSlice::Tcp(message.payload()),
+        TransportSlice::Icmpv4(message) => PayloadSlice::Icmpv4(message.payload()),
+        TransportSlice::Icmpv6(message) => PayloadSlice::Icmpv6(message.payload()),
+    }
+}
+
+// What the last ether type names, and else what MACsec changed.
+fn behind_tags<'a>(packet: &SlicedPacket<'a>) -> PayloadSlice<'a> {
+    if let Some(payload) = packet.ether_payload() {
+        return PayloadSlice::Ether(payload);
+    }
+    match packet.link_exts.as_slice().last() {
+        Some(LinkExtSlice::Macsec(macsec)) => match &macsec.payload {
+            MacsecPayloadSlice::Modified(bytes) => PayloadSlice::MacsecMod(bytes),
+            MacsecPayloadSlice::Unmodified(_) => PayloadSlice::Empty,
+        },
+        _ => PayloadSlice::Empty,
+    }
+}
