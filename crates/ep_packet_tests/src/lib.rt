@@ -5,6 +5,8 @@
 #[cfg(test)]
 mod errors;
 #[cfg(test)]
+mod fronts;
+#[cfg(test)]
 mod ip_headers;
 #[cfg(test)]
 mod laws;
