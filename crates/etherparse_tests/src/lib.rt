@@ -5,6 +5,20 @@
 #[cfg(test)]
 mod buffers;
 #[cfg(test)]
+mod builder_extensions;
+#[cfg(test)]
+mod builder_links;
+#[cfg(test)]
+mod builder_parts;
+#[cfg(test)]
+mod builder_refusals;
+#[cfg(test)]
+mod builder_rows;
+#[cfg(test)]
+mod builder_tcp;
+#[cfg(test)]
+mod builder_transports;
+#[cfg(test)]
 mod errors;
 #[cfg(test)]
 mod fragments;
