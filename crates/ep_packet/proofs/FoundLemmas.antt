@@ -1,9 +1,9 @@
 -- The parts of a packet stand in its bytes, and what stands there is taken.
-use Rattle.std.proofs.Common.{◌≡◌, ◌∙◌, ℕ, ◌+◌, ◌≤◌, List, length, Option, Some, Result, Ok, Err, IfOk, refl, sym, ap, subst}
+use Rattle.std.proofs.Common.{◌≡◌, ◌∙◌, ℕ, List, [], Option, Some, None, Result, Ok, Err, IfOk, refl, sym, ap, subst}
 use Rattle.ep_link.specs.declared.link.link_slice.LinkSlice.{LinkSlice}
 use Rattle.ep_packet.specs.Parts.{tags_len}
 use Rattle.ep_packet.specs.SliceFault.{later}
-use Rattle.ep_packet.specs.Sliced.{IsSliced, Layers, layers_in, packet_behind, packet_of, packet_tagged, packet_with}
+use Rattle.ep_packet.specs.Sliced.{AreIpLayers, IsSliced, IsSlicedIp, Layers, layers_in, packet_behind, packet_of, packet_tagged, packet_with}
 use Rattle.ep_packet.specs.Tags.{Tagged, most_tags, tags_in}
 use Rattle.ep_packet.specs.declared.err.packet.slice_error.SliceError.{SliceError}
 use Rattle.ep_packet.specs.declared.sliced_packet.SlicedPacket.{SlicedPacket}
@@ -33,3 +33,7 @@ taken_behind law header p n r same packet linked is =
     ∙ ap (λ (x : Result Tagged SliceError). later n (packet_tagged (Some header) x)) (tags_only law tags most_tags is.last p is.tagged)
     ∙ ap (λ (x : Result Layers SliceError). later n (packet_with (Some header) tags (later (tags_len tags) x))) is.layers
     ∙ ap (λ (o : Option LinkSlice). Ok (packet_of o tags layers)) (sym linked)
+
+-- an IP packet that the bytes begin with is taken
+pub taken_ip : (bytes : List ℕ) (r : Result Layers SliceError) → ((layers : Layers) → AreIpLayers bytes layers → r ≡ Ok layers) → (packet : SlicedPacket) → IsSlicedIp bytes packet → packet_with None [] r ≡ Ok packet
+taken_ip bytes r only packet is = ap (λ (x : Result Layers SliceError). packet_with None [] x) (only is.0 is.1) ∙ ap (λ (p : SlicedPacket). Ok p) (sym is.2)

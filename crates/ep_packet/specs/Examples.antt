@@ -1,11 +1,15 @@
 -- Frames from outside, at which laws state the definitions' values (IEEE 802.3, 802.1Q and 802.1AE; RFC
 -- 768, 791, 826 and 8200).
-use Rattle.std.specs.Prelude.{ℕ, List, [], ◌∷◌, ◌++◌, None}
+use Rattle.std.specs.Prelude.{ℕ, List, [], ◌∷◌, ◌++◌, Option, None}
 use Rattle.ep_base.specs.declared.len_source.LenSource.TheVariants.{Slice}
 use Rattle.ep_ipslice.specs.Packet.{Ipv4Packet}
 use Rattle.ep_packet.specs.Class.{Addresses}
 use Rattle.ep_packet.specs.Class.Addresses.{V4}
+use Rattle.ep_packet.specs.declared.net.net_slice.NetSlice.{NetSlice}
+use Rattle.ep_packet.specs.declared.sliced_packet.SlicedPacket.{SlicedPacket}
 use Rattle.ep_tag.specs.Ether.{EtherPayload}
+use Rattle.ep_tag.specs.MacsecPayload.{Unmodified}
+use Rattle.ep_tag.specs.declared.link.link_ext_slice.LinkExtSlice.TheVariants as tag
 
 -- the addresses of a frame
 abbrev pub frame_addresses : List ℕ
@@ -15,9 +19,13 @@ frame_addresses = 2 ∷ 0 ∷ 0 ∷ 0 ∷ 0 ∷ 2 ∷ 2 ∷ 0 ∷ 0 ∷ 0 ∷ 0 
 abbrev pub udp_message : List ℕ
 udp_message = 0 ∷ 1 ∷ 0 ∷ 2 ∷ 0 ∷ 8 ∷ 0 ∷ 0 ∷ []
 
--- the IPv4 header of an uncut UDP message of eight bytes, from 10.0.0.1 to 10.0.0.2
+-- the IPv4 header of an uncut message of eight bytes with this number, from 10.0.0.1 to 10.0.0.2
+abbrev pub ipv4_header_of : ℕ → List ℕ
+ipv4_header_of number = 0x45 ∷ 0 ∷ 0 ∷ 28 ∷ 0 ∷ 7 ∷ 0 ∷ 0 ∷ 64 ∷ number ∷ 0 ∷ 0 ∷ 10 ∷ 0 ∷ 0 ∷ 1 ∷ 10 ∷ 0 ∷ 0 ∷ 2 ∷ []
+
+-- that of UDP
 abbrev pub ipv4_header : List ℕ
-ipv4_header = 0x45 ∷ 0 ∷ 0 ∷ 28 ∷ 0 ∷ 7 ∷ 0 ∷ 0 ∷ 64 ∷ 17 ∷ 0 ∷ 0 ∷ 10 ∷ 0 ∷ 0 ∷ 1 ∷ 10 ∷ 0 ∷ 0 ∷ 2 ∷ []
+ipv4_header = ipv4_header_of 17
 
 abbrev pub ipv4_packet : Ipv4Packet
 ipv4_packet = record { header = ipv4_header; auth = None; payload = udp_message }
@@ -80,3 +88,24 @@ tag_1 = 0 ∷ 1 ∷ 0x88 ∷ 0xa8 ∷ tag_2
 -- bytes behind the ether type of a VLAN tag
 abbrev pub vlan_named : List ℕ → EtherPayload
 vlan_named bytes = record { ether_type = record { 0 = 0x8100 }; len_source = Slice; payload = bytes }
+
+-- the header of a Linux cooked capture's packet that came from 1:2:3:4:5:6, with this protocol
+abbrev pub cooked_header : List ℕ → List ℕ
+cooked_header protocol = 0 ∷ 0 ∷ 0 ∷ 1 ∷ 0 ∷ 6 ∷ 1 ∷ 2 ∷ 3 ∷ 4 ∷ 5 ∷ 6 ∷ 0 ∷ 0 ∷ protocol
+
+-- the uncut message behind it
+abbrev pub cooked_packet : List ℕ
+cooked_packet = cooked_header (8 ∷ 0 ∷ []) ++ ipv4_header ++ udp_message
+
+-- a number that is no ether type (LINUX_SLL_P_802_2)
+abbrev pub cooked_without_type : List ℕ
+cooked_without_type = cooked_header (0 ∷ 4 ∷ []) ++ 0x45 ∷ []
+
+-- a MACsec header with a short length of 6, two bytes of an ether type and the VLAN tag that it names
+abbrev pub bounded_packet : Option NetSlice → SlicedPacket
+bounded_packet net = record {
+  link = None;
+  link_exts = record { items = tag.Macsec (record { header = 0 ∷ 6 ∷ 0 ∷ 0 ∷ 0 ∷ 1 ∷ 0x81 ∷ 0 ∷ []; payload = Unmodified (vlan_named tag_4) }) ∷ tag.Vlan tag_4 ∷ [] };
+  net = net;
+  transport = None;
+}

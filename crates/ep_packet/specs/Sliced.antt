@@ -1,12 +1,12 @@
 -- A frame, or what stands in it, cut into its parts.
-use Rattle.std.specs.Prelude.{◌≡◌, ℕ, ◌+◌, ◌==◌, nat_lt, if◌then◌else◌, List, [], length, Option, Some, None, Result, Ok, Err}
+use Rattle.std.specs.Prelude.{◌≡◌, ℕ, ◌+◌, ◌==◌, if◌then◌else◌, List, [], length, Option, Some, None, Result, Ok, Err}
 use Rattle.ep_base.specs.declared.err.layer.Layer.TheVariants.{Ethernet2Header}
 use Rattle.ep_base.specs.declared.err.len_error.LenError.{LenError}
 use Rattle.ep_base.specs.declared.len_source.LenSource.{LenSource}
 use Rattle.ep_base.specs.declared.len_source.LenSource.TheVariants as source
 use Rattle.ep_base.specs.declared.link.ether_type.EtherType.{EtherType}
 use Rattle.ep_ext.specs.Ipv4Exts.{auth_bytes}
-use Rattle.ep_ipslice.specs.IpSlice.{ip_packet_at}
+use Rattle.ep_ipslice.specs.IpSlice.{IsIpPacket, ip_packet_at}
 use Rattle.ep_ipslice.specs.Ipv4Packet.{ipv4_packet_at}
 use Rattle.ep_ipslice.specs.Ipv6Packet.{ipv6_packet_at}
 use Rattle.ep_ipslice.specs.Packet.{IpPayload, Ipv4Packet, Ipv6Packet, ipv4_payload}
@@ -166,6 +166,16 @@ sliced_ether_type t bytes = packet_behind (link.EtherPayload (ether_payload t by
 -- those of an IP packet of either version
 abbrev pub sliced_ip : List ℕ → Result SlicedPacket SliceError
 sliced_ip bytes = packet_with None [] (ip_layers (ip_packet_at bytes))
+
+-- the bytes begin with an IP packet, and the layers are the packet and the message that its payload is
+pub record AreIpLayers (bytes : List ℕ) (layers : Layers) : Type 0 where
+  pub packet : IpSlice
+  pub begins : IsIpPacket bytes packet
+  pub message : ip_layers (Ok packet) ≡ Ok layers
+
+-- nothing in the place of a link header, no tags, and these layers
+abbrev pub IsSlicedIp : List ℕ → SlicedPacket → Type 0
+IsSlicedIp bytes packet = (layers : Layers) × AreIpLayers bytes layers × (packet ≡ packet_of None [] layers)
 
 -- the tags that stand in a payload, and the layers in what the last of them names
 pub record IsSliced (p : EtherPayload) (packet : SlicedPacket) : Type 0 where

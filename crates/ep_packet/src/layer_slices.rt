@@ -1,5 +1,5 @@
 //! The network layer and the transport layer in a payload.
-ghost use Rattle.std.specs.Prelude.{◌≡◌, ◌<◌, ◌+◌, ◌^◌, ℕ, length, IfErr, IfOk, IfSome};
+ghost use Rattle.std.specs.Prelude.{◌≡◌, ◌<◌, ◌+◌, ◌^◌, ℕ, length, IfErr, IfOk, IfSome, Ok};
 ghost use Rattle.ep_ext.specs.Ipv4Exts.{auth_bytes};
 ghost use Rattle.ep_ipslice.specs.IpSlice.{ip_packet_at};
 ghost use Rattle.ep_ipslice.specs.Ipv4Packet.{ipv4_packet_at};
@@ -8,7 +8,7 @@ ghost use Rattle.ep_ipslice.specs.Packet.{IsIpv4Packet, IsIpv6Packet};
 ghost use Rattle.ep_packet.specs.Parts.{IsAt, LayersBehind, LayersIn, transport_bytes};
 ghost use Rattle.ep_packet.specs.Readable.{message_at};
 ghost use Rattle.ep_packet.specs.SliceFault.{place_of};
-ghost use Rattle.ep_packet.specs.Sliced.{Layers, in_ipv4, in_ipv6, ip_layers, ipv4_layers, ipv6_layers, layers_in, layers_of, read_transport, transport_in};
+ghost use Rattle.ep_packet.specs.Sliced.{AreIpLayers, Layers, in_ipv4, in_ipv6, ip_layers, ipv4_layers, ipv6_layers, layers_in, layers_of, read_transport, transport_in};
 
 use crate::err::packet::SliceError;
 use crate::{NetSlice, TransportSlice, slice_fault};
@@ -100,6 +100,8 @@ impl<'a> LayerSlices<'a> {
     /// The layers in an IP packet of either version.
     pub(crate) fn from_ip(slice: &'a [u8]) -> Result<LayerSlices<'a>, SliceError>
         ensures layers { result ≡ ip_layers (ip_packet_at slice.now) }
+        ensures found { IfOk result (λ layers. AreIpLayers slice.now layers) }
+        ensures only { (layers : Layers) → AreIpLayers slice.now layers → result ≡ Ok layers }
         ensures parts { IfOk result (λ layers. LayersIn slice.now 0 layers) }
         ensures place { IfErr result (λ e. (n : ℕ) → length slice.now + n < 2 ^ 64 → place_of e + n < 2 ^ 64) }
     {

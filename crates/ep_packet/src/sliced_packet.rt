@@ -9,7 +9,7 @@ ghost use Rattle.ep_packet.specs.Class.Class.{Refused};
 ghost use Rattle.ep_packet.specs.PacketView.{ether_payload_in, ip_payload_of, is_part, last_payload, payload_ether_type_in, vlan_of, vlan_tags};
 ghost use Rattle.ep_packet.specs.Parts.{ArePartsOf};
 ghost use Rattle.ep_packet.specs.SliceFault.{later};
-ghost use Rattle.ep_packet.specs.Sliced.{IsSliced, ether_payload, packet_behind, sliced_ether_type, sliced_ethernet, sliced_ip, sliced_linux_sll};
+ghost use Rattle.ep_packet.specs.Sliced.{IsSliced, IsSlicedIp, ether_payload, packet_behind, sliced_ether_type, sliced_ethernet, sliced_ip, sliced_linux_sll};
 ghost use Rattle.ep_packet.specs.Tags.{vlan_ids_of};
 
 use crate::err::packet::SliceError;
@@ -134,6 +134,10 @@ impl<'a> SlicedPacket<'a> {
     /// The parts of an IP packet of the version that its first half byte tells. Nothing stands in the
     /// place of a link header. The errors are as those of [`SlicedPacket::from_ethernet`].
     pub fn from_ip(slice: &'a [u8]) -> Result<SlicedPacket<'a>, SliceError>
+        // The slice begins with the packet that is taken.
+        ensures found { IfOk result (λ packet. IsSlicedIp slice.now packet) }
+        // A packet that it begins with is taken.
+        ensures only { (packet : SlicedPacket) → IsSlicedIp slice.now packet → result ≡ Ok packet }
         // Each part is the slice from its place on.
         ensures parts { IfOk result (λ packet. ArePartsOf slice.now 0 packet) }
         ensures exact { result ≡ sliced_ip slice.now }

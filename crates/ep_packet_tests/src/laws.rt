@@ -12,6 +12,9 @@ fn laws_are_called() {
     laws::sliced::tags_by_hand();
     laws::sliced::faults_by_hand();
     laws::sliced::views_by_hand();
+    laws::sliced::packet_views_by_hand();
+    laws::sliced::cooked_packets_by_hand();
+    laws::sliced::ip_packets_by_hand();
     laws::sliced::lengths_by_hand();
     laws::traits::copies_are_values();
     laws::traits::copies_of_ip_headers_are_values();

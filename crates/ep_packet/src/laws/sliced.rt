@@ -4,18 +4,21 @@
 ghost use Rattle.std.specs.Prelude.{◌≡◌, [], ◌∷◌, ◌++◌, true, false, Ok, Err, Some, None};
 ghost use Rattle.ep_base.specs.declared.err.layer.Layer.TheVariants as layer;
 ghost use Rattle.ep_base.specs.declared.len_source.LenSource.TheVariants as source;
+ghost use Rattle.ep_ipslice.specs.declared.err.ip.header_error.HeaderError.TheVariants.{UnsupportedIpVersion};
 ghost use Rattle.ep_link.specs.declared.link.link_slice.LinkSlice.TheVariants as link;
 ghost use Rattle.ep_packet.specs.Class.{class_of};
 ghost use Rattle.ep_packet.specs.Class.Addresses.{V6};
 ghost use Rattle.ep_packet.specs.Class.Class.{Cut, Other, Refused, Whole};
-ghost use Rattle.ep_packet.specs.Examples.{cut_frame, eight_bytes, frame_addresses, ipv4_addresses, ipv4_header, ipv4_packet, ipv6_cut_frame, ipv6_destination, ipv6_other_frame, ipv6_source, tag_1, tag_2, tag_3, tag_4, udp_message, vlan_named, whole_frame};
-ghost use Rattle.ep_packet.specs.PacketView.{last_payload, source_behind, vlan_of};
+ghost use Rattle.ep_packet.specs.Examples.{bounded_packet, cooked_header, cooked_packet, cooked_without_type, cut_frame, eight_bytes, frame_addresses, ipv4_addresses, ipv4_fragment_header, ipv4_header, ipv4_header_of, ipv4_packet, ipv6_cut_frame, ipv6_destination, ipv6_other_frame, ipv6_source, tag_1, tag_2, tag_3, tag_4, udp_message, vlan_named, whole_frame};
+ghost use Rattle.ep_packet.specs.PacketView.{ether_payload_in, ip_payload_of, is_part, last_payload, payload_ether_type_in, source_behind, vlan_of};
 ghost use Rattle.ep_packet.specs.Parts.{headers_len, tags_len};
 ghost use Rattle.ep_packet.specs.Readable.ReadMessage.{Udp};
 ghost use Rattle.ep_packet.specs.SliceFault.{bounded_by, moved, within};
+ghost use Rattle.ep_packet.specs.Sliced.{sliced_ip, sliced_linux_sll};
 ghost use Rattle.ep_packet.specs.Tags.{is_macsec_type, is_vlan_type, tags_in, vlan_ids_of};
 ghost use Rattle.ep_packet.specs.declared.err.packet.slice_error.SliceError.TheVariants as slice_error;
 ghost use Rattle.ep_packet.specs.declared.net.net_slice.NetSlice.TheVariants as net;
+ghost use Rattle.ep_packet.specs.declared.transport.transport_slice.TransportSlice.TheVariants as transport;
 ghost use Rattle.ep_tag.specs.MacsecPayload.MacsecPayload.{Modified};
 ghost use Rattle.ep_tag.specs.declared.link.link_ext_slice.LinkExtSlice.TheVariants as tag;
 ghost use Rattle.ep_tag.specs.declared.link.vlan_slice.VlanSlice.TheVariants.{DoubleVlan, SingleVlan};
@@ -135,6 +138,81 @@ pub fn views_by_hand()
     ensures link { last_payload (Some (link.EtherPayload (vlan_named tag_1))) [] ≡ Some (vlan_named tag_1) }
     ensures last_tag { last_payload (Some (link.EtherPayload (vlan_named tag_2))) (tag.Vlan tag_2 ∷ tag.Vlan tag_3 ∷ [])
         ≡ Some (vlan_named tag_4) }
+{}
+
+/// What a packet tells of what the last ether type names, here IPv4 in a VLAN tag behind a short length; and
+/// whether an IP payload is a part of a message.
+pub fn packet_views_by_hand()
+    ensures named { payload_ether_type_in (bounded_packet None) ≡ Some (record { 0 = 2048 }) }
+    ensures looked_into { payload_ether_type_in (bounded_packet (Some (net.Ipv4 ipv4_packet))) ≡ None }
+    ensures bounded { ether_payload_in (bounded_packet None)
+        ≡ Some (record { ether_type = record { 0 = 2048 }; len_source = source.MacsecShortLength; payload = [] }) }
+    ensures bounded_too { ether_payload_in (bounded_packet (Some (net.Ipv4 ipv4_packet)))
+        ≡ Some (record { ether_type = record { 0 = 2048 }; len_source = source.MacsecShortLength; payload = [] }) }
+    ensures no_packet { is_part (ip_payload_of None) ≡ false }
+    ensures whole { is_part (ip_payload_of (Some (net.Ipv4 ipv4_packet))) ≡ false }
+    ensures part { is_part (ip_payload_of (Some (net.Ipv4 (record {
+      header = ipv4_fragment_header;
+      auth = None;
+      payload = eight_bytes;
+    })))) ≡ true }
+{}
+
+/// Packets of Linux cooked captures: the ether type of IPv4; a number that is no ether type, behind which
+/// nothing is looked into; and the place of a header that is cut off, and that of their own.
+pub fn cooked_packets_by_hand()
+    ensures ipv4 { sliced_linux_sll cooked_packet ≡ Ok (record {
+      link = Some (link.LinuxSll cooked_packet);
+      link_exts = record { items = [] };
+      net = Some (net.Ipv4 ipv4_packet);
+      transport = Some (transport.Udp udp_message);
+    }) }
+    ensures no_type { sliced_linux_sll cooked_without_type ≡ Ok (record {
+      link = Some (link.LinuxSll cooked_without_type);
+      link_exts = record { items = [] };
+      net = None;
+      transport = None;
+    }) }
+    ensures cut_off { sliced_linux_sll (cooked_header (8 ∷ 0 ∷ []) ++ 69 ∷ []) ≡ Err (slice_error.Len (record {
+      required_len = 20;
+      len = 1;
+      len_source = source.Slice;
+      layer = layer.Ipv4Header;
+      layer_start_offset = 16;
+    })) }
+    ensures too_short { sliced_linux_sll (cooked_header []) ≡ Err (slice_error.Len (record {
+      required_len = 16;
+      len = 14;
+      len_source = source.Slice;
+      layer = layer.LinuxSllHeader;
+      layer_start_offset = 0;
+    })) }
+{}
+
+/// IP packets without a link header: a UDP message over IPv4; bytes of another version, and none; and a TCP
+/// header that the packet cuts off.
+pub fn ip_packets_by_hand()
+    ensures ipv4 { sliced_ip (ipv4_header ++ udp_message) ≡ Ok (record {
+      link = None;
+      link_exts = record { items = [] };
+      net = Some (net.Ipv4 ipv4_packet);
+      transport = Some (transport.Udp udp_message);
+    }) }
+    ensures other { sliced_ip (80 ∷ []) ≡ Err (slice_error.Ip (UnsupportedIpVersion 5)) }
+    ensures empty { sliced_ip [] ≡ Err (slice_error.Len (record {
+      required_len = 1;
+      len = 0;
+      len_source = source.Slice;
+      layer = layer.IpHeader;
+      layer_start_offset = 0;
+    })) }
+    ensures cut_off { sliced_ip (ipv4_header_of 6 ++ udp_message) ≡ Err (slice_error.Len (record {
+      required_len = 20;
+      len = 8;
+      len_source = source.Ipv4HeaderTotalLen;
+      layer = layer.TcpHeader;
+      layer_start_offset = 20;
+    })) }
 {}
 
 /// How long the parts are in front of a payload.
