@@ -1,5 +1,5 @@
 -- The class of a frame, as its parts tell it.
-use Rattle.std.proofs.Common.{◌≡◌, ◌↔◌, ◌∙◌, ℕ, ◌+◌, ◌==◌, Bool, true, false, cond, List, [], length, Option, Some, None, Result, Ok, Err, IsErr, IfOk, if◌then◌else◌, refl, sym, ap}
+use Rattle.std.proofs.Common.{◌≡◌, ◌↔◌, ◌∙◌, ℕ, ◌==◌, Bool, true, false, cond, List, Option, Some, None, Result, Ok, Err, IsErr, IfOk, if◌then◌else◌, refl, sym, ap}
 use Rattle.std.specs.Prelude.{⊤}
 use Rattle.ep_base.specs.declared.err.layer.Layer.TheVariants.{Ethernet2Header}
 use Rattle.ep_base.specs.declared.err.len_error.LenError.{LenError}
@@ -13,12 +13,12 @@ use Rattle.ep_link.specs.Arp.{packet_at}
 use Rattle.ep_link.specs.Ethernet.{ethernet_len, payload_of}
 use Rattle.ep_link.specs.declared.link.link_slice.LinkSlice.{LinkSlice}
 use Rattle.ep_link.specs.declared.link.link_slice.LinkSlice.TheVariants as link
-use Rattle.ep_packet.specs.Class.{Addresses, Class, arp_class_at, class_of, class_told, fragment_class, frame_class, ipv4_addresses, ipv4_class, ipv4_class_at, ipv6_addresses, ipv6_class, ipv6_class_at, last_class, message_class, message_told, net_told, packet_told, part_class, payload_class, read_class, tagged_class, whole_told}
-use Rattle.ep_packet.specs.Class.Class.{Whole, Cut, Other, Refused}
+use Rattle.ep_packet.specs.Class.{Addresses, Class, arp_class_at, class_of, class_told, frame_class, ipv4_addresses, ipv4_class_at, ipv6_addresses, ipv6_class_at, last_class, message_class, message_told, net_told, part_class, read_class, tagged_class, whole_told}
+use Rattle.ep_packet.specs.Class.Class.{Whole, Other, Refused}
 use Rattle.ep_packet.specs.Readable.{ReadMessage, icmpv4, icmpv6, message_at, read_as, tcp, udp}
 use Rattle.ep_packet.specs.Readable.ReadMessage.{Icmpv4, Icmpv6, Raw, Tcp, Udp}
-use Rattle.ep_packet.specs.SliceFault.{later, moved}
-use Rattle.ep_packet.specs.Sliced.{Layers, arp_layers, arp_type, bounded, in_frame, in_ipv4, in_ipv6, ipv4_layers, ipv4_type, ipv6_layers, ipv6_type, layers_in, layers_of, packet_behind, packet_tagged, packet_with, read_transport, sliced_ethernet, transport_in, transport_of, with_transport}
+use Rattle.ep_packet.specs.SliceFault.{later}
+use Rattle.ep_packet.specs.Sliced.{Layers, arp_layers, arp_type, bounded, in_frame, ipv4_layers, ipv4_type, ipv6_layers, ipv6_type, layers_in, packet_tagged, packet_with, read_transport, sliced_ethernet, transport_in, transport_of, with_transport}
 use Rattle.ep_packet.specs.Tags.{Tagged, most_tags, tags_in, vlan_ids_of}
 use Rattle.ep_packet.specs.declared.err.packet.slice_error.SliceError.{SliceError}
 use Rattle.ep_packet.specs.declared.net.net_slice.NetSlice.{NetSlice}

@@ -1,9 +1,7 @@
 -- What the tags of a packet tell, one by one.
-use Rattle.std.proofs.Common.{◌≡◌, ◌∙◌, ℕ, suc, zero, ◌+◌, ◌<◌, ◌≤◌, ◌||◌, Bool, true, false, cond, List, [], ◌∷◌, ◌++◌, length, take, Option, Some, None, arith, refl, sym, ap}
-use Rattle.ep_packet.specs.PacketView.{is_any_cut, is_cut, last_payload, source_behind, vlan_of, vlan_tags}
+use Rattle.std.proofs.Common.{◌≡◌, ◌∙◌, ℕ, ◌||◌, Bool, true, false, List, [], ◌∷◌, ◌++◌, refl, ap}
+use Rattle.ep_packet.specs.PacketView.{is_any_cut, is_cut, vlan_tags}
 use Rattle.ep_packet.specs.Tags.{vlan_ids_of}
-use Rattle.ep_tag.specs.Ether.{EtherPayload}
-use Rattle.ep_tag.specs.LinkExt.{payload_behind}
 use Rattle.ep_tag.specs.Vlan.{vlan_id_of}
 use Rattle.ep_tag.specs.declared.link.link_ext_slice.LinkExtSlice.{LinkExtSlice}
 use Rattle.ep_tag.specs.declared.link.link_ext_slice.LinkExtSlice.TheVariants.{Vlan, Macsec}

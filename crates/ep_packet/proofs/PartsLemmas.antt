@@ -1,5 +1,5 @@
 -- Where the parts of a frame stand in it.
-use Rattle.std.proofs.Common.{◌≡◌, ℕ, ◌+◌, ◌*◌, ◌<◌, ◌≤◌, ◌^◌, ◌==◌, ◌&&◌, not, Bool, true, false, cond, List, [], ◌∷◌, ◌++◌, length, take, drop, Option, Some, None, Result, Ok, Err, IfOk, IfErr, IfSome, arith, refl, sym, ap, subst, ◌∙◌, append_assoc, zero-add, length-append, length-drop}
+use Rattle.std.proofs.Common.{◌≡◌, ℕ, ◌+◌, ◌*◌, ◌≤◌, ◌==◌, ◌&&◌, not, Bool, true, false, cond, List, [], ◌∷◌, ◌++◌, length, take, drop, Option, Some, None, Result, Ok, Err, IfOk, IfErr, IfSome, arith, refl, sym, ap, subst, ◌∙◌, append_assoc, length-append}
 use Rattle.std.specs.Prelude.{nat_lt}
 use Rattle.std.proofs.lemmas.Bool.{ltb-false}
 use Rattle.std.proofs.lemmas.List.{take-append-drop, append-nil, length-take-le}
@@ -12,12 +12,12 @@ use Rattle.ep_icmp.specs.Icmpv4.{is_timestamp_reply, is_timestamp_request}
 use Rattle.ep_icmp.specs.Icmpv4Fault as icmpv4_fault
 use Rattle.ep_icmp.specs.Icmpv6Fault as icmpv6_fault
 use Rattle.ep_ipslice.specs.Ipv6Exts.{Ipv6Exts}
-use Rattle.ep_ipslice.specs.Packet.{Ipv4Packet, Ipv6Packet, IpPayload, IsIpv4Packet, IsIpv6Packet}
-use Rattle.ep_packet.specs.Parts.{AreTagsAt, IsAt, IsNetAt, IsTagAt, LayersIn, TagIn, TagsIn, headers_len, macsec_bytes, tags_len, transport_bytes}
+use Rattle.ep_ipslice.specs.Packet.{Ipv4Packet, Ipv6Packet, IsIpv4Packet, IsIpv6Packet}
+use Rattle.ep_packet.specs.Parts.{AreTagsAt, IsAt, IsNetAt, IsTagAt, LayersIn, TagIn, TagsIn, macsec_bytes, tags_len, transport_bytes}
 use Rattle.ep_packet.specs.Readable.{ReadMessage, icmpv4, icmpv6, message_at, read_as, tcp, tcp_fault, udp}
-use Rattle.ep_packet.specs.Readable.ReadMessage.{Icmpv4, Icmpv6, Raw, Tcp, Udp}
+use Rattle.ep_packet.specs.Readable.ReadMessage.{Icmpv4, Icmpv6, Tcp, Udp}
 use Rattle.ep_packet.specs.SliceFault.{place_of, within}
-use Rattle.ep_packet.specs.Sliced.{Layers, read_transport, transport_of}
+use Rattle.ep_packet.specs.Sliced.{read_transport, transport_of}
 use Rattle.ep_packet.specs.declared.err.packet.slice_error.SliceError.{SliceError}
 use Rattle.ep_packet.specs.declared.err.packet.slice_error.SliceError.TheVariants as error
 use Rattle.ep_packet.specs.declared.net.net_slice.NetSlice.TheVariants as net

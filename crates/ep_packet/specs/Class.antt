@@ -1,5 +1,5 @@
 -- What an Ethernet II frame is to its reader.
-use Rattle.std.specs.Prelude.{ℕ, ◌==◌, nat_lt, if◌then◌else◌, Bool, is_some, List, length, Option, Some, None, Result, Ok, Err}
+use Rattle.std.specs.Prelude.{ℕ, ◌==◌, if◌then◌else◌, Bool, List, Option, Some, None, Result, Ok, Err}
 use Rattle.ep_base.specs.declared.err.layer.Layer.TheVariants.{Ethernet2Header}
 use Rattle.ep_base.specs.declared.err.len_error.LenError.{LenError}
 use Rattle.ep_ip.specs.Ipv4 as v4
@@ -11,7 +11,6 @@ use Rattle.ep_ipslice.specs.declared.err.ipv4.slice_error.SliceError.{SliceError
 use Rattle.ep_ipslice.specs.declared.err.ipv6.slice_error.SliceError.{SliceError as Ipv6Fault}
 use Rattle.ep_link.specs.Arp.{packet_at}
 use Rattle.ep_link.specs.Ethernet.{ethernet_len, payload_of}
-use Rattle.ep_packet.specs.NetSlice.{ip_payload_in}
 use Rattle.ep_packet.specs.Readable.{ReadMessage, message_at}
 use Rattle.ep_packet.specs.Readable.ReadMessage.{Icmpv4, Icmpv6, Raw, Tcp, Udp}
 use Rattle.ep_packet.specs.Sliced.{arp_type, ipv4_type, ipv6_type}

@@ -16,7 +16,6 @@ use Rattle.ep_tag.specs.LinkExt as tag
 use Rattle.ep_tag.specs.Macsec.{short_len_of}
 use Rattle.ep_tag.specs.declared.link.link_ext_slice.LinkExtSlice.{LinkExtSlice}
 use Rattle.ep_tag.specs.declared.link.link_ext_slice.LinkExtSlice.TheVariants.{Vlan, Macsec}
-use Rattle.ep_tag.specs.declared.link.double_vlan_slice.DoubleVlanSlice.{DoubleVlanSlice}
 use Rattle.ep_tag.specs.declared.link.vlan_slice.VlanSlice.{VlanSlice}
 use Rattle.ep_tag.specs.declared.link.vlan_slice.VlanSlice.TheVariants.{SingleVlan, DoubleVlan}
 

@@ -1,4 +1,4 @@
-use Rattle.std.proofs.Common.{ap, subst}
+use Rattle.std.proofs.Common.{subst}
 use Rattle.ep_packet.specs.Parts.{TagIn}
 use Rattle.ep_packet.proofs.PartsLemmas.{macsec_in, vlan_in}
 use Rattle.ep_packet.proofs.tagged_slice.tag_of.Goals as goal

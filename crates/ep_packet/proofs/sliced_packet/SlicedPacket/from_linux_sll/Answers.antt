@@ -1,8 +1,7 @@
-use Rattle.std.proofs.Common.{◌≡◌, ◌∙◌, ap, subst, sym, IfOk, IfSome, List, Option, Some, Result, ℕ}
+use Rattle.std.proofs.Common.{◌≡◌, ◌∙◌, ap, subst, sym, IfOk, IfSome, List, Option, Some, ℕ}
 use Rattle.ep_link.specs.Sll.{sll_len}
-use Rattle.ep_link.specs.SllPayload.{SllPayload, named_payload, payload_of}
+use Rattle.ep_link.specs.SllPayload.{named_payload, payload_of}
 use Rattle.ep_link.specs.declared.link.link_slice.LinkSlice.TheVariants as link
-use Rattle.ep_packet.specs.Parts.{ArePartsOf, IsAt}
 use Rattle.ep_packet.specs.Sliced.{IsSliced}
 use Rattle.ep_packet.proofs.FoundLemmas.{found_behind}
 use Rattle.ep_packet.proofs.SlicedLemmas.{named_at, parts_in_frame, sll_whole, some_named}

@@ -1,4 +1,4 @@
-use Rattle.std.proofs.Common.{◌≡◌, List, ℕ, [], ◌∷◌, Option, Some, None, MatchOption, take}
+use Rattle.std.proofs.Common.{◌≡◌, [], ◌∷◌, MatchOption, take}
 use Rattle.ep_packet.specs.PacketView.{vlan_tags}
 use Rattle.ep_packet.proofs.sliced_packet.SlicedPacket.vlan.Given as goal
 

@@ -1,4 +1,4 @@
-use Rattle.std.proofs.Common.{◌≡◌, ◌∙◌, List, [], sym, ap, subst, Ok, Err, ℕ, ◌+◌, ◌-◌, ◌≤◌, length, arith}
+use Rattle.std.proofs.Common.{◌≡◌, ◌∙◌, List, [], sym, ap, subst, Ok, Err, ◌+◌, ◌-◌, ◌≤◌, length, arith}
 use Rattle.ep_packet.specs.SliceFault.{place_of}
 use Rattle.ep_packet.specs.Tags.{tags_in}
 use Rattle.ep_tag.specs.declared.link.link_ext_slice.LinkExtSlice.{LinkExtSlice}

@@ -1,4 +1,4 @@
-use Rattle.std.proofs.Common.{◌≡◌, ℕ, ◌-◌, length}
+use Rattle.std.proofs.Common.{◌≡◌, ◌-◌, length}
 use Rattle.ep_packet.proofs.PartsLemmas.{Passed}
 use Rattle.ep_packet.proofs.TagsLemmas.{joined}
 use Rattle.ep_packet.proofs.tagged_slice.TaggedSlice.from_ether_payload.Given as goal
