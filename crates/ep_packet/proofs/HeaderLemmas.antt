@@ -6,7 +6,8 @@ use Rattle.ep_ext.specs.Ipv4Exts.{auth_bytes}
 use Rattle.ep_ip.specs.Ipv6.{payload_length_of}
 use Rattle.ep_ipslice.specs.Packet.{IpPayload}
 use Rattle.ep_packet.specs.HeaderLayers.{HeaderLayers, packet_len, payload_alone}
-use Rattle.ep_packet.specs.PacketHeaders.{last_of, layers_behind, modified_behind}
+use Rattle.ep_packet.specs.PacketHeaders.{layers_behind, modified_behind}
+use Rattle.ep_packet.specs.PacketView.{last_of}
 use Rattle.ep_packet.specs.ReadIpHeaders.{IsIpHeaders, IsIpv4Headers, IsIpv6Headers}
 use Rattle.ep_packet.specs.SliceFault.{moved, place_of, within}
 use Rattle.ep_packet.specs.declared.err.packet.slice_error.SliceError.{SliceError}

@@ -1,6 +1,5 @@
 -- The headers of a frame, or of what stands in it, and what stands behind them.
-use Rattle.std.specs.Prelude.{ℕ, ◌-◌, List, [], ◌∷◌, length, Option, Some, None, Result, Ok, Err, map}
-use Rattle.std.specs.List.{slice_get}
+use Rattle.std.specs.Prelude.{ℕ, List, [], ◌∷◌, length, Option, Some, None, Result, Ok, Err, map}
 use Rattle.ep_base.specs.declared.err.layer.Layer.TheVariants.{Ethernet2Header}
 use Rattle.ep_base.specs.declared.err.len_error.LenError.{LenError}
 use Rattle.ep_base.specs.declared.len_source.LenSource.TheVariants.{Slice}
@@ -10,7 +9,7 @@ use Rattle.ep_link.specs.declared.link.link_header.LinkHeader.{LinkHeader}
 use Rattle.ep_link.specs.declared.link.link_header.LinkHeader.TheVariants.{Ethernet2}
 use Rattle.ep_packet.specs.HeaderLayers.{HeaderLayers, ip_layers, layers_of, payload_alone}
 use Rattle.ep_packet.specs.IpHeadersAt.{ip_headers_at}
-use Rattle.ep_packet.specs.PacketView.{source_behind}
+use Rattle.ep_packet.specs.PacketView.{last_of, source_behind}
 use Rattle.ep_packet.specs.Payload.{Payload, Empty, MacsecMod, payload_told}
 use Rattle.ep_packet.specs.SliceFault.{later}
 use Rattle.ep_packet.specs.Tags.{Tagged, most_tags, tags_in}
@@ -61,10 +60,6 @@ abbrev pub modified_behind : Option LinkExtSlice → Payload
 modified_behind None = Empty
 modified_behind (Some (Vlan bytes)) = Empty
 modified_behind (Some (Macsec m)) = modified m.payload
-
--- the last of the tags
-abbrev pub last_of : List LinkExtSlice → Option LinkExtSlice
-last_of tags = slice_get tags (length tags - 1)
 
 -- the layers behind tags. Their short lengths bound what the last ether type names; where none names
 -- anything, the payload is that of the modified MACsec header.

@@ -29,8 +29,12 @@ abbrev pub named_by : Option LinkSlice → Option LinkExtSlice → Option EtherP
 named_by header None = link_payload header
 named_by header (Some t) = tag.payload_behind t
 
+-- the last of the tags
+abbrev pub last_of : List LinkExtSlice → Option LinkExtSlice
+last_of tags = slice_get tags (length tags - 1)
+
 abbrev pub last_payload : Option LinkSlice → List LinkExtSlice → Option EtherPayload
-last_payload header tags = named_by header (slice_get tags (length tags - 1))
+last_payload header tags = named_by header (last_of tags)
 
 -- a MACsec header with a short length above 0 bounds what stands behind it
 abbrev pub is_cut : LinkExtSlice → Bool

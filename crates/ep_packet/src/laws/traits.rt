@@ -8,6 +8,7 @@ ghost use Rattle.ep_packet.specs.Payload.{ordered_as, payload_told};
 ghost use Rattle.ep_packet.specs.declared.payload_slice.PayloadSlice.{PayloadSlice};
 
 use crate::err::ip::HeadersWriteError;
+use crate::err::net::NetSetNextHeaderError;
 use crate::err::packet::{SliceError, TransportChecksumError};
 use crate::{
     IpHeaders, NetHeaders, NetSlice, PayloadSlice, SlicedPacket, TransportHeader, TransportSlice,
@@ -20,6 +21,7 @@ pub fn copies_are_values<'a>()
     ensures headers_write_error { CopyIsValue ⟦<HeadersWriteError as Clone>⟧.is_clone }
     ensures slice_error { CopyIsValue ⟦<SliceError as Clone>⟧.is_clone }
     ensures transport_checksum_error { CopyIsValue ⟦<TransportChecksumError as Clone>⟧.is_clone }
+    ensures net_set_next_header_error { CopyIsValue ⟦<NetSetNextHeaderError as Clone>⟧.is_clone }
 {}
 
 /// So is a copy of the headers of an IP packet.
@@ -60,6 +62,7 @@ pub fn copies_never_fail<'a>()
     ensures headers_write_error { CopyNeverFails ⟦<HeadersWriteError as Clone>⟧.is_infallible }
     ensures slice_error { CopyNeverFails ⟦<SliceError as Clone>⟧.is_infallible }
     ensures transport_checksum_error { CopyNeverFails ⟦<TransportChecksumError as Clone>⟧.is_infallible }
+    ensures net_set_next_header_error { CopyNeverFails ⟦<NetSetNextHeaderError as Clone>⟧.is_infallible }
 {}
 
 /// Equal are the values that are the same: all fields of a header, all bytes of a slice.
@@ -69,6 +72,7 @@ pub fn equals_are_same<'a>()
     ensures headers_write_error { EqualIsSame ⟦<HeadersWriteError as PartialEq>⟧.eq }
     ensures slice_error { EqualIsSame ⟦<SliceError as PartialEq>⟧.eq }
     ensures transport_checksum_error { EqualIsSame ⟦<TransportChecksumError as PartialEq>⟧.eq }
+    ensures net_set_next_header_error { EqualIsSame ⟦<NetSetNextHeaderError as PartialEq>⟧.eq }
 {
     ep_base::laws::traits::equals_are_same();
     ep_ext::laws::traits::equals_are_same();
