@@ -8,6 +8,3 @@ pub mod laws;
 mod net;
 
 pub use net::{Ipv4Header, Ipv4HeaderSlice, Ipv4Options, Ipv6Header, Ipv6HeaderSlice};
-
-#[cfg(test)]
-mod tests;

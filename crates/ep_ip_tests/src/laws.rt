@@ -1,5 +1,5 @@
 //! The laws that speak of no header are called once.
-use crate::laws::{examples, traits};
+use ep_ip::laws::{examples, traits};
 
 #[test]
 fn laws_are_called(rt: HostRuntime) {

@@ -1,7 +1,7 @@
 //! Sums of pseudo headers: checksums of UDP datagrams that other tools give.
-use crate::checksum::{pseudo_sum_v4, pseudo_sum_v6};
 use ep_base::IpNumber;
 use ep_base::checksum::message_sum;
+use ep_ip::checksum::{pseudo_sum_v4, pseudo_sum_v6};
 
 // Ports 1 and 2, length 16, and the payload 1 to 8.
 const HEADER: [u8; 8] = [0, 1, 0, 2, 0, 16, 0, 0];

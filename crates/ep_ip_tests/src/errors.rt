@@ -1,8 +1,8 @@
 //! The texts of errors, one of each form.
 
-use crate::err::{ipv4, ipv6};
 use ep_base::LenSource;
 use ep_base::err::{Layer, LenError};
+use ep_ip::err::{ipv4, ipv6};
 use std::alloc::AllocError;
 use std::fmt::Display;
 use std::test::Fail;

@@ -2,11 +2,11 @@
 
 ghost use Rattle.std.specs.Prelude.{◌≡◌};
 
-use crate::err::ipv6::{HeaderError, HeaderSliceError};
-use crate::laws::ipv6 as laws;
-use crate::{Ipv6Header, Ipv6HeaderSlice};
 use ep_base::err::{Layer, LenError, ValueTooBigError, ValueType};
 use ep_base::{IpDscp, IpEcn, IpNumber, Ipv6FlowLabel, LenSource};
+use ep_ip::err::ipv6::{HeaderError, HeaderSliceError};
+use ep_ip::laws::ipv6 as laws;
+use ep_ip::{Ipv6Header, Ipv6HeaderSlice};
 use std::test::*;
 
 // A header by the layout of RFC 8200, section 3, and two bytes behind it.

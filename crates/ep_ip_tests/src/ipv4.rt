@@ -1,10 +1,10 @@
 //! IPv4 headers and their options against values from outside.
 
-use crate::err::ipv4::{BadOptionsLen, HeaderError, HeaderSliceError};
-use crate::laws::ipv4 as laws;
-use crate::{Ipv4Header, Ipv4HeaderSlice, Ipv4Options};
 use ep_base::err::{Layer, LenError, ValueTooBigError, ValueType};
 use ep_base::{IpDscp, IpEcn, IpFragOffset, IpNumber, LenSource};
+use ep_ip::err::ipv4::{BadOptionsLen, HeaderError, HeaderSliceError};
+use ep_ip::laws::ipv4 as laws;
+use ep_ip::{Ipv4Header, Ipv4HeaderSlice, Ipv4Options};
 use std::alloc::{AllocError, Global};
 use std::cmp::Ordering;
 use std::hash::FoldHasher;
