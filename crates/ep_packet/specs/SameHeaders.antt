@@ -14,8 +14,8 @@ use Rattle.ep_link.specs.Arp as arp
 use Rattle.ep_link.specs.Link as link
 use Rattle.ep_link.specs.declared.link.link_header.LinkHeader.{LinkHeader}
 use Rattle.ep_link.specs.declared.link.link_slice.LinkSlice.{LinkSlice}
-use Rattle.ep_packet.specs.PacketHeaders.{Headers, last_of, modified_behind}
-use Rattle.ep_packet.specs.PacketView.{ether_payload_in, ip_payload_of}
+use Rattle.ep_packet.specs.PacketHeaders.{Headers, modified_behind}
+use Rattle.ep_packet.specs.PacketView.{ether_payload_in, ip_payload_of, last_of}
 use Rattle.ep_packet.specs.Payload.{Payload, Empty, Ether, Ip, Udp, Tcp, Icmpv4, Icmpv6}
 use Rattle.ep_packet.specs.declared.net.net_headers.NetHeaders.{NetHeaders}
 use Rattle.ep_packet.specs.declared.net.net_headers.NetHeaders.TheVariants as headers
