@@ -11,7 +11,7 @@ use Rattle.ep_link.specs.declared.link.link_slice.LinkSlice.TheVariants as link
 use Rattle.ep_packet.specs.HeaderLayers.{HeaderLayers}
 use Rattle.ep_packet.specs.PacketHeaders as values
 use Rattle.ep_packet.specs.PacketHeaders.{Headers, ether_type_headers, ethernet_headers, headers_of, headers_tagged, headers_with, ip_packet_headers, layers_behind, modified_behind}
-use Rattle.ep_packet.specs.PacketView.{ether_payload_in, ip_payload_of, link_payload, source_behind}
+use Rattle.ep_packet.specs.PacketView.{ether_payload_in, ip_payload_of, last_of, link_payload, source_behind}
 use Rattle.ep_packet.specs.Payload.{Payload, Empty}
 use Rattle.ep_packet.specs.SameHeaders.{AreHeadersOf, AreNetFields, IsWholeIn, behind_layers, behind_tags, link_fields, transport_fields}
 use Rattle.ep_packet.specs.SliceFault.{later, moved}
