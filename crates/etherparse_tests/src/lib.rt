@@ -23,10 +23,18 @@ mod errors;
 #[cfg(test)]
 mod fragments;
 #[cfg(test)]
+mod frames;
+#[cfg(test)]
 mod hostile;
 #[cfg(test)]
 mod memory;
 #[cfg(test)]
+mod names;
+#[cfg(test)]
 mod paths;
+#[cfg(test)]
+mod pool_memory;
+#[cfg(test)]
+mod pools;
 #[cfg(test)]
 mod ranges;

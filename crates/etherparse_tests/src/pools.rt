@@ -1,0 +1,90 @@
+//! Many messages put together at a time, with memory enough.
+
+use crate::frames::{
+    FIRST, IPV6_FIRST, IPV6_MESSAGE, IPV6_SECOND, MESSAGE, SECOND, delivers, process,
+};
+use ep_base::{IpNumber, LenSource};
+use etherparse::defrag::{IpDefragError, IpDefragPool, PoolCall, PoolReply, run_calls};
+use std::alloc::AllocError;
+use std::test::*;
+
+#[test]
+fn two_fragments(rt: HostRuntime) {
+    let mut pool = IpDefragPool::new(rt.alloc());
+    assert!(rt; process(&rt, &mut pool, &FIRST, 1, 0) == Ok(None));
+    let Ok(Some(message)) = process(&rt, &mut pool, &SECOND, 2, 0) else {
+        panic!(rt; "the second half doesn't complete the message");
+    };
+    assert!(rt; message.ip_number == IpNumber::UDP);
+    assert!(rt; message.len_source == LenSource::Ipv4HeaderTotalLen);
+    assert!(rt; message.payload.as_slice() == &MESSAGE[..]);
+    assert!(rt; pool.return_buf(message).is_ok());
+    assert!(rt; !delivers(&rt, &mut pool, &SECOND, 3, 0));
+}
+
+#[test]
+fn two_fragments_ipv6(rt: HostRuntime) {
+    let mut pool = IpDefragPool::new(rt.alloc());
+    assert!(rt; process(&rt, &mut pool, &IPV6_SECOND, 1, 0) == Ok(None));
+    let Ok(Some(message)) = process(&rt, &mut pool, &IPV6_FIRST, 2, 0) else {
+        panic!(rt; "the first half doesn't complete the message");
+    };
+    assert!(rt; message.ip_number == IpNumber::UDP);
+    assert!(rt; message.len_source == LenSource::Ipv6HeaderPayloadLen);
+    assert!(rt; message.payload.as_slice() == &IPV6_MESSAGE[..]);
+}
+
+#[test]
+fn channels_apart(rt: HostRuntime) {
+    let mut pool = IpDefragPool::new(rt.alloc());
+    assert!(rt; !delivers(&rt, &mut pool, &FIRST, 1, 0));
+    assert!(rt; !delivers(&rt, &mut pool, &SECOND, 2, 1));
+    assert!(rt; delivers(&rt, &mut pool, &SECOND, 3, 0));
+}
+
+#[test]
+fn refused_fragments_keep_the_time(rt: HostRuntime) {
+    let mut pool = IpDefragPool::new(rt.alloc());
+    assert!(rt; !delivers(&rt, &mut pool, &SECOND, 1, 0));
+    let mut behind = SECOND;
+    behind[21] = 2;
+    let conflict = IpDefragError::ConflictingEnd {
+        previous_end: 16,
+        conflicting_end: 24,
+    };
+    assert!(rt; process(&rt, &mut pool, &behind, 5, 0) == Err(conflict));
+    assert!(rt; pool.retain(|time: &u64| *time >= 2).is_ok());
+    assert!(rt; !delivers(&rt, &mut pool, &FIRST, 6, 0));
+}
+
+#[test]
+fn calls_in_a_row(rt: HostRuntime) -> Result<(), AllocError> {
+    let mut pool = IpDefragPool::new(rt.alloc());
+    let frame = |frame, timestamp| PoolCall::Frame {
+        frame,
+        timestamp,
+        channel: 0,
+    };
+    let calls = [
+        frame(&SECOND[..], 1),
+        frame(&SECOND[..], 2),
+        frame(&FIRST[..], 3),
+        frame(&FIRST[..], 4),
+        PoolCall::RetainFrom(5),
+    ];
+    let replies = run_calls(rt.alloc(), &mut pool, &calls)?;
+    let [
+        PoolReply::Nothing,
+        PoolReply::Nothing,
+        PoolReply::Payload(message),
+        PoolReply::Nothing,
+        PoolReply::Retained,
+    ] = replies.as_slice()
+    else {
+        panic!(rt; "the replies are others");
+    };
+    assert!(rt; message.ip_number == IpNumber::UDP);
+    assert!(rt; message.len_source == LenSource::Ipv4HeaderTotalLen);
+    assert!(rt; message.payload.as_slice() == &MESSAGE[..]);
+    Ok(())
+}
