@@ -1,12 +1,15 @@
-//! The time that a message of 65535 bytes takes to be put together from 8192 fragments.
+//! The time that messages take to be put together: one of 65535 bytes from 8192 fragments, or 100,000 of two
+//! fragments each, which a pool holds at once.
 //!
-//! The arguments name the orders in which they come, one after another. For each it prints a line with
-//! the order's name and a sum of the message. Where the first argument is `--timed`, it does so twenty
-//! times, and also prints the nanoseconds of the fastest one.
+//! The arguments name the orders in which the fragments of the one message come, or `interleaved` for the many.
+//! For each it prints a line with the name and a sum of what was put together. Where the first argument is
+//! `--timed`, it does so twenty times, and also prints the nanoseconds of the fastest one.
 #![tactic(auto)]
 
+mod interleaved;
 mod order;
 
+use crate::interleaved::put_together;
 use crate::order::{FRAGMENTS, Order};
 use ep_base::{IpFragOffset, IpNumber};
 use etherparse::defrag::IpDefragBuf;
@@ -24,11 +27,15 @@ fn main(rt: HostRuntime) -> io::Result<ExitCode> {
     message.resize(MESSAGE_LEN, 0)?;
     fill(&mut message);
     for name in words.iter().skip(usize::from(is_timed)) {
-        let Some(order) = Order::of_name(name.as_str()) else {
+        let turns = if is_timed { 20 } else { 1 };
+        let (sum, fastest) = if name.as_str() == "interleaved" {
+            measure_interleaved(&rt, turns)?
+        } else if let Some(order) = Order::of_name(name.as_str()) {
+            measure(&rt, order, &message, turns)?
+        } else {
             eprintln!(rt; "reassembly_bench: no order has the name {name}")?;
             return Ok(ExitCode::FAILURE);
         };
-        let (sum, fastest) = measure(&rt, order, &message, if is_timed { 20 } else { 1 })?;
         if is_timed {
             println!(rt; "{name} {sum} {}", fastest.as_nanos())?;
         } else {
@@ -67,6 +74,19 @@ fn measure(
         fastest = fastest.min(start.elapsed(rt)?);
         sum = sum_of(&buf, accepted);
         (data, sections) = buf.take_bufs();
+    }
+    Ok((sum, fastest))
+}
+
+/// Puts the many messages together so many times, each time with a new pool, and gives their sum and the time of
+/// the fastest. It has no contract, as `measure`.
+fn measure_interleaved(rt: &HostRuntime, turns: u32) -> io::Result<(u64, Duration)> {
+    let mut sum = 0;
+    let mut fastest = Duration::MAX;
+    for _ in 0..turns {
+        let start = Instant::now(rt)?;
+        sum = put_together(rt.alloc());
+        fastest = fastest.min(start.elapsed(rt)?);
     }
     Ok((sum, fastest))
 }
