@@ -25,8 +25,8 @@ use Rattle.etherparse.specs.packet.Readable.ReadMessage.{Udp}
 use Rattle.etherparse.specs.icmp.declared.transport.icmpv4_header.Icmpv4Header.{Icmpv4Header}
 use Rattle.etherparse.specs.icmp.declared.transport.icmpv6_header.Icmpv6Header.{Icmpv6Header}
 use Rattle.etherparse.specs.packet.Transport.{transport_spelling}
-use Rattle.netlines.specs.declared.ip_frag_version_spec_id.IpFragVersionSpecId.{IpFragVersionSpecId}
-use Rattle.netlines.specs.declared.ip_frag_version_spec_id.IpFragVersionSpecId.TheVariants.{Ipv4, Ipv6}
+use Rattle.etherparse.specs.declared.defrag.ip_frag_version_spec_id.IpFragVersionSpecId.{IpFragVersionSpecId}
+use Rattle.etherparse.specs.declared.defrag.ip_frag_version_spec_id.IpFragVersionSpecId.TheVariants.{Ipv4, Ipv6}
 use Rattle.netlines.specs.declared.seal_error.SealError.TheVariants.{IcmpOfOtherVersion, TooLong}
 use Rattle.etherparse.specs.packet.declared.transport.transport_header.TransportHeader.{TransportHeader}
 use Rattle.etherparse.specs.packet.declared.transport.transport_header.TransportHeader.TheVariants as header

@@ -1,6 +1,6 @@
 -- Letters that are sent in one packet.
 use Rattle.std.specs.Prelude.{◌≡◌, ◌≢◌, ℕ, ◌≤◌, List, length}
-use Rattle.netlines.specs.declared.ip_frag_version_spec_id.IpFragVersionSpecId.TheVariants.{Ipv4}
+use Rattle.etherparse.specs.declared.defrag.ip_frag_version_spec_id.IpFragVersionSpecId.TheVariants.{Ipv4}
 use Rattle.netlines.specs.declared.letter.Letter.{Letter}
 
 -- a letter over IPv4 between these addresses, whose number names no authentication header, and a message that fits

@@ -4,7 +4,7 @@ ghost use Rattle.std.specs.Prelude.{◌≡◌, ◌++◌, ◌∷◌, [], List, No
 ghost use Rattle.indexmap.specs.IndexMap.{get};
 ghost use Rattle.etherparse.specs.Fragments.{Fragment, refusal_of, refusal_at, end_of};
 ghost use Rattle.etherparse.specs.IpDefragBuf.{AnswersAdd, Shows};
-ghost use Rattle.etherparse.specs.Streams.{Becomes, ShowsStream, fragment_of};
+ghost use Rattle.etherparse.specs.Streams.{Becomes, IsStreamOf, ShowsStream, fragment_of};
 
 use super::part::Part;
 use super::{IpDefragBuf, IpDefragError};
@@ -17,6 +17,21 @@ use std::hash::{BuildHasher, Hash};
 pub(crate) struct Stream<T> {
     pub buf: IpDefragBuf,
     pub timestamp: T,
+}
+
+impl<T: Drop> Stream<T> {
+    // Takes one more part.
+    fn add(&mut self, part: &Part<'_>, timestamp: T) -> Result<(), IpDefragError>
+        ensures accepted { let f = fragment_of part.now in (fs : List Fragment) → Shows self.old.buf fs →
+            IfOk result (λ u. IsStreamOf (fs ++ f ∷ []) timestamp self.new) }
+        ensures refused { let f = fragment_of part.now in (fs : List Fragment) → Shows self.old.buf fs →
+            AnswersAdd (refusal_of fs f) (end_of f) result }
+        ensures err { OnErr result (self.new ≡ self.old) }
+    {
+        self.buf.add(part.offset, part.more_fragments, part.bytes)?;
+        self.timestamp = timestamp;
+        Ok(())
+    }
 }
 
 // Begins a stream. One that is complete at once isn't kept.
@@ -64,10 +79,7 @@ pub(crate) fn add_part<K: Eq + Hash + Drop, T: Drop, S: BuildHasher>(
     let Some(stream) = streams.get_mut(&name) else {
         return begin(alloc, streams, name, part, timestamp);
     };
-    stream
-        .buf
-        .add(part.offset, part.more_fragments, part.bytes)?;
-    stream.timestamp = timestamp;
+    stream.add(part, timestamp)?;
     if !stream.buf.is_complete() {
         return Ok(None);
     }

@@ -1,27 +1,38 @@
 //! What `Clone`, `PartialEq`, `Ord` and `Hash` of the types here mean, each clause about the relation
 //! that the type's own impl names.
-ghost use Rattle.std.specs.Prelude.{◌≡◌, ◌++◌, [], ◌∷◌};
+ghost use Rattle.std.specs.Prelude.{◌≡◌, ◌↔◌, ◌++◌, IsTrue, [], ◌∷◌};
 ghost use Rattle.std.specs.Cmp.Lexicographic.{slice_cmp};
 ghost use Rattle.std.specs.Hash as fed;
 ghost use Rattle.std.specs.Ordering.{nat_cmp};
 ghost use Rattle.ep_base.specs.Traits.{CopyIsValue, CopyNeverFails, EqualIsSame};
 ghost use Rattle.etherparse.specs.IpDefragError.{hashed_as, ordered_as};
+ghost use Rattle.etherparse.specs.IpDefragPool.{payload_told};
 ghost use Rattle.etherparse.specs.declared.defrag.ip_defrag_error.IpDefragError.{IpDefragError};
+ghost use Rattle.etherparse.specs.declared.defrag.ip_defrag_payload_vec.IpDefragPayloadVec.{IpDefragPayloadVec};
 ghost use Rattle.etherparse.specs.declared.defrag.ip_frag_range.IpFragRange.{IpFragRange};
 
-use crate::defrag::{IpDefragBuf, IpDefragError, IpFragRange};
+use crate::defrag::{
+    IpDefragBuf, IpDefragError, IpDefragPayloadVec, IpFragId, IpFragRange, IpFragVersionSpecId,
+    PoolCall,
+};
 use std::hash::Hash;
 
 /// A copy is the value.
-pub fn copies_are_values()
+pub fn copies_are_values<'a>()
     ensures ip_defrag_error { CopyIsValue ⟦<IpDefragError as Clone>⟧.is_clone }
+    ensures ip_frag_id { CopyIsValue ⟦<IpFragId<u32> as Clone>⟧.is_clone }
     ensures ip_frag_range { CopyIsValue ⟦<IpFragRange as Clone>⟧.is_clone }
+    ensures ip_frag_version_spec_id { CopyIsValue ⟦<IpFragVersionSpecId as Clone>⟧.is_clone }
+    ensures pool_call { CopyIsValue ⟦<PoolCall<'a> as Clone>⟧.is_clone }
 {}
 
 /// To copy one of these takes no memory and doesn't fail.
-pub fn copies_never_fail()
+pub fn copies_never_fail<'a>()
     ensures ip_defrag_error { CopyNeverFails ⟦<IpDefragError as Clone>⟧.is_infallible }
+    ensures ip_frag_id { CopyNeverFails ⟦<IpFragId<u32> as Clone>⟧.is_infallible }
     ensures ip_frag_range { CopyNeverFails ⟦<IpFragRange as Clone>⟧.is_infallible }
+    ensures ip_frag_version_spec_id { CopyNeverFails ⟦<IpFragVersionSpecId as Clone>⟧.is_infallible }
+    ensures pool_call { CopyNeverFails ⟦<PoolCall<'a> as Clone>⟧.is_infallible }
 {}
 
 /// Equal are the values that are the same: all fields, of a buffer also the order of its sections.
@@ -29,6 +40,12 @@ pub fn equals_are_same()
     ensures ip_defrag_buf { EqualIsSame ⟦<IpDefragBuf as PartialEq>⟧.eq }
     ensures ip_defrag_error { EqualIsSame ⟦<IpDefragError as PartialEq>⟧.eq }
     ensures ip_frag_range { EqualIsSame ⟦<IpFragRange as PartialEq>⟧.eq }
+    ensures ip_frag_version_spec_id { EqualIsSame ⟦<IpFragVersionSpecId as PartialEq>⟧.eq }
+{}
+
+/// Messages that were put together are equal where protocol, source of the lengths and bytes are.
+pub fn equal_payloads_are_told_alike()
+    ensures { (a b : IpDefragPayloadVec) → IsTrue (⟦<IpDefragPayloadVec as PartialEq>⟧.eq a b) ↔ (payload_told a ≡ payload_told b) }
 {}
 
 /// Refusals are ordered as they are declared, and one kind by its fields in their order; a hasher is fed

@@ -5,14 +5,11 @@ ghost use Rattle.etherparse.specs.base.Traits.{CopyIsValue, CopyNeverFails, Equa
 ghost use Rattle.netlines.specs.ReadMessage.{as_read};
 ghost use Rattle.netlines.specs.declared.message.Message.{Message as MessageValue};
 
-use crate::{
-    Addresses, IpFragVersionSpecId, Letter, Message, PostError, RunError, SealError, Verdict,
-};
+use crate::{Addresses, Letter, Message, PostError, RunError, SealError, Verdict};
 
 /// A copy is the value.
 pub fn copies_are_values<'a>()
     ensures addresses { CopyIsValue ⟦<Addresses as Clone>⟧.is_clone }
-    ensures ip_frag_version_spec_id { CopyIsValue ⟦<IpFragVersionSpecId as Clone>⟧.is_clone }
     ensures letter { CopyIsValue ⟦<Letter as Clone>⟧.is_clone }
     ensures post_error { CopyIsValue ⟦<PostError as Clone>⟧.is_clone }
     ensures run_error { CopyIsValue ⟦<RunError as Clone>⟧.is_clone }
@@ -24,7 +21,6 @@ pub fn copies_are_values<'a>()
 /// To copy one of these takes no memory and doesn't fail.
 pub fn copies_never_fail<'a>()
     ensures addresses { CopyNeverFails ⟦<Addresses as Clone>⟧.is_infallible }
-    ensures ip_frag_version_spec_id { CopyNeverFails ⟦<IpFragVersionSpecId as Clone>⟧.is_infallible }
     ensures letter { CopyNeverFails ⟦<Letter as Clone>⟧.is_infallible }
     ensures post_error { CopyNeverFails ⟦<PostError as Clone>⟧.is_infallible }
     ensures run_error { CopyNeverFails ⟦<RunError as Clone>⟧.is_infallible }
@@ -36,7 +32,6 @@ pub fn copies_never_fail<'a>()
 /// Equal are the values that are the same.
 pub fn equals_are_same()
     ensures addresses { EqualIsSame ⟦<Addresses as PartialEq>⟧.eq }
-    ensures ip_frag_version_spec_id { EqualIsSame ⟦<IpFragVersionSpecId as PartialEq>⟧.eq }
     ensures post_error { EqualIsSame ⟦<PostError as PartialEq>⟧.eq }
     ensures run_error { EqualIsSame ⟦<RunError as PartialEq>⟧.eq }
     ensures seal_error { EqualIsSame ⟦<SealError as PartialEq>⟧.eq }
