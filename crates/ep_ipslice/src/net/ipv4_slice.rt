@@ -47,6 +47,7 @@ impl<'a> Ipv4Slice<'a> {
     /// [`Ipv4HeaderSlice::from_slice`] refuses, a total length below the header's own, one above the
     /// bytes that are there, and an authentication header that isn't whole within the total length or
     /// breaks its format.
+    #[inline(always)]
     pub fn from_slice(slice: &'a [u8]) -> Result<Ipv4Slice<'a>, SliceError>
         // The slice begins with what is taken.
         ensures found { IfOk result (λ packet. IsIpv4Packet slice.now packet) }
@@ -64,6 +65,7 @@ impl<'a> Ipv4Slice<'a> {
     }
 
     // The packet of this header, which begins the slice.
+    #[inline(always)]
     fn behind_header(
         header: Ipv4HeaderSlice<'a>,
         slice: &'a [u8],
