@@ -11,9 +11,6 @@ ghost use Rattle.ep_tcpudp.specs.Tcp.{ReadableTcp};
 ghost use Rattle.ep_tcpudp.specs.Udp.{ReadableUdp};
 ghost use Rattle.ep_tcpudp.specs.declared.err.tcp.header_error.HeaderError.TheVariants.{DataOffsetTooSmall};
 
-use ep_icmp::{Icmpv4Slice, Icmpv6Slice};
-use ep_tcpudp::{TcpSlice, UdpSlice};
-
 /// An ICMP message can be read exactly where its header of 8 bytes is there and it is 20 bytes long
 /// if it is a timestamp message of ICMPv4; a TCP segment where its header is there as long as it says;
 /// a UDP message where its header is and its length is 0, or no less than the header's and no more
@@ -25,13 +22,7 @@ pub fn readable_messages(message: &[u8])
     ensures icmpv6 { IsTrue (is_readable icmpv6 message.now) ↔ ReadableIcmpv6 message.now }
     ensures others { (number : ℕ) → number ≢ icmpv4 → number ≢ tcp → number ≢ udp → number ≢ icmpv6
         → IsTrue (is_readable number message.now) }
-{
-    // For the proof alone.
-    let _icmpv4 = Icmpv4Slice::from_slice(message);
-    let _icmpv6 = Icmpv6Slice::from_slice(message);
-    let _segment = TcpSlice::from_slice(message);
-    let _datagram = UdpSlice::from_slice(message);
-}
+{}
 
 /// What bytes are read as, worked out by hand after RFC 768, 792, 4443 and 9293: an echo reply of
 /// ICMPv4, a TCP header, a UDP message with a byte behind its length, an echo request of ICMPv6, and a
