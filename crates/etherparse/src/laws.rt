@@ -12,6 +12,7 @@ use crate::defrag::IpDefragBuf;
 pub mod builder;
 pub mod examples;
 pub mod names;
+pub mod streams;
 pub mod traits;
 
 pub use ep_base::laws as base;

@@ -50,6 +50,7 @@ pub fn refusals()
     ensures long_first { refusal_of [] (fragment 8191 true (1 ∷ 2 ∷ 3 ∷ 4 ∷ 5 ∷ 6 ∷ 7 ∷ 8 ∷ 9 ∷ [])) ≡ Some (SegmentTooBig 8191 9 65535) }
     ensures unaligned { refusal_of [] (fragment 0 true (0 ∷ 1 ∷ 0 ∷ 2 ∷ 0 ∷ 16 ∷ 0 ∷ [])) ≡ Some (UnalignedFragmentPayloadLen 0 7) }
     ensures unaligned_first { refusal_of (fragment 0 false [] ∷ []) (fragment 1 true (1 ∷ [])) ≡ Some (UnalignedFragmentPayloadLen 1 1) }
+    ensures long_before_end { refusal_of (fragment 1 false (replicate 8 0) ∷ []) (fragment 8191 true (replicate 8 0)) ≡ Some (SegmentTooBig 8191 8 65535) }
     ensures other_end { refusal_of (fragment 1 false (replicate 8 0) ∷ []) (fragment 2 false (replicate 8 0)) ≡ Some (ConflictingEnd 16 24) }
     ensures lower_end { refusal_of (fragment 1 false (replicate 8 0) ∷ []) (fragment 0 false (replicate 8 0)) ≡ Some (ConflictingEnd 16 8) }
     ensures behind_end { refusal_of (fragment 4 false (replicate 16 0) ∷ []) (fragment 6 true (replicate 16 0)) ≡ Some (ConflictingEnd 48 64) }

@@ -1,0 +1,89 @@
+//! The definitions of names, of lists of calls and of what is answered to them, at fragments worked out by
+//! hand after RFC 791 and 8200.
+ghost use Rattle.std.specs.Prelude.{◌≡◌, ℕ, true, false, [], ◌∷◌, ◌++◌, List, None, Some, replicate};
+ghost use Rattle.ep_base.specs.declared.len_source.LenSource.TheVariants.{Ipv4HeaderTotalLen, Ipv6HeaderPayloadLen};
+ghost use Rattle.ep_packet.specs.Class.{Addresses, FragmentName};
+ghost use Rattle.ep_packet.specs.Class.Addresses.{V4, V6};
+ghost use Rattle.ep_packet.specs.Class.Class.{Cut, Other, Whole, Refused as Faulty};
+ghost use Rattle.ep_packet.specs.Readable.{ReadMessage};
+ghost use Rattle.ep_packet.specs.declared.err.packet.slice_error.SliceError.{SliceError};
+ghost use Rattle.etherparse.specs.Fragments.{Fragment, fragment};
+ghost use Rattle.etherparse.specs.IpDefragBuf.{Shows};
+ghost use Rattle.etherparse.specs.IpFragId.{id_named, same_name};
+ghost use Rattle.etherparse.specs.PoolCalls.{HasMemory, ShowsLists, after_frame, answer_to_frame, no_lists, retained_from};
+ghost use Rattle.etherparse.specs.PoolCalls.Told.{Delivered, NoMemory, NotSliced, Nothing, Refused};
+ghost use Rattle.etherparse.specs.declared.defrag.ip_defrag_error.IpDefragError.TheVariants.{AllocationFailure, ConflictingEnd};
+ghost use Rattle.etherparse.specs.declared.defrag.ip_frag_version_spec_id.IpFragVersionSpecId.TheVariants.{Ipv4, Ipv6};
+
+use crate::defrag::IpFragId;
+
+/// A new pool shows that no fragment was accepted.
+pub fn a_new_pool_shows_no_lists()
+    ensures { ShowsLists ⟦<IpFragId<u32> as PartialEq>⟧.eq [] no_lists }
+{}
+
+/// Each part of a name has its place.
+pub fn parts_of_names()
+    ensures ipv4 { id_named {C = ℕ} (record { vlan_ids = 5 ∷ 6 ∷ 7 ∷ []; addresses = V4 (10 ∷ 0 ∷ 0 ∷ 1 ∷ []) (10 ∷ 0 ∷ 0 ∷ 2 ∷ []); identification = 258; number = 17 }) 3
+        ≡ record { vlan_ids = record { items = 5 ∷ 6 ∷ 7 ∷ [] }; ip = Ipv4 (10 ∷ 0 ∷ 0 ∷ 1 ∷ []) (10 ∷ 0 ∷ 0 ∷ 2 ∷ []) 258; payload_ip_number = record { 0 = 17 }; channel_id = 3 } }
+    ensures ipv6 { id_named {C = ℕ} (record { vlan_ids = []; addresses = V6 (253 ∷ replicate 15 1) (253 ∷ replicate 15 2); identification = 16909060; number = 58 }) 3
+        ≡ record { vlan_ids = record { items = [] }; ip = Ipv6 (253 ∷ replicate 15 1) (253 ∷ replicate 15 2) 16909060; payload_ip_number = record { 0 = 58 }; channel_id = 3 } }
+    ensures third_tag { (addresses : Addresses) → same_name (record { vlan_ids = 5 ∷ 6 ∷ 7 ∷ []; addresses = addresses; identification = 258; number = 17 }) (record { vlan_ids = 5 ∷ 6 ∷ 8 ∷ []; addresses = addresses; identification = 258; number = 17 }) ≡ false }
+    ensures fewer_tags { (addresses : Addresses) → same_name (record { vlan_ids = 5 ∷ 6 ∷ []; addresses = addresses; identification = 258; number = 17 }) (record { vlan_ids = 5 ∷ 6 ∷ 7 ∷ []; addresses = addresses; identification = 258; number = 17 }) ≡ false }
+    ensures upper_half { same_name (record { vlan_ids = []; addresses = V6 (253 ∷ []) (253 ∷ []); identification = 65543; number = 17 }) (record { vlan_ids = []; addresses = V6 (253 ∷ []) (253 ∷ []); identification = 7; number = 17 }) ≡ false }
+    ensures turned { same_name (record { vlan_ids = []; addresses = V4 (1 ∷ []) (2 ∷ []); identification = 7; number = 17 }) (record { vlan_ids = []; addresses = V4 (2 ∷ []) (1 ∷ []); identification = 7; number = 17 }) ≡ false }
+{}
+
+/// What is answered to a packet where the last 8 of 16 bytes came at time 4: the message with its front, the
+/// conflict with its end behind it, and nothing to packets that are no fragments; a frame that breaks its
+/// format is told with its fault.
+pub fn answers_behind_a_last_part()
+    ensures ipv4 { (ids : List ℕ) (a b : List ℕ) → answer_to_frame (λ name channel. record { fragments = fragment 1 false (replicate 8 2) ∷ []; time = 4 })
+        (Cut (record { vlan_ids = ids; addresses = V4 a b; identification = 7; number = 17 }) 0 true (replicate 8 1)) 3 None
+        ≡ Delivered (record { ip_number = record { 0 = 17 }; len_source = Ipv4HeaderTotalLen; bytes = replicate 8 1 ++ replicate 8 2 }) }
+    ensures ipv6 { (ids : List ℕ) (a b : List ℕ) → answer_to_frame (λ name channel. record { fragments = fragment 1 false (replicate 8 2) ∷ []; time = 4 })
+        (Cut (record { vlan_ids = ids; addresses = V6 a b; identification = 7; number = 58 }) 0 true (replicate 8 1)) 3 None
+        ≡ Delivered (record { ip_number = record { 0 = 58 }; len_source = Ipv6HeaderPayloadLen; bytes = replicate 8 1 ++ replicate 8 2 }) }
+    ensures repeat { (name : FragmentName) → answer_to_frame (λ name channel. record { fragments = fragment 1 false (replicate 8 2) ∷ []; time = 4 }) (Cut name 1 false (replicate 8 3)) 3 None ≡ Nothing }
+    ensures behind { (name : FragmentName) → answer_to_frame (λ name channel. record { fragments = fragment 1 false (replicate 8 2) ∷ []; time = 4 }) (Cut name 2 true (replicate 8 3)) 3 None ≡ Refused (ConflictingEnd 16 24) }
+    ensures whole { (addresses : Addresses) (message : ReadMessage) → answer_to_frame no_lists (Whole addresses 17 [] message) 3 None ≡ Nothing }
+    ensures other { answer_to_frame no_lists Other 3 None ≡ Nothing }
+    ensures faulty { (fault : SliceError) → answer_to_frame no_lists Faulty 3 (Some fault) ≡ NotSliced (Some fault) }
+{}
+
+/// What a fragment makes of the list of a name where the last 8 of 16 bytes came at time 4: one that is
+/// accepted is appended and renews the time, one that is refused or goes to another name or channel does
+/// neither, and a complete list is empty again.
+pub fn lists_behind_a_last_part()
+    ensures appended { after_frame (record { vlan_ids = []; addresses = V4 [] []; identification = 7; number = 17 }) 3 (Cut (record { vlan_ids = []; addresses = V4 [] []; identification = 7; number = 17 }) 1 true (replicate 8 3)) 9 3
+        (record { fragments = fragment 1 false (replicate 8 2) ∷ []; time = 4 }) ≡ record { fragments = fragment 1 false (replicate 8 2) ∷ fragment 1 true (replicate 8 3) ∷ []; time = 9 } }
+    ensures refused { after_frame (record { vlan_ids = []; addresses = V4 [] []; identification = 7; number = 17 }) 3 (Cut (record { vlan_ids = []; addresses = V4 [] []; identification = 7; number = 17 }) 2 true (replicate 8 3)) 9 3
+        (record { fragments = fragment 1 false (replicate 8 2) ∷ []; time = 4 }) ≡ record { fragments = fragment 1 false (replicate 8 2) ∷ []; time = 4 } }
+    ensures other_channel { after_frame (record { vlan_ids = []; addresses = V4 [] []; identification = 7; number = 17 }) 3 (Cut (record { vlan_ids = []; addresses = V4 [] []; identification = 7; number = 17 }) 1 true (replicate 8 3)) 9 2
+        (record { fragments = fragment 1 false (replicate 8 2) ∷ []; time = 4 }) ≡ record { fragments = fragment 1 false (replicate 8 2) ∷ []; time = 4 } }
+    ensures other_name { after_frame (record { vlan_ids = []; addresses = V4 [] []; identification = 7; number = 17 }) 3 (Cut (record { vlan_ids = []; addresses = V4 [] []; identification = 8; number = 17 }) 1 true (replicate 8 3)) 9 3
+        (record { fragments = fragment 1 false (replicate 8 2) ∷ []; time = 4 }) ≡ record { fragments = fragment 1 false (replicate 8 2) ∷ []; time = 4 } }
+    ensures complete { after_frame (record { vlan_ids = []; addresses = V4 [] []; identification = 7; number = 17 }) 3 (Cut (record { vlan_ids = []; addresses = V4 [] []; identification = 7; number = 17 }) 0 true (replicate 8 3)) 9 3
+        (record { fragments = fragment 1 false (replicate 8 2) ∷ []; time = 4 }) ≡ record { fragments = []; time = 9 } }
+{}
+
+/// A list whose last fragment came at the time itself, or later, stays; an earlier one goes.
+pub fn lists_from_a_time_on()
+    ensures earlier { (fs : List Fragment) → retained_from 5 (record { fragments = fs; time = 4 }) ≡ record { fragments = []; time = 4 } }
+    ensures at_the_time { (fs : List Fragment) → retained_from 5 (record { fragments = fs; time = 5 }) ≡ record { fragments = fs; time = 5 } }
+    ensures later { (fs : List Fragment) → retained_from 5 (record { fragments = fs; time = 6 }) ≡ record { fragments = fs; time = 6 } }
+{}
+
+/// Two replies tell of a want of memory, and others don't.
+pub fn replies_without_memory()
+    ensures fragment { HasMemory (Refused (AllocationFailure 8)) → ⊥ }
+    ensures retain { HasMemory NoMemory → ⊥ }
+    ensures conflict { HasMemory (Refused (ConflictingEnd 16 24)) }
+    ensures nothing { HasMemory Nothing }
+{}
+
+/// A buffer with the second 8 bytes of a message shows that fragment, and not the first one.
+pub fn a_part_that_is_shown()
+    ensures shown { Shows (record { ip_number = record { 0 = 17 }; bytes = replicate 8 0 ++ replicate 8 2; sections = record { start = 8; end = 16 } ∷ []; end = None }) (fragment 1 true (replicate 8 2) ∷ []) }
+    ensures not_shown { Shows (record { ip_number = record { 0 = 17 }; bytes = replicate 8 0 ++ replicate 8 2; sections = record { start = 8; end = 16 } ∷ []; end = None }) (fragment 0 true (replicate 8 2) ∷ []) → ⊥ }
+{}
