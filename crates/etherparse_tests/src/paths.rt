@@ -135,7 +135,16 @@ type Packets<'a> = (
     etherparse::SlicedPacket<'a>,
     etherparse::defrag::IpDefragBuf,
     etherparse::defrag::IpDefragError,
+    etherparse::defrag::IpDefragPayloadVec,
+    etherparse::defrag::IpDefragPool,
+    etherparse::defrag::IpFragId,
     etherparse::defrag::IpFragRange,
+    etherparse::defrag::IpFragVersionSpecId,
+    etherparse::defrag::PoolCall<'a>,
+    etherparse::defrag::PoolReply,
+    etherparse::PacketBuilder,
+    etherparse::PacketBuilderStep<etherparse::UdpHeader>,
+    err::packet::BuildWriteError,
 );
 
 type Errors = (
