@@ -4,6 +4,7 @@ use etherparse::{Ipv4Header, Ipv4Slice, UdpHeader, UdpSlice, ip_number};
 use std::alloc::Global;
 
 /// Whether the UDP datagram in an IPv4 packet has the checksum that belongs to it.
+/// It has no contract: what the program prints is compared with what is stored.
 pub fn has_its_checksum(packet: &[u8]) -> anyhow::Result<bool> {
     let ip = Ipv4Slice::from_slice(packet)?;
     let udp = UdpSlice::from_slice(ip.payload().payload)?;
@@ -15,6 +16,7 @@ pub fn has_its_checksum(packet: &[u8]) -> anyhow::Result<bool> {
 }
 
 /// An IPv4 packet with a UDP datagram from port 1 to port 2, in which both checksums are filled in.
+/// It has no contract: what the program prints is compared with what is stored.
 pub fn datagram(
     alloc: Global,
     source: [u8; 4],

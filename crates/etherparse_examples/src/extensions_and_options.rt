@@ -4,6 +4,7 @@ use etherparse::{Ipv6ExtensionSlice, Ipv6Slice, TcpSlice};
 use std::io;
 
 /// Prints the extension headers of an IPv6 packet in their order, and the options of its TCP segment.
+/// It has no contract: what the program prints is compared with what is stored.
 pub fn print_all(rt: &impl Print, packet: &[u8]) -> anyhow::Result<()> {
     let ip = Ipv6Slice::from_slice(packet)?;
     for extension in ip.extensions().iter() {

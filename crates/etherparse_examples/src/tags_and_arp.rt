@@ -4,6 +4,7 @@ use etherparse::{ArpOperation, ArpPacket, NetSlice, SlicedPacket};
 use std::alloc::Global;
 
 /// Prints the VLAN tags of a frame, outer one first.
+/// It has no contract: what the program prints is compared with what is stored.
 pub fn print_tags(rt: &impl Print, frame: &[u8]) -> anyhow::Result<()> {
     let packet = SlicedPacket::from_ethernet(frame)?;
     for id in &packet.vlan_ids() {
@@ -13,6 +14,7 @@ pub fn print_tags(rt: &impl Print, frame: &[u8]) -> anyhow::Result<()> {
 }
 
 /// The ARP packet that answers the question in a frame, if there is one: who asks is told a hardware address.
+/// It has no contract: what the program prints is compared with what is stored.
 pub fn reply(
     alloc: Global,
     frame: &[u8],

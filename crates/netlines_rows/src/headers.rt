@@ -21,6 +21,7 @@ pub struct Frames {
 
 impl Frames {
     /// One frame more. (The numbers stay at the greatest one.)
+    /// It has no contract: what the program prints is compared with what is stored.
     pub fn count(&mut self, frame: &[u8]) {
         let number = match compare(frame) {
             Comparison::Same => &mut self.same,
