@@ -1,5 +1,5 @@
 -- A sealed message sums to all ones, by the laws of each protocol.
-use Rattle.std.proofs.Common.{◌≡◌, ◌∙◌, ap, refl, ℕ, ◌+◌, ◌%◌, IsTrue, List, ◌∷◌, ◌++◌, [], length, length-append, Option, Some, None, arith}
+use Rattle.std.proofs.Common.{◌≡◌, ℕ, ◌+◌, ◌%◌, IsTrue, List, ◌∷◌, ◌++◌, [], length, length-append, Option, Some, None, arith}
 use Rattle.std.specs.Int.{w16, w32, to_be_bytes}
 use Rattle.ep_base.specs.Sum.{all_ones}
 use Rattle.ep_icmp.specs.Icmpv4 as icmpv4

@@ -1,10 +1,15 @@
 pub mod Accepted
 pub mod AcceptedLists
 pub mod AppendIp
+pub mod BuiltFrames
 pub mod BuiltSums
 pub mod CallLemmas
 pub mod Complete
 pub mod Lengths
+pub mod FrameTags
+pub mod FrameClass
+pub mod FramedIpv4
+pub mod FramedIpv6
 pub mod LinkedExts
 pub mod Members
 pub mod PartLemmas
@@ -14,4 +19,5 @@ pub mod Retaining
 pub mod Runs
 pub mod SameBuffers
 pub mod Sections
+pub mod ViewedRows
 pub mod Written

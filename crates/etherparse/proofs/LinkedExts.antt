@@ -1,10 +1,10 @@
 -- Extension headers that were made to name one another: the number of the first, and their length.
-use Rattle.std.proofs.Common.{◌≡◌, ◌∙◌, ap, sym, refl, ℕ, ◌+◌, Bool, true, false, cond, eqb, is_some, List, [], ◌∷◌, length, length-append, Option, Some, None, unwrap_or, arith}
+use Rattle.std.proofs.Common.{◌≡◌, ◌∙◌, ap, sym, subst, refl, ℕ, ◌+◌, Bool, true, false, cond, eqb, is_some, List, [], ◌∷◌, length, length-append, Option, Some, None, unwrap_or, arith}
 use Rattle.std.specs.Option.{option_and_then, option_map}
 use Rattle.std.proofs.lemmas.Bool.{eqb-true}
 use Rattle.ep_ext.specs.Auth.{auth_spelling}
 use Rattle.ep_ext.specs.Chain.{Row}
-use Rattle.ep_ext.specs.Follow.{bytes_in, header_in, header_len}
+use Rattle.ep_ext.specs.Follow.{Follows, bytes_in, header_in, header_len}
 use Rattle.ep_ext.specs.Fragment.{fragment_spelling}
 use Rattle.ep_ext.specs.Ipv4Exts.{ipv4_exts_spelling, ipv4_with_link}
 use Rattle.ep_ext.specs.Link.{all_places, first_named, piece_if, pieces_in, raw_with_next, with_links}
@@ -121,6 +121,13 @@ first_linked value first last row =
     first_of_row first (pieces_in (with_links value last) all_places) last row
     ∙ first_in (with_links value last) all_places last
     ∙ first_stays value last all_places
+
+-- the number that is named first leads through all headers that are held
+pub leads : (value new : Ipv6Extensions) (first last : ℕ) → new ≡ with_links value last → Follows new first (pieces_in new all_places) last
+    → Row place_of [] (first_named value all_places last) (pieces_in (with_links value last) all_places) last
+leads value new first last links follows =
+    let row = subst (λ (x : Ipv6Extensions). Row place_of [] first (pieces_in x all_places) last) links follows.row in
+    subst (λ (n : ℕ). Row place_of [] n (pieces_in (with_links value last) all_places) last) (first_linked value first last row) row
 
 abbrev len_of : Option ℕ → ℕ
 len_of None = 0

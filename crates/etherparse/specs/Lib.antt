@@ -1,5 +1,7 @@
 pub mod BuildWriteError
 pub mod Built
+pub mod BuiltFrameExamples
+pub mod BuiltFrames
 pub mod BuiltLaws
 pub mod BuiltSteps
 pub mod Fragments

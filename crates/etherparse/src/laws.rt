@@ -11,6 +11,7 @@ use crate::defrag::IpDefragBuf;
 
 pub mod builder;
 pub mod examples;
+pub mod frames;
 pub mod names;
 pub mod streams;
 pub mod traits;

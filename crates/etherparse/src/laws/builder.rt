@@ -32,13 +32,13 @@ fn addresses_are_whole(ip: &IpHeaders)
     }
 }
 
-fn ipv4_address_is_whole(address: [u8; 4])
+pub(super) fn ipv4_address_is_whole(address: [u8; 4])
     ensures { length address ≡ 4 }
 {
     let _byte = address[3];
 }
 
-fn ipv6_address_is_whole(address: [u8; 16])
+pub(super) fn ipv6_address_is_whole(address: [u8; 16])
     ensures { length address ≡ 16 }
 {
     let _byte = address[15];
