@@ -15,10 +15,12 @@ use crate::defrag::{
     IpDefragBuf, IpDefragError, IpDefragPayloadVec, IpFragId, IpFragRange, IpFragVersionSpecId,
     PoolCall,
 };
+use crate::err::packet::BuildWriteError;
 use std::hash::Hash;
 
 /// A copy is the value.
 pub fn copies_are_values<'a>()
+    ensures build_write_error { CopyIsValue ⟦<BuildWriteError as Clone>⟧.is_clone }
     ensures ip_defrag_error { CopyIsValue ⟦<IpDefragError as Clone>⟧.is_clone }
     ensures ip_frag_id { CopyIsValue ⟦<IpFragId<u32> as Clone>⟧.is_clone }
     ensures ip_frag_range { CopyIsValue ⟦<IpFragRange as Clone>⟧.is_clone }
@@ -28,6 +30,7 @@ pub fn copies_are_values<'a>()
 
 /// To copy one of these takes no memory and doesn't fail.
 pub fn copies_never_fail<'a>()
+    ensures build_write_error { CopyNeverFails ⟦<BuildWriteError as Clone>⟧.is_infallible }
     ensures ip_defrag_error { CopyNeverFails ⟦<IpDefragError as Clone>⟧.is_infallible }
     ensures ip_frag_id { CopyNeverFails ⟦<IpFragId<u32> as Clone>⟧.is_infallible }
     ensures ip_frag_range { CopyNeverFails ⟦<IpFragRange as Clone>⟧.is_infallible }
@@ -37,11 +40,15 @@ pub fn copies_never_fail<'a>()
 
 /// Equal are the values that are the same: all fields, of a buffer also the order of its sections.
 pub fn equals_are_same()
+    ensures build_write_error { EqualIsSame ⟦<BuildWriteError as PartialEq>⟧.eq }
     ensures ip_defrag_buf { EqualIsSame ⟦<IpDefragBuf as PartialEq>⟧.eq }
     ensures ip_defrag_error { EqualIsSame ⟦<IpDefragError as PartialEq>⟧.eq }
     ensures ip_frag_range { EqualIsSame ⟦<IpFragRange as PartialEq>⟧.eq }
     ensures ip_frag_version_spec_id { EqualIsSame ⟦<IpFragVersionSpecId as PartialEq>⟧.eq }
-{}
+{
+    ep_base::laws::traits::equals_are_same();
+    ep_ext::laws::traits::equals_are_same();
+}
 
 /// Messages that were put together are equal where protocol, source of the lengths and bytes are.
 pub fn equal_payloads_are_told_alike()
