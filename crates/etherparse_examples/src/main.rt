@@ -1,6 +1,7 @@
 //! The examples of the README, each a module of its own, and what they make of some packets.
 #![tactic(auto)]
 
+mod built_segment;
 mod checksums;
 mod echo_request;
 mod extensions_and_options;
@@ -45,6 +46,10 @@ fn main(rt: HostRuntime) -> anyhow::Result<()> {
     let bytes = echo_request::echo_request(rt.alloc(), 1, 2, b"ping")?;
     print_hex(&rt, bytes.as_slice())?;
     println!(rt; "{:?}", echo_request::echoed(frames::ECHO_REPLY))?;
+
+    println!(rt; "A TCP segment, built:")?;
+    let bytes = built_segment::first_segment(rt.alloc(), 7)?;
+    print_hex(&rt, bytes.as_slice())?;
     Ok(())
 }
 
