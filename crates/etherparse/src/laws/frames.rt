@@ -186,6 +186,14 @@ pub fn parts_by_hand()
     ensures ipv6 { built (framed link_by_hand None ipv6_part) 17 eight_bytes ≡ ipv6_cut_frame }
 {}
 
+/// Their headers are such as a builder writes, in front of 65515 bytes over IPv4 at most.
+pub fn parts_are_written()
+    ensures ipv4 { Frames link_by_hand two_tags ipv4_part 17 8 }
+    ensures longest { Frames link_by_hand two_tags ipv4_part 17 65515 }
+    ensures too_long { Frames link_by_hand two_tags ipv4_part 17 65516 → ⊥ }
+    ensures ipv6 { Frames link_by_hand None ipv6_part 17 8 }
+{}
+
 /// What their headers tell.
 pub fn parts_told_by_hand()
     ensures no_ids { ids_in None ≡ [] }

@@ -1,0 +1,65 @@
+use Rattle.std.proofs.Common.{◌≡◌, refl, ℕ, ◌≢◌, Option, Some, None, arith}
+use Rattle.ep_link.specs.Ethernet.{Fits}
+use Rattle.etherparse.proofs.laws.frames.parts_are_written.Goals as goal
+use Rattle.etherparse.specs.Built.{refusal_of}
+use Rattle.etherparse.specs.BuiltFrameExamples.{ipv4_part, link_by_hand, two_tags}
+use Rattle.etherparse.specs.BuiltFrames.{Frames, IpFits, TagsFit, framed}
+use Rattle.etherparse.specs.declared.err.packet.build_write_error.BuildWriteError.{BuildWriteError}
+
+link_fits : Fits link_by_hand
+link_fits = record { source = refl; destination = refl; ether_type = omega arith }
+
+tags_fit : TagsFit two_tags
+tags_fit = (record { pcp = omega arith; vlan_id = omega arith; ether_type = omega arith }, record { pcp = omega arith; vlan_id = omega arith; ether_type = omega arith })
+
+ipv4_fits : IpFits ipv4_part 17
+ipv4_fits = (
+  record {
+    dscp = omega arith;
+    total_len = omega arith;
+    identification = omega arith;
+    fragment_offset = omega arith;
+    header_checksum = omega arith;
+    source = refl;
+    destination = refl;
+    options = record { fits = omega arith; words = refl };
+  },
+  tt,
+)
+
+not_auth : ◌≢◌ {A = ℕ} 17 51
+not_auth e = omega (arith, e)
+
+ipv4_frames : (len : ℕ) → refusal_of (framed link_by_hand two_tags ipv4_part) len ≡ None → Frames link_by_hand two_tags ipv4_part 17 len
+ipv4_frames len written = record { link_fits = link_fits; tags_fit = tags_fit; ip_fits = ipv4_fits; names_none = not_auth; written = written }
+
+pub returns-clause-ipv4 : goal.returns-clause-ipv4
+returns-clause-ipv4 c = ipv4_frames 8 refl
+
+pub returns-clause-longest : goal.returns-clause-longest
+returns-clause-longest c = ipv4_frames 65515 refl
+
+pub returns-clause-too_long : goal.returns-clause-too_long
+returns-clause-too_long c = λ frames. some_none _ frames.written
+  where
+    some_none : (e : BuildWriteError) → ◌≡◌ {A = Option BuildWriteError} (Some e) None → ⊥
+    some_none e h = cc
+
+pub returns-clause-ipv6 : goal.returns-clause-ipv6
+returns-clause-ipv6 c = record {
+  link_fits = link_fits;
+  tags_fit = tt;
+  ip_fits = (
+    record {
+      traffic_class = omega arith;
+      flow_label = omega arith;
+      payload_length = omega arith;
+      source = refl;
+      destination = refl;
+    },
+    refl,
+    (refl, record { whole = refl }, refl),
+  );
+  names_none = refl;
+  written = refl;
+}
