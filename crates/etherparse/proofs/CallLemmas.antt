@@ -11,12 +11,11 @@ use Rattle.etherparse.specs.declared.defrag.ip_defrag_payload_vec.IpDefragPayloa
 use Rattle.etherparse.specs.declared.defrag.ip_frag_id.IpFragId.{IpFragId}
 use Rattle.etherparse.specs.declared.defrag.stream.Stream.{Stream}
 use Rattle.etherparse.specs.Fragments.{Fragment, end_of, fragment, is_complete, refusal_of}
-use Rattle.etherparse.specs.IpDefragBuf.{AnswersAdd}
+use Rattle.etherparse.specs.IpDefragPool.{Accepts}
 use Rattle.etherparse.specs.IpFragId.{fragment_in, id_named, same_name}
-use Rattle.etherparse.specs.PoolCalls.{HasMemory, Held, Lists, ShowsHeld, ShowsLists, Told, after_frame, answer_to_frame, held_with, told_of, told_outcome}
+use Rattle.etherparse.specs.PoolCalls.{FrameAnswered, Held, Lists, ShowsHeld, ShowsLists, Told, held_with, told_of, told_outcome, want_unless}
 use Rattle.etherparse.specs.PoolCalls.Told.{Delivered, Refused}
-use Rattle.etherparse.specs.Streams.{IsStreamOf, SameStreams, ShowsStream, Streams, stream_at}
-use Rattle.etherparse.proofs.PoolLemmas.{Accepts}
+use Rattle.etherparse.specs.Streams.{IsStreamOf, OthersStay, Refuses, SameStreams, ShowsStream, Streams, stream_at}
 
 not_empty : (fs : List Fragment) (f : Fragment) → fs ++ f ∷ [] ≢ []
 not_empty fs f is = absurd (omega (arith, ap length is, length-append fs (f ∷ [])))
@@ -38,7 +37,7 @@ ends (Some s) h f time whole is = cc
 module _ (eq : IpFragId ℕ → IpFragId ℕ → Bool) (parts : (a b : FragmentName) (x y : ℕ) → eq (id_named a x) (id_named b y) ≡ (same_name a b && (x == y)))
     (same : (a b : FragmentName) → IsTrue (same_name a b) ↔ (a ≡ b)) (old new : Streams (IpFragId ℕ) ℕ) (lists : Lists) (shows : ShowsLists eq old lists) where
   -- one name's list is changed, and no other
-  one_changes : (name : FragmentName) (channel : ℕ) (made : Lists) → ((q : IpFragId ℕ) → eq (id_named name channel) q ≡ false → stream_at eq new q ≡ stream_at eq old q)
+  one_changes : (name : FragmentName) (channel : ℕ) (made : Lists) → OthersStay eq (id_named name channel) old new
       → ShowsHeld (stream_at eq new (id_named name channel)) (made name channel) → ShowsLists eq new (λ n c. cond (same_name name n && (channel == c)) (made n c) (lists n c))
   one_changes name channel made others one n c =
       elim (cases_Bool (same_name name n && (channel == c))) [
@@ -56,59 +55,62 @@ module _ (eq : IpFragId ℕ → IpFragId ℕ → Bool) (parts : (a b : FragmentN
   all_same is n c = subst (λ (s : Option (Stream ℕ)). ShowsHeld s (lists n c)) (sym (is (id_named n c))) (shows n c)
 
   module _ (time channel : ℕ) (fault : Option SliceError) where
-    abbrev pub Answered : Class → Told → Type 0
-    Answered class told = (told ≡ answer_to_frame lists class channel fault) × ShowsLists eq new (λ n c. after_frame n c class time channel (lists n c))
+    abbrev pub Tells : Class → Told → Type 0
+    Tells class told = FrameAnswered (ShowsLists eq new) lists class time channel fault told
 
     -- a fragment of this name
     cut_answered : (name : FragmentName) (offset : ℕ) (more : Bool) (bytes : List ℕ) (result : Result (Option IpDefragPayloadVec) IpDefragError)
-        → Accepts eq old new time result (id_named name channel) (fragment offset more bytes)
-        → ((fs : List Fragment) → ShowsStream (stream_at eq old (id_named name channel)) fs → AnswersAdd (refusal_of fs (fragment offset more bytes)) (end_of (fragment offset more bytes)) result)
-        → ((q : IpFragId ℕ) → eq (id_named name channel) q ≡ false → stream_at eq new q ≡ stream_at eq old q)
-        → OnErr result (SameStreams eq old new) → HasMemory (told_outcome result) → Answered (Cut name offset more bytes) (told_outcome result)
-    cut_answered name offset more bytes (Ok None) accepted refused others err has =
+        → Accepts eq old new (id_named name channel) (fragment offset more bytes) time result
+        → Refuses eq old (id_named name channel) (fragment offset more bytes) result
+        → OthersStay eq (id_named name channel) old new
+        → OnErr result (SameStreams eq old new) → Tells (Cut name offset more bytes) (told_outcome result)
+    cut_answered name offset more bytes (Ok None) accepted refused others err =
         let f = fragment offset more bytes in
         let h = lists name channel in
         let at = shows_stream _ h (shows name channel) in
         let goes = accepted h.fragments at in
         let taken = refused h.fragments at in
-        let made : Lists = λ n c. held_with (lists n c) f time (refusal_of (lists n c).fragments f) in (
+        let made : Lists = λ n c. held_with (lists n c) f time (refusal_of (lists n c).fragments f) in inl (
           sym (ap (λ (o : Option IpDefragError). told_of (id_named name channel) h.fragments f o) taken ∙ rw goes.0 refl),
           one_changes name channel made others (subst (λ (o : Option IpDefragError). ShowsHeld (stream_at eq new (id_named name channel)) (held_with h f time o)) (sym taken) (waits_for_more _ h f time goes.0 goes.1)),
         )
-    cut_answered name offset more bytes (Ok (Some payload)) accepted refused others err has =
+    cut_answered name offset more bytes (Ok (Some payload)) accepted refused others err =
         let f = fragment offset more bytes in
         let h = lists name channel in
         let at = shows_stream _ h (shows name channel) in
         let goes = accepted h.fragments at in
         let taken = refused h.fragments at in
-        let made : Lists = λ n c. held_with (lists n c) f time (refusal_of (lists n c).fragments f) in (
+        let made : Lists = λ n c. held_with (lists n c) f time (refusal_of (lists n c).fragments f) in inl (
           ap Delivered goes.1 ∙ sym (ap (λ (o : Option IpDefragError). told_of (id_named name channel) h.fragments f o) taken ∙ rw goes.0 refl),
           one_changes name channel made others (subst (λ (o : Option IpDefragError). ShowsHeld (stream_at eq new (id_named name channel)) (held_with h f time o)) (sym taken) (ends _ h f time goes.0 goes.2)),
         )
-    cut_answered name offset more bytes (Err e) accepted refused others err has =
+    cut_answered name offset more bytes (Err e) accepted refused others err =
         let f = fragment offset more bytes in
         let h = lists name channel in
         let at = shows_stream _ h (shows name channel) in
         let made : Lists = λ n c. held_with (lists n c) f time (refusal_of (lists n c).fragments f) in
         let still = all_same err name channel in
         elim (refused h.fragments at) [
-          | inl is ↦ (
+          | inl is ↦ inl (
             sym (ap (λ (o : Option IpDefragError). told_of (id_named name channel) h.fragments f o) is),
             one_changes name channel made others (subst (λ (o : Option IpDefragError). ShowsHeld (stream_at eq new (id_named name channel)) (held_with h f time o)) (sym is) still),
           )
-          | inr wants ↦ absurd (subst (λ (error : IpDefragError). HasMemory (Refused error)) wants.1 has)
+          | inr wants ↦ inr (
+            ap (λ (o : Option IpDefragError). want_unless o (end_of f)) wants.0 ∙ ap (λ (error : IpDefragError). Some (Refused error)) (sym wants.1),
+            all_same err,
+          )
         ]
 
     -- whatever a packet tells
     pub packet_answered : (class : Class) (result : Result (Option IpDefragPayloadVec) IpDefragError) → (class ≡ Faulty → ⊥)
         → (fragment_in class ≡ None → (result ≡ Ok None) × (new ≡ old))
-        → IfSome (fragment_in class) (λ told. Accepts eq old new time result (id_named told.0 channel) told.1)
-        → IfSome (fragment_in class) (λ told. (fs : List Fragment) → ShowsStream (stream_at eq old (id_named told.0 channel)) fs → AnswersAdd (refusal_of fs told.1) (end_of told.1) result)
-        → IfSome (fragment_in class) (λ told. (q : IpFragId ℕ) → eq (id_named told.0 channel) q ≡ false → stream_at eq new q ≡ stream_at eq old q)
-        → OnErr result (SameStreams eq old new) → HasMemory (told_outcome result) → Answered class (told_outcome result)
-    packet_answered (Cut name offset more bytes) result sound passed accepted refused others err has = cut_answered name offset more bytes result accepted refused others err has
-    packet_answered (Whole addresses number bytes message) result sound passed accepted refused others err has =
-        let is = passed refl in (ap told_outcome is.0, subst (λ (s : Streams (IpFragId ℕ) ℕ). ShowsLists eq s lists) (sym is.1) shows)
-    packet_answered Other result sound passed accepted refused others err has =
-        let is = passed refl in (ap told_outcome is.0, subst (λ (s : Streams (IpFragId ℕ) ℕ). ShowsLists eq s lists) (sym is.1) shows)
-    packet_answered Faulty result sound passed accepted refused others err has = absurd (sound refl)
+        → IfSome (fragment_in class) (λ told. Accepts eq old new (id_named told.0 channel) told.1 time result)
+        → IfSome (fragment_in class) (λ told. Refuses eq old (id_named told.0 channel) told.1 result)
+        → IfSome (fragment_in class) (λ told. OthersStay eq (id_named told.0 channel) old new)
+        → OnErr result (SameStreams eq old new) → Tells class (told_outcome result)
+    packet_answered (Cut name offset more bytes) result sound passed accepted refused others err = cut_answered name offset more bytes result accepted refused others err
+    packet_answered (Whole addresses number bytes message) result sound passed accepted refused others err =
+        let is = passed refl in inl (ap told_outcome is.0, subst (λ (s : Streams (IpFragId ℕ) ℕ). ShowsLists eq s lists) (sym is.1) shows)
+    packet_answered Other result sound passed accepted refused others err =
+        let is = passed refl in inl (ap told_outcome is.0, subst (λ (s : Streams (IpFragId ℕ) ℕ). ShowsLists eq s lists) (sym is.1) shows)
+    packet_answered Faulty result sound passed accepted refused others err = absurd (sound refl)

@@ -1,10 +1,14 @@
--- What a pool hands out.
-use Rattle.std.specs.Prelude.{ℕ, List}
+-- What a pool makes of a fragment, and what it hands out.
+use Rattle.std.specs.Prelude.{◌≡◌, ℕ, Bool, Option, Result, List, [], ◌∷◌, ◌++◌, IfOk, option_map}
 use Rattle.ep_base.specs.declared.len_source.LenSource.{LenSource}
 use Rattle.ep_base.specs.declared.net.ip_number.IpNumber.{IpNumber}
+use Rattle.etherparse.specs.declared.defrag.ip_defrag_error.IpDefragError.{IpDefragError}
 use Rattle.etherparse.specs.declared.defrag.ip_defrag_payload_vec.IpDefragPayloadVec.{IpDefragPayloadVec}
 use Rattle.etherparse.specs.declared.defrag.ip_frag_id.IpFragId.{IpFragId}
+use Rattle.etherparse.specs.Fragments.{Fragment}
 use Rattle.etherparse.specs.IpFragId.{len_source_of}
+use Rattle.etherparse.specs.Picture.{text_of}
+use Rattle.etherparse.specs.Streams.{Becomes, ShowsStream, Streams, stream_at}
 
 -- a message that was put together: its protocol, what the lengths of its fragments came from, and its bytes
 pub record Payload : Type 0 where
@@ -18,3 +22,9 @@ payload_told whole = record { ip_number = whole.ip_number; len_source = whole.le
 -- the message of this name that has these bytes
 abbrev pub payload_of : {C : Type 0} → IpFragId C → List ℕ → Payload
 payload_of id bytes = record { ip_number = id.payload_ip_number; len_source = len_source_of id.ip; bytes = bytes }
+
+-- a fragment of this name that is taken goes to those that its stream shows, at this time, and a message that is complete
+-- with it is handed out
+abbrev pub Accepts : {C T : Type 0} → (IpFragId C → IpFragId C → Bool) → (old new : Streams (IpFragId C) T) → IpFragId C → Fragment → T → Result (Option IpDefragPayloadVec) IpDefragError → Type 0
+Accepts same old new id f time result = (fs : List Fragment) → ShowsStream (stream_at same old id) fs
+    → IfOk result (λ payload. Becomes (λ gs whole. whole ≡ payload_of id (text_of gs)) (fs ++ f ∷ []) time (stream_at same new id) (option_map payload_told payload))

@@ -36,7 +36,7 @@ HasPlace r p = (r.start ≤ p) × (p < r.end)
 abbrev pub Apart : IpFragRange → IpFragRange → Type 0
 Apart r s = (r.end < s.start) ⊎ (s.end < r.start)
 
--- each starts before it ends, and no two share a number
+-- none ends before it starts, and no two share a number
 abbrev pub AreApart : List IpFragRange → Type 0
 AreApart [] = ⊤
 AreApart (r ∷ rs) = (r.start ≤ r.end) × AllByRecursion (Apart r) rs × AreApart rs

@@ -1,5 +1,5 @@
 -- Lists of calls of a pool, and what is answered to each, by recursion: the list of a name is that of its message alone.
-use Rattle.std.specs.Prelude.{◌≡◌, ◌≢◌, ℕ, ◌==◌, ◌&&◌, nat_lt, Bool, if◌then◌else◌, Option, Some, None, Result, Ok, Err, List, [], ◌∷◌, ◌++◌}
+use Rattle.std.specs.Prelude.{◌≡◌, ◌≢◌, ◌⊎◌, ℕ, ◌==◌, ◌&&◌, nat_lt, Bool, if◌then◌else◌, Option, Some, None, Result, Ok, Err, List, [], ◌∷◌, ◌++◌}
 use Rattle.ep_packet.specs.Class.{Class, FragmentName, class_of}
 use Rattle.ep_packet.specs.Class.Class.{Whole, Cut, Other, Refused as Faulty}
 use Rattle.ep_packet.specs.Sliced.{sliced_ethernet}
@@ -14,7 +14,7 @@ use Rattle.etherparse.specs.declared.defrag.pool_calls.PoolCall.TheVariants.{Fra
 use Rattle.etherparse.specs.declared.defrag.pool_calls.PoolReply.{PoolReply}
 use Rattle.etherparse.specs.declared.defrag.pool_calls.PoolReply.TheVariants as reply
 use Rattle.etherparse.specs.declared.defrag.stream.Stream.{Stream}
-use Rattle.etherparse.specs.Fragments.{Fragment, fragment, is_complete, refusal_of}
+use Rattle.etherparse.specs.Fragments.{Fragment, end_of, fragment, is_complete, refusal_of}
 use Rattle.etherparse.specs.IpDefragBuf.{Shows}
 use Rattle.etherparse.specs.IpDefragPool.{Payload, payload_of, payload_told}
 use Rattle.etherparse.specs.IpFragId.{id_named, same_name}
@@ -110,15 +110,59 @@ abbrev pub answer_to : Lists → PoolCall → Told
 answer_to lists (Frame frame time channel) = answer_to_frame lists (class_of frame.now) channel (fault_in (sliced_ethernet frame.now))
 answer_to lists (RetainFrom from) = Retained
 
+-- the lists after a frame of a class
+abbrev pub lists_with_frame : Lists → Class → ℕ → ℕ → Lists
+lists_with_frame lists class time channel name other = after_frame name other class time channel (lists name other)
+
 -- the lists after a call
 abbrev pub lists_with : Lists → PoolCall → Lists
 lists_with lists call name channel = after name channel call (lists name channel)
 
+-- the want of memory that may be told of a fragment with this end, unless it is refused
+abbrev pub want_unless : Option IpDefragError → ℕ → Option Told
+want_unless (Some error) end = None
+want_unless None end = Some (Refused (AllocationFailure end))
+
+-- the want of memory that a frame of a class may be answered
+abbrev pub want_at_frame : Lists → Class → ℕ → Option Told
+want_at_frame lists (Cut name offset more bytes) channel =
+    let f = fragment offset more bytes in want_unless (refusal_of (lists name channel).fragments f) (end_of f)
+want_at_frame lists (Whole addresses number bytes message) channel = None
+want_at_frame lists Other channel = None
+want_at_frame lists Faulty channel = None
+
+-- the want of memory that a call may be answered
+abbrev pub want_at : Lists → PoolCall → Option Told
+want_at lists (Frame frame time channel) = want_at_frame lists (class_of frame.now) channel
+want_at lists (RetainFrom from) = Some NoMemory
+
+-- what is told, and how the lists go on: the answer, and on as they are with it; or the want of memory that may be told
+-- in its place, and on as they were
+abbrev pub GoesOn : (Lists → Type 0) → (old new : Lists) → Told → Option Told → Told → Type 0
+GoesOn ends old new answer want told = (told ≡ answer) × ends new ⊎ (want ≡ Some told) × ends old
+
+-- what is told of a frame of a class
+abbrev pub FrameAnswered : (Lists → Type 0) → Lists → Class → ℕ → ℕ → Option SliceError → Told → Type 0
+FrameAnswered ends lists class time channel fault told =
+    GoesOn ends lists (lists_with_frame lists class time channel) (answer_to_frame lists class channel fault) (want_at_frame lists class channel) told
+
+-- what is told of a call
+abbrev pub Answered : (Lists → Type 0) → Lists → PoolCall → Told → Type 0
+Answered ends lists call told = GoesOn ends lists (lists_with lists call) (answer_to lists call) (want_at lists call) told
+
+-- what is told of all calls in turn; the lists behind the last one are said by `ends`
+abbrev pub Replies : (Lists → Type 0) → Lists → List PoolCall → List Told → Type 0
+Replies ends lists [] [] = ends lists
+Replies ends lists [] (told ∷ tolds) = ⊥
+Replies ends lists (call ∷ calls) [] = ⊥
+Replies ends lists (call ∷ calls) (told ∷ tolds) = Answered (λ next. Replies ends next calls tolds) lists call told
+
+-- the answers where no memory is wanting
 abbrev pub answers : Lists → List PoolCall → List Told
 answers lists [] = []
 answers lists (call ∷ calls) = answer_to lists call ∷ answers (lists_with lists call) calls
 
--- the lists after all calls
+-- the lists after all calls where no memory is wanting
 abbrev pub lists_after : Lists → List PoolCall → Lists
 lists_after lists [] = lists
 lists_after lists (call ∷ calls) = lists_after (lists_with lists call) calls

@@ -1,12 +1,13 @@
 -- The fragmented messages that are on their way, each under its name: which fragments of each were accepted, and when
 -- the last of them.
 use denote.Ref.{Bor}
-use Rattle.std.specs.Prelude.{◌≡◌, ◌≢◌, ◌⊎◌, Bool, true, false, Option, Some, None, List, [], IsSomeAnd}
+use Rattle.std.specs.Prelude.{◌≡◌, ◌≢◌, ◌⊎◌, Bool, true, false, Option, Some, None, Result, List, [], IsSomeAnd}
 use Rattle.std.specs.Map.{lookup}
+use Rattle.etherparse.specs.declared.defrag.ip_defrag_error.IpDefragError.{IpDefragError}
 use Rattle.etherparse.specs.declared.defrag.part.Part.{Part}
 use Rattle.etherparse.specs.declared.defrag.stream.Stream.{Stream}
-use Rattle.etherparse.specs.Fragments.{Fragment, fragment, is_complete}
-use Rattle.etherparse.specs.IpDefragBuf.{Shows}
+use Rattle.etherparse.specs.Fragments.{Fragment, end_of, fragment, is_complete, refusal_of}
+use Rattle.etherparse.specs.IpDefragBuf.{AnswersAdd, Shows}
 
 -- the fragment that a part of a message is
 abbrev pub fragment_of : Part → Fragment
@@ -38,6 +39,14 @@ Becomes tells fs time stream (Some told) = (is_complete fs ≡ true) × tells fs
 -- each name has the stream that it had
 abbrev pub SameStreams : {K T : Type 0} → (K → K → Bool) → Streams K T → Streams K T → Type 0
 SameStreams {K} same old new = (name : K) → stream_at same new name ≡ stream_at same old name
+
+-- every other name has the stream that it had
+abbrev pub OthersStay : {K T : Type 0} → (K → K → Bool) → K → Streams K T → Streams K T → Type 0
+OthersStay {K} same name old new = (q : K) → same name q ≡ false → stream_at same new q ≡ stream_at same old q
+
+-- a fragment of this name is refused by those that its stream shows, or else may want memory
+abbrev pub Refuses : {K T X : Type 0} → (K → K → Bool) → Streams K T → K → Fragment → Result X IpDefragError → Type 0
+Refuses same old name f result = (fs : List Fragment) → ShowsStream (stream_at same old name) fs → AnswersAdd (refusal_of fs f) (end_of f) result
 
 -- what is left of a stream by a test of its timestamp: all of it where the test answers `true`, else nothing
 abbrev pub Retained : {T : Type 0} → (T → Bool → Type 0) → Option (Stream T) → Option (Stream T) → Type 0

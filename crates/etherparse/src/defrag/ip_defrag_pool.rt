@@ -1,14 +1,11 @@
 //! Many fragmented messages, each put together by itself.
 
-ghost use Rattle.std.specs.Prelude.{◌≡◌, ◌≤◌, ◌++◌, ◌∷◌, [], List, None, Ok, false, OnOk, OnErr, IfOk, IfSome, option_map, length};
+ghost use Rattle.std.specs.Prelude.{◌≡◌, ◌≤◌, [], None, Ok, OnOk, OnErr, IfOk, IfSome, length};
 ghost use Rattle.std.specs.Fn.{FnReturnsAt};
 ghost use Rattle.ep_packet.specs.Class.{packet_told};
-ghost use Rattle.etherparse.specs.Fragments.{Fragment, end_of, refusal_of};
-ghost use Rattle.etherparse.specs.IpDefragBuf.{AnswersAdd};
-ghost use Rattle.etherparse.specs.IpDefragPool.{payload_of, payload_told};
+ghost use Rattle.etherparse.specs.IpDefragPool.{Accepts};
 ghost use Rattle.etherparse.specs.IpFragId.{fragment_in, id_named};
-ghost use Rattle.etherparse.specs.Picture.{text_of};
-ghost use Rattle.etherparse.specs.Streams.{Becomes, MayAsk, Retained, SameStreams, ShowsStream, fragment_of, stream_at};
+ghost use Rattle.etherparse.specs.Streams.{MayAsk, OthersStay, Refuses, Retained, SameStreams, fragment_of, stream_at};
 
 use super::part::{Part, part_in};
 use super::streams::Streams;
@@ -75,17 +72,13 @@ impl<Timestamp: Drop, CustomChannelId: Eq + Hash + Drop, S: BuildHasher> IpDefra
         // A packet that is no fragment changes nothing.
         ensures passed { fragment_in (packet_told packet.now) ≡ None → (result ≡ Ok None) × (self.new ≡ self.old) }
         // A fragment goes to the list of its name, and is refused by it or else at its end.
-        ensures accepted { IfSome (fragment_in (packet_told packet.now)) (λ told. (fs : List Fragment)
-            → ShowsStream (stream_at ⟦<IpFragId<CustomChannelId> as PartialEq>⟧.eq self.old (id_named told.0 channel_id)) fs
-            → IfOk result (λ payload. Becomes (λ gs whole. whole ≡ payload_of (id_named told.0 channel_id) (text_of gs)) (fs ++ told.1 ∷ []) timestamp
-            (stream_at ⟦<IpFragId<CustomChannelId> as PartialEq>⟧.eq self.new (id_named told.0 channel_id)) (option_map payload_told payload))) }
-        ensures refused { IfSome (fragment_in (packet_told packet.now)) (λ told. (fs : List Fragment)
-            → ShowsStream (stream_at ⟦<IpFragId<CustomChannelId> as PartialEq>⟧.eq self.old (id_named told.0 channel_id)) fs
-            → AnswersAdd (refusal_of fs told.1) (end_of told.1) result) }
+        ensures accepted { IfSome (fragment_in (packet_told packet.now)) (λ told.
+            Accepts ⟦<IpFragId<CustomChannelId> as PartialEq>⟧.eq self.old self.new (id_named told.0 channel_id) told.1 timestamp result) }
+        ensures refused { IfSome (fragment_in (packet_told packet.now)) (λ told.
+            Refuses ⟦<IpFragId<CustomChannelId> as PartialEq>⟧.eq self.old (id_named told.0 channel_id) told.1 result) }
         // Every other name's list and timestamp stay, and after a refusal all of them do.
-        ensures others { IfSome (fragment_in (packet_told packet.now)) (λ told. (q : IpFragId CustomChannelId)
-            → ⟦<IpFragId<CustomChannelId> as PartialEq>⟧.eq (id_named told.0 channel_id) q ≡ false
-            → stream_at ⟦<IpFragId<CustomChannelId> as PartialEq>⟧.eq self.new q ≡ stream_at ⟦<IpFragId<CustomChannelId> as PartialEq>⟧.eq self.old q) }
+        ensures others { IfSome (fragment_in (packet_told packet.now)) (λ told.
+            OthersStay ⟦<IpFragId<CustomChannelId> as PartialEq>⟧.eq (id_named told.0 channel_id) self.old self.new) }
         ensures err { OnErr result (SameStreams ⟦<IpFragId<CustomChannelId> as PartialEq>⟧.eq self.old self.new) }
         ensures short { IfOk result (λ payload. IfSome payload (λ whole. length whole.payload.items ≤ 65535)) }
     {
@@ -102,15 +95,9 @@ impl<Timestamp: Drop, CustomChannelId: Eq + Hash + Drop, S: BuildHasher> IpDefra
         part: &Part<'_>,
         timestamp: Timestamp,
     ) -> Result<Option<IpDefragPayloadVec>, IpDefragError>
-        ensures accepted { let f = fragment_of part.now in (fs : List Fragment)
-            → ShowsStream (stream_at ⟦<IpFragId<CustomChannelId> as PartialEq>⟧.eq self.old id) fs
-            → IfOk result (λ payload. Becomes (λ gs whole. whole ≡ payload_of id (text_of gs)) (fs ++ f ∷ []) timestamp
-            (stream_at ⟦<IpFragId<CustomChannelId> as PartialEq>⟧.eq self.new id) (option_map payload_told payload)) }
-        ensures refused { let f = fragment_of part.now in (fs : List Fragment)
-            → ShowsStream (stream_at ⟦<IpFragId<CustomChannelId> as PartialEq>⟧.eq self.old id) fs
-            → AnswersAdd (refusal_of fs f) (end_of f) result }
-        ensures others { (q : IpFragId CustomChannelId) → ⟦<IpFragId<CustomChannelId> as PartialEq>⟧.eq id q ≡ false
-            → stream_at ⟦<IpFragId<CustomChannelId> as PartialEq>⟧.eq self.new q ≡ stream_at ⟦<IpFragId<CustomChannelId> as PartialEq>⟧.eq self.old q }
+        ensures accepted { Accepts ⟦<IpFragId<CustomChannelId> as PartialEq>⟧.eq self.old self.new id (fragment_of part.now) timestamp result }
+        ensures refused { Refuses ⟦<IpFragId<CustomChannelId> as PartialEq>⟧.eq self.old id (fragment_of part.now) result }
+        ensures others { OthersStay ⟦<IpFragId<CustomChannelId> as PartialEq>⟧.eq id self.old self.new }
         ensures err { OnErr result (SameStreams ⟦<IpFragId<CustomChannelId> as PartialEq>⟧.eq self.old self.new) }
         ensures short { IfOk result (λ payload. IfSome payload (λ whole. length whole.payload.items ≤ 65535)) }
     {

@@ -6,7 +6,7 @@ ghost use Rattle.ep_packet.specs.Class.{class_of, packet_told};
 ghost use Rattle.ep_packet.specs.Class.Class.{Refused};
 ghost use Rattle.ep_packet.specs.Sliced.{sliced_ethernet};
 ghost use Rattle.ep_packet.specs.declared.err.packet.slice_error.SliceError.{SliceError};
-ghost use Rattle.etherparse.specs.PoolCalls.{HasMemory, Lists, ShowsLists, after_frame, answer_to, answer_to_frame, answers, fault_in, lists_after, lists_with, retained_from, told, told_outcome};
+ghost use Rattle.etherparse.specs.PoolCalls.{Answered, FrameAnswered, HasMemory, Lists, Replies, ShowsLists, answers, fault_in, lists_after, retained_from, told, told_outcome};
 ghost use Rattle.etherparse.specs.PoolCalls.Told.{Retained};
 
 use super::{IpDefragError, IpDefragPayloadVec, IpDefragPool, IpFragId};
@@ -50,10 +50,8 @@ pub enum PoolReply {
 
 // Answers one call.
 fn answer(pool: &mut IpDefragPool<u64, u32>, call: &PoolCall<'_>) -> PoolReply
-    ensures told { (lists : Lists) → ShowsLists ⟦<IpFragId<u32> as PartialEq>⟧.eq pool.old lists → HasMemory (told result)
-        → told result ≡ answer_to lists call.now }
-    ensures lists { (lists : Lists) → ShowsLists ⟦<IpFragId<u32> as PartialEq>⟧.eq pool.old lists → HasMemory (told result)
-        → ShowsLists ⟦<IpFragId<u32> as PartialEq>⟧.eq pool.new (lists_with lists call.now) }
+    ensures { (lists : Lists) → ShowsLists ⟦<IpFragId<u32> as PartialEq>⟧.eq pool.old lists
+        → Answered (ShowsLists ⟦<IpFragId<u32> as PartialEq>⟧.eq pool.new) lists call.now (told result) }
 {
     match call {
         PoolCall::Frame {
@@ -71,10 +69,8 @@ fn answer_frame(
     timestamp: u64,
     channel: u32,
 ) -> PoolReply
-    ensures told { (lists : Lists) → ShowsLists ⟦<IpFragId<u32> as PartialEq>⟧.eq pool.old lists → HasMemory (told result)
-        → told result ≡ answer_to_frame lists (class_of frame.now) channel (fault_in (sliced_ethernet frame.now)) }
-    ensures lists { (lists : Lists) → ShowsLists ⟦<IpFragId<u32> as PartialEq>⟧.eq pool.old lists → HasMemory (told result)
-        → ShowsLists ⟦<IpFragId<u32> as PartialEq>⟧.eq pool.new (λ name other. after_frame name other (class_of frame.now) timestamp channel (lists name other)) }
+    ensures { (lists : Lists) → ShowsLists ⟦<IpFragId<u32> as PartialEq>⟧.eq pool.old lists
+        → FrameAnswered (ShowsLists ⟦<IpFragId<u32> as PartialEq>⟧.eq pool.new) lists (class_of frame.now) timestamp channel (fault_in (sliced_ethernet frame.now)) (told result) }
 {
     match SlicedPacket::from_ethernet(frame) {
         Ok(packet) => answer_packet(pool, &packet, timestamp, channel),
@@ -89,10 +85,8 @@ fn answer_packet(
     channel: u32,
 ) -> PoolReply
     requires { packet_told packet.now ≡ Refused → ⊥ }
-    ensures told { (fault : Option SliceError) (lists : Lists) → ShowsLists ⟦<IpFragId<u32> as PartialEq>⟧.eq pool.old lists → HasMemory (told result)
-        → told result ≡ answer_to_frame lists (packet_told packet.now) channel fault }
-    ensures lists { (lists : Lists) → ShowsLists ⟦<IpFragId<u32> as PartialEq>⟧.eq pool.old lists → HasMemory (told result)
-        → ShowsLists ⟦<IpFragId<u32> as PartialEq>⟧.eq pool.new (λ name other. after_frame name other (packet_told packet.now) timestamp channel (lists name other)) }
+    ensures { (fault : Option SliceError) (lists : Lists) → ShowsLists ⟦<IpFragId<u32> as PartialEq>⟧.eq pool.old lists
+        → FrameAnswered (ShowsLists ⟦<IpFragId<u32> as PartialEq>⟧.eq pool.new) lists (packet_told packet.now) timestamp channel fault (told result) }
 {
     equal_names::<u32>();
     reply_of(pool.process_sliced_packet(packet, timestamp, channel))
@@ -126,11 +120,15 @@ pub fn run_calls(
     pool: &mut IpDefragPool<u64, u32>,
     calls: &[PoolCall<'_>],
 ) -> Result<Vec<PoolReply>, AllocError>
-    // Where no memory was wanting, each reply is that of its name's own list of fragments.
+    // Each reply is that of its name's own list of fragments; or it tells of want of memory, to a fragment
+    // that isn't refused or to `RetainFrom` alone, and then its call changed nothing.
+    ensures replies { IfOk result (λ replies. (lists : Lists) → ShowsLists ⟦<IpFragId<u32> as PartialEq>⟧.eq pool.old lists
+        → Replies (ShowsLists ⟦<IpFragId<u32> as PartialEq>⟧.eq pool.new) lists calls.now (map told replies.items)) }
+    // Where none tells of it, they are the answers.
     ensures told { IfOk result (λ replies. (lists : Lists) → ShowsLists ⟦<IpFragId<u32> as PartialEq>⟧.eq pool.old lists
-        → AllByRecursion (λ reply. HasMemory (told reply)) replies.items → map told replies.items ≡ answers lists calls.now) }
+        → AllByRecursion HasMemory (map told replies.items) → map told replies.items ≡ answers lists calls.now) }
     ensures lists { IfOk result (λ replies. (lists : Lists) → ShowsLists ⟦<IpFragId<u32> as PartialEq>⟧.eq pool.old lists
-        → AllByRecursion (λ reply. HasMemory (told reply)) replies.items → ShowsLists ⟦<IpFragId<u32> as PartialEq>⟧.eq pool.new (lists_after lists calls.now)) }
+        → AllByRecursion HasMemory (map told replies.items) → ShowsLists ⟦<IpFragId<u32> as PartialEq>⟧.eq pool.new (lists_after lists calls.now)) }
     ensures len { IfOk result (λ replies. vec_len replies ≡ length calls.now) }
     ensures err { OnErr result (pool.new ≡ pool.old) }
 {

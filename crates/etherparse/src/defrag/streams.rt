@@ -1,11 +1,10 @@
 //! The messages that are on their way.
 
-ghost use Rattle.std.specs.Prelude.{◌≡◌, ◌≤◌, ◌++◌, ◌∷◌, [], List, false, OnOk, OnErr, IfOk, IfSome, length, option_map};
+ghost use Rattle.std.specs.Prelude.{◌≡◌, ◌≤◌, ◌++◌, ◌∷◌, [], List, OnErr, IfOk, IfSome, length, option_map};
 ghost use Rattle.std.specs.Fn.{FnReturnsAt};
-ghost use Rattle.etherparse.specs.Fragments.{Fragment, refusal_of, end_of};
-ghost use Rattle.etherparse.specs.IpDefragBuf.{AnswersAdd};
+ghost use Rattle.etherparse.specs.Fragments.{Fragment};
 ghost use Rattle.etherparse.specs.Picture.{text_of};
-ghost use Rattle.etherparse.specs.Streams.{Becomes, MayAsk, Retained, SameStreams, ShowsStream, fragment_of, stream_at};
+ghost use Rattle.etherparse.specs.Streams.{Becomes, MayAsk, OthersStay, Refuses, Retained, SameStreams, ShowsStream, fragment_of, stream_at};
 
 use super::IpDefragError;
 use super::part::Part;
@@ -52,9 +51,8 @@ impl<K: Eq + Hash + Drop, T: Drop, S: BuildHasher> Streams<K, T, S> {
     ) -> Result<Option<Vec<u8>>, IpDefragError>
         ensures accepted { let f = fragment_of part.now in (fs : List Fragment) → ShowsStream (stream_at K.eq self.old name) fs →
             IfOk result (λ text. Becomes (λ gs bytes. bytes ≡ text_of gs) (fs ++ f ∷ []) timestamp (stream_at K.eq self.new name) (option_map (λ bytes. bytes.items) text)) }
-        ensures refused { let f = fragment_of part.now in (fs : List Fragment) → ShowsStream (stream_at K.eq self.old name) fs →
-            AnswersAdd (refusal_of fs f) (end_of f) result }
-        ensures others { (q : K) → K.eq name q ≡ false → stream_at K.eq self.new q ≡ stream_at K.eq self.old q }
+        ensures refused { Refuses K.eq self.old name (fragment_of part.now) result }
+        ensures others { OthersStay K.eq name self.old self.new }
         ensures err { OnErr result (SameStreams K.eq self.old self.new) }
         ensures short { IfOk result (λ text. IfSome text (λ bytes. length bytes.items ≤ 65535)) }
     {

@@ -16,7 +16,7 @@ pub fn merged_ranges()
     ensures turned { merged (record { start = 5; end = 3 }) (record { start = 1; end = 8 }) ≡ Some (record { start = 1; end = 8 }) }
 {}
 
-/// Sections are apart where no two share a number, and each starts before it ends.
+/// Sections are apart where no two share a number, and none ends before it starts.
 pub fn sections_that_are_apart()
     ensures apart { AreApart (record { start = 8; end = 16 } ∷ record { start = 0; end = 7 } ∷ []) }
     ensures shared { AreApart (record { start = 0; end = 8 } ∷ record { start = 8; end = 16 } ∷ []) → ⊥ }
