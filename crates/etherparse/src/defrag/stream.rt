@@ -34,7 +34,8 @@ impl<T: Drop> Stream<T> {
     }
 }
 
-// Begins a stream. One that is complete at once isn't kept.
+// Begins a stream. One that is complete at once isn't kept: no packet's part is a whole message, but the
+// contract speaks of every part.
 fn begin<K: Eq + Hash + Drop, T: Drop, S: BuildHasher>(
     alloc: Global,
     streams: &mut IndexMap<K, Stream<T>, S>,
