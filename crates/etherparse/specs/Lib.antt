@@ -12,6 +12,7 @@ pub mod IpFragId
 pub mod IpFragRange
 pub mod Picture
 pub mod PoolCalls
+pub mod Processed
 pub mod Streams
 pub use Rattle.ep_base.specs as base
 pub use Rattle.ep_ext.specs as ext

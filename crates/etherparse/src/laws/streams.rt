@@ -11,17 +11,27 @@ ghost use Rattle.etherparse.specs.Fragments.{Fragment, fragment};
 ghost use Rattle.etherparse.specs.IpDefragBuf.{Shows};
 ghost use Rattle.etherparse.specs.IpFragId.{id_named, same_name};
 ghost use Rattle.etherparse.specs.PoolCalls.{HasMemory, Replies, ShowsLists, after_frame, answer_to_frame, no_lists, retained_from, want_at, want_at_frame};
+ghost use Rattle.etherparse.specs.Processed.{PacketsAreAnswered};
 ghost use Rattle.etherparse.specs.PoolCalls.Told.{Delivered, NoMemory, NotSliced, Nothing, Refused, Retained};
 ghost use Rattle.etherparse.specs.declared.defrag.ip_defrag_error.IpDefragError.TheVariants.{AllocationFailure, ConflictingEnd};
 ghost use Rattle.etherparse.specs.declared.defrag.pool_calls.PoolCall.TheVariants.{RetainFrom};
 ghost use Rattle.etherparse.specs.declared.defrag.ip_frag_version_spec_id.IpFragVersionSpecId.TheVariants.{Ipv4, Ipv6};
 
+use super::names::equal_names;
 use crate::defrag::IpFragId;
 
 /// A new pool shows that no fragment was accepted.
 pub fn a_new_pool_shows_no_lists()
     ensures { ShowsLists ⟦<IpFragId<u32> as PartialEq>⟧.eq [] no_lists }
 {}
+
+/// What `process_sliced_packet` says of streams, said of the list of each name: the packet is answered by its
+/// name's list, which has its fragment then; or memory is wanting for one that isn't refused, and all lists stay.
+pub fn packets_are_answered()
+    ensures { PacketsAreAnswered ⟦<IpFragId<u32> as PartialEq>⟧.eq }
+{
+    equal_names::<u32>();
+}
 
 /// Each part of a name has its place.
 pub fn parts_of_names()
