@@ -1,14 +1,14 @@
 -- What the calls of a run do to known bytes.
-use Rattle.std.proofs.Common.{Option, ◌≡◌, ◌∙◌, sym, ap, refl, subst, ℕ, Bool, true, false, List, [], ◌∷◌, ◌++◌, Some, None, Result, Ok, Err, IfSome, zero, suc, ◌≤◌, arith, length, length-append, ◌⊎◌, inl, inr}
+use Rattle.std.proofs.Common.{Option, ◌≡◌, ◌∙◌, sym, ap, refl, subst, ℕ, Bool, true, false, List, [], ◌∷◌, ◌++◌, Some, None, Result, Ok, Err, IfSome, zero, suc, ◌≤◌, arith, length, length-append}
 use Rattle.std.specs.Prelude.{OnOk, ◌||◌}
 use Rattle.std.specs.Io.KnownBytes.{Appends, Consumes, IsAtEnd}
 use Rattle.std.proofs.KnownBytes.{Consumes-nil, Consumes-trans, Consumes-kept, Consumes-whole, Appends-nil, Appends-trans, Appends-kept}
 use Rattle.std.proofs.lemmas.List.Folds.{list_any-append}
 use Rattle.netlines.specs.declared.run_error.RunError.{RunError}
-use Rattle.netlines.specs.declared.run_error.RunError.TheVariants.{Memory, TooManyReads}
+use Rattle.netlines.specs.declared.run_error.RunError.TheVariants.{TooManyReads}
 use Rattle.netlines.specs.Calls.{Call, Reads, Writes, Makes, bytes_given, bytes_taken, bytes_read, bytes_written, tells_end, is_end_told, read_count, faults_of}
 use Rattle.netlines.specs.Known.{Known, KnownCall, TransfersBy}
-use Rattle.netlines.specs.Replies.{EndsBefore, Meaning, replies_to, whole_lines_of}
+use Rattle.netlines.specs.Replies.{Meaning, replies_to}
 use Rattle.netlines.proofs.CallLemmas.{read_count-append}
 use Rattle.netlines.specs.Runs.{EachFollows, RunsBy}
 
@@ -39,25 +39,6 @@ Runs-map transition transition' seen see m limit old new result runs = record {
   ends = runs.ends;
   output = runs.output;
 }
-
--- where memory is wanting nothing was called, or a line takes memory
-pub runs_memory : {D : Type 0} (transition : D → Call → D → Type 0) (m : Meaning) (limit : ℕ) (old new : D) (result : Result Unit RunError) → result ≡ Err Memory → RunsBy transition m limit old new result
-    → (new ≡ old) ⊎ ((told : Bool) × (read : List ℕ) × (written : List ℕ) × EndsBefore m [] (whole_lines_of told read) written)
-runs_memory transition m limit old new result is runs =
-    let failed : RunsBy transition m limit old new (Err Memory) = subst (RunsBy transition m limit old new) is runs in
-    elim failed.output [
-      | inl nothing ↦ inl (subst (λ calls. Makes transition old calls new) (failed.ends.1 nothing.0) failed.made)
-      | inr ends ↦ inr (is_end_told failed.calls, bytes_read failed.calls, bytes_written failed.calls, ends)
-    ]
-
--- where no line takes memory
-pub runs_memory_first : {D : Type 0} (transition : D → Call → D → Type 0) (m : Meaning) → ((line : List ℕ) → m.takes_memory line ≡ false) → (limit : ℕ) (old new : D) (result : Result Unit RunError)
-    → result ≡ Err Memory → RunsBy transition m limit old new result → new ≡ old
-runs_memory_first transition m never limit old new result is runs =
-    elim (runs_memory transition m limit old new result is runs) [
-      | inl same ↦ same
-      | inr ends ↦ (let e = sym (never ends.3.line) ∙ ends.3.takes in absurd (cc))
-    ]
 
 -- one call,
 input_moves : (a b : Known) (call : Call) → KnownCall a call b → Consumes a.input b.input (bytes_given call)

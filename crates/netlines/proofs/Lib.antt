@@ -1,3 +1,4 @@
+pub mod AnswerLemmas
 pub mod CallLemmas
 pub mod ChangedMessage
 pub mod ChangedWordLemmas
@@ -6,15 +7,16 @@ pub mod CommandLemmas
 pub mod Feeding
 pub mod FrameLemmas
 pub mod Going
+pub mod HexFrameLemmas
 pub mod KnownLemmas
 pub mod LineLemmas
 pub mod MemoryLemmas
+pub mod PartLemmas
 pub mod PostLemmas
 pub mod PostedAnswer
 pub mod PostedClass
 pub mod ReadLemmas
 pub mod RepliesLemmas
-pub mod ReplyLemmas
 pub mod SealedLemmas
 pub mod SplitLaws
 pub mod SplitLemmas

@@ -1,21 +1,8 @@
 -- The first bytes of a line, as far as they are kept.
-use Rattle.std.proofs.Common.{◌≡◌, ◌∙◌, sym, ap, refl, ℕ, zero, suc, ◌+◌, ◌-◌, ◌≤◌, ◌<◌, ◌==◌, false, cond, List, [], ◌∷◌, ◌++◌, length, take, arith, Result, Ok, Err, length-take, append-nil, inl, inr}
+use Rattle.std.proofs.Common.{◌≡◌, ◌∙◌, sym, ap, refl, ℕ, zero, suc, ◌+◌, ◌-◌, ◌≤◌, ◌<◌, ◌==◌, false, cond, List, [], ◌∷◌, ◌++◌, length, take, arith, Result, Ok, Err, append-nil}
 use Rattle.std.specs.Prelude.{IsOk, is_ok, OnOk}
-use Rattle.std.proofs.lemmas.Bool.{cases_lt}
-use Rattle.std.proofs.lemmas.List.{take_all}
 use Rattle.std.proofs.Math.Seq.{take-append-add}
-use Rattle.netlines.specs.Answers.{reply_of}
 use Rattle.netlines.specs.Lines.{last_line}
-use Rattle.netlines.specs.declared.limits.TheConstants.{LINE_LIMIT}
-use Rattle.netlines.proofs.ReplyLemmas.{reply_long}
-
--- what is past the room for a line does not change the reply
-pub reply_of-take : (line : List ℕ) → reply_of (take (LINE_LIMIT + 1) line) ≡ reply_of line
-reply_of-take line =
-    elim (cases_lt LINE_LIMIT (length line)) [
-      | inl long ↦ reply_long (take (LINE_LIMIT + 1) line) (omega (arith, length-take (LINE_LIMIT + 1) line)) ∙ sym (reply_long line long)
-      | inr short ↦ ap reply_of (take_all (LINE_LIMIT + 1) line (omega arith))
-    ]
 
 -- the first bytes of what follows the first bytes
 pub take-kept : (n : ℕ) (a b : List ℕ) → take n (take n a ++ b) ≡ take n (a ++ b)
@@ -31,10 +18,6 @@ pub take-twice : (n : ℕ) (a : List ℕ) → take n (take n a) ≡ take n a
 take-twice zero a = refl
 take-twice (suc n) [] = refl
 take-twice (suc n) (x ∷ a) = ap (λ l. x ∷ l) (take-twice n a)
-
--- lines of the same first bytes have the same reply
-pub reply_first : (line whole : List ℕ) → take (LINE_LIMIT + 1) line ≡ take (LINE_LIMIT + 1) whole → reply_of line ≡ reply_of whole
-reply_first line whole same = sym (reply_of-take line) ∙ ap reply_of same ∙ reply_of-take whole
 
 -- the first bytes of a line of which the first bytes are kept
 pub first_kept : (n : ℕ) (kept start tail : List ℕ) → kept ≡ take n start → take n (take n (kept ++ tail)) ≡ take n (start ++ tail)

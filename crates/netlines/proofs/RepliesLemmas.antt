@@ -1,8 +1,6 @@
 -- Replies to lines after lines.
-use Rattle.std.proofs.Common.{◌≡◌, ◌∙◌, sym, ap, refl, ℕ, Bool, true, false, List, [], ◌∷◌, ◌++◌, append_assoc, append-nil}
-use Rattle.std.specs.List.{flat_map}
-use Rattle.netlines.specs.Answers.{answering, answers_of, ended_answers_of, reply_of}
-use Rattle.netlines.specs.Lines.{Split, split, last_line, lines_of, ended_lines_of}
+use Rattle.std.proofs.Common.{◌≡◌, ◌∙◌, sym, ap, ℕ, Bool, true, false, List, [], ◌∷◌, ◌++◌, append_assoc, append-nil}
+use Rattle.netlines.specs.Lines.{Split, split, last_line, ended_lines_of}
 use Rattle.netlines.specs.Replies.{Meaning, EndsBefore, replies_after, replies_to, replies_to_ended, whole_lines_of}
 use Rattle.netlines.proofs.SplitLemmas.{split-append, split-nil}
 
@@ -54,14 +52,3 @@ replies_to-parts m a = replies_after-append m [] (ended_lines_of a) (last_line (
 pub whole_lines_of-nil : (told : Bool) → whole_lines_of told [] ≡ []
 whole_lines_of-nil true = ap (λ (c : Split). c.ended ++ last_line c.rest) split-nil
 whole_lines_of-nil false = ap (λ (c : Split). c.ended) split-nil
-
--- where each line is answered by itself the replies are those to each
-answering-after : (earlier lines : List (List ℕ)) → replies_after answering earlier lines ≡ flat_map reply_of lines
-answering-after earlier [] = refl
-answering-after earlier (line ∷ lines) = ap (λ l. reply_of line ++ l) (answering-after (earlier ++ line ∷ []) lines)
-
-pub replies_are_answers : (bytes : List ℕ) → replies_to answering bytes ≡ answers_of bytes
-replies_are_answers bytes = answering-after [] (lines_of bytes)
-
-pub ended_replies_are_answers : (bytes : List ℕ) → replies_to_ended answering bytes ≡ ended_answers_of bytes
-ended_replies_are_answers bytes = answering-after [] (ended_lines_of bytes)

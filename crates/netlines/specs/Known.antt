@@ -44,6 +44,6 @@ pub record TransfersBy (meaning : Meaning) (input input' output output' : Option
   pub end : told ≡ true → IsAtEnd input'
   pub due : IsOutput meaning result told read written
 
--- the same where each line is answered by itself
+-- the same where each line gets its answer after those before it
 abbrev pub Transfers : Option (List ℕ) → Option (List ℕ) → Option (List ℕ) → Option (List ℕ) → Result Unit RunError → Type 0
 Transfers input input' output output' result = TransfersBy answering input input' output output' result

@@ -9,6 +9,7 @@ pub mod PostRefusal
 pub mod Posted
 pub mod ReadMessage
 pub mod Replies
+pub mod Request
 pub mod Runs
 pub mod Sealed
 pub mod Verdict

@@ -54,6 +54,6 @@ pub record RunsBy {D : Type 0} (transition : D → Call → D → Type 0) (meani
   pub ends : Ends limit calls result
   pub output : IsOutput meaning result (is_end_told calls) (bytes_read calls) (bytes_written calls)
 
--- the same where each line is answered by itself, so that memory is wanting only before the first call
+-- the same where each line gets its answer after those before it
 abbrev pub Runs : {D : Type 0} → (D → Call → D → Type 0) → ℕ → D → D → Result Unit RunError → Type 0
 Runs transition limit old new result = RunsBy transition answering limit old new result

@@ -19,6 +19,9 @@ use std::io::{Read, Write};
 /// A read that gives nothing tells the end, and nothing is read after it. Any fault that a read or a
 /// write answers ends the run, an interrupted call too. That an error was caused by such a call is
 /// said by [`run_over`] alone: `Read` and `Write` give a failing call no meaning.
+///
+/// Memory is taken before the first read, and then for fragments and for `forget` alone. Where it is
+/// wanting for one of these, the answers to all lines before it are written.
 pub fn run<R: Read, W: Write>(alloc: Global, reader: &mut R, writer: &mut W) -> Result<(), RunError>
     // All lines are answered, and no byte is left to read.
     ensures ok { OnOk result (IfSome (R.remaining reader.old) (λ bytes.
@@ -37,10 +40,6 @@ pub fn run<R: Read, W: Write>(alloc: Global, reader: &mut R, writer: &mut W) -> 
     // Each of these reads gave a byte at least.
     ensures too_many { IsErrOf result RunError.TooManyReads
         → IfSome (R.remaining reader.old) (λ bytes. READ_COUNT_LIMIT ≤ length bytes) }
-
-    // Memory is taken before the first call.
-    ensures memory { IsErrOf result RunError.Memory
-        → (reader.new ≡ reader.old) × (writer.new ≡ writer.old) }
 {
     let mut device = ReaderWriter { reader, writer };
     let result = run_over(alloc, &mut device, READ_COUNT_LIMIT);
@@ -53,10 +52,7 @@ pub fn run<R: Read, W: Write>(alloc: Global, reader: &mut R, writer: &mut W) -> 
 /// A run of at most so many reads over any device: each call that it makes, in its order, and how
 /// these calls end it.
 pub fn run_over<D: Device>(alloc: Global, device: &mut D, reads: u64) -> Result<(), RunError>
-    ensures runs { Runs D.transition reads device.old device.new result }
-
-    // Memory is taken before the first call.
-    ensures memory { IsErrOf result RunError.Memory → device.new ≡ device.old }
+    ensures { Runs D.transition reads device.old device.new result }
 {
     let Ok(answerer) = FrameAnswerer::new(alloc) else {
         return Err(RunError::Memory);

@@ -111,7 +111,7 @@ const ANSWERS: &[u8] = b"\
     message 17 good 000100020010dbb40102030405060708\n\
     message 17 good 000100020010dbb40102030405060708\n\
     message 17 good 000100020010dbb40102030405060708\n\
-    other\n\
+    wait\n\
     message 0 none 05060708\n\
     refused frame\n\
     refused frame\n\
@@ -127,8 +127,8 @@ const ANSWERS: &[u8] = b"\
     refused frame\n\
     refused frame\n\
     refused frame\n\
-    other\n\
-    other\n\
+    wait\n\
+    refused end\n\
 ";
 
 #[test]

@@ -9,7 +9,7 @@ use std::test::Fail;
 
 // What a reader or a writer does at one of its calls, and at none before it.
 #[derive(Clone, Copy, PartialEq)]
-enum Fault {
+pub enum Fault {
     Interrupted,
     Other,
     Nothing,
@@ -29,13 +29,13 @@ impl Fault {
 
 // Gives one byte a call.
 #[derive(Drop)]
-struct ByteReader<'a> {
+pub struct ByteReader<'a> {
     rest: &'a [u8],
-    calls: usize,
+    pub calls: usize,
     fault: Option<(usize, Fault)>,
 }
 
-fn reader_of(bytes: &[u8], fault: Option<(usize, Fault)>) -> ByteReader<'_> {
+pub fn reader_of(bytes: &[u8], fault: Option<(usize, Fault)>) -> ByteReader<'_> {
     ByteReader {
         rest: bytes,
         calls: 0,
@@ -65,13 +65,13 @@ impl<'a> Read for ByteReader<'a> {
 
 // Takes one byte a call.
 #[derive(Drop)]
-struct ByteWriter {
-    taken: Vec<u8>,
-    calls: usize,
+pub struct ByteWriter {
+    pub taken: Vec<u8>,
+    pub calls: usize,
     fault: Option<(usize, Fault)>,
 }
 
-fn writer_of(alloc: Global, fault: Option<(usize, Fault)>) -> ByteWriter {
+pub fn writer_of(alloc: Global, fault: Option<(usize, Fault)>) -> ByteWriter {
     ByteWriter {
         taken: Vec::new(alloc),
         calls: 0,
@@ -105,7 +105,7 @@ impl Write for ByteWriter {
 // Takes all bytes at once, and counts the calls and the bytes.
 #[derive(Drop)]
 struct CountingWriter {
-    calls: usize,
+    pub calls: usize,
     bytes: usize,
 }
 

@@ -14,3 +14,5 @@ mod laws;
 mod messages;
 #[cfg(test)]
 mod post;
+#[cfg(test)]
+mod streams;

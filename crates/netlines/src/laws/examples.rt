@@ -1,46 +1,46 @@
 //! Worked examples of the definitions. The answers were worked out by hand after RFC 768, 791, 1071,
 //! 8200 and 9293.
-ghost use Rattle.std.specs.Prelude.{◌≡◌, [], ◌∷◌, codes, Some, None};
-ghost use Rattle.netlines.specs.Answers.{answer_of, message_answer};
+ghost use Rattle.std.specs.Prelude.{◌≡◌, ℕ, List, [], ◌∷◌, codes, Some, None};
+ghost use Rattle.netlines.specs.Answers.{answer_after, message_answer};
 ghost use Rattle.netlines.specs.PostRefusal.{bad_cut};
 ghost use Rattle.netlines.specs.declared.verdict.Verdict.TheVariants as verdict;
 
 /// What these lines are answered: a UDP message with a right checksum, with a wrong one and with
 /// none, a frame of another ether type, a frame of 13 bytes, and a frame with half a byte.
 pub fn lines_have_answers()
-    ensures good { answer_of (codes "frame 0 02000000000202000000000108004500002400070000401166c00a0000010a000002000100020010dbb40102030405060708")
+    ensures good { (earlier : List (List ℕ)) → answer_after earlier (codes "frame 0 02000000000202000000000108004500002400070000401166c00a0000010a000002000100020010dbb40102030405060708")
         ≡ codes "message 17 good 000100020010dbb40102030405060708" }
-    ensures bad { answer_of (codes "frame 0 02000000000202000000000108004500002400070000401166c00a0000010a000002000100020010dbb40102030405060709")
+    ensures bad { (earlier : List (List ℕ)) → answer_after earlier (codes "frame 0 02000000000202000000000108004500002400070000401166c00a0000010a000002000100020010dbb40102030405060709")
         ≡ codes "message 17 bad 000100020010dbb40102030405060709" }
-    ensures none { answer_of (codes "frame 0 02000000000202000000000108004500002400070000401166c00a0000010a00000200010002001000000102030405060708")
+    ensures none { (earlier : List (List ℕ)) → answer_after earlier (codes "frame 0 02000000000202000000000108004500002400070000401166c00a0000010a00000200010002001000000102030405060708")
         ≡ codes "message 17 none 00010002001000000102030405060708" }
-    ensures other { answer_of (codes "frame 0 0200000000020200000000011234") ≡ codes "other" }
-    ensures refused { answer_of (codes "frame 0 02000000000202000000000108") ≡ codes "refused frame" }
-    ensures bad_line { answer_of (codes "frame 0 0") ≡ codes "bad line" }
+    ensures other { (earlier : List (List ℕ)) → answer_after earlier (codes "frame 0 0200000000020200000000011234") ≡ codes "other" }
+    ensures refused { (earlier : List (List ℕ)) → answer_after earlier (codes "frame 0 02000000000202000000000108") ≡ codes "refused frame" }
+    ensures bad_line { (earlier : List (List ℕ)) → answer_after earlier (codes "frame 0 0") ≡ codes "bad line" }
 {}
 
 /// What lines with TCP are answered: a segment over IPv4 and one over IPv6, both with a right
 /// checksum, one whose checksum field is 0, which is a checksum as any other, and one whose data
 /// offset is 4.
 pub fn segments_have_answers()
-    ensures v4 { answer_of (codes "frame 0 02000000000202000000000108004500002800070000400666c70a0000010a0000020001000200000003000000005002040097da0000")
+    ensures v4 { (earlier : List (List ℕ)) → answer_after earlier (codes "frame 0 02000000000202000000000108004500002800070000400666c70a0000010a0000020001000200000003000000005002040097da0000")
         ≡ codes "message 6 good 0001000200000003000000005002040097da0000" }
-    ensures v6 { answer_of (codes "frame 0 02000000000202000000000186dd6000000000140640fd000000000000000000000000000001fd00000000000000000000000000000200010002000000030000000050020400b1d80000")
+    ensures v6 { (earlier : List (List ℕ)) → answer_after earlier (codes "frame 0 02000000000202000000000186dd6000000000140640fd000000000000000000000000000001fd00000000000000000000000000000200010002000000030000000050020400b1d80000")
         ≡ codes "message 6 good 00010002000000030000000050020400b1d80000" }
-    ensures zero { answer_of (codes "frame 0 02000000000202000000000108004500002800070000400666c70a0000010a0000020001000200000003000000005002040000000000")
+    ensures zero { (earlier : List (List ℕ)) → answer_after earlier (codes "frame 0 02000000000202000000000108004500002800070000400666c70a0000010a0000020001000200000003000000005002040000000000")
         ≡ codes "message 6 bad 0001000200000003000000005002040000000000" }
-    ensures refused { answer_of (codes "frame 0 02000000000202000000000108004500002800070000400666c70a0000010a0000020001000200000003000000004002040097da0000")
+    ensures refused { (earlier : List (List ℕ)) → answer_after earlier (codes "frame 0 02000000000202000000000108004500002800070000400666c70a0000010a0000020001000200000003000000004002040097da0000")
         ≡ codes "refused frame" }
 {}
 
 /// What lines with IPv6 are answered: a UDP message behind destination options, the same in a
 /// fragment, and a packet that says it is longer than it is.
 pub fn ipv6_lines_have_answers()
-    ensures behind_options { answer_of (codes "frame 0 02000000000202000000000186dd6000000000183c40fd000000000000000000000000000001fd0000000000000000000000000000021100010400000000000100020010f5b20102030405060708")
+    ensures behind_options { (earlier : List (List ℕ)) → answer_after earlier (codes "frame 0 02000000000202000000000186dd6000000000183c40fd000000000000000000000000000001fd0000000000000000000000000000021100010400000000000100020010f5b20102030405060708")
         ≡ codes "message 17 good 000100020010f5b20102030405060708" }
-    ensures fragment { answer_of (codes "frame 0 02000000000202000000000186dd6000000000182c40fd000000000000000000000000000001fd0000000000000000000000000000021100000100000007000100020010f5b20102030405060708")
-        ≡ codes "other" }
-    ensures cut_off { answer_of (codes "frame 0 02000000000202000000000186dd6000000000111140fd000000000000000000000000000001fd000000000000000000000000000002000100020010f5b20102030405060708")
+    ensures fragment { answer_after [] (codes "frame 0 02000000000202000000000186dd6000000000182c40fd000000000000000000000000000001fd0000000000000000000000000000021100000100000007000100020010f5b20102030405060708")
+        ≡ codes "wait" }
+    ensures cut_off { (earlier : List (List ℕ)) → answer_after earlier (codes "frame 0 02000000000202000000000186dd6000000000111140fd000000000000000000000000000001fd000000000000000000000000000002000100020010f5b20102030405060708")
         ≡ codes "refused frame" }
 {}
 
@@ -57,4 +57,23 @@ pub fn cuts_are_refused()
     ensures twice { bad_cut 24 (8 ∷ 8 ∷ []) ≡ Some 1 }
     ensures last { bad_cut 24 (8 ∷ 24 ∷ []) ≡ Some 1 }
     ensures unaligned { bad_cut 24 (8 ∷ 12 ∷ []) ≡ Some 1 }
+{}
+
+/// What the second half of a UDP message is answered (RFC 791, section 3.2): alone it waits, behind the
+/// first half it completes the message, and so it does where what stood before line 1 is dropped in
+/// between. Behind the first half of another channel it waits, and so it does where what stood before line
+/// 2 is dropped. A first part of 7 bytes is refused.
+pub fn fragments_have_answers()
+    ensures alone { answer_after [] (codes "frame 0 02000000000202000000000108004500001c00070001401166c70a0000010a0000020102030405060708") ≡ codes "wait" }
+    ensures whole { answer_after (codes "frame 0 02000000000202000000000108004500001c00072000401146c80a0000010a000002000100020010dbb4" ∷ [])
+        (codes "frame 0 02000000000202000000000108004500001c00070001401166c70a0000010a0000020102030405060708") ≡ codes "message 17 good 000100020010dbb40102030405060708" }
+    ensures kept { answer_after (codes "frame 0 02000000000202000000000108004500001c00072000401146c80a0000010a000002000100020010dbb4" ∷ codes "forget 1" ∷ [])
+        (codes "frame 0 02000000000202000000000108004500001c00070001401166c70a0000010a0000020102030405060708") ≡ codes "message 17 good 000100020010dbb40102030405060708" }
+    ensures dropped { answer_after (codes "frame 0 02000000000202000000000108004500001c00072000401146c80a0000010a000002000100020010dbb4" ∷ codes "forget 2" ∷ [])
+        (codes "frame 0 02000000000202000000000108004500001c00070001401166c70a0000010a0000020102030405060708") ≡ codes "wait" }
+    ensures channels { answer_after (codes "frame 1 02000000000202000000000108004500001c00072000401146c80a0000010a000002000100020010dbb4" ∷ [])
+        (codes "frame 0 02000000000202000000000108004500001c00070001401166c70a0000010a0000020102030405060708") ≡ codes "wait" }
+    ensures unaligned { answer_after [] (codes "frame 0 02000000000202000000000108004500001b00072000401146c90a0000010a00000200010002001000") ≡ codes "refused unaligned" }
+    ensures ok { (earlier : List (List ℕ)) → answer_after earlier (codes "forget 18446744073709551615") ≡ codes "ok" }
+    ensures too_great { (earlier : List (List ℕ)) → answer_after earlier (codes "forget 18446744073709551616") ≡ codes "bad line" }
 {}

@@ -1,0 +1,136 @@
+//! Runs in which messages are put together, over readers and writers that fail while one is on its way, and
+//! without memory.
+use crate::faults::{Fault, reader_of, writer_of};
+use netlines::{RunError, run};
+use std::alloc::{AllocError, Global};
+use std::test::Fail;
+
+// Two halves of a UDP message with another message between them, the first half on a channel of its own,
+// and lines that forget: the rows `two_fragments`, `uncut_udp` and `forget_keeps_stream` in one.
+const LINES: [(&str, &str); 8] = [
+    (
+        "frame 0 02000000000202000000000108004500001c00072000401146c80a0000010a000002000100020010dbb4",
+        "wait\n",
+    ),
+    (
+        "frame 7 02000000000202000000000108004500001c00072000401146c80a0000010a000002000100020010dbb4",
+        "wait\n",
+    ),
+    (
+        "frame 0 02000000000202000000000108004500002400070000401166c00a0000010a000002000100020010dbb40102030405060708",
+        "message 17 good 000100020010dbb40102030405060708\n",
+    ),
+    ("forget 1", "ok\n"),
+    (
+        "frame 0 02000000000202000000000108004500001c00070001401166c70a0000010a0000020102030405060708",
+        "message 17 good 000100020010dbb40102030405060708\n",
+    ),
+    ("forget 3", "ok\n"),
+    (
+        "frame 7 02000000000202000000000108004500001c00070001401166c70a0000010a0000020102030405060708",
+        "wait\n",
+    ),
+    ("forget", "bad line\n"),
+];
+
+fn text_of_lines(alloc: Global) -> Result<Vec<u8>, AllocError> {
+    let mut text = Vec::new(alloc);
+    for (line, _) in LINES {
+        text.extend_from_slice(line.as_bytes())?;
+        text.push(b'\n')?;
+    }
+    Ok(text)
+}
+
+// The answers to the first lines.
+fn answers_to(alloc: Global, lines: usize) -> Result<Vec<u8>, AllocError> {
+    let mut answers = Vec::new(alloc);
+    for (_, answer) in LINES.iter().take(lines) {
+        answers.extend_from_slice(answer.as_bytes())?;
+    }
+    Ok(answers)
+}
+
+fn ended_lines(bytes: &[u8]) -> usize {
+    bytes.iter().filter(|byte| **byte == b'\n').count()
+}
+
+#[test]
+fn puts_messages_together(rt: HostRuntime) -> Result<(), Fail> {
+    let text = text_of_lines(rt.alloc())?;
+    let want = answers_to(rt.alloc(), LINES.len())?;
+    let mut whole = Vec::new(rt.alloc());
+    run(rt.alloc(), &mut text.as_slice(), &mut whole)?;
+    assert!(rt; whole.as_slice() == want.as_slice());
+    let mut by_bytes = writer_of(rt.alloc(), None);
+    run(
+        rt.alloc(),
+        &mut reader_of(text.as_slice(), None),
+        &mut by_bytes,
+    )?;
+    assert!(rt; by_bytes.taken.as_slice() == want.as_slice());
+    Ok(())
+}
+
+#[test]
+fn stops_at_each_read_that_fails_while_messages_are_on_their_way(
+    rt: HostRuntime,
+) -> Result<(), Fail> {
+    let text = text_of_lines(rt.alloc())?;
+    for at in 0..text.len() + 1 {
+        let mut reader = reader_of(text.as_slice(), Some((at, Fault::Other)));
+        let mut output = Vec::new(rt.alloc());
+        let result = run(rt.alloc(), &mut reader, &mut output);
+        assert!(rt; result == Err(RunError::Read), "at {at}");
+        let want = answers_to(rt.alloc(), ended_lines(&text.as_slice()[..at]))?;
+        assert!(rt; output.as_slice() == want.as_slice(), "at {at}");
+    }
+    Ok(())
+}
+
+#[test]
+fn stops_at_each_write_that_fails_while_messages_are_on_their_way(
+    rt: HostRuntime,
+) -> Result<(), Fail> {
+    let text = text_of_lines(rt.alloc())?;
+    let want = answers_to(rt.alloc(), LINES.len())?;
+    for (fault, error) in [
+        (Fault::Other, RunError::Write),
+        (Fault::Nothing, RunError::WriteZero),
+    ] {
+        for at in 0..want.len() {
+            let mut writer = writer_of(rt.alloc(), Some((at, fault)));
+            let result = run(rt.alloc(), &mut text.as_slice(), &mut writer);
+            assert!(rt; result == Err(error), "at {at}");
+            assert!(rt;
+                writer.taken.as_slice() == &want.as_slice()[..at],
+                "at {at}"
+            );
+        }
+    }
+    Ok(())
+}
+
+// Whichever allocation is made to fail: the answers to all lines before one that takes memory are written,
+// or none where nothing was read, or all of them. The test's own texts are made first.
+#[test]
+fn answers_a_front_of_the_lines_without_memory(rt: HostRuntime) -> Result<(), Fail> {
+    let text = text_of_lines(rt.alloc())?;
+    let want = answers_to(rt.alloc(), LINES.len())?;
+    let mut writer = writer_of(rt.alloc(), None);
+    writer.taken.try_reserve(want.len())?;
+    let result = run(rt.alloc(), &mut text.as_slice(), &mut writer);
+    let written = writer.taken.as_slice();
+    if result == Ok(()) {
+        assert!(rt; written == want.as_slice());
+    } else {
+        assert!(rt; result == Err(RunError::Memory));
+        assert!(rt; want.as_slice().starts_with(written));
+        let answered = ended_lines(written);
+        assert!(rt; answered == 0 || TAKES_MEMORY[answered.min(7)]);
+    }
+    Ok(())
+}
+
+// Which of the lines take memory.
+const TAKES_MEMORY: [bool; 8] = [true, true, false, true, true, true, true, false];
