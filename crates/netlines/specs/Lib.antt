@@ -7,6 +7,7 @@ pub mod Letter
 pub mod Lines
 pub mod PostRefusal
 pub mod Posted
+pub mod PostedHeaders
 pub mod ReadMessage
 pub mod Replies
 pub mod Request

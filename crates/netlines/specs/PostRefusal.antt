@@ -1,5 +1,5 @@
 -- Why a message can't be posted, want of memory aside.
-use Rattle.std.specs.Prelude.{ℕ, ◌%◌, ◌&&◌, ◌||◌, ◌==◌, nat_lt, not, Bool, true, false, List, [], ◌∷◌, length, position, Option, Some, None}
+use Rattle.std.specs.Prelude.{ℕ, ◌%◌, ◌&&◌, ◌||◌, ◌==◌, nat_lt, not, Bool, true, false, if◌then◌else◌, List, [], ◌∷◌, length, position, Option, Some, None}
 use Rattle.std.specs.List.{zip}
 use Rattle.std.specs.Option.{option_map, option_or}
 use Rattle.etherparse.specs.declared.defrag.ip_frag_version_spec_id.IpFragVersionSpecId.{IpFragVersionSpecId}
@@ -7,23 +7,38 @@ use Rattle.etherparse.specs.declared.defrag.ip_frag_version_spec_id.IpFragVersio
 use Rattle.netlines.specs.declared.letter.Letter.{Letter}
 use Rattle.netlines.specs.declared.post_error.PostError.{PostError}
 use Rattle.netlines.specs.declared.post_error.PostError.TheVariants.{NotYet, Cuts, MessageTooLong, ExtensionNumber, IcmpOfOtherVersion, PieceTooLong}
-
--- what isn't posted yet: a message over IPv6, with VLAN tags, or cut into pieces
-abbrev pub is_over_v6 : IpFragVersionSpecId → Bool
-is_over_v6 (Ipv4 source destination identification) = false
-is_over_v6 (Ipv6 source destination identification) = true
-
-abbrev pub is_not_yet : Letter → List ℕ → Bool
-is_not_yet letter cuts = is_over_v6 letter.stream || nat_lt 0 (length letter.vlans.items) || nat_lt 0 (length cuts)
+use Rattle.netlines.specs.Posted.{Piece, is_cut, pieces_from}
 
 -- a message of so many bytes can be cut here, behind the cut before (0 in front of the first one): a multiple
 -- of 8, above the one before and below the length
-abbrev pub is_cut : ℕ → ℕ × ℕ → Bool
-is_cut len (before, cut) = (cut % 8 == 0) && nat_lt before cut && nat_lt cut len
+abbrev pub is_good_cut : ℕ → ℕ × ℕ → Bool
+is_good_cut len (before, cut) = (cut % 8 == 0) && nat_lt before cut && nat_lt cut len
 
 -- the index of the first cut that can't be made
 abbrev pub bad_cut : ℕ → List ℕ → Option ℕ
-bad_cut len cuts = position (λ pair. not (is_cut len pair)) (zip (0 ∷ cuts) cuts)
+bad_cut len cuts = position (λ pair. not (is_good_cut len pair)) (zip (0 ∷ cuts) cuts)
+
+-- a number that names an extension header, so that the message would be read as one: over IPv4 the authentication
+-- header (RFC 4302), over IPv6 those of RFC 8200, section 4, too
+abbrev pub names_extension : IpFragVersionSpecId → ℕ → Bool
+names_extension (Ipv4 source destination identification) number = number == 51
+names_extension (Ipv6 source destination identification) number =
+    (number == 0) || (number == 43) || (number == 44) || (number == 51) || (number == 60)
+
+-- ICMPv6 (RFC 4443) has its number over IPv6 alone, and ICMP (RFC 792) over IPv4
+abbrev pub is_icmp_of_other_version : IpFragVersionSpecId → ℕ → Bool
+is_icmp_of_other_version (Ipv4 source destination identification) number = number == 58
+is_icmp_of_other_version (Ipv6 source destination identification) number = number == 1
+
+-- the bytes of a piece that the packet's length field leaves room for: 65535 with the header over IPv4, and
+-- behind the header over IPv6, where a message that is cut has the 8 bytes of a fragment header
+abbrev pub room : IpFragVersionSpecId → (cut : Bool) → ℕ
+room (Ipv4 source destination identification) cut = 65515
+room (Ipv6 source destination identification) cut = if cut then 65527 else 65535
+
+-- the index of the first piece that is too long
+abbrev pub long_piece : IpFragVersionSpecId → List ℕ → List ℕ → Option ℕ
+long_piece stream message cuts = position (λ piece. nat_lt (room stream (is_cut cuts)) (length piece.text)) (pieces_from 0 cuts message)
 
 -- an error where it stands
 abbrev pub error_where : Bool → PostError → Option PostError
@@ -35,15 +50,13 @@ abbrev pub first_of : List (Option PostError) → Option PostError
 first_of [] = None
 first_of (e ∷ es) = option_or e (first_of es)
 
--- the first refusal, want of memory aside. Over IPv4 a message with the number of the authentication header
--- (RFC 4302) would be read as one, and ICMPv6 (RFC 4443) has its number over IPv6 alone. A total length
--- leaves a piece 65515 bytes
+-- the first refusal, want of memory aside. In pieces nothing is posted yet
 abbrev pub post_refusal : Letter → List ℕ → List ℕ → Option PostError
 post_refusal letter message cuts = first_of (
-    error_where (is_not_yet letter cuts) NotYet
+    error_where (is_cut cuts) NotYet
     ∷ option_map Cuts (bad_cut (length message) cuts)
     ∷ error_where (nat_lt 65535 (length message)) MessageTooLong
-    ∷ error_where (letter.number.0 == 51) ExtensionNumber
-    ∷ error_where (letter.number.0 == 58) IcmpOfOtherVersion
-    ∷ error_where (nat_lt 65515 (length message)) (PieceTooLong 0)
+    ∷ error_where (names_extension letter.stream letter.number.0) ExtensionNumber
+    ∷ error_where (is_icmp_of_other_version letter.stream letter.number.0) IcmpOfOtherVersion
+    ∷ option_map PieceTooLong (long_piece letter.stream message cuts)
     ∷ [])

@@ -18,6 +18,7 @@ mod message;
 mod output;
 mod post_error;
 mod post_message;
+mod posted_frame;
 mod reply_buffer;
 mod run_error;
 mod run_lines;

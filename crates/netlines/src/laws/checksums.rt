@@ -62,7 +62,7 @@ fn addresses_fit(addresses: &Addresses)
     }
 }
 
-fn stream_addresses_fit(stream: &IpFragVersionSpecId)
+pub(super) fn stream_addresses_fit(stream: &IpFragVersionSpecId)
     ensures { AddressesFit (addresses_of stream.now) }
 {
     match stream {

@@ -1,8 +1,11 @@
 //! Worked examples of the definitions. The answers were worked out by hand after RFC 768, 791, 1071,
 //! 8200 and 9293.
-ghost use Rattle.std.specs.Prelude.{◌≡◌, ℕ, List, [], ◌∷◌, codes, Some, None};
+ghost use Rattle.std.specs.Prelude.{◌≡◌, ℕ, List, [], ◌∷◌, codes, map, true, false, Some, None};
+ghost use Rattle.etherparse.specs.declared.defrag.ip_frag_version_spec_id.IpFragVersionSpecId.TheVariants.{Ipv4, Ipv6};
+ghost use Rattle.hex.specs.Hex.{encode_lower};
 ghost use Rattle.netlines.specs.Answers.{answer_after, message_answer};
 ghost use Rattle.netlines.specs.PostRefusal.{bad_cut};
+ghost use Rattle.netlines.specs.Posted.{packet, pieces_from, tagged};
 ghost use Rattle.netlines.specs.declared.verdict.Verdict.TheVariants as verdict;
 
 /// What these lines are answered: a UDP message with a right checksum, with a wrong one and with
@@ -76,4 +79,30 @@ pub fn fragments_have_answers()
     ensures unaligned { answer_after [] (codes "frame 0 02000000000202000000000108004500001b00072000401146c90a0000010a00000200010002001000") ≡ codes "refused unaligned" }
     ensures ok { (earlier : List (List ℕ)) → answer_after earlier (codes "forget 18446744073709551615") ≡ codes "ok" }
     ensures too_great { (earlier : List (List ℕ)) → answer_after earlier (codes "forget 18446744073709551616") ≡ codes "bad line" }
+{}
+
+/// The packets of a UDP message and of a TCP segment over IPv4, uncut and in three pieces; of a UDP message
+/// over IPv6, uncut and in two pieces; and what stands in front of an IPv4 packet behind no tag, one tag
+/// and two tags.
+pub fn messages_have_packets()
+    ensures v4 { map (λ piece. encode_lower (packet (Ipv4 (10 ∷ 0 ∷ 0 ∷ 1 ∷ []) (10 ∷ 0 ∷ 0 ∷ 2 ∷ []) 7) 17 false piece))
+        (pieces_from 0 [] (0 ∷ 1 ∷ 0 ∷ 2 ∷ 0 ∷ 16 ∷ 0xdb ∷ 0xb4 ∷ 1 ∷ 2 ∷ 3 ∷ 4 ∷ 5 ∷ 6 ∷ 7 ∷ 8 ∷ []))
+        ≡ codes "4500002400070000401166c00a0000010a000002000100020010dbb40102030405060708" ∷ [] }
+    ensures v4_cut { map (λ piece. encode_lower (packet (Ipv4 (10 ∷ 0 ∷ 0 ∷ 1 ∷ []) (10 ∷ 0 ∷ 0 ∷ 2 ∷ []) 7) 6 true piece))
+        (pieces_from 0 (8 ∷ 16 ∷ []) (0 ∷ 1 ∷ 0 ∷ 2 ∷ 0 ∷ 0 ∷ 0 ∷ 3 ∷ 0 ∷ 0 ∷ 0 ∷ 0 ∷ 0x50 ∷ 2 ∷ 4 ∷ 0 ∷ 0x97 ∷ 0xda ∷ 0 ∷ 0 ∷ []))
+        ≡ codes "4500001c00072000400646d30a0000010a0000020001000200000003"
+        ∷ codes "4500001c00072001400646d20a0000010a0000020000000050020400"
+        ∷ codes "4500001800070002400666d50a0000010a00000297da0000" ∷ [] }
+    ensures v6 { map (λ piece. encode_lower (packet (Ipv6 (0xfd ∷ 0 ∷ 0 ∷ 0 ∷ 0 ∷ 0 ∷ 0 ∷ 0 ∷ 0 ∷ 0 ∷ 0 ∷ 0 ∷ 0 ∷ 0 ∷ 0 ∷ 1 ∷ [])
+        (0xfd ∷ 0 ∷ 0 ∷ 0 ∷ 0 ∷ 0 ∷ 0 ∷ 0 ∷ 0 ∷ 0 ∷ 0 ∷ 0 ∷ 0 ∷ 0 ∷ 0 ∷ 2 ∷ []) 7) 17 false piece))
+        (pieces_from 0 [] (0 ∷ 1 ∷ 0 ∷ 2 ∷ 0 ∷ 16 ∷ 0xf5 ∷ 0xb2 ∷ 1 ∷ 2 ∷ 3 ∷ 4 ∷ 5 ∷ 6 ∷ 7 ∷ 8 ∷ []))
+        ≡ codes "6000000000101140fd000000000000000000000000000001fd000000000000000000000000000002000100020010f5b20102030405060708" ∷ [] }
+    ensures v6_cut { map (λ piece. encode_lower (packet (Ipv6 (0xfd ∷ 0 ∷ 0 ∷ 0 ∷ 0 ∷ 0 ∷ 0 ∷ 0 ∷ 0 ∷ 0 ∷ 0 ∷ 0 ∷ 0 ∷ 0 ∷ 0 ∷ 1 ∷ [])
+        (0xfd ∷ 0 ∷ 0 ∷ 0 ∷ 0 ∷ 0 ∷ 0 ∷ 0 ∷ 0 ∷ 0 ∷ 0 ∷ 0 ∷ 0 ∷ 0 ∷ 0 ∷ 2 ∷ []) 7) 17 true piece))
+        (pieces_from 0 (8 ∷ []) (0 ∷ 1 ∷ 0 ∷ 2 ∷ 0 ∷ 16 ∷ 0xf5 ∷ 0xb2 ∷ 1 ∷ 2 ∷ 3 ∷ 4 ∷ 5 ∷ 6 ∷ 7 ∷ 8 ∷ []))
+        ≡ codes "6000000000102c40fd000000000000000000000000000001fd0000000000000000000000000000021100000100000007000100020010f5b2"
+        ∷ codes "6000000000102c40fd000000000000000000000000000001fd00000000000000000000000000000211000008000000070102030405060708" ∷ [] }
+    ensures no_tag { encode_lower (tagged [] 0x0800) ≡ codes "0800" }
+    ensures one_tag { encode_lower (tagged (5 ∷ []) 0x86dd) ≡ codes "8100000586dd" }
+    ensures two_tags { encode_lower (tagged (5 ∷ 9 ∷ []) 0x0800) ≡ codes "88a80005810000090800" }
 {}
