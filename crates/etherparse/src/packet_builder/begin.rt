@@ -19,6 +19,7 @@ pub struct PacketBuilder {}
 
 impl PacketBuilder {
     /// A packet in an Ethernet II frame between these addresses.
+    #[inline(always)]
     pub fn ethernet2(source: [u8; 6], destination: [u8; 6]) -> PacketBuilderStep<Ethernet2Header>
         ensures { result ≡ record no_headers { link_header = Some (ethernet_between source destination) } }
     {
@@ -33,6 +34,7 @@ impl PacketBuilder {
 
     /// A packet of a Linux cooked capture, of a device of hardware type 1, Ethernet: who it was sent to
     /// or by, and the sender's address with how many of its bytes count.
+    #[inline(always)]
     pub fn linux_sll(
         packet_type: LinuxSllPacketType,
         sender_address_valid_length: u16,
@@ -54,6 +56,7 @@ impl PacketBuilder {
     }
 
     /// An IPv4 packet with no link header, as [`PacketBuilderStep::ipv4`] adds it.
+    #[inline(always)]
     pub fn ipv4(
         source: [u8; 4],
         destination: [u8; 4],
@@ -65,6 +68,7 @@ impl PacketBuilder {
     }
 
     /// An IPv6 packet with no link header, as [`PacketBuilderStep::ipv6`] adds it.
+    #[inline(always)]
     pub fn ipv6(
         source: [u8; 16],
         destination: [u8; 16],
@@ -76,6 +80,7 @@ impl PacketBuilder {
     }
 
     /// An IP packet with no link header, with these headers, as [`PacketBuilderStep::ip`] adds them.
+    #[inline(always)]
     pub fn ip(ip_header: IpHeaders) -> PacketBuilderStep<IpHeaders>
         ensures { result ≡ record no_headers { ip_headers = Some ip_header } }
     {
@@ -83,6 +88,7 @@ impl PacketBuilder {
     }
 
     // No header so far.
+    #[inline(always)]
     fn nothing() -> PacketBuilderStep<Ethernet2Header>
         ensures { result ≡ no_headers }
     {

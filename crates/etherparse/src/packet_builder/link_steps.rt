@@ -13,6 +13,7 @@ use ep_tag::{DoubleVlanHeader, SingleVlanHeader, VlanHeader, VlanId, VlanPcp};
 
 impl PacketBuilderStep<Ethernet2Header> {
     /// With one VLAN tag of this identifier and priority 0.
+    #[inline(always)]
     pub fn single_vlan(self, vlan_identifier: VlanId) -> PacketBuilderStep<VlanHeader>
         ensures { result ≡ record self { vlan_header = Some (Single (tag_of vlan_identifier)) } }
     {
@@ -20,6 +21,7 @@ impl PacketBuilderStep<Ethernet2Header> {
     }
 
     /// With two VLAN tags of these identifiers and priority 0.
+    #[inline(always)]
     pub fn double_vlan(
         self,
         outer_vlan_identifier: VlanId,
@@ -36,6 +38,7 @@ impl PacketBuilderStep<Ethernet2Header> {
     }
 
     /// With these tags. Their ether types are set when the packet is written.
+    #[inline(always)]
     pub fn vlan(self, vlan: VlanHeader) -> PacketBuilderStep<VlanHeader>
         ensures { result ≡ record self { vlan_header = Some vlan } }
     {
@@ -48,6 +51,7 @@ impl PacketBuilderStep<Ethernet2Header> {
 impl<L: LinkStep> PacketBuilderStep<L> {
     /// With these headers. Their lengths and numbers, and of IPv4 the checksum, are set when the packet is
     /// written.
+    #[inline(always)]
     pub fn ip(self, ip_header: IpHeaders) -> PacketBuilderStep<IpHeaders>
         ensures { result ≡ record self { ip_headers = Some ip_header } }
     {
@@ -57,6 +61,7 @@ impl<L: LinkStep> PacketBuilderStep<L> {
     }
 
     /// With the default IPv4 header between these addresses, for so many hops.
+    #[inline(always)]
     pub fn ipv4(
         self,
         source: [u8; 4],
@@ -75,6 +80,7 @@ impl<L: LinkStep> PacketBuilderStep<L> {
     }
 
     /// With the default IPv6 header between these addresses, for so many hops.
+    #[inline(always)]
     pub fn ipv6(
         self,
         source: [u8; 16],

@@ -27,6 +27,7 @@ pub struct PacketImpl {
 }
 
 impl PacketImpl {
+    #[inline(always)]
     pub(super) fn empty() -> PacketImpl
         ensures { result ≡ no_headers }
     {
@@ -71,6 +72,7 @@ impl PacketImpl {
     }
 
     // The number by which IP headers name the transport header.
+    #[inline(always)]
     pub(super) fn number(&self) -> IpNumber
         ensures { result.0 ≡ number_in self.now.transport_header }
     {
@@ -85,6 +87,7 @@ impl PacketImpl {
 
     // Appends the packet, whose headers of the network layer name this number last. Where it is refused,
     // or no memory is left, the buffer keeps its bytes.
+    #[inline(always)]
     pub(super) fn write(
         self,
         buffer: &mut Vec<u8>,
@@ -152,6 +155,7 @@ impl PacketImpl {
     }
 }
 
+#[inline(always)]
 fn ether_type_of(ip: &IpHeaders) -> EtherType
     ensures { result.0 ≡ ether_type_of ip.now }
 {
@@ -226,6 +230,7 @@ fn header_len(transport: &TransportHeader) -> usize
 }
 
 // Sets the length of what stands behind the IP header, where its length field can say it.
+#[inline(always)]
 fn measure(
     ip: &mut IpHeaders,
     transport: &Option<TransportHeader>,

@@ -9,6 +9,7 @@ use ep_packet::{IpHeaders, TransportHeader};
 use ep_tcpudp::UdpHeader;
 
 // The header with its length and checksum.
+#[inline(always)]
 pub(super) fn sealed(
     transport: Option<TransportHeader>,
     ip: &IpHeaders,

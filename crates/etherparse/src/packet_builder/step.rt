@@ -22,6 +22,7 @@ impl<L: LastStep> Model for PacketBuilderStep<L> {
 }
 
 impl<L: LastStep> PacketBuilderStep<L> {
+    #[inline(always)]
     pub(super) fn of(state: PacketImpl) -> PacketBuilderStep<L>
         requires { L.reached state }
         ensures { result ≡ state }

@@ -10,6 +10,7 @@ use ep_tcpudp::{TcpHeader, TcpOptionElement, TcpOptionWriteError, TcpOptions};
 
 impl PacketBuilderStep<TcpHeader> {
     /// With the flag `ns`.
+    #[inline(always)]
     pub fn ns(self) -> PacketBuilderStep<TcpHeader>
         ensures { result ≡ with_tcp (λ h. record h { ns = true }) self }
     {
@@ -21,6 +22,7 @@ impl PacketBuilderStep<TcpHeader> {
     }
 
     /// With the flag `fin`.
+    #[inline(always)]
     pub fn fin(self) -> PacketBuilderStep<TcpHeader>
         ensures { result ≡ with_tcp (λ h. record h { fin = true }) self }
     {
@@ -32,6 +34,7 @@ impl PacketBuilderStep<TcpHeader> {
     }
 
     /// With the flag `syn`.
+    #[inline(always)]
     pub fn syn(self) -> PacketBuilderStep<TcpHeader>
         ensures { result ≡ with_tcp (λ h. record h { syn = true }) self }
     {
@@ -43,6 +46,7 @@ impl PacketBuilderStep<TcpHeader> {
     }
 
     /// With the flag `rst`.
+    #[inline(always)]
     pub fn rst(self) -> PacketBuilderStep<TcpHeader>
         ensures { result ≡ with_tcp (λ h. record h { rst = true }) self }
     {
@@ -54,6 +58,7 @@ impl PacketBuilderStep<TcpHeader> {
     }
 
     /// With the flag `psh`.
+    #[inline(always)]
     pub fn psh(self) -> PacketBuilderStep<TcpHeader>
         ensures { result ≡ with_tcp (λ h. record h { psh = true }) self }
     {
@@ -65,6 +70,7 @@ impl PacketBuilderStep<TcpHeader> {
     }
 
     /// With the flag `ack` and this acknowledgment number.
+    #[inline(always)]
     pub fn ack(self, acknowledgment_number: u32) -> PacketBuilderStep<TcpHeader>
         ensures { result ≡ with_tcp (λ h. record h { ack = true; acknowledgment_number = acknowledgment_number }) self }
     {
@@ -77,6 +83,7 @@ impl PacketBuilderStep<TcpHeader> {
     }
 
     /// With the flag `urg` and this urgent pointer.
+    #[inline(always)]
     pub fn urg(self, urgent_pointer: u16) -> PacketBuilderStep<TcpHeader>
         ensures { result ≡ with_tcp (λ h. record h { urg = true; urgent_pointer = urgent_pointer }) self }
     {
@@ -89,6 +96,7 @@ impl PacketBuilderStep<TcpHeader> {
     }
 
     /// With the flag `ece`.
+    #[inline(always)]
     pub fn ece(self) -> PacketBuilderStep<TcpHeader>
         ensures { result ≡ with_tcp (λ h. record h { ece = true }) self }
     {
@@ -100,6 +108,7 @@ impl PacketBuilderStep<TcpHeader> {
     }
 
     /// With the flag `cwr`.
+    #[inline(always)]
     pub fn cwr(self) -> PacketBuilderStep<TcpHeader>
         ensures { result ≡ with_tcp (λ h. record h { cwr = true }) self }
     {
@@ -138,6 +147,7 @@ impl PacketBuilderStep<TcpHeader> {
         Ok(self.with_options(options))
     }
 
+    #[inline(always)]
     fn with_options(self, options: TcpOptions) -> PacketBuilderStep<TcpHeader>
         ensures { result ≡ with_tcp (λ h. record h { options = options }) self }
     {

@@ -12,6 +12,7 @@ use ep_tcpudp::{TcpHeader, UdpHeader};
 
 impl PacketBuilderStep<IpHeaders> {
     /// With a UDP header between these ports.
+    #[inline(always)]
     pub fn udp(self, source_port: u16, destination_port: u16) -> PacketBuilderStep<UdpHeader>
         ensures { result ≡ record self { transport_header = Some (udp_between source_port destination_port) } }
     {
@@ -26,6 +27,7 @@ impl PacketBuilderStep<IpHeaders> {
     }
 
     /// With a TCP header with these numbers, no options, no flags, and 0 elsewhere.
+    #[inline(always)]
     pub fn tcp(
         self,
         source_port: u16,
@@ -41,6 +43,7 @@ impl PacketBuilderStep<IpHeaders> {
     }
 
     /// With this TCP header. Its checksum is set when the packet is written.
+    #[inline(always)]
     pub fn tcp_header(self, tcp_header: TcpHeader) -> PacketBuilderStep<TcpHeader>
         ensures { result ≡ record self { transport_header = Some (Tcp tcp_header) } }
     {
@@ -50,6 +53,7 @@ impl PacketBuilderStep<IpHeaders> {
     }
 
     /// With the header of an ICMP message of this kind over IPv4.
+    #[inline(always)]
     pub fn icmpv4(self, icmp_type: Icmpv4Type) -> PacketBuilderStep<Icmpv4Header>
         ensures { result ≡ record self { transport_header = Some (icmpv4_of icmp_type) } }
     {
@@ -93,6 +97,7 @@ impl PacketBuilderStep<IpHeaders> {
     }
 
     /// With the header of an ICMP message of this kind over IPv6.
+    #[inline(always)]
     pub fn icmpv6(self, icmp_type: Icmpv6Type) -> PacketBuilderStep<Icmpv6Header>
         ensures { result ≡ record self { transport_header = Some (icmpv6_of icmp_type) } }
     {

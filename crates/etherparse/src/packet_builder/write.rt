@@ -14,6 +14,7 @@ impl PacketBuilderStep<IpHeaders> {
     ///
     /// Refused with `PayloadLen` is a payload that is too long for the length field of the IP header. On
     /// any error the buffer keeps its bytes.
+    #[inline(always)]
     pub fn write(
         self,
         buffer: &mut Vec<u8>,
@@ -46,6 +47,7 @@ impl<L: TransportStep> PacketBuilderStep<L> {
     ///
     /// Refused are, in this order, with `PayloadLen` a payload that is too long for the length field of
     /// the IP header, and with `Icmpv6InIpv4` ICMPv6 over IPv4. On any error the buffer keeps its bytes.
+    #[inline(always)]
     pub fn write(self, buffer: &mut Vec<u8>, payload: &[u8]) -> Result<(), BuildWriteError>
         ensures refusal { MatchOption (refusal_of self (length payload.now))
             (IsOkUnless result Memory) (λ e. result ≡ Err e) }
@@ -71,6 +73,7 @@ impl<L: TransportStep> PacketBuilderStep<L> {
 
 impl PacketBuilderStep<ArpPacket> {
     /// Appends the packet. Where no memory is left for it, the buffer keeps its bytes.
+    #[inline(always)]
     pub fn write(self, buffer: &mut Vec<u8>) -> Result<(), BuildWriteError>
         ensures outcome { IsOkUnless result Memory }
         ensures ok { OnOk result (buffer.new.items ≡ buffer.old.items ++ built_arp self) }
