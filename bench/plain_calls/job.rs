@@ -3,7 +3,8 @@
 use crate::random::Random;
 use std::time::{Duration, Instant};
 
-const PACKETS: usize = 1000;
+/// How many packets a job is done with.
+pub const PACKETS: usize = 1000;
 
 /// Something that is done with packets.
 pub trait Job {

@@ -1,6 +1,7 @@
 //! The benchmarks of `calls_bench` in plain Rust, a module for each kind of packet, with the same
 //! arguments and the same lines.
 
+mod built_frames;
 mod checksums;
 mod datagrams;
 mod echoes;
@@ -14,6 +15,7 @@ mod random;
 mod segments;
 mod sliced_packets;
 
+use crate::built_frames::{TcpIpv6, UdpIpv4};
 use crate::checksums::Checksums;
 use crate::datagrams::UdpDatagrams;
 use crate::echoes::{Icmpv4Echoes, Icmpv6Echoes};
@@ -87,6 +89,8 @@ fn measure(name: &str, repeats: Repeats) -> Option<Measured> {
         "sliced_arp" => job::measure::<SlicedFrames<6>>(repeats),
         "sliced_refused" => job::measure::<SlicedFrames<7>>(repeats),
         "sliced_mix" => job::measure::<SlicedMix>(repeats),
+        "built_udp_ipv4" => built_frames::measure::<UdpIpv4>(repeats),
+        "built_tcp_ipv6" => built_frames::measure::<TcpIpv6>(repeats),
         _ => return None,
     };
     Some(measured)

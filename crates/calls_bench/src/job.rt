@@ -4,7 +4,8 @@ use std::alloc::{AllocError, Global};
 use std::io;
 use std::time::{Duration, Instant};
 
-const PACKETS: u32 = 1000;
+/// How many packets a job is done with.
+pub const PACKETS: u32 = 1000;
 
 /// Something that is done with packets.
 pub trait Job {

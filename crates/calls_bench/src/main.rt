@@ -6,6 +6,7 @@
 //! nanoseconds of the fastest block.
 #![tactic(auto)]
 
+mod built_frames;
 mod checksums;
 mod datagrams;
 mod echoes;
@@ -18,6 +19,7 @@ mod random;
 mod segments;
 mod sliced_packets;
 
+use crate::built_frames::{TcpIpv6, UdpIpv4};
 use crate::checksums::Checksums;
 use crate::datagrams::UdpDatagrams;
 use crate::echoes::{Icmpv4Echoes, Icmpv6Echoes};
@@ -94,6 +96,8 @@ fn measure(rt: &HostRuntime, name: &str, repeats: Repeats) -> io::Result<Option<
         "sliced_arp" => job::measure::<SlicedFrames<6>>(rt, repeats)?,
         "sliced_refused" => job::measure::<SlicedFrames<7>>(rt, repeats)?,
         "sliced_mix" => job::measure::<SlicedMix>(rt, repeats)?,
+        "built_udp_ipv4" => built_frames::measure::<UdpIpv4>(rt, repeats)?,
+        "built_tcp_ipv6" => built_frames::measure::<TcpIpv6>(rt, repeats)?,
         _ => return Ok(None),
     };
     Ok(Some(measured))
