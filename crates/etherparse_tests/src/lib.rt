@@ -33,7 +33,15 @@ mod names;
 #[cfg(test)]
 mod paths;
 #[cfg(test)]
+mod pool_kinds;
+#[cfg(test)]
 mod pool_memory;
+#[cfg(test)]
+mod pool_orders;
+#[cfg(test)]
+mod pool_refusals;
+#[cfg(test)]
+mod pool_retain;
 #[cfg(test)]
 mod pools;
 #[cfg(test)]
