@@ -14,7 +14,7 @@ use Rattle.etherparse.specs.Picture.{text_of}
 use Rattle.etherparse.specs.PoolCalls.{FrameAnswered, HasMemory, Lists, ShowsLists, Told, after_frame, answer_to_frame, lists_with_frame, told_of, told_outcome, want_at_frame, want_unless}
 use Rattle.etherparse.specs.PoolCalls.Told.{Delivered, Nothing, Refused}
 use Rattle.etherparse.specs.packet.Class.{Addresses, Class, FragmentName}
-use Rattle.etherparse.specs.packet.Class.Class.{Refused as Faulty}
+use Rattle.etherparse.specs.packet.Class.Class.{Whole, Cut, Other, Refused as Faulty}
 use Rattle.etherparse.specs.packet.Readable.{message_at}
 use Rattle.etherparse.specs.packet.declared.err.packet.slice_error.SliceError.{SliceError}
 use Rattle.netlines.specs.Answers.{class_answer, class_takes_memory, completed_answer, fragment_answer, refusal_answer}
