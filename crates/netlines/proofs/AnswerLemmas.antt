@@ -2,11 +2,12 @@
 use denote.Builtin.{u32}
 use Rattle.std.specs.contracts.prelude.U32PartialEq.TheImpl as numbers
 use Rattle.etherparse.specs.contracts.defrag.ip_frag_id.IpFragIdPartialEq.TheImpl as names
-use Rattle.std.proofs.Common.{◌≡◌, ◌∙◌, sym, ap, refl, subst, ℕ, ◌+◌, Bool, true, List, [], ◌∷◌, ◌++◌, length, arith, Result}
+use Rattle.std.proofs.Common.{◌≡◌, ◌∙◌, sym, ap, refl, subst, ℕ, ◌+◌, ◌<◌, ◌≤◌, Bool, true, List, [], ◌∷◌, ◌++◌, length, arith, Result}
 use Rattle.std.specs.Prelude.{IfOk, IsTrue, OnOk}
-use Rattle.etherparse.specs.packet.Class.{Class, class_of}
+use Rattle.std.proofs.lemmas.Bool.{le-ltb, lt-ltb}
+use Rattle.etherparse.specs.packet.Class.{Class, FragmentName, class_of}
 use Rattle.etherparse.specs.declared.defrag.ip_frag_id.IpFragId.{IpFragId}
-use Rattle.etherparse.specs.PoolCalls.{Lists, ShowsLists, after_frame, no_lists, retained_from}
+use Rattle.etherparse.specs.PoolCalls.{Held, Lists, ShowsLists, after_frame, no_lists, retained_from}
 use Rattle.etherparse.specs.Streams.{Streams}
 use Rattle.netlines.specs.Answers.{answer_after, bad_line, class_answer, command_answer, command_takes_memory, lists_after, lists_behind, lists_with, number_behind, reply_after, takes_memory}
 use Rattle.netlines.specs.Lines.{Command, command_of}
@@ -96,3 +97,18 @@ module _ {T E : Type 0} (r : Result T E) (lists : Lists) where
   pub forget_lists : (same : IpFragId ℕ → IpFragId ℕ → Bool) (pool : Streams (IpFragId ℕ) ℕ) (number : ℕ) (command : Command) (line : ℕ) → Forget line ≡ command
       → OnOk r (ShowsLists same pool (λ name channel. retained_from line (lists name channel))) → OnOk r (ShowsLists same pool (lists_with lists number command))
   forget_lists same pool number command line is h = subst (λ (k : Command). OnOk r (ShowsLists same pool (lists_with lists number k))) is h
+
+-- a line that has messages dropped
+forget_is : (earlier : List (List ℕ)) (line : List ℕ) (number channel : ℕ) (name : FragmentName) → command_of line ≡ Forget number
+    → lists_after (earlier ++ line ∷ []) name channel ≡ retained_from number (lists_after earlier name channel)
+forget_is earlier line number channel name is =
+    ap (λ (lists : Lists). lists name channel) (lists_after-push earlier line ∙ ap (lists_with (lists_after earlier) (number_behind (length earlier))) is)
+
+pub forgotten : (earlier : List (List ℕ)) (line : List ℕ) (number channel : ℕ) (name : FragmentName) → command_of line ≡ Forget number
+    → (lists_after earlier name channel).time < number → (lists_after (earlier ++ line ∷ []) name channel).fragments ≡ []
+forgotten earlier line number channel name is before =
+    ap (λ (h : Held). h.fragments) (forget_is earlier line number channel name is) ∙ rw (lt-ltb (lists_after earlier name channel).time number before) refl
+
+pub remembered : (earlier : List (List ℕ)) (line : List ℕ) (number channel : ℕ) (name : FragmentName) → command_of line ≡ Forget number
+    → number ≤ (lists_after earlier name channel).time → lists_after (earlier ++ line ∷ []) name channel ≡ lists_after earlier name channel
+remembered earlier line number channel name is from = forget_is earlier line number channel name is ∙ rw (le-ltb (lists_after earlier name channel).time number from) refl

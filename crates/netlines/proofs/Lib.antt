@@ -15,6 +15,7 @@ pub mod PartLemmas
 pub mod PostLemmas
 pub mod PostedAnswer
 pub mod PostedClass
+pub mod PostedFrames
 pub mod PostedPieces
 pub mod ReadLemmas
 pub mod RepliesLemmas

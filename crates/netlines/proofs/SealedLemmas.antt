@@ -24,13 +24,16 @@ use Rattle.netlines.proofs.ReadLemmas.{icmpv4_is, icmpv6_is, segment_is}
 use Rattle.etherparse.specs.packet.Readable.ReadMessage.{Udp}
 use Rattle.etherparse.specs.icmp.declared.transport.icmpv4_header.Icmpv4Header.{Icmpv4Header}
 use Rattle.etherparse.specs.icmp.declared.transport.icmpv6_header.Icmpv6Header.{Icmpv6Header}
+use Rattle.etherparse.specs.Built.{sealed as built_header}
 use Rattle.etherparse.specs.packet.Transport.{transport_spelling}
+use Rattle.etherparse.specs.packet.declared.net.ip_headers.IpHeaders.{IpHeaders}
+use Rattle.etherparse.specs.packet.declared.net.ip_headers.IpHeaders.TheVariants as packet
 use Rattle.etherparse.specs.declared.defrag.ip_frag_version_spec_id.IpFragVersionSpecId.{IpFragVersionSpecId}
 use Rattle.etherparse.specs.declared.defrag.ip_frag_version_spec_id.IpFragVersionSpecId.TheVariants.{Ipv4, Ipv6}
 use Rattle.netlines.specs.declared.seal_error.SealError.TheVariants.{IcmpOfOtherVersion, TooLong}
 use Rattle.etherparse.specs.packet.declared.transport.transport_header.TransportHeader.{TransportHeader}
 use Rattle.etherparse.specs.packet.declared.transport.transport_header.TransportHeader.TheVariants as header
-use Rattle.netlines.specs.Sealed.{HeaderFits, addresses_of, is_icmp_of_other_version, number_of, seal_refusal, sealed, sealed_header}
+use Rattle.netlines.specs.Sealed.{HeaderFits, addresses_of, is_icmp_of_other_version, number_of, seal_refusal, sealed, sealed_header, stream_between}
 use Rattle.netlines.specs.Verdict.{AddressesFit, judged, pseudo, verdict_of}
 use Rattle.netlines.specs.declared.addresses.Addresses.{Addresses}
 use Rattle.netlines.specs.declared.addresses.Addresses.TheVariants.{V4, V6}
@@ -144,3 +147,20 @@ sealed_good laws (Ipv4 source destination identification) (header.Icmpv4 h) payl
 sealed_good laws (Ipv6 source destination identification) (header.Icmpv4 h) payload read fit fits sealable is = cc
 sealed_good laws (Ipv4 source destination identification) (header.Icmpv6 h) payload read fit fits sealable is = cc
 sealed_good laws (Ipv6 source destination identification) (header.Icmpv6 h) payload read fit fits sealable is = icmpv6_is_good laws source destination h payload read fit fits is
+
+-- what the builder writes is the same
+built_same : (ip : IpHeaders) (h : TransportHeader) (payload : List ℕ) → transport_spelling (built_header ip payload h) ++ payload ≡ sealed (stream_between ip) h payload
+built_same (packet.Ipv4 ip e) (header.Udp h) payload = refl
+built_same (packet.Ipv4 ip e) (header.Tcp h) payload = refl
+built_same (packet.Ipv4 ip e) (header.Icmpv4 h) payload = refl
+built_same (packet.Ipv4 ip e) (header.Icmpv6 h) payload = refl
+built_same (packet.Ipv6 ip e) (header.Udp h) payload = refl
+built_same (packet.Ipv6 ip e) (header.Tcp h) payload = refl
+built_same (packet.Ipv6 ip e) (header.Icmpv4 h) payload = refl
+built_same (packet.Ipv6 ip e) (header.Icmpv6 h) payload = refl
+
+pub built_good : Laws → (ip : IpHeaders) (h : TransportHeader) (payload : List ℕ) (read : ReadMessage) → AddressesFit (addresses_of (stream_between ip)) → HeaderFits h
+    → seal_refusal (stream_between ip) h payload ≡ None → message_at (number_of h) (transport_spelling (built_header ip payload h) ++ payload) ≡ Ok read
+    → verdict_of (addresses_of (stream_between ip)) read ≡ verdict.Good
+built_good laws ip h payload read fit fits sealable is =
+    sealed_good laws (stream_between ip) h payload read fit fits sealable (ap (message_at (number_of h)) (sym (built_same ip h payload)) ∙ is)

@@ -38,7 +38,7 @@ abbrev pub completed_answer : Addresses → ℕ → List ℕ → Result ReadMess
 completed_answer addresses number message (Ok read) = message_answer number (verdict_of (as_addresses addresses) read) message
 completed_answer addresses number message (Err e) = codes "refused message"
 
--- what is answered to a fragment that is refused. None is for want of memory.
+-- what is answered to a fragment that is refused. A want of memory has no answer.
 abbrev pub refusal_answer : IpDefragError → List ℕ
 refusal_answer (SegmentTooBig offset payload_len max) = codes "refused long"
 refusal_answer (UnalignedFragmentPayloadLen offset payload_len) = codes "refused unaligned"
@@ -94,7 +94,7 @@ answer_after earlier line = command_answer (lists_after earlier) (command_of lin
 unfoldable pub reply_after : List (List ℕ) → List ℕ → List ℕ
 reply_after earlier line = answer_after earlier line ++ 10 ∷ []
 
--- fragments take memory, and so does it to drop them
+-- memory may be wanting for a fragment and for a `forget`
 abbrev pub class_takes_memory : Class → Bool
 class_takes_memory (Whole addresses number bytes message) = false
 class_takes_memory (Cut name offset more bytes) = true

@@ -1,10 +1,15 @@
 -- Letters whose message is sent in one packet, or in pieces.
-use Rattle.std.specs.Prelude.{◌≡◌, ◌≢◌, ℕ, ◌<◌, ◌≤◌, List, [], length, None}
-use Rattle.etherparse.specs.declared.defrag.ip_frag_version_spec_id.IpFragVersionSpecId.TheVariants.{Ipv4}
-use Rattle.etherparse.specs.packet.Class.{Class}
-use Rattle.etherparse.specs.packet.Class.Addresses.{V4}
+use Rattle.std.specs.Prelude.{◌≡◌, ◌≢◌, ℕ, ◌<◌, ◌≤◌, Bool, false, List, [], length, None}
+use Rattle.etherparse.specs.BuiltFrames.{IpFits, TagsFit}
+use Rattle.etherparse.specs.declared.defrag.ip_frag_version_spec_id.IpFragVersionSpecId.{IpFragVersionSpecId}
+use Rattle.etherparse.specs.declared.defrag.ip_frag_version_spec_id.IpFragVersionSpecId.TheVariants.{Ipv4, Ipv6}
+use Rattle.etherparse.specs.link.Ethernet.{Fits}
+use Rattle.etherparse.specs.link.declared.link.ethernet2_header.Ethernet2Header.{Ethernet2Header}
+use Rattle.etherparse.specs.packet.Class.{Addresses, Class, FragmentName}
+use Rattle.etherparse.specs.packet.Class.Addresses.{V4, V6}
 use Rattle.etherparse.specs.packet.Class.Class.{Cut}
-use Rattle.netlines.specs.PostRefusal.{bad_cut, long_piece_from}
+use Rattle.netlines.specs.PostRefusal.{bad_cut, long_piece_from, names_extension, room}
+use Rattle.netlines.specs.PostedHeaders.{ip_headers_of, tags_of}
 use Rattle.netlines.specs.Posted.{Piece, pieces_from}
 use Rattle.netlines.specs.declared.letter.Letter.{Letter}
 
@@ -41,3 +46,37 @@ pub record SendsInPieces (letter : Letter) (source destination message cuts : Li
 abbrev pub piece_class : (source destination : List ℕ) → (identification number : ℕ) → Piece → Class
 piece_class source destination identification number piece =
     Cut (record { vlan_ids = []; addresses = V4 source destination; identification = identification; number = number }) piece.offset piece.more piece.text
+
+-- the addresses that a stream's messages go between
+abbrev pub addresses_between : IpFragVersionSpecId → Addresses
+addresses_between (Ipv4 source destination identification) = V4 source destination
+addresses_between (Ipv6 source destination identification) = V6 source destination
+
+abbrev pub identification_of : IpFragVersionSpecId → ℕ
+identification_of (Ipv4 source destination identification) = identification
+identification_of (Ipv6 source destination identification) = identification
+
+-- the name under which the pieces of a letter's message are put together
+abbrev pub name_of : Letter → FragmentName
+name_of letter = record {
+  vlan_ids = letter.vlans.items;
+  addresses = addresses_between letter.stream;
+  identification = identification_of letter.stream;
+  number = letter.number.0;
+}
+
+-- a letter's number names no extension header, and a packet has room for a message or a piece of these bytes
+pub record CanCarry (letter : Letter) (cut : Bool) (text : List ℕ) : Type 0 where
+  pub number : names_extension letter.stream letter.number.0 ≡ false
+  pub fits : length text ≤ room letter.stream cut
+
+-- the link header of a letter's frames
+abbrev pub ethernet_of : Letter → Ethernet2Header
+ethernet_of letter = record { source = letter.ethernet_source; destination = letter.ethernet_destination; ether_type = record { 0 = 0 } }
+
+-- the headers of such a frame are as their types hold them
+pub record HeadersFit (letter : Letter) (cut : Bool) (offset : ℕ) (more : Bool) : Type 0 where
+  pub link : Fits (ethernet_of letter)
+  pub tags : TagsFit (tags_of letter.vlans.items)
+  pub few : length letter.vlans.items ≤ 2
+  pub ip : IpFits (ip_headers_of letter.stream cut offset more) letter.number.0

@@ -17,6 +17,8 @@ use Rattle.netlines.specs.declared.addresses.Addresses.{Addresses}
 use Rattle.netlines.specs.declared.addresses.Addresses.TheVariants.{V4, V6}
 use Rattle.etherparse.specs.declared.defrag.ip_frag_version_spec_id.IpFragVersionSpecId.{IpFragVersionSpecId}
 use Rattle.etherparse.specs.declared.defrag.ip_frag_version_spec_id.IpFragVersionSpecId.TheVariants.{Ipv4, Ipv6}
+use Rattle.etherparse.specs.packet.declared.net.ip_headers.IpHeaders.{IpHeaders}
+use Rattle.etherparse.specs.packet.declared.net.ip_headers.IpHeaders.TheVariants as packet
 use Rattle.netlines.specs.declared.seal_error.SealError.{SealError}
 use Rattle.netlines.specs.declared.seal_error.SealError.TheVariants.{IcmpOfOtherVersion, TooLong}
 
@@ -24,6 +26,11 @@ use Rattle.netlines.specs.declared.seal_error.SealError.TheVariants.{IcmpOfOther
 abbrev pub addresses_of : IpFragVersionSpecId → Addresses
 addresses_of (Ipv4 source destination identification) = V4 source destination
 addresses_of (Ipv6 source destination identification) = V6 source destination
+
+-- the stream whose messages packets with these headers carry. (An IPv6 header has no identification.)
+abbrev pub stream_between : IpHeaders → IpFragVersionSpecId
+stream_between (packet.Ipv4 h e) = Ipv4 h.source h.destination h.identification
+stream_between (packet.Ipv6 h e) = Ipv6 h.source h.destination 0
 
 -- the number of a header's protocol
 abbrev pub number_of : TransportHeader → ℕ

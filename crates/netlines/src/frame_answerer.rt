@@ -28,10 +28,11 @@ pub const FRAME_ROOM: usize = LINE_LIMIT / 2;
 
 const BAD_LINE: &[u8; 8] = b"bad line";
 
-/// Answers each line by its frame, and by the fragments of the same message in the lines before it.
+/// Answers each line by its frame and by the fragments of the same message in the lines before it, and drops
+/// messages where a line says so.
 #[derive(Drop)]
 pub struct FrameAnswerer {
-    // The messages on their way, each with the line of its last fragment.
+    // The messages on their way, each with the line of the fragment that was accepted last.
     pool: IpDefragPool<u64, u32>,
     // Room for the bytes of a line's frame.
     frame: Vec<u8>,
@@ -39,7 +40,7 @@ pub struct FrameAnswerer {
 }
 
 impl FrameAnswerer {
-    /// No message is on its way. The memory of all answers but those to fragments is taken here.
+    /// No message is on its way. The room of a line's frame is taken here.
     pub fn new(alloc: Global) -> Result<FrameAnswerer, AllocError>
         ensures { IfOk result (λ answerer. ShowsLists ⟦<IpFragId<u32> as PartialEq>⟧.eq answerer.pool (lists_after [])) }
     {

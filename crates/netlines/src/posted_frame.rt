@@ -62,7 +62,7 @@ fn headers(letter: &Letter, ip: IpHeaders) -> PacketBuilderStep<IpHeaders>
 }
 
 // The IP headers of a piece. Their lengths, numbers and checksum are set when the packet is written.
-fn ip_headers(
+pub(crate) fn ip_headers(
     stream: &IpFragVersionSpecId,
     is_cut: bool,
     offset: IpFragOffset,

@@ -2,13 +2,15 @@
 ghost use Rattle.std.specs.Prelude.{◌≡◌, ◌≢◌, ℕ, List, ◌++◌, length, None, Ok};
 ghost use Rattle.netlines.specs.ChangedWord.{DifferInOneWord, verdict_after};
 ghost use Rattle.etherparse.specs.packet.Readable.{ReadMessage, message_at, udp as udp_number};
-ghost use Rattle.netlines.specs.Sealed.{HeaderFits, addresses_of, number_of, seal_refusal, sealed};
+ghost use Rattle.etherparse.specs.Built.{sealed as built_header};
+ghost use Rattle.etherparse.specs.packet.Transport.{transport_spelling};
+ghost use Rattle.netlines.specs.Sealed.{HeaderFits, addresses_of, number_of, seal_refusal, sealed, stream_between};
 ghost use Rattle.netlines.specs.Verdict.{AddressesFit, summed, summed_text, verdict_of};
 
 use crate::{Addresses, IpFragVersionSpecId, Verdict};
-use etherparse::TransportHeader;
 use etherparse::laws::icmp::{icmpv4, icmpv6};
 use etherparse::laws::tcpudp::{tcp, udp};
+use etherparse::{IpHeaders, TransportHeader};
 
 /// A sealed message that can be read is good under the addresses that it was sealed for.
 pub fn sealed_is_good(stream: &IpFragVersionSpecId, header: &TransportHeader, payload: &[u8])
@@ -21,6 +23,21 @@ pub fn sealed_is_good(stream: &IpFragVersionSpecId, header: &TransportHeader, pa
     tcp::sealed_sums_to_all_ones();
     udp::sealed_sums_to_all_ones();
     stream_addresses_fit(stream);
+    header_fits(header);
+}
+
+/// A message as the builder writes it, transport header and payload, is good where it can be read, between
+/// the addresses of its IP header.
+pub fn built_is_good(ip: &IpHeaders, header: &TransportHeader, payload: &[u8])
+    ensures { (message : ReadMessage) → seal_refusal (stream_between ip.now) header.now payload.now ≡ None
+        → message_at (number_of header.now) (transport_spelling (built_header ip.now payload.now header.now) ++ payload.now) ≡ Ok message
+        → verdict_of (addresses_of (stream_between ip.now)) message ≡ Verdict.Good }
+{
+    icmpv4::checksums_sum_to_all_ones();
+    icmpv6::checksums_sum_to_all_ones();
+    tcp::sealed_sums_to_all_ones();
+    udp::sealed_sums_to_all_ones();
+    ip_addresses_fit(ip);
     header_fits(header);
 }
 
@@ -58,6 +75,21 @@ fn addresses_fit(addresses: &Addresses)
         } => {
             let _source: &[u8] = source;
             let _destination: &[u8] = destination;
+        }
+    }
+}
+
+fn ip_addresses_fit(ip: &IpHeaders)
+    ensures { AddressesFit (addresses_of (stream_between ip.now)) }
+{
+    match ip {
+        IpHeaders::Ipv4(header, _) => {
+            let _source: &[u8] = &header.source;
+            let _destination: &[u8] = &header.destination;
+        }
+        IpHeaders::Ipv6(header, _) => {
+            let _source: &[u8] = &header.source;
+            let _destination: &[u8] = &header.destination;
         }
     }
 }

@@ -1,9 +1,9 @@
 //! Worked examples of the definitions. The answers were worked out by hand after RFC 768, 791, 1071,
 //! 8200 and 9293.
-ghost use Rattle.std.specs.Prelude.{◌≡◌, ℕ, List, [], ◌∷◌, codes, map, true, false, Some, None};
+ghost use Rattle.std.specs.Prelude.{◌≡◌, ℕ, List, [], ◌∷◌, ◌++◌, codes, map, true, false, Some, None};
 ghost use Rattle.etherparse.specs.declared.defrag.ip_frag_version_spec_id.IpFragVersionSpecId.TheVariants.{Ipv4, Ipv6};
 ghost use Rattle.hex.specs.Hex.{encode_lower};
-ghost use Rattle.netlines.specs.Answers.{answer_after, message_answer};
+ghost use Rattle.netlines.specs.Answers.{answer_after, message_answer, takes_memory};
 ghost use Rattle.netlines.specs.PostRefusal.{bad_cut};
 ghost use Rattle.netlines.specs.Posted.{packet, pieces_from, tagged};
 ghost use Rattle.netlines.specs.declared.verdict.Verdict.TheVariants as verdict;
@@ -82,7 +82,7 @@ pub fn fragments_have_answers()
 {}
 
 /// The packets of a UDP message and of a TCP segment over IPv4, uncut and in three pieces; of a UDP message
-/// over IPv6, uncut and in two pieces; and what stands in front of an IPv4 packet behind no tag, one tag
+/// over IPv6, uncut and in two pieces; of the middle piece of a longer one; and what stands in front of an IPv4 packet behind no tag, one tag
 /// and two tags.
 pub fn messages_have_packets()
     ensures v4 { map (λ piece. encode_lower (packet (Ipv4 (10 ∷ 0 ∷ 0 ∷ 1 ∷ []) (10 ∷ 0 ∷ 0 ∷ 2 ∷ []) 7) 17 false piece))
@@ -102,7 +102,22 @@ pub fn messages_have_packets()
         (pieces_from 0 (8 ∷ []) (0 ∷ 1 ∷ 0 ∷ 2 ∷ 0 ∷ 16 ∷ 0xf5 ∷ 0xb2 ∷ 1 ∷ 2 ∷ 3 ∷ 4 ∷ 5 ∷ 6 ∷ 7 ∷ 8 ∷ []))
         ≡ codes "6000000000102c40fd000000000000000000000000000001fd0000000000000000000000000000021100000100000007000100020010f5b2"
         ∷ codes "6000000000102c40fd000000000000000000000000000001fd00000000000000000000000000000211000008000000070102030405060708" ∷ [] }
+    ensures v6_middle { encode_lower (packet (Ipv6 (0xfd ∷ 0 ∷ 0 ∷ 0 ∷ 0 ∷ 0 ∷ 0 ∷ 0 ∷ 0 ∷ 0 ∷ 0 ∷ 0 ∷ 0 ∷ 0 ∷ 0 ∷ 1 ∷ [])
+        (0xfd ∷ 0 ∷ 0 ∷ 0 ∷ 0 ∷ 0 ∷ 0 ∷ 0 ∷ 0 ∷ 0 ∷ 0 ∷ 0 ∷ 0 ∷ 0 ∷ 0 ∷ 2 ∷ []) 0x01020304) 17 true
+        (record { offset = 1; more = true; text = 1 ∷ 2 ∷ 3 ∷ 4 ∷ 5 ∷ 6 ∷ 7 ∷ 8 ∷ [] }))
+        ≡ codes "6000000000102c40fd000000000000000000000000000001fd0000000000000000000000000000021100000901020304" ++ codes "0102030405060708" }
     ensures no_tag { encode_lower (tagged [] 0x0800) ≡ codes "0800" }
     ensures one_tag { encode_lower (tagged (5 ∷ []) 0x86dd) ≡ codes "8100000586dd" }
     ensures two_tags { encode_lower (tagged (5 ∷ 9 ∷ []) 0x0800) ≡ codes "88a80005810000090800" }
+{}
+
+/// Memory may be wanting for a fragment and for a `forget` line. It isn't for a line with an uncut message, with
+/// a frame of another ether type or of 13 bytes, or for one that asks for nothing.
+pub fn lines_that_take_memory()
+    ensures fragment { takes_memory (codes "frame 0 02000000000202000000000108004500001c00072000401146c80a0000010a000002000100020010dbb4") ≡ true }
+    ensures forget { takes_memory (codes "forget 1") ≡ true }
+    ensures whole { takes_memory (codes "frame 0 02000000000202000000000108004500002400070000401166c00a0000010a000002000100020010dbb40102030405060708") ≡ false }
+    ensures other { takes_memory (codes "frame 0 0200000000020200000000011234") ≡ false }
+    ensures refused { takes_memory (codes "frame 0 02000000000202000000000108") ≡ false }
+    ensures bad_line { takes_memory (codes "x") ≡ false }
 {}

@@ -19,6 +19,10 @@ pub returns-clause-v6_cut : goal.returns-clause-v6_cut
 unfolding encode_with
 returns-clause-v6_cut c = refl
 
+pub returns-clause-v6_middle : goal.returns-clause-v6_middle
+unfolding encode_with
+returns-clause-v6_middle c = refl
+
 pub returns-clause-no_tag : goal.returns-clause-no_tag
 unfolding encode_with
 returns-clause-no_tag c = refl
