@@ -96,27 +96,27 @@ module _ {D : Type 0} (transition : D → Call → D → Type 0) (m : Meaning) w
 
   -- a line alone, for which memory is wanting or a write stops,
   pub serves_fails : (old new : D) (earlier : List (List ℕ)) (line waiting waiting' : List ℕ) → waiting ≡ [] → (e : RunError)
-      → Gathers transition (m.takes_memory line) old waiting (m.reply earlier line) (Err e) waiting' new → Serves transition m old earlier (line ∷ []) (Err e) new
+      → Gathers transition (m.takes_memory earlier line) old waiting (m.reply earlier line) (Err e) waiting' new → Serves transition m old earlier (line ∷ []) (Err e) new
   serves_fails old new earlier line waiting waiting' none e fails =
       let reply = m.reply earlier line in
       FailsBy-map e
-      (λ h. ([], record { before = []; line = line; later = []; parts = refl; takes = h.0; same = refl }, subst (λ l. Written transition old l new) none h.1))
+      (λ h. ([], record { before = []; line = line; later = []; parts = refl; takes = ap (λ l. m.takes_memory l line) (append-nil earlier) ∙ h.0; same = refl }, subst (λ l. Written transition old l new) none h.1))
       (λ stops. subst (λ l. Stops transition e old l new) (ap (λ w. w ++ reply) none ∙ sym (append-nil reply)) stops)
       fails
 
   -- or that is answered
   pub serves_line : (old mid new : D) (earlier : List (List ℕ)) (line waiting waiting' : List ℕ) → waiting ≡ [] → (r : Result Unit RunError)
-      → Gathers transition (m.takes_memory line) old waiting (m.reply earlier line) (Ok tt) waiting' mid → Delivers transition mid waiting' r new → Serves transition m old earlier (line ∷ []) r new
+      → Gathers transition (m.takes_memory earlier line) old waiting (m.reply earlier line) (Ok tt) waiting' mid → Delivers transition mid waiting' r new → Serves transition m old earlier (line ∷ []) r new
   serves_line old mid new earlier line waiting waiting' none r gathers delivers =
       let reply = m.reply earlier line in
       Serves-delivered old new earlier (line ∷ []) r
       (subst (λ l. Delivers transition old l r new) (ap (λ w. w ++ reply) none ∙ sym (append-nil reply))
-      (Delivers-gathered transition (m.takes_memory line) old mid new waiting reply waiting' r gathers delivers))
+      (Delivers-gathered transition (m.takes_memory earlier line) old mid new waiting reply waiting' r gathers delivers))
 
   module _ (old mid new : D) (earlier : List (List ℕ)) (text line rest waiting : List ℕ) (count : ℕ) (shown : List (List ℕ) → Type 0) (n : ℕ)
       (f : Fed transition m old earlier text line rest waiting count shown mid) (lt : n < length rest) (is : get_or rest n 0 ≡ 10) (none : HasNoNewline (take n rest)) where
     -- one more line
-    pub fed_line : (waiting' : List ℕ) → Gathers transition (m.takes_memory (f.begun ++ take n rest)) mid waiting (m.reply (earlier ++ f.lines) (f.begun ++ take n rest)) (Ok tt) waiting' new
+    pub fed_line : (waiting' : List ℕ) → Gathers transition (m.takes_memory (earlier ++ f.lines) (f.begun ++ take n rest)) mid waiting (m.reply (earlier ++ f.lines) (f.begun ++ take n rest)) (Ok tt) waiting' new
         → (count' : ℕ) → count' ≡ u64_saturate (count + 1) → (shown' : List (List ℕ) → Type 0) → shown' ((earlier ++ f.lines) ++ (f.begun ++ take n rest) ∷ [])
         → (empty : List ℕ) → empty ≡ [] → Fed transition m old earlier text empty (drop (n + 1) rest) waiting' count' shown' new
     fed_line waiting' more count' counts shown' shows empty nothing =
@@ -137,7 +137,7 @@ module _ {D : Type 0} (transition : D → Call → D → Type 0) (m : Meaning) w
         }
 
     -- a write stops at a line, or memory is wanting for it
-    pub fed_fails : (e : RunError) (waiting' : List ℕ) → Gathers transition (m.takes_memory (f.begun ++ take n rest)) mid waiting (m.reply (earlier ++ f.lines) (f.begun ++ take n rest)) (Err e) waiting' new
+    pub fed_fails : (e : RunError) (waiting' : List ℕ) → Gathers transition (m.takes_memory (earlier ++ f.lines) (f.begun ++ take n rest)) mid waiting (m.reply (earlier ++ f.lines) (f.begun ++ take n rest)) (Err e) waiting' new
         → Serves transition m old earlier (split text).ended (Err e) new
     fed_fails e waiting' fails =
         let line = f.begun ++ take n rest in

@@ -8,13 +8,13 @@ pub mod Feeding
 pub mod FrameLemmas
 pub mod Going
 pub mod HexFrameLemmas
+pub mod InOrder
 pub mod KnownLemmas
 pub mod LineLemmas
 pub mod MemoryLemmas
 pub mod PartLemmas
 pub mod PostLemmas
 pub mod PostedAnswer
-pub mod PostedClass
 pub mod PostedFrames
 pub mod PostedPieces
 pub mod ReadLemmas

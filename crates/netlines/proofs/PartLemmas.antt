@@ -1,9 +1,9 @@
 -- What is answered to a part of a message, by what the pool tells of it.
-use Rattle.std.proofs.Common.{inl, inr, ◌≡◌, ◌∙◌, sym, ap, refl, subst, cond, ℕ, Bool, true, false, Option, Some, None, Result, Ok, Err, List, [], ◌∷◌, ◌++◌}
+use Rattle.std.proofs.Common.{inl, inr, ◌≡◌, ◌∙◌, sym, ap, refl, subst, cond, ℕ, Bool, true, false, Option, Some, None, Result, Ok, Err, is_some, List, [], ◌∷◌, ◌++◌, length}
 use Rattle.std.specs.Prelude.{codes}
 use Rattle.etherparse.specs.declared.defrag.ip_defrag_error.IpDefragError.{IpDefragError}
-use Rattle.etherparse.specs.declared.defrag.ip_defrag_error.IpDefragError.TheVariants.{AllocationFailure}
-use Rattle.etherparse.specs.Fragments.{Fragment, end_of, fragment, is_complete, refusal_of}
+use Rattle.etherparse.specs.declared.defrag.ip_defrag_error.IpDefragError.TheVariants.{AllocationFailure, ConflictingEnd, SegmentTooBig, UnalignedFragmentPayloadLen}
+use Rattle.etherparse.specs.Fragments.{Fragment, end_conflict, end_of, fragment, is_complete, named_end, refusal_at, refusal_of}
 use Rattle.etherparse.specs.declared.defrag.ip_defrag_payload_vec.IpDefragPayloadVec.{IpDefragPayloadVec}
 use Rattle.etherparse.specs.declared.defrag.ip_frag_id.IpFragId.{IpFragId}
 use Rattle.etherparse.specs.IpDefragPool.{Payload, payload_of, payload_told}
@@ -55,12 +55,9 @@ module _ (name : FragmentName) (channel : ℕ) (fs : List Fragment) (f : Fragmen
   refuses (Some other) e is = let same : other ≡ e = cc in ap refusal_answer same
   refuses None e is = absurd (no_refusal (is_complete (fs ++ f ∷ [])) (payload_of (id_named name channel) text) e is)
 
--- a part's frame is whole, and memory may be wanted for it
+-- a part's frame is whole
 pub part_is_sound : (class : Class) (addresses : Own) → IsPart class addresses → class ≡ Faulty → ⊥
 part_is_sound class addresses part is = let e = sym part.is ∙ is in cc
-
-pub part_takes_memory : (class : Class) (addresses : Own) → IsPart class addresses → class_takes_memory class ≡ true
-part_takes_memory class addresses part = ap class_takes_memory part.is
 
 module _ (class : Class) (addresses : Own) (part : IsPart class addresses) (lists : Lists) (channel : ℕ) (fault : Option SliceError) where
   abbrev fs : List Fragment
@@ -99,6 +96,31 @@ no_want lists (Whole addresses number bytes message) channel told is has = cc
 no_want lists Other channel told is has = cc
 no_want lists Faulty channel told is has = cc
 
+-- a refusal is never for want of memory
+has_if : (b : Bool) (x e : IpDefragError) (rest : Option IpDefragError) → HasMemory (Refused x) → (rest ≡ Some e → HasMemory (Refused e)) → cond b (Some x) rest ≡ Some e → HasMemory (Refused e)
+has_if true x e rest has behind is = let same : x ≡ e = cc in subst (λ (k : IpDefragError). HasMemory (Refused k)) same has
+has_if false x e rest has behind is = behind is
+
+none_told : (e : IpDefragError) → None ≡ Some e → HasMemory (Refused e)
+none_told e is = cc
+
+conflict_has : (named : Option ℕ) (f : Fragment) (e : IpDefragError) → end_conflict named f ≡ Some e → HasMemory (Refused e)
+conflict_has None f e is = none_told e is
+conflict_has (Some end) f e is = has_if _ (ConflictingEnd end (end_of f)) e None tt (none_told e) is
+
+refusal_has : (named : Option ℕ) (f : Fragment) (e : IpDefragError) → refusal_at named f ≡ Some e → HasMemory (Refused e)
+refusal_has named f e is =
+    has_if _ (SegmentTooBig f.offset (length f.bytes) 65535) e _ tt (has_if _ (UnalignedFragmentPayloadLen f.offset (length f.bytes)) e _ tt (conflict_has named f e)) is
+
+-- so one that tells of it is told in place of the answer
+module _ (name : FragmentName) (channel : ℕ) (fs : List Fragment) (f : Fragment) where
+  told_has : (refusal : Option IpDefragError) (e : IpDefragError) → refusal ≡ refusal_of fs f → Refused e ≡ told_of (id_named name channel) fs f refusal → HasMemory (Refused e)
+  told_has (Some other) e told is = let same : other ≡ e = cc in refusal_has (named_end fs) f e (sym told ∙ ap Some same)
+  told_has None e told is = absurd (no_refusal (is_complete (fs ++ f ∷ [])) (payload_of (id_named name channel) (text_of (fs ++ f ∷ []))) e is)
+
+some_want : (o : Option Told) (told : Told) → o ≡ Some told → is_some o ≡ true
+some_want o told is = ap (λ (w : Option Told). is_some w) is
+
 -- what the pool made of it
 module _ (same : IpFragId ℕ → IpFragId ℕ → Bool) (answered : PacketsAreAnswered same) (old new : Streams (IpFragId ℕ) ℕ) (class : Class) (addresses : Own) (part : IsPart class addresses) (time channel : ℕ)
     (result : Result (Option IpDefragPayloadVec) IpDefragError) (processed : Processed same old class time channel result new) (lists : Lists) (shows : ShowsLists same old lists) where
@@ -127,3 +149,12 @@ module _ (same : IpFragId ℕ → IpFragId ℕ → Bool) (answered : PacketsAreA
 
   pub refused_lists : (e : IpDefragError) → result ≡ Err e → HasMemory (Refused e) → ShowsLists same new (λ name other. after_frame name other class time channel (lists name other))
   refused_lists e is has = (told_by (Err e) is has).1
+
+  pub wanting : (e : IpDefragError) → result ≡ Err e → (HasMemory (Refused e) → ⊥) → class_takes_memory lists class channel ≡ true
+  wanting e is lacks =
+      let told = subst (λ (q : Result (Option IpDefragPayloadVec) IpDefragError). FrameAnswered (ShowsLists same new) lists class time channel None (told_outcome q)) is
+      (answered old new class time channel result processed (part_is_sound class addresses part) None lists shows) in
+      elim told [
+        | inl goes_on ↦ absurd (lacks (told_has part.name channel (fs class addresses part lists channel None) (f class addresses part lists channel None) _ e refl (as_told class addresses part lists channel None (Refused e) goes_on.0)))
+        | inr wants ↦ some_want (want_at_frame lists class channel) (Refused e) wants.0
+      ]

@@ -1,5 +1,5 @@
 -- What the frame with a message, or with a piece of one, is read as, whatever the letter.
-use Rattle.std.proofs.Common.{◌≡◌, ◌≢◌, ◌∙◌, sym, ap, refl, subst, ℕ, ◌≤◌, ◌==◌, Bool, true, false, List, [], ◌∷◌, length, Option, Some, None, Result, Ok, Err, arith, ltb-true}
+use Rattle.std.proofs.Common.{◌≡◌, ◌≢◌, ◌∙◌, sym, ap, refl, ℕ, ◌≤◌, ◌==◌, Bool, true, false, List, [], ◌∷◌, length, Option, Some, Ok, Err, arith, ltb-true}
 use Rattle.std.specs.Prelude.{◌||◌, not}
 use Rattle.std.proofs.lemmas.Bool.{eq-eqb, ne_eqb}
 use Rattle.etherparse.specs.Built.{built}
@@ -18,7 +18,7 @@ use Rattle.etherparse.specs.packet.declared.err.packet.slice_error.SliceError.{S
 use Rattle.etherparse.specs.packet.declared.net.ip_headers.IpHeaders.{IpHeaders}
 use Rattle.etherparse.specs.tag.declared.link.vlan_header.VlanHeader.{VlanHeader}
 use Rattle.netlines.specs.Letter.{CanCarry, HeadersFit, addresses_between, ethernet_of, identification_of, name_of}
-use Rattle.netlines.specs.Posted.{Piece, frame}
+use Rattle.netlines.specs.Posted.{frame}
 use Rattle.netlines.specs.PostRefusal.{names_extension}
 use Rattle.netlines.specs.PostedHeaders.{ip_headers_of, tags_of}
 use Rattle.netlines.specs.declared.letter.Letter.{Letter}

@@ -1,65 +1,80 @@
--- What the frames of a message in pieces are read as, over IPv4 and with no tag.
-use Rattle.std.proofs.Common.{◌≡◌, ◌≢◌, ◌∙◌, ap, refl, ℕ, ◌+◌, ◌-◌, ◌*◌, ◌/◌, ◌%◌, ◌^◌, ◌≤◌, ◌<◌, ◌&&◌, ◌==◌, Bool, true, false, if◌then◌else◌, List, [], ◌∷◌, ◌++◌, length, take, drop, map, Option, Some, None, arith, length-append}
+-- What the frames of a message in pieces are read as.
+use Rattle.std.proofs.Common.{◌≡◌, ◌∙◌, sym, ap, refl, ℕ, ◌+◌, ◌-◌, ◌*◌, ◌/◌, ◌%◌, ◌≤◌, ◌<◌, ◌&&◌, ◌==◌, Bool, true, false, if◌then◌else◌, List, [], ◌∷◌, length, take, drop, map, Option, Some, None, arith}
 use Rattle.std.specs.Prelude.{nat_lt}
-use Rattle.std.proofs.lemmas.List.{take_at, drop_at, take_all}
-use Rattle.std.proofs.lemmas.Bool.{and_parts, eqb-true, ltb-true, ltb-false, lt-ltb, ne_eqb, eq-eqb}
-use Rattle.etherparse.specs.base.Sum.{checksum}
+use Rattle.std.proofs.lemmas.List.{length-take, length-drop}
+use Rattle.std.proofs.lemmas.Bool.{and_parts, eqb-true, eq-eqb, ne_eqb, ltb-true, ltb-false, lt-ltb}
+use Rattle.etherparse.specs.BuiltFrames.{IpFits}
 use Rattle.etherparse.specs.declared.defrag.ip_frag_version_spec_id.IpFragVersionSpecId.{IpFragVersionSpecId}
-use Rattle.etherparse.specs.declared.defrag.ip_frag_version_spec_id.IpFragVersionSpecId.TheVariants.{Ipv4}
-use Rattle.etherparse.specs.ip.Ipv4.{IsIpv4Header, source_of, destination_of, identification_of, more_fragments_of, fragment_offset_of, is_fragmenting}
-use Rattle.etherparse.specs.packet.Class.{class_of, fragment_class, ipv4_class_at, message_class}
-use Rattle.etherparse.specs.packet.Class.Addresses.{V4}
-use Rattle.netlines.specs.Letter.{SendsInPieces, piece_class}
-use Rattle.netlines.specs.Posted.{Piece, ether_type, header_v4, header_with, is_cut, packet, pieces_from, posted, tagged}
-use Rattle.netlines.specs.PostRefusal.{bad_cut_from, is_good_cut, long_piece_from}
+use Rattle.etherparse.specs.declared.defrag.ip_frag_version_spec_id.IpFragVersionSpecId.TheVariants.{Ipv4, Ipv6}
+use Rattle.etherparse.specs.ext.declared.net.ipv6_fragment_header.Ipv6FragmentHeader.{Ipv6FragmentHeader}
+use Rattle.etherparse.specs.ip.Ipv4.{is_fragmenting}
+use Rattle.etherparse.specs.packet.Class.{class_of}
+use Rattle.netlines.specs.Letter.{HeadersFit, piece_class}
+use Rattle.netlines.specs.Posted.{Piece, frame, is_cut, pieces_from, posted}
+use Rattle.netlines.specs.PostRefusal.{bad_cut_from, is_good_cut, long_piece_from, names_extension, post_refusal, room}
+use Rattle.netlines.specs.PostedHeaders.{ip_headers_of}
 use Rattle.netlines.specs.declared.letter.Letter.{Letter}
-use Rattle.netlines.proofs.PostedClass.{class_behind, packet_is, payload_with, two_bytes}
+use Rattle.netlines.proofs.PostedFrames.{PartIsRead, frame_is_part}
+use Rattle.netlines.proofs.UnrefusedLemmas.{unrefused}
 
--- the word of flags and offset is read as they are
-flag_is : (more : Bool) (offset : ℕ) → offset < 8192 → (((if more then 0x2000 else 0) + offset) / 256 % 256 / 2 ^ 5 % 2 == 1) ≡ more
+-- headers that fit at the front of a message fit at every place of it
+offset_is : (more : Bool) (offset : ℕ) → offset < 8192
+    → (256 * ((8 * offset + (if more then 1 else 0)) / 256 % 256) + (8 * offset + (if more then 1 else 0)) % 256) / 8 ≡ offset
+offset_is true offset small = omega arith
+offset_is false offset small = omega arith
+
+flag_is : (more : Bool) (offset : ℕ) → offset < 8192 → ((8 * offset + (if more then 1 else 0)) % 256 % 2 == 1) ≡ more
 flag_is true offset small = eq-eqb _ 1 (omega arith)
 flag_is false offset small = ne_eqb _ 1 (λ is. absurd (omega arith))
 
-offset_is : (more : Bool) (offset : ℕ) → offset < 8192
-    → (256 * (((if more then 0x2000 else 0) + offset) / 256 % 256) + ((if more then 0x2000 else 0) + offset) % 256) % 2 ^ 13 ≡ offset
-offset_is true offset small = omega arith
-offset_is false offset small = omega arith
+fits_at : (stream : IpFragVersionSpecId) (number offset : ℕ) (more : Bool) → offset < 8192 → IpFits (ip_headers_of stream true 0 false) number → IpFits (ip_headers_of stream true offset more) number
+fits_at (Ipv4 source destination identification) number offset more small fits = (
+  record {
+    dscp = fits.0.dscp;
+    total_len = fits.0.total_len;
+    identification = fits.0.identification;
+    fragment_offset = small;
+    header_checksum = fits.0.header_checksum;
+    source = fits.0.source;
+    destination = fits.0.destination;
+    options = fits.0.options;
+  },
+  fits.1,
+)
+fits_at (Ipv6 source destination identification) number offset more small fits = (
+  fits.0,
+  (λ i. record {
+    next_header = record { 0 = 0 };
+    fragment_offset = offset_is more offset small i;
+    more_fragments = flag_is more offset small i;
+    identification = ap (λ (h : Ipv6FragmentHeader). h.identification) fits.1 i;
+  }),
+  (refl, record { whole = refl }, refl),
+)
+
+pub all_fit : (letter : Letter) (offset : ℕ) (more : Bool) → offset < 8192 → HeadersFit letter true 0 false → HeadersFit letter true offset more
+all_fit letter offset more small fit = record {
+  link = fit.link;
+  tags = fit.tags;
+  few = fit.few;
+  ip = fits_at letter.stream letter.number.0 offset more small fit.ip;
+}
 
 fragmenting : (more : Bool) (offset : ℕ) → (more ≡ false → 0 < offset) → is_fragmenting more offset ≡ true
 fragmenting true offset some = refl
 fragmenting false offset some = lt-ltb 0 offset (some refl)
 
-module _ (source destination : List ℕ) (from : length source ≡ 4) (to : length destination ≡ 4) (identification number : ℕ) (named : identification ≤ 65535) (plain : number ≢ 51) where
-  class_of-piece : (front : List ℕ) (piece : Piece) → length front ≡ 12 → length piece.text ≤ 65515 → piece.offset < 8192 → (piece.more ≡ false → 0 < piece.offset)
-      → class_of (front ++ 8 ∷ 0 ∷ (header_v4 source destination identification number piece ++ piece.text)) ≡ piece_class source destination identification number piece
-  class_of-piece front piece twelve short small some =
-      let stored = checksum (header_with 0 source destination identification number piece) in
-      let head = header_with stored source destination identification number piece in
-      let twenty : length head ≡ 20 = omega (arith, length-append source destination) in
-      let is : IsIpv4Header head = record { version = refl; minimum = omega arith; whole = twenty } in
-      let more : more_fragments_of head ≡ piece.more = flag_is piece.more piece.offset small in
-      let offset : fragment_offset_of head ≡ piece.offset = offset_is piece.more piece.offset small in
-      let name : identification_of head ≡ identification = two_bytes identification named in
-      let from_is : source_of head ≡ source = take_at source destination 4 from in
-      let to_is : destination_of head ≡ destination = ap (take 4) (drop_at source destination 4 from) ∙ take_all 4 destination (omega arith) in
-      let fragments : is_fragmenting piece.more piece.offset ≡ true = fragmenting piece.more piece.offset some in
-      class_behind front (head ++ piece.text) twelve
-      ∙ ap (ipv4_class_at []) (packet_is head piece.text is twenty (two_bytes (20 + length piece.text) (omega arith)) (ne_eqb number 51 plain))
-      ∙ (λ i.
-      if is_fragmenting (more i) (offset i)
-      then fragment_class [] (V4 (from_is i) (to_is i)) (record (payload_with number piece.text) { fragmented = is_fragmenting (more i) (offset i) })
-      (record { identification = name i; offset = offset i; more = more i })
-      else message_class (V4 (from_is i) (to_is i)) (record (payload_with number piece.text) { fragmented = is_fragmenting (more i) (offset i) }))
-      ∙ rw fragments refl
-
 -- what each test says of a cut and of a piece
-good_cut : (len before cut : ℕ) → is_good_cut len before cut ≡ true → (8 ≤ cut) × (cut < len)
+pub record IsGoodCut (len before cut : ℕ) : Type 0 where
+  pub units : cut % 8 ≡ 0
+  pub behind : before < cut
+  pub within : cut < len
+
+good_cut : (len before cut : ℕ) → is_good_cut len before cut ≡ true → IsGoodCut len before cut
 good_cut len before cut is =
     let behind = and_parts ((cut % 8 == 0) && nat_lt before cut) (nat_lt cut len) is in
     let parts = and_parts (cut % 8 == 0) (nat_lt before cut) behind.0 in
-    let multiple : cut % 8 ≡ 0 = eqb-true (cut % 8) 0 parts.0 in
-    let above : before < cut = ltb-true before cut parts.1 in
-    (omega arith, ltb-true cut len behind.1)
+    record { units = eqb-true (cut % 8) 0 parts.0; behind = ltb-true before cut parts.1; within = ltb-true cut len behind.1 }
 
 goes_on : (b : Bool) (n : ℕ) (o : Option ℕ) → (if b then o else Some n) ≡ None → (b ≡ true) × (o ≡ None)
 goes_on true n o is = (refl, is)
@@ -69,43 +84,101 @@ passes : (b : Bool) (n : ℕ) (o : Option ℕ) → (if b then Some n else o) ≡
 passes true n o is = cc
 passes false n o is = (refl, is)
 
--- the frame with a piece, behind these tags and over this stream
-abbrev framed_in : Letter → (vlans : List ℕ) → IpFragVersionSpecId → (cut : Bool) → Piece → List ℕ
-framed_in letter vlans stream cut piece =
-    letter.ethernet_destination ++ letter.ethernet_source ++ (tagged vlans (ether_type stream) ++ packet stream letter.number.0 cut piece)
+-- the rest of a message of so many bytes, from this place on, can be sent with these cuts: in pieces for which there
+-- is this room, and in more than one of them
+pub record Goes (room len start : ℕ) (later rest : List ℕ) : Type 0 where
+  pub index : ℕ
+  pub place : ℕ
+  pub short : len ≤ 65535
+  pub all : start + length rest ≡ len
+  pub units : start % 8 ≡ 0
+  pub several : 8 ≤ start + 8 * length later
+  pub good : bad_cut_from len start index later ≡ None
+  pub fits : long_piece_from room place (pieces_from start later rest) ≡ None
 
-some_cut : (cuts : List ℕ) → 0 < length cuts → is_cut cuts ≡ true
-some_cut [] some = absurd (omega arith)
-some_cut (cut ∷ cuts) some = refl
+module _ (room len start : ℕ) where
+  pub last_fits : (rest : List ℕ) → Goes room len start [] rest → length rest ≤ room
+  last_fits rest goes = ltb-false room (length rest) (passes (nat_lt room (length rest)) goes.place None goes.fits).0
 
-module _ (letter : Letter) (source destination message cuts : List ℕ) (sends : SendsInPieces letter source destination message cuts) where
-  front_len : length (letter.ethernet_destination ++ letter.ethernet_source) ≡ 12
-  front_len = omega (arith, length-append letter.ethernet_destination letter.ethernet_source, sends.ethernet_source_len, sends.ethernet_destination_len)
+  module _ (cut : ℕ) (later rest : List ℕ) (goes : Goes room len start (cut ∷ later) rest) where
+    abbrev text : List ℕ
+    text = take (cut - start) rest
 
-  one_class : (piece : Piece) → length piece.text ≤ 65515 → piece.offset < 8192 → (piece.more ≡ false → 0 < piece.offset)
-      → class_of (framed_in letter [] (Ipv4 source destination sends.identification) true piece) ≡ piece_class source destination sends.identification letter.number.0 piece
-  one_class piece short small some =
-      class_of-piece source destination sends.source_len sends.destination_len sends.identification letter.number.0 sends.identification_fits sends.not_extension
-      (letter.ethernet_destination ++ letter.ethernet_source) piece front_len short small some
+    abbrev behind : List ℕ
+    behind = drop (cut - start) rest
 
-  classes_from : (len start index place : ℕ) (later rest : List ℕ) → len ≤ 65535 → start ≤ 65535 → 8 ≤ start + 8 * length later
-      → bad_cut_from len start index later ≡ None → long_piece_from 65515 place (pieces_from start later rest) ≡ None
-      → map class_of (map (framed_in letter [] (Ipv4 source destination sends.identification) true) (pieces_from start later rest))
-      ≡ map (piece_class source destination sends.identification letter.number.0) (pieces_from start later rest)
-  classes_from len start index place [] rest short small some good fits =
-      let long = passes (nat_lt 65515 (length rest)) place None fits in
-      ap (λ class. class ∷ []) (one_class (record { offset = start / 8; more = false; text = rest }) (ltb-false 65515 (length rest) long.0) (omega arith) (λ last. omega arith))
-  classes_from len start index place (cut ∷ later) rest short small some good fits =
-      let text = take (cut - start) rest in
-      let long = passes (nat_lt 65515 (length text)) place (long_piece_from 65515 (place + 1) (pieces_from cut later (drop (cut - start) rest))) fits in
-      let next = goes_on (is_good_cut len start cut) index (bad_cut_from len cut (index + 1) later) good in
-      let at = good_cut len start cut next.0 in
-      let first = one_class (record { offset = start / 8; more = true; text = text }) (ltb-false 65515 (length text) long.0) (omega arith) (λ last. absurd (cc)) in
-      let behind = classes_from len cut (index + 1) (place + 1) later (drop (cut - start) rest) short (omega (arith, at.1)) (omega (arith, at.0)) next.1 long.1 in
+    next_cut : (is_good_cut len start cut ≡ true) × (bad_cut_from len cut (goes.index + 1) later ≡ None)
+    next_cut = goes_on (is_good_cut len start cut) goes.index (bad_cut_from len cut (goes.index + 1) later) goes.good
+
+    next_piece : (nat_lt room (length text) ≡ false) × (long_piece_from room (goes.place + 1) (pieces_from cut later behind) ≡ None)
+    next_piece = passes (nat_lt room (length text)) goes.place (long_piece_from room (goes.place + 1) (pieces_from cut later behind)) goes.fits
+
+    pub is_good : IsGoodCut len start cut
+    is_good = good_cut len start cut next_cut.0
+
+    pub text_len : length text ≡ cut - start
+    text_len = let good = is_good in omega (arith, length-take (cut - start) rest, good.within, good.behind, goes.all)
+
+    pub text_fits : length text ≤ room
+    text_fits = ltb-false room (length text) next_piece.0
+
+    pub goes_behind : Goes room len cut later behind
+    goes_behind = let good = is_good in record {
+      index = goes.index + 1;
+      place = goes.place + 1;
+      short = goes.short;
+      all = omega (arith, length-drop (cut - start) rest, good.within, good.behind, goes.all);
+      units = good.units;
+      several = omega (arith, good.behind, good.units);
+      good = next_cut.1;
+      fits = next_piece.1;
+    }
+
+some_cut : (cuts : List ℕ) → is_cut cuts ≡ true → 0 < length cuts
+some_cut [] some = cc
+some_cut (cut ∷ cuts) some = omega arith
+
+pub goes_from_start : (letter : Letter) (message cuts : List ℕ) → post_refusal letter message cuts ≡ None → is_cut cuts ≡ true → Goes (room letter.stream true) (length message) 0 cuts message
+goes_from_start letter message cuts sent cut =
+    let holds = unrefused letter message cuts sent in
+    let some = some_cut cuts cut in
+    record {
+      index = 0;
+      place = 0;
+      short = holds.short;
+      all = omega arith;
+      units = refl;
+      several = omega (arith, some);
+      good = holds.good;
+      fits = ap (λ b. long_piece_from (room letter.stream b) 0 (pieces_from 0 cuts message)) (sym cut) ∙ holds.fits;
+    }
+
+module _ (letter : Letter) (law : PartIsRead) (fit : HeadersFit letter true 0 false) (number : names_extension letter.stream letter.number.0 ≡ false) where
+  pub piece_is_read : (piece : Piece) → length piece.text ≤ room letter.stream true → piece.offset < 8192 → (piece.more ≡ false → 0 < piece.offset)
+      → class_of (frame letter true piece) ≡ piece_class letter piece
+  piece_is_read piece short small some =
+      frame_is_part letter law piece.offset piece.more (all_fit letter piece.offset piece.more small fit) piece.text (record { number = number; fits = short }) (fragmenting piece.more piece.offset some)
+
+  pub last_is_read : (len start : ℕ) (rest : List ℕ) → Goes (room letter.stream true) len start [] rest
+      → class_of (frame letter true (record { offset = start / 8; more = false; text = rest })) ≡ piece_class letter (record { offset = start / 8; more = false; text = rest })
+  last_is_read len start rest goes =
+      piece_is_read (record { offset = start / 8; more = false; text = rest }) (last_fits (room letter.stream true) len start rest goes) (omega (arith, goes.all, goes.short)) (λ last. omega (arith, goes.several))
+
+  pub first_is_read : (len start cut : ℕ) (later rest : List ℕ) → Goes (room letter.stream true) len start (cut ∷ later) rest
+      → class_of (frame letter true (record { offset = start / 8; more = true; text = take (cut - start) rest })) ≡ piece_class letter (record { offset = start / 8; more = true; text = take (cut - start) rest })
+  first_is_read len start cut later rest goes =
+      piece_is_read (record { offset = start / 8; more = true; text = take (cut - start) rest }) (text_fits (room letter.stream true) len start cut later rest goes) (omega (arith, goes.all, goes.short)) (λ last. absurd (cc))
+
+  classes_from : (len start : ℕ) (later rest : List ℕ) → Goes (room letter.stream true) len start later rest
+      → map class_of (map (frame letter true) (pieces_from start later rest)) ≡ map (piece_class letter) (pieces_from start later rest)
+  classes_from len start [] rest goes = ap (λ class. class ∷ []) (last_is_read len start rest goes)
+  classes_from len start (cut ∷ later) rest goes =
+      let first = first_is_read len start cut later rest goes in
+      let behind = classes_from len cut later (drop (cut - start) rest) (goes_behind (room letter.stream true) len start cut later rest goes) in
       λ i. first i ∷ behind i
 
-  pub posted_cut : map class_of (posted letter message cuts) ≡ map (piece_class source destination sends.identification letter.number.0) (pieces_from 0 cuts message)
-  posted_cut =
-      let cut : is_cut cuts ≡ true = some_cut cuts sends.some in
-      (λ i. map class_of (map (framed_in letter (sends.untagged i) (sends.over i) (cut i)) (pieces_from 0 cuts message)))
-      ∙ classes_from (length message) 0 0 0 cuts message sends.short (omega arith) (omega (arith, sends.some)) sends.good sends.fits
+pub posted_cut : (letter : Letter) → PartIsRead → HeadersFit letter true 0 false → (message cuts : List ℕ) → post_refusal letter message cuts ≡ None → is_cut cuts ≡ true
+    → map class_of (posted letter message cuts) ≡ map (piece_class letter) (pieces_from 0 cuts message)
+posted_cut letter law fit message cuts sent cut =
+    (λ i. map class_of (map (frame letter (cut i)) (pieces_from 0 cuts message)))
+    ∙ classes_from letter law fit (unrefused letter message cuts sent).number (length message) 0 cuts message (goes_from_start letter message cuts sent cut)

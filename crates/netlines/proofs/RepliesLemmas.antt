@@ -30,7 +30,7 @@ EndsBefore-after m earlier lines more replies e = record {
   line = e.line;
   later = e.later;
   parts = ap (λ l. lines ++ l) e.parts ∙ sym (append_assoc lines e.before (e.line ∷ e.later));
-  takes = e.takes;
+  takes = ap (λ l. m.takes_memory l e.line) (sym (append_assoc earlier lines e.before)) ∙ e.takes;
   same = ap (λ l. replies_after m earlier lines ++ l) e.same ∙ sym (replies_after-append m earlier lines e.before);
 }
 

@@ -19,7 +19,7 @@ use Rattle.etherparse.specs.tcpudp.UdpFault.{udp_at}
 use Rattle.etherparse.specs.tcpudp.declared.transport.tcp_header.TcpHeader.{TcpHeader}
 use Rattle.etherparse.specs.tcpudp.declared.transport.udp_header.UdpHeader.{UdpHeader}
 use Rattle.etherparse.specs.packet.Readable.{ReadMessage, message_at, read_as}
-use Rattle.netlines.proofs.PostedClass.{two_bytes}
+use Rattle.etherparse.proofs.FrameTags.{two_bytes}
 use Rattle.netlines.proofs.ReadLemmas.{icmpv4_is, icmpv6_is, segment_is}
 use Rattle.etherparse.specs.packet.Readable.ReadMessage.{Udp}
 use Rattle.etherparse.specs.icmp.declared.transport.icmpv4_header.Icmpv4Header.{Icmpv4Header}

@@ -1,10 +1,9 @@
 -- What is answered to a line after others, and to a list of bytes line by line.
-use Rattle.std.specs.Prelude.{ℕ, ◌+◌, if◌then◌else◌, Bool, true, false, Option, Some, None, Result, Ok, Err, List, [], ◌∷◌, ◌++◌, codes, decimal}
-use Rattle.std.specs.Io.Iter.{u64_saturate}
+use Rattle.std.specs.Prelude.{ℕ, ◌+◌, if◌then◌else◌, Bool, false, is_some, Option, Some, None, Result, Ok, Err, List, [], ◌∷◌, ◌++◌, codes, decimal}
 use Rattle.hex.specs.Hex.{encode_lower}
 use Rattle.etherparse.specs.Fragments.{Fragment, fragment, is_complete, refusal_of}
 use Rattle.etherparse.specs.Picture.{text_of}
-use Rattle.etherparse.specs.PoolCalls.{Lists, after_frame, no_lists, retained_from}
+use Rattle.etherparse.specs.PoolCalls.{Lists, after_frame, no_lists, retained_from, want_at_frame}
 use Rattle.etherparse.specs.declared.defrag.ip_defrag_error.IpDefragError.{IpDefragError}
 use Rattle.etherparse.specs.declared.defrag.ip_defrag_error.IpDefragError.TheVariants.{AllocationFailure, ConflictingEnd, SegmentTooBig, UnalignedFragmentPayloadLen}
 use Rattle.etherparse.specs.packet.Class.{Addresses, Class, FragmentName, class_of}
@@ -14,7 +13,7 @@ use Rattle.etherparse.specs.packet.declared.err.packet.slice_error.SliceError.{S
 use Rattle.netlines.specs.FrameClass.{as_addresses}
 use Rattle.netlines.specs.Lines.{Command, command_of}
 use Rattle.netlines.specs.Lines.Command.{Frame, Forget, Bad}
-use Rattle.netlines.specs.Replies.{Meaning, replies_to, replies_to_ended}
+use Rattle.netlines.specs.Replies.{Meaning, number_behind, replies_to, replies_to_ended}
 use Rattle.netlines.specs.Verdict.{verdict_of}
 use Rattle.netlines.specs.declared.verdict.Verdict.{Verdict}
 use Rattle.netlines.specs.declared.verdict.Verdict.TheVariants as verdict
@@ -68,46 +67,44 @@ command_answer lists (Forget number) = codes "ok"
 command_answer lists Bad = bad_line
 
 -- the accepted fragments of each message after a line of this number that asks for this
-abbrev pub lists_with : Lists → ℕ → Command → Lists
-lists_with lists number (Frame channel bytes) name other = after_frame name other (class_of bytes) number channel (lists name other)
-lists_with lists number (Forget line) name other = retained_from line (lists name other)
-lists_with lists number Bad name other = lists name other
-
--- the number of the line behind so many, as far as 64 bits can tell it
-abbrev pub number_behind : ℕ → ℕ
-number_behind count = u64_saturate (count + 1)
+abbrev pub lists_with_line : Lists → ℕ → Command → Lists
+lists_with_line lists number (Frame channel bytes) name other = after_frame name other (class_of bytes) number channel (lists name other)
+lists_with_line lists number (Forget line) name other = retained_from line (lists name other)
+lists_with_line lists number Bad name other = lists name other
 
 -- the same after these lines, which stand behind so many others
 abbrev pub lists_behind : ℕ → Lists → List (List ℕ) → Lists
 lists_behind count lists [] = lists
-lists_behind count lists (line ∷ lines) = lists_behind (count + 1) (lists_with lists (number_behind count) (command_of line)) lines
+lists_behind count lists (line ∷ lines) = lists_behind (count + 1) (lists_with_line lists (number_behind count) (command_of line)) lines
 
 -- the accepted fragments of each message after these lines, the first of which is line 1
-unfoldable pub lists_after : List (List ℕ) → Lists
-lists_after lines = lists_behind 0 no_lists lines
+unfoldable pub lists_after_lines : List (List ℕ) → Lists
+lists_after_lines lines = lists_behind 0 no_lists lines
 
 -- what is answered to a line after others
 unfoldable pub answer_after : List (List ℕ) → List ℕ → List ℕ
-answer_after earlier line = command_answer (lists_after earlier) (command_of line)
+answer_after earlier line = command_answer (lists_after_lines earlier) (command_of line)
 
 -- the answer as a line of its own
 unfoldable pub reply_after : List (List ℕ) → List ℕ → List ℕ
 reply_after earlier line = answer_after earlier line ++ 10 ∷ []
 
--- memory may be wanting for a fragment and for a `forget`
-abbrev pub class_takes_memory : Class → Bool
-class_takes_memory (Whole addresses number bytes message) = false
-class_takes_memory (Cut name offset more bytes) = true
-class_takes_memory Other = false
-class_takes_memory Refused = false
+-- what is replied to the piece in front of each of these cuts: the rest of its message is waited for
+abbrev pub waits : (cuts : List ℕ) → List ℕ
+waits [] = []
+waits (cut ∷ cuts) = codes "wait" ++ 10 ∷ waits cuts
 
-abbrev pub command_takes_memory : Command → Bool
-command_takes_memory (Frame channel bytes) = class_takes_memory (class_of bytes)
-command_takes_memory (Forget number) = true
-command_takes_memory Bad = false
+-- memory may be wanting for a fragment that isn't refused behind those before it
+abbrev pub class_takes_memory : Lists → Class → ℕ → Bool
+class_takes_memory lists class channel = is_some (want_at_frame lists class channel)
 
-unfoldable pub takes_memory : List ℕ → Bool
-takes_memory line = command_takes_memory (command_of line)
+abbrev pub command_takes_memory : Lists → Command → Bool
+command_takes_memory lists (Frame channel bytes) = class_takes_memory lists (class_of bytes) channel
+command_takes_memory lists (Forget number) = false
+command_takes_memory lists Bad = false
+
+unfoldable pub takes_memory : List (List ℕ) → List ℕ → Bool
+takes_memory earlier line = command_takes_memory (lists_after_lines earlier) (command_of line)
 
 -- what lines mean
 abbrev pub answering : Meaning

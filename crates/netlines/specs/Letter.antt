@@ -1,5 +1,5 @@
--- Letters whose message is sent in one packet, or in pieces.
-use Rattle.std.specs.Prelude.{◌≡◌, ◌≢◌, ℕ, ◌<◌, ◌≤◌, Bool, false, List, [], length, None}
+-- Letters: the name and the headers of the packets in which a message is sent.
+use Rattle.std.specs.Prelude.{◌≡◌, ℕ, ◌≤◌, Bool, false, List, length}
 use Rattle.etherparse.specs.BuiltFrames.{IpFits, TagsFit}
 use Rattle.etherparse.specs.declared.defrag.ip_frag_version_spec_id.IpFragVersionSpecId.{IpFragVersionSpecId}
 use Rattle.etherparse.specs.declared.defrag.ip_frag_version_spec_id.IpFragVersionSpecId.TheVariants.{Ipv4, Ipv6}
@@ -8,44 +8,10 @@ use Rattle.etherparse.specs.link.declared.link.ethernet2_header.Ethernet2Header.
 use Rattle.etherparse.specs.packet.Class.{Addresses, Class, FragmentName}
 use Rattle.etherparse.specs.packet.Class.Addresses.{V4, V6}
 use Rattle.etherparse.specs.packet.Class.Class.{Cut}
-use Rattle.netlines.specs.PostRefusal.{bad_cut, long_piece_from, names_extension, room}
+use Rattle.netlines.specs.PostRefusal.{names_extension, room}
 use Rattle.netlines.specs.PostedHeaders.{ip_headers_of, tags_of}
-use Rattle.netlines.specs.Posted.{Piece, pieces_from}
+use Rattle.netlines.specs.Posted.{Piece}
 use Rattle.netlines.specs.declared.letter.Letter.{Letter}
-
--- a letter over IPv4 between these addresses, with no tag, whose number names no authentication header, and a message
--- that fits one packet. The lengths are those that a letter's fields have
-pub record SendsUncut (letter : Letter) (source destination message : List ℕ) : Type 0 where
-  pub identification : ℕ
-  pub over : letter.stream ≡ Ipv4 source destination identification
-  pub untagged : letter.vlans.items ≡ []
-  pub not_extension : letter.number.0 ≢ 51
-  pub source_len : length source ≡ 4
-  pub destination_len : length destination ≡ 4
-  pub ethernet_source_len : length letter.ethernet_source ≡ 6
-  pub ethernet_destination_len : length letter.ethernet_destination ≡ 6
-  pub fits : length message ≤ 65515
-
--- the same in pieces: there is a cut, each can be made, and each piece fits one packet
-pub record SendsInPieces (letter : Letter) (source destination message cuts : List ℕ) : Type 0 where
-  pub identification : ℕ
-  pub over : letter.stream ≡ Ipv4 source destination identification
-  pub untagged : letter.vlans.items ≡ []
-  pub not_extension : letter.number.0 ≢ 51
-  pub identification_fits : identification ≤ 65535
-  pub source_len : length source ≡ 4
-  pub destination_len : length destination ≡ 4
-  pub ethernet_source_len : length letter.ethernet_source ≡ 6
-  pub ethernet_destination_len : length letter.ethernet_destination ≡ 6
-  pub short : length message ≤ 65535
-  pub some : 0 < length cuts
-  pub good : bad_cut (length message) cuts ≡ None
-  pub fits : long_piece_from 65515 0 (pieces_from 0 cuts message) ≡ None
-
--- what the frame of a piece is read as
-abbrev pub piece_class : (source destination : List ℕ) → (identification number : ℕ) → Piece → Class
-piece_class source destination identification number piece =
-    Cut (record { vlan_ids = []; addresses = V4 source destination; identification = identification; number = number }) piece.offset piece.more piece.text
 
 -- the addresses that a stream's messages go between
 abbrev pub addresses_between : IpFragVersionSpecId → Addresses
@@ -64,6 +30,10 @@ name_of letter = record {
   identification = identification_of letter.stream;
   number = letter.number.0;
 }
+
+-- what the frame of a piece is read as
+abbrev pub piece_class : Letter → Piece → Class
+piece_class letter piece = Cut (name_of letter) piece.offset piece.more piece.text
 
 -- a letter's number names no extension header, and a packet has room for a message or a piece of these bytes
 pub record CanCarry (letter : Letter) (cut : Bool) (text : List ℕ) : Type 0 where

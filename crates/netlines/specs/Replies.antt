@@ -4,10 +4,10 @@ use Rattle.std.specs.Io.Iter.{u64_saturate}
 use Rattle.netlines.specs.Lines.{HasNoNewline, lines_of, ended_lines_of}
 use Rattle.netlines.specs.declared.limits.TheConstants.{LINE_ROOM}
 
--- what lines mean: the reply to a line after those before it, and whether the reply to a line takes memory
+-- what lines mean: the reply to a line after those before it, and whether memory may be wanting for it there
 pub record Meaning : Type 0 where
   pub reply : List (List ℕ) → List ℕ → List ℕ
-  pub takes_memory : List ℕ → Bool
+  pub takes_memory : List (List ℕ) → List ℕ → Bool
 
 -- the replies to lines, in order, after these earlier ones
 abbrev pub replies_after : Meaning → List (List ℕ) → List (List ℕ) → List ℕ
@@ -27,18 +27,21 @@ abbrev pub whole_lines_of : Bool → List ℕ → List (List ℕ)
 whole_lines_of true bytes = lines_of bytes
 whole_lines_of false bytes = ended_lines_of bytes
 
--- these are the replies to the lines before one whose reply takes memory
+-- these are the replies to the lines before one for which memory may be wanting
 pub record EndsBefore (meaning : Meaning) (earlier lines : List (List ℕ)) (replies : List ℕ) : Type 0 where
   pub before : List (List ℕ)
   pub line : List ℕ
   pub later : List (List ℕ)
   pub parts : lines ≡ before ++ line ∷ later
-  pub takes : meaning.takes_memory line ≡ true
+  pub takes : meaning.takes_memory (earlier ++ before) line ≡ true
   pub same : replies ≡ replies_after meaning earlier before
 
--- the number of the line that follows these, from 1 on; the greatest number of 64 bits is that of all lines from there on
+-- the number of the line behind so many, from 1 on; the greatest number of 64 bits is that of all lines from there on
+abbrev pub number_behind : ℕ → ℕ
+number_behind count = u64_saturate (count + 1)
+
 abbrev pub number_after : List (List ℕ) → ℕ
-number_after earlier = u64_saturate (length earlier + 1)
+number_after earlier = number_behind (length earlier)
 
 -- an answerer that has answered the earlier lines is asked for the next one, by its number,
 -- and by a line that is its first bytes, as far as they matter

@@ -7,7 +7,7 @@ use std::alloc::AllocError;
 
 /// Answers lines, each by what it knows of those before it.
 pub trait Answerer {
-    // What is replied to a line after others, and which lines take memory.
+    // What is replied to a line after others, and where memory may be wanting for it.
     ghost meaning: { Meaning };
 
     // What is known after these lines.
@@ -23,5 +23,5 @@ pub trait Answerer {
         ensures replies { (earlier : List (List ℕ)) (whole : List ℕ) → Asks (shows self.old) earlier number line.now whole
             → MatchResult result
             (λ end. (take end out.new ≡ meaning.reply earlier whole) × shows self.new (earlier ++ whole ∷ []))
-            (λ e. IsTrue (meaning.takes_memory whole)) };
+            (λ e. IsTrue (meaning.takes_memory earlier whole)) };
 }

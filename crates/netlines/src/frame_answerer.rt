@@ -1,10 +1,10 @@
 //! Answers to lines by the frames that they and the lines before them hand in.
-ghost use Rattle.std.specs.Prelude.{◌≡◌, ◌≤◌, ◌<◌, ◌*◌, ◌+◌, [], true, codes, vec_len, length, take, IfOk, OnOk, OnErr};
+ghost use Rattle.std.specs.Prelude.{◌≡◌, ◌≤◌, ◌<◌, ◌*◌, ◌+◌, [], true, codes, vec_len, length, take, IfOk, IsOk, OnOk, OnErr};
 ghost use Rattle.hex.specs.Hex.{decode_of};
 ghost use Rattle.etherparse.specs.PoolCalls.{Lists, ShowsLists, after_frame, retained_from};
 ghost use Rattle.etherparse.specs.packet.Class.{class_of, packet_told};
 ghost use Rattle.etherparse.specs.packet.Readable.{message_at};
-ghost use Rattle.netlines.specs.Answers.{answering, class_answer, class_takes_memory, command_answer, command_takes_memory, completed_answer, lists_after, lists_with, message_answer};
+ghost use Rattle.netlines.specs.Answers.{answering, class_answer, class_takes_memory, command_answer, command_takes_memory, completed_answer, lists_after_lines, lists_with_line, message_answer};
 ghost use Rattle.netlines.specs.FrameClass.{IsPart, class_addresses};
 ghost use Rattle.netlines.specs.Lines.{command_of, frame_on};
 ghost use Rattle.netlines.specs.ReadMessage.{as_read};
@@ -42,7 +42,7 @@ pub struct FrameAnswerer {
 impl FrameAnswerer {
     /// No message is on its way. The room of a line's frame is taken here.
     pub fn new(alloc: Global) -> Result<FrameAnswerer, AllocError>
-        ensures { IfOk result (λ answerer. ShowsLists ⟦<IpFragId<u32> as PartialEq>⟧.eq answerer.pool (lists_after [])) }
+        ensures { IfOk result (λ answerer. ShowsLists ⟦<IpFragId<u32> as PartialEq>⟧.eq answerer.pool (lists_after_lines [])) }
     {
         Ok(FrameAnswerer {
             pool: IpDefragPool::new(alloc),
@@ -54,7 +54,7 @@ impl FrameAnswerer {
 impl Answerer for FrameAnswerer {
     ghost meaning = { answering };
 
-    ghost shows = { λ answerer earlier. ShowsLists ⟦<IpFragId<u32> as PartialEq>⟧.eq answerer.pool (lists_after earlier) };
+    ghost shows = { λ answerer earlier. ShowsLists ⟦<IpFragId<u32> as PartialEq>⟧.eq answerer.pool (lists_after_lines earlier) };
 
     fn answer(&mut self, number: u64, line: &[u8], out: &mut [u8]) -> Result<usize, AllocError> {
         let end = answer_line(&mut self.pool, self.frame.as_mut_slice(), number, line, out)?;
@@ -76,8 +76,8 @@ fn answer_line(
     ensures answer { (lists : Lists) → ShowsLists ⟦<IpFragId<u32> as PartialEq>⟧.eq pool.old lists
         → IfOk result (λ end. take end out.new ≡ command_answer lists (command_of line.now)) }
     ensures lists { (lists : Lists) → ShowsLists ⟦<IpFragId<u32> as PartialEq>⟧.eq pool.old lists
-        → OnOk result (ShowsLists ⟦<IpFragId<u32> as PartialEq>⟧.eq pool.new (lists_with lists number (command_of line.now))) }
-    ensures memory { OnErr result (command_takes_memory (command_of line.now) ≡ true) }
+        → OnOk result (ShowsLists ⟦<IpFragId<u32> as PartialEq>⟧.eq pool.new (lists_with_line lists number (command_of line.now))) }
+    ensures memory { (lists : Lists) → ShowsLists ⟦<IpFragId<u32> as PartialEq>⟧.eq pool.old lists → OnErr result (command_takes_memory lists (command_of line.now) ≡ true) }
 {
     match read_request(line) {
         Request::Frame(frame) => answer_hex_frame(pool, room, number, &frame, out),
@@ -101,8 +101,9 @@ fn answer_hex_frame(
     ensures answer { (lists : Lists) → ShowsLists ⟦<IpFragId<u32> as PartialEq>⟧.eq pool.old lists
         → IfOk result (λ end. take end out.new ≡ command_answer lists (frame_on frame.now.channel (decode_of frame.now.digits.now))) }
     ensures lists { (lists : Lists) → ShowsLists ⟦<IpFragId<u32> as PartialEq>⟧.eq pool.old lists
-        → OnOk result (ShowsLists ⟦<IpFragId<u32> as PartialEq>⟧.eq pool.new (lists_with lists number (frame_on frame.now.channel (decode_of frame.now.digits.now)))) }
-    ensures memory { OnErr result (command_takes_memory (frame_on frame.now.channel (decode_of frame.now.digits.now)) ≡ true) }
+        → OnOk result (ShowsLists ⟦<IpFragId<u32> as PartialEq>⟧.eq pool.new (lists_with_line lists number (frame_on frame.now.channel (decode_of frame.now.digits.now)))) }
+    ensures memory { (lists : Lists) → ShowsLists ⟦<IpFragId<u32> as PartialEq>⟧.eq pool.old lists
+        → OnErr result (command_takes_memory lists (frame_on frame.now.channel (decode_of frame.now.digits.now)) ≡ true) }
 {
     let bytes = &mut room[..frame.digits.len() / 2];
     if bytes.is_empty() || !digits::decode(frame.digits, bytes) {
@@ -126,7 +127,7 @@ fn answer_frame(
         → IfOk result (λ end. take end out.new ≡ class_answer lists (class_of frame.now) channel) }
     ensures lists { (lists : Lists) → ShowsLists ⟦<IpFragId<u32> as PartialEq>⟧.eq pool.old lists
         → OnOk result (ShowsLists ⟦<IpFragId<u32> as PartialEq>⟧.eq pool.new (λ name other. after_frame name other (class_of frame.now) number channel (lists name other))) }
-    ensures memory { OnErr result (class_takes_memory (class_of frame.now) ≡ true) }
+    ensures memory { (lists : Lists) → ShowsLists ⟦<IpFragId<u32> as PartialEq>⟧.eq pool.old lists → OnErr result (class_takes_memory lists (class_of frame.now) channel ≡ true) }
 {
     match classify(frame) {
         FrameClass::Whole(datagram) => Ok(write_datagram(&datagram, out)),
@@ -162,6 +163,7 @@ fn answer_part(
         → IfOk result (λ end. take end out.new ≡ class_answer lists (packet_told part.now.packet) channel) }
     ensures lists { (lists : Lists) → ShowsLists ⟦<IpFragId<u32> as PartialEq>⟧.eq pool.old lists
         → OnOk result (ShowsLists ⟦<IpFragId<u32> as PartialEq>⟧.eq pool.new (λ name other. after_frame name other (packet_told part.now.packet) number channel (lists name other))) }
+    ensures memory { (lists : Lists) → ShowsLists ⟦<IpFragId<u32> as PartialEq>⟧.eq pool.old lists → OnErr result (class_takes_memory lists (packet_told part.now.packet) channel ≡ true) }
 {
     packets_are_answered();
     match pool.process_sliced_packet(&part.packet, number, channel) {
@@ -194,6 +196,7 @@ fn forget(pool: &mut IpDefragPool<u64, u32>, from: u64, out: &mut [u8]) -> Resul
     requires room { REPLY_ROOM ≤ length out.old }
     ensures fits { IfOk result (λ end. end < length out.new) }
     ensures answer { IfOk result (λ end. take end out.new ≡ codes "ok") }
+    ensures memory { IsOk result }
     ensures lists { (lists : Lists) → ShowsLists ⟦<IpFragId<u32> as PartialEq>⟧.eq pool.old lists
         → OnOk result (ShowsLists ⟦<IpFragId<u32> as PartialEq>⟧.eq pool.new (λ name channel. retained_from from (lists name channel))) }
 {

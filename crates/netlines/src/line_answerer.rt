@@ -58,7 +58,7 @@ impl<A: Answerer + Drop> LineAnswerer<A> {
     // Answers the line that ends with these bytes.
     fn end_line<D: Device>(&mut self, tail: &[u8], device: &mut D) -> Result<(), RunError>
         ensures gathers { (earlier : List (List ℕ)) (start : List ℕ) → Kept (A.shows self.old.answerer) self.old.count self.old.line.items earlier start
-            → Gathers D.transition (A.meaning.takes_memory (start ++ tail.now)) device.old self.old.replies (A.meaning.reply earlier (start ++ tail.now)) result self.new.replies device.new }
+            → Gathers D.transition (A.meaning.takes_memory earlier (start ++ tail.now)) device.old self.old.replies (A.meaning.reply earlier (start ++ tail.now)) result self.new.replies device.new }
         ensures shows { (earlier : List (List ℕ)) (start : List ℕ) → Kept (A.shows self.old.answerer) self.old.count self.old.line.items earlier start
             → OnOk result (A.shows self.new.answerer (earlier ++ (start ++ tail.now) ∷ [])) }
         ensures count { self.new.count ≡ u64_saturate (self.old.count + 1) }

@@ -51,7 +51,7 @@ impl ReplyBuffer {
         device: &mut D,
     ) -> Result<(), RunError>
         ensures gathers { (earlier : List (List ℕ)) (whole : List ℕ) → Asks (A.shows answerer.old) earlier number line.now whole
-            → Gathers D.transition (A.meaning.takes_memory whole) device.old self.old (A.meaning.reply earlier whole) result self.new device.new }
+            → Gathers D.transition (A.meaning.takes_memory earlier whole) device.old self.old (A.meaning.reply earlier whole) result self.new device.new }
         ensures shows { (earlier : List (List ℕ)) (whole : List ℕ) → Asks (A.shows answerer.old) earlier number line.now whole
             → OnOk result (A.shows answerer.new (earlier ++ whole ∷ [])) }
     {
@@ -84,7 +84,7 @@ impl ReplyBuffer {
         ensures replies { (earlier : List (List ℕ)) (whole : List ℕ) → Asks (A.shows answerer.old) earlier number line.now whole
             → MatchResult result
             (λ done. (self.new ≡ self.old ++ A.meaning.reply earlier whole) × A.shows answerer.new (earlier ++ whole ∷ []))
-            (λ e. IsTrue (A.meaning.takes_memory whole)) }
+            (λ e. IsTrue (A.meaning.takes_memory earlier whole)) }
         ensures err { OnErr result (self.new ≡ self.old) }
     {
         self.used = add_reply(
@@ -122,7 +122,7 @@ fn add_reply<A: Answerer>(
     ensures replies { (earlier : List (List ℕ)) (whole : List ℕ) → Asks (A.shows answerer.old) earlier number line.now whole
         → MatchResult result
         (λ end. (take end output.new ≡ take used output.old ++ A.meaning.reply earlier whole) × A.shows answerer.new (earlier ++ whole ∷ []))
-        (λ e. IsTrue (A.meaning.takes_memory whole)) }
+        (λ e. IsTrue (A.meaning.takes_memory earlier whole)) }
 {
     let len = answerer.answer(number, line, &mut output[used..])?;
     Ok(used + len)

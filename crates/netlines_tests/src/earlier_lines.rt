@@ -21,7 +21,7 @@ impl Answerer for Marker {
       reply = λ earlier line. if length line == 0
           then (if list_any (λ line. length line == 0) earlier then codes "again\n" else codes "first\n")
           else (if number_after earlier % 2 == 0 then codes "even\n" else codes "odd\n");
-      takes_memory = λ line. length line == 0;
+      takes_memory = λ earlier line. length line == 0;
     } };
 
     ghost shows = { λ marker earlier. marker.marked ≡ list_any (λ line. length line == 0) earlier };

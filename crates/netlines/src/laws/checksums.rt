@@ -94,7 +94,7 @@ fn ip_addresses_fit(ip: &IpHeaders)
     }
 }
 
-pub(super) fn stream_addresses_fit(stream: &IpFragVersionSpecId)
+fn stream_addresses_fit(stream: &IpFragVersionSpecId)
     ensures { AddressesFit (addresses_of stream.now) }
 {
     match stream {

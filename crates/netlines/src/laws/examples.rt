@@ -111,13 +111,17 @@ pub fn messages_have_packets()
     ensures two_tags { encode_lower (tagged (5 ∷ 9 ∷ []) 0x0800) ≡ codes "88a80005810000090800" }
 {}
 
-/// Memory may be wanting for a fragment and for a `forget` line. It isn't for a line with an uncut message, with
-/// a frame of another ether type or of 13 bytes, or for one that asks for nothing.
+/// Memory may be wanting for a fragment, alone or behind the first half of its message. It isn't for one that
+/// is refused, for a `forget` line, for a line with an uncut message, with a frame of another ether type or of
+/// 13 bytes, or for one that asks for nothing.
 pub fn lines_that_take_memory()
-    ensures fragment { takes_memory (codes "frame 0 02000000000202000000000108004500001c00072000401146c80a0000010a000002000100020010dbb4") ≡ true }
-    ensures forget { takes_memory (codes "forget 1") ≡ true }
-    ensures whole { takes_memory (codes "frame 0 02000000000202000000000108004500002400070000401166c00a0000010a000002000100020010dbb40102030405060708") ≡ false }
-    ensures other { takes_memory (codes "frame 0 0200000000020200000000011234") ≡ false }
-    ensures refused { takes_memory (codes "frame 0 02000000000202000000000108") ≡ false }
-    ensures bad_line { takes_memory (codes "x") ≡ false }
+    ensures fragment { takes_memory [] (codes "frame 0 02000000000202000000000108004500001c00072000401146c80a0000010a000002000100020010dbb4") ≡ true }
+    ensures second { takes_memory (codes "frame 0 02000000000202000000000108004500001c00072000401146c80a0000010a000002000100020010dbb4" ∷ [])
+        (codes "frame 0 02000000000202000000000108004500001c00070001401166c70a0000010a0000020102030405060708") ≡ true }
+    ensures unaligned { takes_memory [] (codes "frame 0 02000000000202000000000108004500001b00072000401146c90a0000010a00000200010002001000") ≡ false }
+    ensures forget { (earlier : List (List ℕ)) → takes_memory earlier (codes "forget 1") ≡ false }
+    ensures whole { (earlier : List (List ℕ)) → takes_memory earlier (codes "frame 0 02000000000202000000000108004500002400070000401166c00a0000010a000002000100020010dbb40102030405060708") ≡ false }
+    ensures other { (earlier : List (List ℕ)) → takes_memory earlier (codes "frame 0 0200000000020200000000011234") ≡ false }
+    ensures refused { (earlier : List (List ℕ)) → takes_memory earlier (codes "frame 0 02000000000202000000000108") ≡ false }
+    ensures bad_line { (earlier : List (List ℕ)) → takes_memory earlier (codes "x") ≡ false }
 {}

@@ -1,6 +1,6 @@
 use Rattle.std.proofs.Common.{◌∙◌, ap, Ok}
 use Rattle.netlines.proofs.AnswerLemmas.{same_id}
-use Rattle.netlines.proofs.PartLemmas.{completed_lists, completing_answer, refused_answer, refused_lists, waiting_answer, waiting_lists}
+use Rattle.netlines.proofs.PartLemmas.{completed_lists, completing_answer, refused_answer, refused_lists, waiting_answer, waiting_lists, wanting}
 use Rattle.netlines.proofs.frame_answerer.answer_part.Goals as goal
 
 pub returns-in-Ok-Some-clause-answer : goal.returns-in-Ok-Some-clause-answer
@@ -41,3 +41,9 @@ returns-in-Some-clause-lists c lists shows =
     let e = c.process_sliced_packet.ensures in
     refused_lists same_id c.packets_are_answered.ensures c.args.pool.now c.process_sliced_packet.new.self _ _ c.requires.part c.args.number c.args.channel c.process_sliced_packet.result
     (record { passed = e.passed; accepted = e.accepted; refused = e.refused; others = e.others; err = e.err }) lists shows c.in-Err.error c.in-Err.is c.in-Some.ensures.text.0
+
+pub returns-in-None-clause-memory : goal.returns-in-None-clause-memory
+returns-in-None-clause-memory c lists shows =
+    let e = c.process_sliced_packet.ensures in
+    wanting same_id c.packets_are_answered.ensures c.args.pool.now c.process_sliced_packet.new.self _ _ c.requires.part c.args.number c.args.channel c.process_sliced_packet.result
+    (record { passed = e.passed; accepted = e.accepted; refused = e.refused; others = e.others; err = e.err }) lists shows c.in-Err.error c.in-Err.is c.in-None.ensures.text

@@ -1,6 +1,6 @@
 use Rattle.std.proofs.Common.{ap}
 use Rattle.netlines.proofs.AnswerLemmas.{forgotten, remembered}
-use Rattle.etherparse.specs.PoolCalls.{Held, held_with}
+use Rattle.etherparse.specs.PoolCalls.{held_with}
 use Rattle.netlines.proofs.laws.streams.forget.Goals as goal
 
 pub returns-clause-dropped : goal.returns-clause-dropped

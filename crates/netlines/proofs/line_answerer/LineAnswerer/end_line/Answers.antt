@@ -29,7 +29,7 @@ returns-clause-gathers g c earlier start keeps =
     let asks : Asks (g.A.Answerer.shows c.keep.new.self.answerer) earlier c.keep.new.self.count c.as_slice.result.now (start ++ tail) =
     rw (c.keep.ensures.answerer, c.keep.ensures.count)
     (asks_kept _ c.args.self.now.count _ c.args.self.now.line.items earlier start tail c.as_slice.result.now keeps c.saturating_add-self.ensures first) in
-    subst (λ (w : List ℕ). Gathers g.D.Device.transition (g.A.Answerer.meaning.takes_memory (start ++ tail)) c.args.device.now w (g.A.Answerer.meaning.reply earlier (start ++ tail))
+    subst (λ (w : List ℕ). Gathers g.D.Device.transition (g.A.Answerer.meaning.takes_memory earlier (start ++ tail)) c.args.device.now w (g.A.Answerer.meaning.reply earlier (start ++ tail))
     c.push-pushed.result c.push-pushed.new.self c.push-pushed.new.device) c.keep.ensures.replies (c.push-pushed.ensures.gathers earlier (start ++ tail) asks)
 
 pub returns-clause-shows : goal.returns-clause-shows

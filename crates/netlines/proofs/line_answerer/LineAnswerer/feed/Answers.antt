@@ -19,7 +19,7 @@ returns-in_err-end_line-clause-serves g c earlier start keeps =
     let n = c.in-Some.end in
     let found = c.in-Some.ensures in
     let exit = err_from_is_err_and c.from_residual.result c.from_residual.ensures.1 in
-    let fails = subst (λ (l : List ℕ). Gathers transition (m.takes_memory (fed.begun ++ l)) c.lines.device c.lines.self.replies (m.reply (earlier ++ fed.lines) (fed.begun ++ l))
+    let fails = subst (λ (l : List ℕ). Gathers transition (m.takes_memory (earlier ++ fed.lines) (fed.begun ++ l)) c.lines.device c.lines.self.replies (m.reply (earlier ++ fed.lines) (fed.begun ++ l))
     (Err c.in_err-end_line.field-0.0) c.end_line.new.self.replies c.end_line.new.device)
     {y = take n rest} c.split_at.ensures.front (c.in_err-end_line.ensures.gathers (earlier ++ fed.lines) fed.begun fed.keeps) in
     rw (exit.1, exit.2) (fed_fails transition m c.args.device.now c.lines.device c.end_line.new.device earlier _ _ rest _ _ (g.A.Answerer.shows c.lines.self.answerer) n fed found.0.high
@@ -36,7 +36,7 @@ lines-preserved g c earlier start keeps =
     let after : next ≡ drop (n + 1) rest = ap (λ (l : List ℕ). take (length l - 1) (drop 1 l)) {y = drop n rest} c.split_at.ensures.back ∙ after_line rest n found.0.high in
     let fed = c.lines.invariant earlier start keeps in
     let front = c.split_at.ensures.front in
-    let more = subst (λ (l : List ℕ). Gathers transition (m.takes_memory (fed.begun ++ l)) c.lines.device c.lines.self.replies (m.reply (earlier ++ fed.lines) (fed.begun ++ l))
+    let more = subst (λ (l : List ℕ). Gathers transition (m.takes_memory (earlier ++ fed.lines) (fed.begun ++ l)) c.lines.device c.lines.self.replies (m.reply (earlier ++ fed.lines) (fed.begun ++ l))
     (Ok tt) c.end_line.new.self.replies c.end_line.new.device) {y = take n rest} front (c.in_ok-end_line.ensures.gathers (earlier ++ fed.lines) fed.begun fed.keeps) in
     let shows = subst (λ (l : List ℕ). g.A.Answerer.shows c.end_line.new.self.answerer ((earlier ++ fed.lines) ++ (fed.begun ++ l) ∷ [])) {y = take n rest} front
     (c.in_ok-end_line.ensures.shows (earlier ++ fed.lines) fed.begun fed.keeps) in

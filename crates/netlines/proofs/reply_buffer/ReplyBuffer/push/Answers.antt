@@ -13,7 +13,7 @@ returns-in-Ok-clause-gathers g c earlier whole asks =
       | then-not-has_room+in_ok-write_out w ↦ rw w.device-is (Left-all transition _ _ _ _ w.in_ok-write_out.ensures.delivers (w.self-is ∙ w.in_ok-write_out.ensures.empty))
       | else-not-has_room w ↦ rw w.device-is (Left-none transition _ _ _ w.self-is)
     ] in
-    Gathers-left transition (g.A.Answerer.meaning.takes_memory whole) _ _ _ _ (g.A.Answerer.meaning.reply earlier whole) c.add.new.self left (c.in-Ok.ensures.replies earlier whole asks).0
+    Gathers-left transition (g.A.Answerer.meaning.takes_memory earlier whole) _ _ _ _ (g.A.Answerer.meaning.reply earlier whole) c.add.new.self left (c.in-Ok.ensures.replies earlier whole asks).0
 
 pub returns-in_err-write_out-in-Err-clause-gathers : goal.returns-in_err-write_out-in-Err-clause-gathers
 returns-in_err-write_out-in-Err-clause-gathers g c earlier whole asks =
@@ -26,7 +26,7 @@ returns-in_err-write_out-in-Err-clause-gathers g c earlier whole asks =
     let exit = err_from_is_err_and c.from_residual-in_err-write_out-in-Err.result c.from_residual-in_err-write_out-in-Err.ensures.1 in
     let stops = subst (λ (l : List ℕ). Stops transition c.in_err-write_out-in-Err.field-0.0 c.if-not-has_room.device l c.write_out-in-Err.new.device) c.in-Err.ensures.err
     c.in_err-write_out-in-Err.ensures.delivers in
-    rw (exit.1, exit.2) (Gathers-stops transition (g.A.Answerer.meaning.takes_memory whole) c.in_err-write_out-in-Err.field-0.0 _ _ _ _ _ (g.A.Answerer.meaning.reply earlier whole) c.write_out-in-Err.new.self left stops)
+    rw (exit.1, exit.2) (Gathers-stops transition (g.A.Answerer.meaning.takes_memory earlier whole) c.in_err-write_out-in-Err.field-0.0 _ _ _ _ _ (g.A.Answerer.meaning.reply earlier whole) c.write_out-in-Err.new.self left stops)
 
 pub returns-in_ok-write_out-in-Err-clause-gathers : goal.returns-in_ok-write_out-in-Err-clause-gathers
 returns-in_ok-write_out-in-Err-clause-gathers g c earlier whole asks =
