@@ -111,7 +111,7 @@ fn stops_at_each_write_that_fails_while_messages_are_on_their_way(
     Ok(())
 }
 
-// Whichever allocation is made to fail: the answers to all lines before one that takes memory are written,
+// Whichever allocation is made to fail: the answers to all lines before a fragment are written,
 // or none where nothing was read, or all of them. The test's own texts are made first.
 #[test]
 fn answers_a_front_of_the_lines_without_memory(rt: HostRuntime) -> Result<(), Fail> {
@@ -132,5 +132,5 @@ fn answers_a_front_of_the_lines_without_memory(rt: HostRuntime) -> Result<(), Fa
     Ok(())
 }
 
-// Which of the lines take memory.
-const TAKES_MEMORY: [bool; 8] = [true, true, false, true, true, true, true, false];
+// For which of the lines memory may be wanting: the fragments.
+const TAKES_MEMORY: [bool; 8] = [true, true, false, false, true, false, true, false];
