@@ -1,3 +1,5 @@
+//! The parts of a packet, appended one behind the other.
+
 ghost use Rattle.std.specs.Prelude.{◌≡◌, ◌+◌, ◌≤◌, ◌++◌, length, vec_len, vec_capacity};
 ghost use Rattle.ep_link.specs.Link.{link_len, link_spelling};
 ghost use Rattle.ep_packet.specs.IpHeaders.{ip_headers_len};

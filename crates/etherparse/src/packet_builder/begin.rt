@@ -1,3 +1,5 @@
+//! Where a packet begins: a link header, or an IP header alone.
+
 ghost use Rattle.std.specs.Prelude.{◌≡◌, Some};
 ghost use Rattle.etherparse.specs.BuiltSteps.{cooked, ethernet_between, ipv4_between, ipv6_between, no_headers};
 

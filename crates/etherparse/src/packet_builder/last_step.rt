@@ -1,3 +1,5 @@
+//! The last header that was chosen: its type says which calls come next.
+
 ghost use Rattle.std.specs.Prelude.{IsSome, ⊤};
 ghost use Rattle.etherparse.specs.declared.packet_builder.packet_impl.PacketImpl.{PacketImpl};
 

@@ -1,3 +1,5 @@
+//! The steps behind a link header: VLAN tags, and an IP header or an ARP packet.
+
 ghost use Rattle.std.specs.Prelude.{◌≡◌, Some};
 ghost use Rattle.ep_tag.specs.declared.link.vlan_header.VlanHeader.TheVariants.{Double, Single};
 ghost use Rattle.etherparse.specs.BuiltSteps.{ipv4_between, ipv6_between, tag_of};

@@ -1,3 +1,5 @@
+//! The headers that were chosen, and the packet that is written of them.
+
 ghost use Rattle.std.specs.Prelude.{◌≡◌, ◌≢◌, ◌+◌, ◌^◌, ◌<◌, ◌≤◌, ◌++◌, length, vec_len, vec_capacity, MatchOption, IfOk, IsOk, IsSome, OnOk, OnErr, IsOkUnless};
 ghost use Rattle.ep_link.specs.Arp.{packet_len_in};
 ghost use Rattle.ep_link.specs.Link.{link_len};

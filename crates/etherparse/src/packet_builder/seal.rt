@@ -1,3 +1,5 @@
+//! Transport headers with the lengths and checksums that belong to a payload.
+
 ghost use Rattle.std.specs.Prelude.{◌≡◌, ◌+◌, ◌≤◌, length, MatchOption, IfOk, IsOk, OnOk};
 ghost use Rattle.std.specs.Option.{option_and_then, option_map};
 ghost use Rattle.ep_packet.specs.Transport.{transport_len};

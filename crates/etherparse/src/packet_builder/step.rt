@@ -1,3 +1,5 @@
+//! A packet to which headers are added.
+
 ghost use Rattle.std.specs.Prelude.{◌≡◌};
 
 use super::last_step::LastStep;

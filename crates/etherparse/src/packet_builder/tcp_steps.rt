@@ -1,3 +1,5 @@
+//! The steps behind a TCP header: its flags and options.
+
 ghost use Rattle.std.specs.Prelude.{◌≡◌, ◌<◌, ◌≤◌, true, length, Ok, Err, IfOk, IfErr};
 ghost use Rattle.ep_tcpudp.specs.Options.{options_of_elements};
 ghost use Rattle.ep_tcpudp.specs.TcpOptions.{whole_options};

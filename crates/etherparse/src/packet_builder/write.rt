@@ -1,3 +1,5 @@
+//! The last calls: the packet of a payload is written, and its length told.
+
 ghost use Rattle.std.specs.Prelude.{◌≡◌, ◌≢◌, ◌+◌, ◌^◌, ◌<◌, ◌≤◌, ◌++◌, length, vec_len, vec_capacity, Err, MatchOption, IsOkUnless, OnOk, OnErr};
 ghost use Rattle.etherparse.specs.Built.{arp_size_of, built, built_arp, number_in, refusal_of, size_of};
 ghost use Rattle.etherparse.specs.declared.err.packet.build_write_error.BuildWriteError.TheVariants.{Memory};
