@@ -16,6 +16,10 @@ use std::hash::{BuildHasher, BuildHasherDefault, FoldHasher, Hash};
 use std::marker::Model;
 
 /// The fragmented messages that are on their way, each under its name, [`IpFragId`].
+///
+/// A message that never completes is held, with its bytes, until [`IpDefragPool::retain`] drops it. So a caller whose
+/// input isn't trusted calls `retain` regularly: a receiver gives a message up by a timer (RFC 791, section 3.2),
+/// over IPv6 60 seconds after the fragment that came first (RFC 8200, section 4.5).
 #[derive(Drop)]
 pub struct IpDefragPool<
     Timestamp = (),
