@@ -85,7 +85,8 @@ fn sum_of_frame(frame: &Ethernet2Slice) -> u64 {
         .wrapping_add(frame.slice().len() as u64)
 }
 
-/// It has no contract: the sum is compared with that of a plain program.
+/// The first four bytes and the last two as numbers, added; it has no contract, as the sum is compared with that of
+/// a plain program.
 pub fn sum_of_address(address: [u8; 6]) -> u64 {
     let [a, b, c, d, e, f] = address;
     u64::from(u32::from_be_bytes([a, b, c, d])).wrapping_add(u64::from(u16::from_be_bytes([e, f])))

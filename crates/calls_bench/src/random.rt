@@ -10,7 +10,8 @@ pub struct Random {
 }
 
 impl Random {
-    /// It has no contract: any numbers would do, and those of the plain program are compared by the sums.
+    /// The generator at its seed. It has no contract: any numbers would do, and those of the plain program are
+    /// compared by the sums.
     pub fn new() -> Random {
         Random {
             state: 0x9e37_79b9_7f4a_7c15,

@@ -16,7 +16,7 @@ pub enum Order {
 }
 
 impl Order {
-    /// It has no contract: a name that it doesn't know is no order.
+    /// The order of this name. It has no contract: a name that it doesn't know is no order.
     pub fn of_name(name: &str) -> Option<Order> {
         match name {
             "ascending" => Some(Order::Ascending),
