@@ -8,7 +8,7 @@ use ep_ext::err::ipv4_exts::{ExtsWalkError, HeaderWriteError};
 use ep_ext::{Ipv4Extensions, laws};
 use std::test::*;
 
-// An authentication header by RFC 4302, section 2, and a byte.
+/// An authentication header by RFC 4302, section 2, and a byte.
 pub const AUTH: [u8; 17] = [6, 2, 0, 0, 0, 0, 0, 1, 0, 0, 0, 2, 1, 2, 3, 4, 0xaa];
 
 #[test]

@@ -10,9 +10,9 @@ use ep_ext::{Ipv6Extensions, Ipv6RawExtHeader, laws};
 use ep_ip::Ipv6Header;
 use std::test::*;
 
-// A header of each place by RFC 8200, section 4, and RFC 4302, section 2, and two bytes: hop-by-hop
-// options, destination options, a routing header of 16 bytes, a fragment header, an authentication
-// header of 24 bytes and final destination options.
+/// A header of each place by RFC 8200, section 4, and RFC 4302, section 2, and two bytes: hop-by-hop
+/// options, destination options, a routing header of 16 bytes, a fragment header, an authentication
+/// header of 24 bytes and final destination options.
 pub const CHAIN: [u8; 74] = [
     60, 0, 1, 4, 0, 0, 0, 0, // at 0
     43, 0, 1, 4, 0, 0, 0, 0, // at 8
@@ -23,6 +23,7 @@ pub const CHAIN: [u8; 74] = [
     0xaa, 0xbb,
 ];
 
+/// A want of bytes in a slice.
 pub fn want(required_len: usize, len: usize, layer: Layer, layer_start_offset: usize) -> LenError
     ensures { result.layer_start_offset ≡ layer_start_offset }
 {

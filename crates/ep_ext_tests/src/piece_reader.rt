@@ -2,6 +2,7 @@
 
 use std::io::{self, ErrorKind, Read};
 
+/// A reader that gives a few bytes a call, and fails at a call.
 #[derive(Drop)]
 pub struct PieceReader<'a> {
     pub rest: &'a [u8],

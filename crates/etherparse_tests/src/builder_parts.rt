@@ -10,14 +10,19 @@ use etherparse::{PacketBuilder, PacketBuilderStep};
 use std::process::Abort;
 use std::test::*;
 
+/// The payload of packets.
 pub const PAYLOAD: [u8; 8] = [1, 2, 3, 4, 5, 6, 7, 8];
 
+/// Where IPv4 packets come from.
 pub const IPV4_SOURCE: [u8; 4] = [192, 168, 1, 1];
 
+/// Where they go.
 pub const IPV4_DESTINATION: [u8; 4] = [192, 168, 1, 2];
 
+/// Where IPv6 packets come from.
 pub const IPV6_SOURCE: [u8; 16] = [0xfd, 0, 0, 0, 0, 0, 0, 0, 0, 0, 0, 0, 0, 0, 0, 1];
 
+/// Where they go.
 pub const IPV6_DESTINATION: [u8; 16] = [0xfd, 0, 0, 0, 0, 0, 0, 0, 0, 0, 0, 0, 0, 0, 0, 2];
 
 /// A frame of Ethernet II; no contract, as above.

@@ -6,6 +6,7 @@ use etherparse::defrag::{IpDefragBuf, IpDefragError};
 use std::process::Abort;
 use std::test::*;
 
+/// The zero bytes that fragments are cut from.
 pub const ZEROS: [u8; 64] = [0; 64];
 
 /// An empty buffer; no contract, as above.

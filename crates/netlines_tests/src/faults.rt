@@ -7,7 +7,7 @@ use std::alloc::{AllocError, Global};
 use std::io::{self, ErrorKind, Read, Write};
 use std::test::Fail;
 
-// What a reader or a writer does at one of its calls, and at none before it.
+/// What a reader or a writer does at one of its calls, and at none before it.
 #[derive(Clone, Copy, PartialEq)]
 pub enum Fault {
     Interrupted,
@@ -27,7 +27,7 @@ impl Fault {
     }
 }
 
-// Gives one byte a call.
+/// Gives one byte a call.
 #[derive(Drop)]
 pub struct ByteReader<'a> {
     rest: &'a [u8],
@@ -64,7 +64,7 @@ impl<'a> Read for ByteReader<'a> {
     }
 }
 
-// Takes one byte a call.
+/// Takes one byte a call.
 #[derive(Drop)]
 pub struct ByteWriter {
     pub taken: Vec<u8>,
