@@ -5,6 +5,7 @@ mod built_segment;
 mod checksums;
 mod echo_request;
 mod extensions_and_options;
+mod fragments;
 mod frames;
 mod owned_headers;
 mod sliced_frame;
@@ -50,6 +51,10 @@ fn main(rt: HostRuntime) -> anyhow::Result<()> {
     println!(rt; "A TCP segment, built:")?;
     let bytes = built_segment::first_segment(rt.alloc(), 7)?;
     print_hex(&rt, bytes.as_slice())?;
+
+    println!(rt; "A message in fragments:")?;
+    let frames = [(0, frames::LAST_FRAGMENT), (1, frames::FIRST_FRAGMENT)];
+    fragments::print_messages(&rt, rt.alloc(), &frames)?;
     Ok(())
 }
 
