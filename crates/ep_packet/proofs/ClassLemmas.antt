@@ -97,12 +97,12 @@ ipv6_with : (ids : List ℕ) (packet : Ipv6Packet) (n : ℕ) (r : Result (Option
 ipv6_with ids packet n (Ok message) = refl
 ipv6_with ids packet n (Err e) = refl
 
-ipv4_told : (ids : List ℕ) (r : Result Ipv4Packet Ipv4Fault) → layers_told ids (ipv4_layers r) ≡ ipv4_class_at ids r
+pub ipv4_told : (ids : List ℕ) (r : Result Ipv4Packet Ipv4Fault) → layers_told ids (ipv4_layers r) ≡ ipv4_class_at ids r
 ipv4_told ids (Ok packet) =
     ipv4_with ids packet _ (transport_in (ipv4_payload packet)) ∙ payload_told _ (ipv4_addresses packet) (ipv4_payload packet) (ipv4_payload packet).fragmented
 ipv4_told ids (Err e) = refl
 
-ipv6_told : (ids : List ℕ) (r : Result Ipv6Packet Ipv6Fault) → layers_told ids (ipv6_layers r) ≡ ipv6_class_at ids r
+pub ipv6_told : (ids : List ℕ) (r : Result Ipv6Packet Ipv6Fault) → layers_told ids (ipv6_layers r) ≡ ipv6_class_at ids r
 ipv6_told ids (Ok packet) = ipv6_with ids packet _ (transport_in packet.payload) ∙ payload_told _ (ipv6_addresses packet) packet.payload packet.payload.fragmented
 ipv6_told ids (Err e) = refl
 
@@ -125,7 +125,7 @@ with_told : (header : Option LinkSlice) (tags : List LinkExtSlice) (n m : ℕ) (
 with_told header tags n m (Ok layers) = refl
 with_told header tags n m (Err e) = refl
 
-tagged_told : (header : Option LinkSlice) (n : ℕ) (r : Result Tagged SliceError) → class_told (later n (packet_tagged header r)) ≡ tagged_class r
+pub tagged_told : (header : Option LinkSlice) (n : ℕ) (r : Result Tagged SliceError) → class_told (later n (packet_tagged header r)) ≡ tagged_class r
 tagged_told header n (Ok t) = with_told header t.tags n t.len (layers_in t.last) ∙ last_told (vlan_ids_of t.tags) t.last
 tagged_told header n (Err e) = refl
 
@@ -155,7 +155,7 @@ net_taken ids (Some (net.Ipv4 packet)) message is = choice_taken (ipv4_payload p
 net_taken ids (Some (net.Ipv6 packet)) message is = choice_taken packet.payload.fragmented _ _ (part_taken ids (ipv6_addresses packet) packet.payload (fragment_fields_in packet)) (λ same. cc) is
 net_taken ids (Some (net.Arp packet)) message is = cc
 
-told_refused : (r : Result SlicedPacket SliceError) → IsErr r ↔ (class_told r ≡ Refused)
+pub told_refused : (r : Result SlicedPacket SliceError) → IsErr r ↔ (class_told r ≡ Refused)
 told_refused (Ok packet) = (λ h. cc, λ h. absurd (net_taken (vlan_ids_of packet.link_exts.items) packet.net packet.transport h))
 told_refused (Err e) = (λ h. refl, λ h. refl)
 

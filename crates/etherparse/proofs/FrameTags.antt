@@ -69,7 +69,7 @@ module _ (t : SingleVlanHeader) (fits : vlan.Fits t) (ether_type : ℕ) (rest : 
   service_in n short = rw tag_whole (ap (λ p. behind (tag.Vlan naming) (tags_in n p)) (tag_payload short))
 
 -- the class of what stands behind an Ethernet header
-class_behind : (v : Option VlanHeader) (ether_type : ℕ) (packet : List ℕ) → TagsFit v → NamesNoTag ether_type
+pub class_behind : (v : Option VlanHeader) (ether_type : ℕ) (packet : List ℕ) → TagsFit v → NamesNoTag ether_type
     → tagged_class (tags_in 3 (named (first_type v ether_type) (vlan_bytes v ether_type ++ packet))) ≡ payload_class (ids_in v) (named ether_type packet)
 class_behind None ether_type packet fits plain = ap tagged_class (untagged_in 3 ether_type packet plain)
 class_behind (Some (header.Single t)) ether_type packet fits plain =
@@ -104,7 +104,7 @@ class_headed front rest ether_type twelve short =
     (rw (first, second) (two_bytes ether_type short))
     (sym (drop-drop 2 12 bytes) ∙ ap (drop 2) (drop_at front (high ∷ low ∷ rest) 12 twelve))
 
-short_first : (v : Option VlanHeader) (ether_type : ℕ) → ether_type ≤ 65535 → first_type v ether_type ≤ 65535
+pub short_first : (v : Option VlanHeader) (ether_type : ℕ) → ether_type ≤ 65535 → first_type v ether_type ≤ 65535
 short_first None ether_type short = short
 short_first (Some (header.Single t)) ether_type short = omega arith
 short_first (Some (header.Double t)) ether_type short = omega arith

@@ -2,6 +2,7 @@ pub mod Accepted
 pub mod AcceptedLists
 pub mod AppendIp
 pub mod BuiltFrames
+pub mod BuiltPackets
 pub mod BuiltSums
 pub mod CallLemmas
 pub mod Complete

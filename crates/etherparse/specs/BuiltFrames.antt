@@ -1,6 +1,6 @@
--- What an Ethernet II frame is read as whose IP packet was built: with the message that was put in, or a
--- part of it (RFC 791; RFC 8200, section 4.5).
-use Rattle.std.specs.Prelude.{◌≡◌, ◌≢◌, ℕ, false, List, [], ◌∷◌, Option, Some, None, ⊤}
+-- What an Ethernet II frame, a packet of a cooked capture or a packet alone is read as whose IP packet was
+-- built: with the message that was put in, or a part of it (RFC 791; RFC 8200, section 4.5).
+use Rattle.std.specs.Prelude.{◌≡◌, ◌≢◌, ℕ, ◌≤◌, false, List, [], ◌∷◌, length, Option, Some, None, ⊤}
 use Rattle.std.specs.Option.{option_map}
 use Rattle.ep_ext.specs.Auth.{IsAuth, auth_spelling}
 use Rattle.ep_ext.specs.Chain.{Row}
@@ -15,6 +15,7 @@ use Rattle.ep_ip.specs.Ipv4 as ipv4
 use Rattle.ep_ip.specs.Ipv6 as ipv6
 use Rattle.ep_ipslice.specs.Packet.{FragmentFields}
 use Rattle.ep_link.specs.Ethernet as ethernet
+use Rattle.ep_link.specs.Sll.{greatest_packet_type}
 use Rattle.ep_link.specs.declared.link.ethernet2_header.Ethernet2Header.{Ethernet2Header}
 use Rattle.ep_link.specs.declared.link.link_header.LinkHeader.TheVariants.{Ethernet2}
 use Rattle.ep_packet.specs.Class.{Addresses, Class}
@@ -26,6 +27,7 @@ use Rattle.ep_tag.specs.Vlan as vlan
 use Rattle.ep_tag.specs.declared.link.vlan_header.VlanHeader.{VlanHeader}
 use Rattle.ep_tag.specs.declared.link.vlan_header.VlanHeader.TheVariants as tag
 use Rattle.etherparse.specs.Built.{refusal_of}
+use Rattle.etherparse.specs.BuiltSteps.{cooked}
 use Rattle.etherparse.specs.declared.packet_builder.packet_impl.PacketImpl.{PacketImpl}
 
 -- the headers of an IP packet in an Ethernet II frame
@@ -98,3 +100,30 @@ pub record Frames (link : Ethernet2Header) (vlan : Option VlanHeader) (ip : IpHe
   pub ip_fits : IpFits ip number
   pub names_none : NamesNone ip number
   pub written : refusal_of (framed link vlan ip) len ≡ None
+
+-- the headers of an IP packet with no link header
+abbrev pub alone : IpHeaders → PacketImpl
+alone ip = record { link_header = None; vlan_header = None; ip_headers = Some ip; arp_packet = None; transport_header = None }
+
+-- a packet that a builder writes, with headers as their types hold them
+pub record Packets (ip : IpHeaders) (number len : ℕ) : Type 0 where
+  pub ip_fits : IpFits ip number
+  pub names_none : NamesNone ip number
+  pub written : refusal_of (alone ip) len ≡ None
+
+-- the headers of one behind the header of a cooked capture
+abbrev pub behind_cooked : (packet_type address_len : ℕ) → (address : List ℕ) → Option VlanHeader → IpHeaders → PacketImpl
+behind_cooked packet_type address_len address vlan ip = record {
+  link_header = Some (cooked packet_type address_len address);
+  vlan_header = vlan;
+  ip_headers = Some ip;
+  arp_packet = None;
+  transport_header = None;
+}
+
+-- the same of one behind such a header and tags
+pub record CookedPackets (packet_type : ℕ) (address : List ℕ) (vlan : Option VlanHeader) (ip : IpHeaders) (number len : ℕ) : Type 0 where
+  pub packet_type_fits : packet_type ≤ greatest_packet_type
+  pub address_len : length address ≡ 8
+  pub tags_fit : TagsFit vlan
+  pub packet : Packets ip number len

@@ -20,7 +20,7 @@ ghost use Rattle.ep_tag.specs.Vlan as vlan;
 ghost use Rattle.ep_tag.specs.declared.link.vlan_header.VlanHeader.{VlanHeader};
 ghost use Rattle.etherparse.specs.Built.{built};
 ghost use Rattle.etherparse.specs.BuiltFrameExamples.{ipv4_part, ipv6_part, link_by_hand, two_tags};
-ghost use Rattle.etherparse.specs.BuiltFrames.{AuthFits, FragmentFits, Frames, IpFits, NamesNone, TagsFit, addresses_in, fields_in, framed, ids_in, part_with};
+ghost use Rattle.etherparse.specs.BuiltFrames.{AuthFits, CookedPackets, FragmentFits, Frames, IpFits, NamesNone, Packets, TagsFit, addresses_in, alone, behind_cooked, fields_in, framed, ids_in, part_with};
 
 use super::builder::{ipv4_address_is_whole, ipv6_address_is_whole};
 use ep_base::IpNumber;
@@ -71,6 +71,46 @@ pub fn built_frames_are_sliced(frame: &[u8]) -> Result<SlicedPacket<'_>, SliceEr
 {
     built_frames_are_read();
     SlicedPacket::from_ethernet(frame)
+}
+
+/// So is a packet that was built with no link header, which `SlicedPacket::from_ip` slices.
+pub fn built_packets_are_sliced(packet: &[u8]) -> Result<SlicedPacket<'_>, SliceError>
+    ensures whole { (ip : IpHeaders) (number : ℕ) (payload : List ℕ)
+        → Packets ip number (length payload) → packet.now ≡ built (alone ip) number payload
+        → (read : ReadMessage) → is_fragmenting ip ≡ false → message_at number payload ≡ Ok read
+        → class_told result ≡ Whole (addresses_in ip) number payload read }
+    ensures refused { (ip : IpHeaders) (number : ℕ) (payload : List ℕ)
+        → Packets ip number (length payload) → packet.now ≡ built (alone ip) number payload
+        → (e : SliceError) → is_fragmenting ip ≡ false → message_at number payload ≡ Err e → IsErr result }
+    ensures part { (ip : IpHeaders) (number : ℕ) (payload : List ℕ)
+        → Packets ip number (length payload) → packet.now ≡ built (alone ip) number payload
+        → (told : FragmentFields) → is_fragmenting ip ≡ true → fields_in ip ≡ Some told
+        → class_told result ≡ part_with None ip number payload told }
+{
+    built_frames_are_read();
+    SlicedPacket::from_ip(packet)
+}
+
+/// And so is one behind the header of a cooked capture, as `PacketBuilder::linux_sll` begins it, and at most
+/// two VLAN tags.
+pub fn built_cooked_packets_are_sliced(packet: &[u8]) -> Result<SlicedPacket<'_>, SliceError>
+    ensures whole { (packet_type address_len : ℕ) (address : List ℕ) (vlan : Option VlanHeader) (ip : IpHeaders) (number : ℕ) (payload : List ℕ)
+        → CookedPackets packet_type address vlan ip number (length payload)
+        → packet.now ≡ built (behind_cooked packet_type address_len address vlan ip) number payload
+        → (read : ReadMessage) → is_fragmenting ip ≡ false → message_at number payload ≡ Ok read
+        → class_told result ≡ Whole (addresses_in ip) number payload read }
+    ensures refused { (packet_type address_len : ℕ) (address : List ℕ) (vlan : Option VlanHeader) (ip : IpHeaders) (number : ℕ) (payload : List ℕ)
+        → CookedPackets packet_type address vlan ip number (length payload)
+        → packet.now ≡ built (behind_cooked packet_type address_len address vlan ip) number payload
+        → (e : SliceError) → is_fragmenting ip ≡ false → message_at number payload ≡ Err e → IsErr result }
+    ensures part { (packet_type address_len : ℕ) (address : List ℕ) (vlan : Option VlanHeader) (ip : IpHeaders) (number : ℕ) (payload : List ℕ)
+        → CookedPackets packet_type address vlan ip number (length payload)
+        → packet.now ≡ built (behind_cooked packet_type address_len address vlan ip) number payload
+        → (told : FragmentFields) → is_fragmenting ip ≡ true → fields_in ip ≡ Some told
+        → class_told result ≡ part_with vlan ip number payload told }
+{
+    built_frames_are_read();
+    SlicedPacket::from_linux_sll(packet)
 }
 
 /// Whatever headers there are: their fields are in their ranges, and linked extension headers lead to the
