@@ -15,7 +15,7 @@ use Rattle.etherparse.specs.declared.defrag.pool_calls.PoolCall.{PoolCall}
 use Rattle.etherparse.specs.declared.defrag.pool_calls.PoolCall.TheVariants.{Frame, RetainFrom}
 use Rattle.etherparse.specs.declared.defrag.pool_calls.PoolReply.{PoolReply}
 use Rattle.etherparse.specs.PoolCalls.{Answered, HasMemory, Lists, Replies, Told, answer_to, answers, lists_after, lists_with, told, want_at, want_at_frame, want_unless}
-use Rattle.etherparse.specs.PoolCalls.Told.{NoMemory, Refused}
+use Rattle.etherparse.specs.PoolCalls.Told.{Refused}
 use Rattle.etherparse.proofs.Retaining.{some_same}
 
 -- equality of the names, with a channel that is a number
@@ -57,7 +57,7 @@ frame_wants lists Faulty channel t is has = cc
 -- a want of memory is told where one is answered
 wants : (lists : Lists) (call : PoolCall) (t : Told) → want_at lists call ≡ Some t → HasMemory t → ⊥
 wants lists (Frame frame time channel) t is has = frame_wants lists (class_of frame.now) channel t is has
-wants lists (RetainFrom from) t is has = subst HasMemory (sym (some_same NoMemory t is)) has
+wants lists (RetainFrom from) t is has = cc
 
 -- the replies are the answers, and the lists those after all calls
 pub replies_with_memory : (ends : Lists → Type 0) (lists : Lists) (calls : List PoolCall) (tolds : List Told) → Replies ends lists calls tolds → AllByRecursion HasMemory tolds → (tolds ≡ answers lists calls) × ends (lists_after lists calls)

@@ -131,10 +131,10 @@ want_at_frame lists (Whole addresses number bytes message) channel = None
 want_at_frame lists Other channel = None
 want_at_frame lists Faulty channel = None
 
--- the want of memory that a call may be answered
+-- the want of memory that a call may be answered: to drop messages takes none
 abbrev pub want_at : Lists → PoolCall → Option Told
 want_at lists (Frame frame time channel) = want_at_frame lists (class_of frame.now) channel
-want_at lists (RetainFrom from) = Some NoMemory
+want_at lists (RetainFrom from) = None
 
 -- what is told, and how the lists go on: the answer, and on as they are with it; or the want of memory that may be told
 -- in its place, and on as they were

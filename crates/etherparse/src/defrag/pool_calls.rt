@@ -44,7 +44,8 @@ pub enum PoolReply {
     NotSliced(SliceError),
     /// The other messages stay.
     Retained,
-    /// No memory was left to drop messages. All of them stay.
+    /// No memory was left to drop messages. All of them stay. No call answers it yet, since to drop messages
+    /// takes no memory.
     NoMemory,
 }
 
@@ -121,7 +122,7 @@ pub fn run_calls(
     calls: &[PoolCall<'_>],
 ) -> Result<Vec<PoolReply>, AllocError>
     // Each reply is that of its name's own list of fragments; or it tells of want of memory, to a fragment
-    // that isn't refused or to `RetainFrom` alone, and then its call changed nothing.
+    // that isn't refused, and then its call changed nothing.
     ensures replies { IfOk result (λ replies. (lists : Lists) → ShowsLists ⟦<IpFragId<u32> as PartialEq>⟧.eq pool.old lists
         → Replies (ShowsLists ⟦<IpFragId<u32> as PartialEq>⟧.eq pool.new) lists calls.now (map told replies.items)) }
     // Where none tells of it, they are the answers.

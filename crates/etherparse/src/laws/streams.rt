@@ -10,7 +10,7 @@ ghost use Rattle.ep_packet.specs.declared.err.packet.slice_error.SliceError.{Sli
 ghost use Rattle.etherparse.specs.Fragments.{Fragment, fragment};
 ghost use Rattle.etherparse.specs.IpDefragBuf.{Shows};
 ghost use Rattle.etherparse.specs.IpFragId.{id_named, same_name};
-ghost use Rattle.etherparse.specs.PoolCalls.{HasMemory, Replies, ShowsLists, after_frame, answer_to_frame, no_lists, retained_from, want_at, want_at_frame};
+ghost use Rattle.etherparse.specs.PoolCalls.{FrameAnswered, HasMemory, Replies, ShowsLists, after_frame, answer_to_frame, no_lists, retained_from, want_at, want_at_frame};
 ghost use Rattle.etherparse.specs.Processed.{PacketsAreAnswered};
 ghost use Rattle.etherparse.specs.PoolCalls.Told.{Delivered, NoMemory, NotSliced, Nothing, Refused, Retained};
 ghost use Rattle.etherparse.specs.declared.defrag.ip_defrag_error.IpDefragError.TheVariants.{AllocationFailure, ConflictingEnd};
@@ -94,21 +94,22 @@ pub fn replies_without_memory()
 {}
 
 /// Want of memory may be told of a fragment that isn't refused, with its end, where the last 8 of 16 bytes
-/// came before it, and of `RetainFrom`; and of nothing else.
+/// came before it, and then its list is as it was; and of nothing else, `RetainFrom` neither.
 pub fn wants_of_memory()
     ensures fragment { (name : FragmentName) → want_at_frame (λ name channel. record { fragments = fragment 1 false (replicate 8 2) ∷ []; time = 4 }) (Cut name 0 true (replicate 8 1)) 3 ≡ Some (Refused (AllocationFailure 8)) }
+    ensures stays { (name : FragmentName) → FrameAnswered (λ after. (after name 3).fragments ≡ fragment 1 false (replicate 8 2) ∷ []) (λ name channel. record { fragments = fragment 1 false (replicate 8 2) ∷ []; time = 4 }) (Cut name 0 true (replicate 8 1)) 9 3 None (Refused (AllocationFailure 8)) }
     ensures refused { (name : FragmentName) → want_at_frame (λ name channel. record { fragments = fragment 1 false (replicate 8 2) ∷ []; time = 4 }) (Cut name 2 true (replicate 8 3)) 3 ≡ None }
     ensures whole { (addresses : Addresses) (message : ReadMessage) → want_at_frame no_lists (Whole addresses 17 [] message) 3 ≡ None }
     ensures other { want_at_frame no_lists Other 3 ≡ None }
     ensures faulty { want_at_frame no_lists Faulty 3 ≡ None }
-    ensures retain { want_at no_lists (RetainFrom 5) ≡ Some NoMemory }
+    ensures retain { want_at no_lists (RetainFrom 5) ≡ None }
 {}
 
 /// What may be answered to `RetainFrom(5)` where the last 8 of 16 bytes came at time 4: `Retained`, and the
-/// list is empty; or want of memory, and it is as it was; no refusal.
+/// list is empty; no want of memory, and no refusal.
 pub fn replies_to_retain_from()
     ensures retained { (name : FragmentName) → Replies (λ after. (after name 3).fragments ≡ []) (λ name channel. record { fragments = fragment 1 false (replicate 8 2) ∷ []; time = 4 }) (RetainFrom 5 ∷ []) (Retained ∷ []) }
-    ensures no_memory { (name : FragmentName) → Replies (λ after. (after name 3).fragments ≡ fragment 1 false (replicate 8 2) ∷ []) (λ name channel. record { fragments = fragment 1 false (replicate 8 2) ∷ []; time = 4 }) (RetainFrom 5 ∷ []) (NoMemory ∷ []) }
+    ensures no_memory { Replies (λ after. Unit {0}) no_lists (RetainFrom 5 ∷ []) (NoMemory ∷ []) → ⊥ }
     ensures refused { Replies (λ after. Unit {0}) no_lists (RetainFrom 5 ∷ []) (Refused (AllocationFailure 0) ∷ []) → ⊥ }
     ensures none { Replies (λ after. Unit {0}) no_lists (RetainFrom 5 ∷ []) [] → ⊥ }
 {}
