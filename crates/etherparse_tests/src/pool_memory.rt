@@ -19,8 +19,8 @@ fn a_message_wants_memory(rt: HostRuntime) {
         assert!(rt; !delivers(&rt, &mut pool, &SECOND, 2, 1));
     }
     assert!(rt; pool.retain(|time: &u64| *time >= 2).is_ok());
-    assert!(rt; !delivers(&rt, &mut pool, &SECOND, 3, 0));
-    assert!(rt; delivers(&rt, &mut pool, &FIRST, 4, 1));
+    assert!(rt; !delivers_at_last(&rt, &mut pool, &SECOND, 0, 16));
+    assert!(rt; delivers_at_last(&rt, &mut pool, &FIRST, 1, 8));
 }
 
 #[test]
@@ -39,7 +39,7 @@ fn a_list_of_calls_wants_memory(rt: HostRuntime) {
                 .iter()
                 .filter(|reply| matches!(reply, PoolReply::Nothing));
             assert!(rt; waiting.count() >= 1);
-            assert!(rt; delivers(&rt, &mut pool, &SECOND, 2, 0));
+            assert!(rt; delivers_at_last(&rt, &mut pool, &SECOND, 0, 16));
         }
         Err(_) => assert!(rt; !delivers(&rt, &mut pool, &SECOND, 2, 0)),
     }
