@@ -1,5 +1,5 @@
 mod Agreement
-mod ClassLemmas
+pub mod ClassLemmas
 mod FaultLemmas
 mod FoundLemmas
 mod HeaderLemmas

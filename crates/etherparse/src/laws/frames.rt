@@ -232,6 +232,8 @@ pub fn parts_are_written()
     ensures longest { Frames link_by_hand two_tags ipv4_part 17 65515 }
     ensures too_long { Frames link_by_hand two_tags ipv4_part 17 65516 → ⊥ }
     ensures ipv6 { Frames link_by_hand None ipv6_part 17 8 }
+    ensures alone { Packets ipv4_part 17 8 × Packets ipv6_part 17 8 }
+    ensures cooked { CookedPackets 4 (2 ∷ 0 ∷ 0 ∷ 0 ∷ 0 ∷ 1 ∷ 0 ∷ 0 ∷ []) two_tags ipv4_part 17 8 }
 {}
 
 /// What their headers tell.

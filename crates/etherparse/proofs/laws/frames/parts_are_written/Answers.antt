@@ -2,8 +2,8 @@ use Rattle.std.proofs.Common.{◌≡◌, refl, ℕ, ◌≢◌, Option, Some, Non
 use Rattle.ep_link.specs.Ethernet.{Fits}
 use Rattle.etherparse.proofs.laws.frames.parts_are_written.Goals as goal
 use Rattle.etherparse.specs.Built.{refusal_of}
-use Rattle.etherparse.specs.BuiltFrameExamples.{ipv4_part, link_by_hand, two_tags}
-use Rattle.etherparse.specs.BuiltFrames.{Frames, IpFits, TagsFit, framed}
+use Rattle.etherparse.specs.BuiltFrameExamples.{ipv4_part, ipv6_part, link_by_hand, two_tags}
+use Rattle.etherparse.specs.BuiltFrames.{CookedPackets, Frames, IpFits, Packets, TagsFit, framed}
 use Rattle.etherparse.specs.declared.err.packet.build_write_error.BuildWriteError.{BuildWriteError}
 
 link_fits : Fits link_by_hand
@@ -45,21 +45,27 @@ returns-clause-too_long c = λ frames. some_none _ frames.written
     some_none : (e : BuildWriteError) → ◌≡◌ {A = Option BuildWriteError} (Some e) None → ⊥
     some_none e h = cc
 
+ipv6_fits : IpFits ipv6_part 17
+ipv6_fits = (
+  record {
+    traffic_class = omega arith;
+    flow_label = omega arith;
+    payload_length = omega arith;
+    source = refl;
+    destination = refl;
+  },
+  refl,
+  (refl, record { whole = refl }, refl),
+)
+
 pub returns-clause-ipv6 : goal.returns-clause-ipv6
-returns-clause-ipv6 c = record {
-  link_fits = link_fits;
-  tags_fit = tt;
-  ip_fits = (
-    record {
-      traffic_class = omega arith;
-      flow_label = omega arith;
-      payload_length = omega arith;
-      source = refl;
-      destination = refl;
-    },
-    refl,
-    (refl, record { whole = refl }, refl),
-  );
-  names_none = refl;
-  written = refl;
-}
+returns-clause-ipv6 c = record { link_fits = link_fits; tags_fit = tt; ip_fits = ipv6_fits; names_none = refl; written = refl }
+
+ipv4_alone : Packets ipv4_part 17 8
+ipv4_alone = record { ip_fits = ipv4_fits; names_none = not_auth; written = refl }
+
+pub returns-clause-alone : goal.returns-clause-alone
+returns-clause-alone c = (ipv4_alone, record { ip_fits = ipv6_fits; names_none = refl; written = refl })
+
+pub returns-clause-cooked : goal.returns-clause-cooked
+returns-clause-cooked c = record { packet_type_fits = omega arith; address_len = refl; tags_fit = tags_fit; packet = ipv4_alone }
