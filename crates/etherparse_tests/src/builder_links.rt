@@ -9,9 +9,10 @@ use ep_base::{EtherType, IpNumber};
 use ep_ext::{Ipv4Extensions, Ipv6Extensions};
 use ep_ip::{Ipv4Header, Ipv6Header};
 use ep_link::ArpPacket;
-use ep_packet::IpHeaders;
+use ep_packet::{IpHeaders, SlicedPacket};
 use ep_tag::{DoubleVlanHeader, SingleVlanHeader, VlanHeader, VlanId, VlanPcp};
-use etherparse::{LinkStep, PacketBuilder, PacketBuilderStep};
+use etherparse::err::packet::BuildWriteError;
+use etherparse::{LinkStep, PacketBuilder, PacketBuilderStep, laws};
 use std::process::Abort;
 use std::test::*;
 
@@ -296,4 +297,55 @@ fn behind_given_tags(rt: HostRuntime) {
         7, 8, 9, 0x0a, 0x0b, 0x0c, 1, 2, 3, 4, 5, 6, 0x88, 0xa8, 0xb0, 1, 0x81, 0, 0xb0, 2, 8, 6,
     ];
     assert!(rt; writes_arp(&rt, ethernet2().vlan(tags(&rt)).arp(arp(&rt)), &front));
+}
+
+// Whether the IP payload of a packet is the one above, of number 253.
+fn holds_payload(packet: &SlicedPacket<'_>) -> bool {
+    match packet.ip_payload() {
+        Some(payload) => {
+            payload.ip_number == IpNumber(253) && payload.payload == PAYLOAD.as_slice()
+        }
+        None => false,
+    }
+}
+
+fn frame_holds_payload(frame: &[u8]) -> bool {
+    match laws::frames::built_frames_are_sliced(frame) {
+        Ok(packet) => holds_payload(&packet),
+        Err(_) => false,
+    }
+}
+
+fn packet_holds_payload(packet: &[u8]) -> bool {
+    match laws::frames::built_packets_are_sliced(packet) {
+        Ok(packet) => holds_payload(&packet),
+        Err(_) => false,
+    }
+}
+
+fn cooked_packet_holds_payload(packet: &[u8]) -> bool {
+    match laws::frames::built_cooked_packets_are_sliced(packet) {
+        Ok(packet) => holds_payload(&packet),
+        Err(_) => false,
+    }
+}
+
+fn bytes_of(
+    rt: &HostRuntime,
+    step: PacketBuilderStep<IpHeaders>,
+) -> Result<Vec<u8>, BuildWriteError> {
+    let mut bytes = Vec::new(rt.alloc());
+    step.write(&mut bytes, IpNumber(253), &PAYLOAD)?;
+    Ok(bytes)
+}
+
+#[test]
+fn what_is_built_is_sliced_again(rt: HostRuntime) -> Result<(), Fail> {
+    let frame = bytes_of(&rt, ethernet2().ip(ipv4_header()))?;
+    assert!(rt; frame_holds_payload(frame.as_slice()));
+    let packet = bytes_of(&rt, PacketBuilder::ip(ipv6_header()))?;
+    assert!(rt; packet_holds_payload(packet.as_slice()));
+    let cooked = bytes_of(&rt, linux_sll().ip(ipv4_header()))?;
+    assert!(rt; cooked_packet_holds_payload(cooked.as_slice()));
+    Ok(())
 }
