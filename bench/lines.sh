@@ -17,6 +17,15 @@ to_pipe() {
     "$1" <"$2" | cat >/dev/null
 }
 
+# The plain program gives what the worked rows want. (One row is wrong on purpose.)
+compare_rows() {
+    local input
+    for input in crates/netlines_rows/data/*.in; do
+        [[ $input == */wrong_on_purpose.in ]] && continue
+        "$work/$plain" <"$input" | cmp - "${input%.in}.out" >&2 || fail "the answers to $input are wrong"
+    done
+}
+
 # Both write the same answers to the file.
 compare() {
     local program
@@ -39,22 +48,33 @@ measure() {
         done
     done
     size=$(stat -c %s "$1")
-    printf '%-28s %-5s %12d %12d %7s\n' "$3" "$2" "$(per_second "$size" "${best[$ours]}")" \
+    printf '%-42s %-5s %12d %12d %7s\n' "$3" "$2" "$(per_second "$size" "${best[$ours]}")" \
         "$(per_second "$size" "${best[$plain]}")" "$(quotient "${best[$plain]}" "${best[$ours]}")"
+}
+
+# race LABEL ARGUMENT...: over the lines that make_lines writes for these arguments.
+race() {
+    local sink input=$work/lines.in
+    "$work/make_lines" "${@:2}" >"$input"
+    compare "$input" "$1"
+    for sink in null pipe; do
+        measure "$input" "$sink" "$1"
+    done
+    rm "$input"
 }
 
 build_plain make_lines
 build_plain "$plain"
+compare_rows
 build_proved "$ours" </dev/null
-
 compare bench/edges.in "bench/edges.in"
-"$work/make_lines" 200000 64 >"$work/short.in"
-"$work/make_lines" 20000 1500 >"$work/long.in"
-compare "$work/short.in" "the short frames"
-compare "$work/long.in" "the long frames"
 
-printf '%-28s %-5s %12s %12s %7s\n' input to netlines plain ratio
-for sink in null pipe; do
-    measure "$work/short.in" "$sink" "200,000 frames of 64 bytes"
-    measure "$work/long.in" "$sink" "20,000 frames of 1,500 bytes"
+printf '%-42s %-5s %12s %12s %7s\n' input to netlines plain ratio
+race "200,000 frames of 64 bytes" whole 200000 64
+race "20,000 frames of 1,500 bytes" whole 20000 1500
+for version in 4 6; do
+    for together in 1 1000; do
+        race "IPv$version, fragments of 64 bytes, $together together" cut "$version" 50000 64 "$together"
+        race "IPv$version, fragments of 1448 bytes, $together together" cut "$version" 5000 1448 "$together"
+    done
 done

@@ -1,32 +1,57 @@
 //! The job of the program `netlines` in plain Rust, as a measure for its speed: reads lines
-//! `frame CHANNEL HEX` from standard input and writes the answer to each on standard output.
-//!
-//! It reads unfragmented TCP and UDP over IPv4 and IPv6. What else is no fault of the line or the
-//! frame is `other`.
+//! `frame CHANNEL HEX` and `forget LINE` from standard input and writes the answer to each on
+//! standard output.
 
+use std::borrow::Cow;
+use std::collections::HashMap;
+use std::collections::hash_map::Entry;
 use std::fs::File;
+use std::hash::{BuildHasherDefault, Hasher};
 use std::io::{self, BufRead, Read, Write};
 use std::os::fd::AsFd;
 
 const READ_LEN: usize = 1 << 16;
 const ANSWERS_LEN: usize = 1 << 16;
 const LONGEST_LINE: usize = 200_000;
+const CHANNEL_DIGITS: usize = 10;
+const LINE_DIGITS: usize = 20;
 
 const ETHERNET_LEN: usize = 14;
-const IPV4_TYPE: [u8; 2] = [0x08, 0x00];
-const IPV6_TYPE: [u8; 2] = [0x86, 0xdd];
+const VLAN_LEN: usize = 4;
+const MACSEC_MIN_LEN: usize = 6;
+const MACSEC_IDENTIFIER_LEN: usize = 8;
+const ETHER_TYPE_LEN: usize = 2;
+const ARP_MIN_LEN: usize = 8;
+const MOST_TAGS: usize = 3;
+
+const IPV4_TYPE: u16 = 0x0800;
+const ARP_TYPE: u16 = 0x0806;
+const VLAN_TYPE: u16 = 0x8100;
+const SERVICE_VLAN_TYPE: u16 = 0x88a8;
+const DOUBLE_VLAN_TYPE: u16 = 0x9100;
+const IPV6_TYPE: u16 = 0x86dd;
+const MACSEC_TYPE: u16 = 0x88e5;
+
 const IPV4_MIN_LEN: usize = 20;
 const IPV6_LEN: usize = 40;
+const FRAGMENT_LEN: usize = 8;
+const TCP_MIN_LEN: usize = 20;
+const UDP_LEN: usize = 8;
+const ICMP_MIN_LEN: usize = 8;
+const ICMPV4_TIMESTAMP_LEN: usize = 20;
+
 const HOP_BY_HOP: u8 = 0;
+const ICMPV4: u8 = 1;
+const TCP: u8 = 6;
+const UDP: u8 = 17;
 const ROUTING: u8 = 43;
 const FRAGMENT: u8 = 44;
 const AUTHENTICATION: u8 = 51;
+const ICMPV6: u8 = 58;
 const DESTINATION: u8 = 60;
-const FRAGMENT_LEN: usize = 8;
-const TCP: u8 = 6;
-const TCP_MIN_LEN: usize = 20;
-const UDP: u8 = 17;
-const UDP_LEN: usize = 8;
+
+const TIMESTAMP: u8 = 13;
+const TIMESTAMP_REPLY: u8 = 14;
 
 const NO_DIGIT: u8 = 0x10;
 
@@ -42,21 +67,6 @@ const VALUES: [u8; 256] = {
     values
 };
 
-enum Answer<'a> {
-    BadLine,
-    RefusedFrame,
-    Other,
-    Message(u8, &'static str, &'a [u8]),
-}
-
-struct Packet<'a> {
-    /// Source and destination.
-    addresses: &'a [u8],
-    is_fragment: bool,
-    protocol: u8,
-    payload: &'a [u8],
-}
-
 fn main() -> io::Result<()> {
     // The standard library's own handle of standard output would write at each line's end.
     let mut output = File::from(io::stdout().as_fd().try_clone_to_owned()?);
@@ -66,7 +76,7 @@ fn main() -> io::Result<()> {
 fn run(input: &mut impl Read, output: &mut impl Write) -> io::Result<()> {
     let mut piece = vec![0; READ_LEN];
     let mut begun = Vec::with_capacity(LONGEST_LINE + 1);
-    let mut frame = vec![0; LONGEST_LINE / 2];
+    let mut answerer = Answerer::new();
     let mut answers = Vec::with_capacity(ANSWERS_LEN + LONGEST_LINE);
     loop {
         write_out(&mut answers, output)?;
@@ -82,7 +92,7 @@ fn run(input: &mut impl Read, output: &mut impl Write) -> io::Result<()> {
                 store(&mut begun, &rest[..end]);
                 &begun
             };
-            append_answer(&mut answers, &answer(line, &mut frame));
+            append_answer(&mut answers, &answerer.answer(line));
             begun.clear();
             rest = &rest[end + 1..];
             if answers.len() >= ANSWERS_LEN {
@@ -92,7 +102,7 @@ fn run(input: &mut impl Read, output: &mut impl Write) -> io::Result<()> {
         store(&mut begun, rest);
     }
     if !begun.is_empty() {
-        append_answer(&mut answers, &answer(&begun, &mut frame));
+        append_answer(&mut answers, &answerer.answer(&begun));
     }
     write_out(&mut answers, output)
 }
@@ -117,63 +127,46 @@ fn store(begun: &mut Vec<u8>, bytes: &[u8]) {
     begun.extend_from_slice(&bytes[..bytes.len().min(room)]);
 }
 
+enum Answer<'a> {
+    Text(&'static str),
+    Message {
+        protocol: u8,
+        verdict: &'static str,
+        bytes: Cow<'a, [u8]>,
+    },
+}
+
 fn append_answer(answers: &mut Vec<u8>, answer: &Answer) {
     match answer {
-        Answer::BadLine => answers.extend_from_slice(b"bad line"),
-        Answer::RefusedFrame => answers.extend_from_slice(b"refused frame"),
-        Answer::Other => answers.extend_from_slice(b"other"),
-        Answer::Message(protocol, verdict, message) => {
-            answers.extend_from_slice(match *protocol {
-                TCP => b"message 6 ".as_slice(),
-                _ => b"message 17 ",
-            });
+        Answer::Text(text) => answers.extend_from_slice(text.as_bytes()),
+        Answer::Message {
+            protocol,
+            verdict,
+            bytes,
+        } => {
+            answers.extend_from_slice(b"message ");
+            append_decimal(answers, *protocol);
+            answers.push(b' ');
             answers.extend_from_slice(verdict.as_bytes());
             answers.push(b' ');
-            append_hex(answers, message);
+            if bytes.is_empty() {
+                answers.push(b'-');
+            } else {
+                append_hex(answers, bytes);
+            }
         }
     }
     answers.push(b'\n');
 }
 
-fn answer<'a>(line: &[u8], frame: &'a mut [u8]) -> Answer<'a> {
-    match frame_digits(line).and_then(|digits| decode_hex(digits, frame)) {
-        Some(frame) => answer_frame(frame),
-        None => Answer::BadLine,
+fn append_decimal(answers: &mut Vec<u8>, number: u8) {
+    if number >= 100 {
+        answers.push(b'0' + number / 100);
     }
-}
-
-/// The hex digits of a line whose channel is a number of 32 bits.
-fn frame_digits(line: &[u8]) -> Option<&[u8]> {
-    if line.len() > LONGEST_LINE {
-        return None;
+    if number >= 10 {
+        answers.push(b'0' + number / 10 % 10);
     }
-    let rest = line.strip_prefix(b"frame ")?;
-    let channel_len = rest.iter().take_while(|byte| byte.is_ascii_digit()).count();
-    let (channel, rest) = rest.split_at(channel_len);
-    if !(1..=10).contains(&channel.len()) {
-        return None;
-    }
-    let number = channel
-        .iter()
-        .fold(0, |number, byte| 10 * number + u64::from(byte - b'0'));
-    u32::try_from(number).ok()?;
-    rest.strip_prefix(b" ")
-}
-
-/// The bytes that the digits spell, where they are whole pairs, one at least.
-fn decode_hex<'a>(digits: &[u8], bytes: &'a mut [u8]) -> Option<&'a [u8]> {
-    let (pairs, odd) = digits.as_chunks::<2>();
-    if pairs.is_empty() || !odd.is_empty() {
-        return None;
-    }
-    let bytes = &mut bytes[..pairs.len()];
-    let mut seen = 0;
-    for (byte, &[high, low]) in bytes.iter_mut().zip(pairs) {
-        let (high, low) = (VALUES[usize::from(high)], VALUES[usize::from(low)]);
-        seen |= high | low;
-        *byte = high << 4 | low;
-    }
-    (seen < NO_DIGIT).then_some(bytes)
+    answers.push(b'0' + number % 10);
 }
 
 fn append_hex(answers: &mut Vec<u8>, bytes: &[u8]) {
@@ -193,24 +186,277 @@ fn hex_digit(value: u8) -> u8 {
     }
 }
 
-fn answer_frame(frame: &[u8]) -> Answer<'_> {
-    let Some((ethernet, rest)) = frame.split_at_checked(ETHERNET_LEN) else {
-        return Answer::RefusedFrame;
-    };
-    let packet = match [ethernet[12], ethernet[13]] {
-        IPV4_TYPE => read_ipv4(rest),
-        IPV6_TYPE => read_ipv6(rest),
-        _ => return Answer::Other,
-    };
-    match packet {
-        None => Answer::RefusedFrame,
-        Some(packet) if packet.is_fragment => Answer::Other,
-        Some(packet) => answer_packet(&packet),
+/// Answers lines, one after another.
+struct Answerer {
+    /// The lines so far.
+    lines: u64,
+    /// Room for the bytes of a line's frame.
+    frame: Vec<u8>,
+    streams: Streams,
+}
+
+impl Answerer {
+    fn new() -> Answerer {
+        Answerer {
+            lines: 0,
+            frame: vec![0; LONGEST_LINE / 2],
+            streams: Streams::default(),
+        }
+    }
+
+    fn answer(&mut self, line: &[u8]) -> Answer<'_> {
+        self.lines += 1;
+        if line.len() > LONGEST_LINE {
+            return Answer::Text("bad line");
+        }
+        if let Some((channel, digits)) = frame_request(line) {
+            return match decode_hex(digits, &mut self.frame) {
+                Some(frame) => answer_frame(frame, channel, self.lines, &mut self.streams),
+                None => Answer::Text("bad line"),
+            };
+        }
+        if let Some(from) = forget_request(line) {
+            self.streams.retain(|_, stream| stream.line >= from);
+            return Answer::Text("ok");
+        }
+        Answer::Text("bad line")
     }
 }
 
+/// The channel and the hex digits of a line `frame CHANNEL HEX`.
+fn frame_request(line: &[u8]) -> Option<(u32, &[u8])> {
+    let rest = line.strip_prefix(b"frame ")?;
+    let digits = rest.iter().take_while(|byte| byte.is_ascii_digit()).count();
+    let (channel, rest) = rest.split_at(digits);
+    let channel = u32::try_from(number(channel, CHANNEL_DIGITS)?).ok()?;
+    Some((channel, rest.strip_prefix(b" ")?))
+}
+
+/// The line that a line `forget LINE` names.
+fn forget_request(line: &[u8]) -> Option<u64> {
+    number(line.strip_prefix(b"forget ")?, LINE_DIGITS)
+}
+
+/// The value of some decimal digits, at most so many, if it fits.
+fn number(digits: &[u8], most: usize) -> Option<u64> {
+    if digits.is_empty() || digits.len() > most || !digits.iter().all(u8::is_ascii_digit) {
+        return None;
+    }
+    digits.iter().try_fold(0u64, |number, byte| {
+        number.checked_mul(10)?.checked_add(u64::from(byte - b'0'))
+    })
+}
+
+/// The bytes that the digits spell, where they are whole pairs, one at least.
+fn decode_hex<'a>(digits: &[u8], bytes: &'a mut [u8]) -> Option<&'a [u8]> {
+    let (pairs, odd) = digits.as_chunks::<2>();
+    if pairs.is_empty() || !odd.is_empty() {
+        return None;
+    }
+    let bytes = &mut bytes[..pairs.len()];
+    let mut seen = 0;
+    for (byte, &[high, low]) in bytes.iter_mut().zip(pairs) {
+        let (high, low) = (VALUES[usize::from(high)], VALUES[usize::from(low)]);
+        seen |= high | low;
+        *byte = high << 4 | low;
+    }
+    (seen < NO_DIGIT).then_some(bytes)
+}
+
+fn answer_frame<'a>(frame: &'a [u8], channel: u32, line: u64, streams: &mut Streams) -> Answer<'a> {
+    let packet = match read_frame(frame) {
+        Ok(packet) => packet,
+        Err(Unread::Refused) => return Answer::Text("refused frame"),
+        Err(Unread::Other) => return Answer::Text("other"),
+    };
+    match packet.part {
+        Some(part) => answer_part(&packet, part, channel, line, streams),
+        None if packet.is_fragment => Answer::Text("other"),
+        None => answer_message(
+            &packet.addresses,
+            packet.protocol,
+            Cow::Borrowed(packet.payload),
+            "refused frame",
+        ),
+    }
+}
+
+/// Answers with the message, or, if it is none of its protocol, with the refusal.
+fn answer_message<'a>(
+    addresses: &Addresses,
+    protocol: u8,
+    bytes: Cow<'a, [u8]>,
+    refusal: &'static str,
+) -> Answer<'a> {
+    match judge(addresses, protocol, &bytes) {
+        Some(verdict) => Answer::Message {
+            protocol,
+            verdict,
+            bytes,
+        },
+        None => Answer::Text(refusal),
+    }
+}
+
+fn answer_part<'a>(
+    packet: &Packet<'a>,
+    part: Part,
+    channel: u32,
+    line: u64,
+    streams: &mut Streams,
+) -> Answer<'a> {
+    let name = Name {
+        channel,
+        vlan_ids: packet.vlan_ids,
+        addresses: packet.addresses,
+        identification: part.identification,
+        protocol: packet.protocol,
+    };
+    match add_part(streams, name, part, packet.payload, line) {
+        Ok(Some(message)) => answer_message(
+            &packet.addresses,
+            packet.protocol,
+            Cow::Owned(message),
+            "refused message",
+        ),
+        Ok(None) => Answer::Text("wait"),
+        Err(Refusal::TooLong) => Answer::Text("refused long"),
+        Err(Refusal::Unaligned) => Answer::Text("refused unaligned"),
+        Err(Refusal::ConflictingEnd) => Answer::Text("refused end"),
+    }
+}
+
+/// Why there is no IP packet in a frame.
+enum Unread {
+    /// The frame breaks a format.
+    Refused,
+    /// It has something else.
+    Other,
+}
+
+/// The identifiers of the VLAN tags, the outer one first.
+#[derive(Clone, Copy, Default, PartialEq, Eq, Hash)]
+struct VlanIds {
+    ids: [u16; MOST_TAGS],
+    count: u8,
+}
+
+impl VlanIds {
+    fn push(&mut self, id: u16) {
+        self.ids[usize::from(self.count)] = id;
+        self.count += 1;
+    }
+}
+
+/// Source and destination.
+#[derive(Clone, Copy, PartialEq, Eq, Hash)]
+enum Addresses {
+    V4([u8; 8]),
+    V6([u8; 32]),
+}
+
+impl Addresses {
+    fn bytes(&self) -> &[u8] {
+        match self {
+            Addresses::V4(bytes) => bytes,
+            Addresses::V6(bytes) => bytes,
+        }
+    }
+}
+
+/// The place of a payload in its message.
+#[derive(Clone, Copy)]
+struct Part {
+    identification: u32,
+    units: u16,
+    more: bool,
+}
+
+impl Part {
+    fn is_fragment(&self) -> bool {
+        self.units != 0 || self.more
+    }
+}
+
+struct Packet<'a> {
+    vlan_ids: VlanIds,
+    addresses: Addresses,
+    /// What the IPv4 header or the first fragment header tells, if that is of a part.
+    part: Option<Part>,
+    /// Whether any header tells of a part.
+    is_fragment: bool,
+    protocol: u8,
+    payload: &'a [u8],
+}
+
+fn read_frame(frame: &[u8]) -> Result<Packet<'_>, Unread> {
+    let (ethernet, mut rest) = frame
+        .split_first_chunk::<ETHERNET_LEN>()
+        .ok_or(Unread::Refused)?;
+    let mut ether_type = u16::from_be_bytes([ethernet[12], ethernet[13]]);
+    let mut vlan_ids = VlanIds::default();
+    for _ in 0..MOST_TAGS {
+        (ether_type, rest) = match ether_type {
+            VLAN_TYPE | SERVICE_VLAN_TYPE | DOUBLE_VLAN_TYPE => {
+                let (tag, behind) = rest
+                    .split_first_chunk::<VLAN_LEN>()
+                    .ok_or(Unread::Refused)?;
+                vlan_ids.push(u16::from_be_bytes([tag[0], tag[1]]) & 0xfff);
+                (u16::from_be_bytes([tag[2], tag[3]]), behind)
+            }
+            MACSEC_TYPE => read_macsec(rest)?,
+            _ => break,
+        };
+    }
+    match ether_type {
+        IPV4_TYPE => read_ipv4(vlan_ids, rest).ok_or(Unread::Refused),
+        IPV6_TYPE => read_ipv6(vlan_ids, rest).ok_or(Unread::Refused),
+        ARP_TYPE if !is_arp(rest) => Err(Unread::Refused),
+        _ => Err(Unread::Other),
+    }
+}
+
+/// The ether type and the bytes that stand behind a MACsec header (IEEE 802.1AE, clause 9).
+fn read_macsec(bytes: &[u8]) -> Result<(u16, &[u8]), Unread> {
+    let (fixed, rest) = bytes
+        .split_first_chunk::<MACSEC_MIN_LEN>()
+        .ok_or(Unread::Refused)?;
+    let is_changed = fixed[0] & 0x0c != 0;
+    let short_len = usize::from(fixed[1] & 0x3f);
+    if fixed[0] & 0x80 != 0 || (!is_changed && short_len == 1) {
+        return Err(Unread::Refused);
+    }
+    let identifier_len = if fixed[0] & 0x20 != 0 {
+        MACSEC_IDENTIFIER_LEN
+    } else {
+        0
+    };
+    let protected = rest.get(identifier_len..).ok_or(Unread::Refused)?;
+    // The short length counts the ether type of an unchanged payload. One of 0 takes all.
+    let protected = match short_len {
+        0 => protected,
+        len => protected.get(..len).ok_or(Unread::Refused)?,
+    };
+    if is_changed {
+        return Err(Unread::Other);
+    }
+    let (ether_type, payload) = protected
+        .split_first_chunk::<ETHER_TYPE_LEN>()
+        .ok_or(Unread::Refused)?;
+    Ok((u16::from_be_bytes(*ether_type), payload))
+}
+
+/// Whether an ARP packet stands at the front (RFC 826).
+fn is_arp(bytes: &[u8]) -> bool {
+    bytes
+        .split_first_chunk::<ARP_MIN_LEN>()
+        .is_some_and(|(fixed, addresses)| {
+            addresses.len() >= 2 * (usize::from(fixed[4]) + usize::from(fixed[5]))
+        })
+}
+
 /// The packet at the front (RFC 791, 3.1).
-fn read_ipv4(bytes: &[u8]) -> Option<Packet<'_>> {
+fn read_ipv4(vlan_ids: VlanIds, bytes: &[u8]) -> Option<Packet<'_>> {
     let (header, _) = bytes.split_first_chunk::<IPV4_MIN_LEN>()?;
     let header_len = 4 * usize::from(header[0] & 0xf);
     let total_len = usize::from(u16::from_be_bytes([header[2], header[3]]));
@@ -223,17 +469,24 @@ fn read_ipv4(bytes: &[u8]) -> Option<Packet<'_>> {
         AUTHENTICATION => (*body.first()?, body.get(authentication_len(body)?..)?),
         protocol => (protocol, body),
     };
-    let more_and_offset = u16::from_be_bytes([header[6], header[7]]) & 0x3fff;
+    let more_and_offset = u16::from_be_bytes([header[6], header[7]]);
+    let part = Part {
+        identification: u32::from(u16::from_be_bytes([header[4], header[5]])),
+        units: more_and_offset & 0x1fff,
+        more: more_and_offset & 0x2000 != 0,
+    };
     Some(Packet {
-        addresses: &bytes[12..IPV4_MIN_LEN],
-        is_fragment: more_and_offset != 0,
+        vlan_ids,
+        addresses: Addresses::V4(*header[12..].first_chunk()?),
+        part: Some(part).filter(Part::is_fragment),
+        is_fragment: part.is_fragment(),
         protocol,
         payload,
     })
 }
 
 /// The packet at the front (RFC 8200, 3 and 4).
-fn read_ipv6(bytes: &[u8]) -> Option<Packet<'_>> {
+fn read_ipv6(vlan_ids: VlanIds, bytes: &[u8]) -> Option<Packet<'_>> {
     let (header, behind) = bytes.split_first_chunk::<IPV6_LEN>()?;
     if header[0] >> 4 != 6 {
         return None;
@@ -245,6 +498,7 @@ fn read_ipv6(bytes: &[u8]) -> Option<Packet<'_>> {
     };
     let mut protocol = header[6];
     let mut is_first = true;
+    let mut first_part = None;
     let mut is_fragment = false;
     loop {
         let len = match protocol {
@@ -256,18 +510,31 @@ fn read_ipv6(bytes: &[u8]) -> Option<Packet<'_>> {
         };
         let (extension, behind) = rest.split_at_checked(len)?;
         if protocol == FRAGMENT {
-            is_fragment |= u16::from_be_bytes([extension[2], extension[3]]) & 0xfff9 != 0;
+            let part = read_fragment_header(extension.first_chunk()?);
+            is_fragment |= part.is_fragment();
+            first_part.get_or_insert(part);
         }
         protocol = extension[0];
         rest = behind;
         is_first = false;
     }
     Some(Packet {
-        addresses: &bytes[8..IPV6_LEN],
+        vlan_ids,
+        addresses: Addresses::V6(*header[8..].first_chunk()?),
+        part: first_part.filter(Part::is_fragment),
         is_fragment,
         protocol,
         payload: rest,
     })
+}
+
+fn read_fragment_header(header: &[u8; FRAGMENT_LEN]) -> Part {
+    let offset_and_more = u16::from_be_bytes([header[2], header[3]]);
+    Part {
+        identification: u32::from_be_bytes([header[4], header[5], header[6], header[7]]),
+        units: offset_and_more >> 3,
+        more: offset_and_more & 1 != 0,
+    }
 }
 
 /// The length that an authentication header states (RFC 4302, 2.2).
@@ -278,32 +545,43 @@ fn authentication_len(bytes: &[u8]) -> Option<usize> {
     }
 }
 
-fn answer_packet<'a>(packet: &Packet<'a>) -> Answer<'a> {
-    let verdict = match packet.protocol {
-        TCP => judge_tcp(packet),
-        UDP => judge_udp(packet),
-        _ => return Answer::Other,
-    };
-    match verdict {
-        None => Answer::RefusedFrame,
-        Some(verdict) => Answer::Message(packet.protocol, verdict, packet.payload),
+/// The verdict on a message, if it is one of its protocol.
+fn judge(addresses: &Addresses, protocol: u8, message: &[u8]) -> Option<&'static str> {
+    match protocol {
+        ICMPV4 => judge_icmpv4(addresses, message),
+        TCP => judge_tcp(addresses, message),
+        UDP => judge_udp(addresses, message),
+        ICMPV6 => judge_icmpv6(addresses, message),
+        _ => Some("none"),
     }
 }
 
-/// The verdict on a segment (RFC 9293, 3.1), if its data offset fits.
-fn judge_tcp(packet: &Packet) -> Option<&'static str> {
-    let (header, _) = packet.payload.split_first_chunk::<TCP_MIN_LEN>()?;
-    let header_len = 4 * usize::from(header[12] >> 4);
-    if header_len < TCP_MIN_LEN || header_len > packet.payload.len() {
+/// The verdict on a message of ICMP (RFC 792), if it has the length of its kind.
+fn judge_icmpv4(addresses: &Addresses, message: &[u8]) -> Option<&'static str> {
+    let (header, _) = message.split_first_chunk::<ICMP_MIN_LEN>()?;
+    let is_timestamp = matches!(header[..2], [TIMESTAMP | TIMESTAMP_REPLY, 0]);
+    if is_timestamp && message.len() != ICMPV4_TIMESTAMP_LEN {
         return None;
     }
-    Some(judge_sum(packet, packet.payload))
+    Some(match addresses {
+        Addresses::V4(_) => word(is_all_ones(total(message))),
+        Addresses::V6(_) => "none",
+    })
+}
+
+/// The verdict on a segment (RFC 9293, 3.1), if its data offset fits.
+fn judge_tcp(addresses: &Addresses, segment: &[u8]) -> Option<&'static str> {
+    let (header, _) = segment.split_first_chunk::<TCP_MIN_LEN>()?;
+    let header_len = 4 * usize::from(header[12] >> 4);
+    if header_len < TCP_MIN_LEN || header_len > segment.len() {
+        return None;
+    }
+    Some(judge_sum(addresses, TCP, segment))
 }
 
 /// The verdict on a datagram (RFC 768), if its length field is 0 or names neither too many nor too
 /// few bytes.
-fn judge_udp(packet: &Packet) -> Option<&'static str> {
-    let datagram = packet.payload;
+fn judge_udp(addresses: &Addresses, datagram: &[u8]) -> Option<&'static str> {
     let (header, _) = datagram.split_first_chunk::<UDP_LEN>()?;
     let summed = match usize::from(u16::from_be_bytes([header[4], header[5]])) {
         0 => datagram,
@@ -313,19 +591,30 @@ fn judge_udp(packet: &Packet) -> Option<&'static str> {
     Some(if header[6..] == [0, 0] {
         "none"
     } else {
-        judge_sum(packet, summed)
+        judge_sum(addresses, UDP, summed)
+    })
+}
+
+/// The verdict on a message of ICMPv6 (RFC 4443, 2.1), if it has a header.
+fn judge_icmpv6(addresses: &Addresses, message: &[u8]) -> Option<&'static str> {
+    if message.len() < ICMP_MIN_LEN {
+        return None;
+    }
+    Some(match addresses {
+        Addresses::V4(_) => "none",
+        Addresses::V6(_) => judge_sum(addresses, ICMPV6, message),
     })
 }
 
 /// The verdict on the sum of pseudo header and message. (Over IPv6 the length has two words, whose
 /// sum leaves the same rest as the length itself.)
-fn judge_sum(packet: &Packet, summed: &[u8]) -> &'static str {
-    let pseudo = total(packet.addresses) + u64::from(packet.protocol) + summed.len() as u64;
-    if is_all_ones(pseudo + total(summed)) {
-        "good"
-    } else {
-        "bad"
-    }
+fn judge_sum(addresses: &Addresses, protocol: u8, summed: &[u8]) -> &'static str {
+    let pseudo = total(addresses.bytes()) + u64::from(protocol) + summed.len() as u64;
+    word(is_all_ones(pseudo + total(summed)))
+}
+
+fn word(is_good: bool) -> &'static str {
+    if is_good { "good" } else { "bad" }
 }
 
 /// The sum of the 16-bit words, an odd last byte followed by a zero byte (RFC 1071).
@@ -341,4 +630,156 @@ fn total(bytes: &[u8]) -> u64 {
 /// Whether the ones' complement sum is all ones.
 fn is_all_ones(total: u64) -> bool {
     total != 0 && total % 0xffff == 0
+}
+
+/// What a fragment's message is known by.
+#[derive(PartialEq, Eq, Hash)]
+struct Name {
+    channel: u32,
+    vlan_ids: VlanIds,
+    addresses: Addresses,
+    identification: u32,
+    protocol: u8,
+}
+
+type Streams = HashMap<Name, Stream, BuildHasherDefault<FoldHasher>>;
+
+/// A message on its way.
+struct Stream {
+    reassembly: Reassembly,
+    /// The line of the fragment that was accepted last.
+    line: u64,
+}
+
+/// Adds a fragment to its message, which is handed out if that is complete now.
+fn add_part(
+    streams: &mut Streams,
+    name: Name,
+    part: Part,
+    bytes: &[u8],
+    line: u64,
+) -> Result<Option<Vec<u8>>, Refusal> {
+    match streams.entry(name) {
+        Entry::Occupied(mut entry) => {
+            let stream = entry.get_mut();
+            stream.reassembly.add(part, bytes)?;
+            stream.line = line;
+            let is_complete = stream.reassembly.is_complete();
+            Ok(is_complete.then(|| entry.remove().reassembly.data))
+        }
+        Entry::Vacant(place) => {
+            let mut reassembly = Reassembly::default();
+            reassembly.add(part, bytes)?;
+            // One fragment is no message: more follow it, or bytes before it are missing.
+            place.insert(Stream { reassembly, line });
+            Ok(None)
+        }
+    }
+}
+
+enum Refusal {
+    TooLong,
+    Unaligned,
+    ConflictingEnd,
+}
+
+/// The places from `start` to `end`, where the end is none.
+#[derive(Clone, Copy)]
+struct Section {
+    start: u16,
+    end: u16,
+}
+
+impl Section {
+    fn touches(self, other: Section) -> bool {
+        self.start <= other.end && other.start <= self.end
+    }
+}
+
+/// The fragments of one message.
+#[derive(Default)]
+struct Reassembly {
+    data: Vec<u8>,
+    sections: Vec<Section>,
+    end: Option<u16>,
+}
+
+impl Reassembly {
+    fn add(&mut self, part: Part, bytes: &[u8]) -> Result<(), Refusal> {
+        let len = u16::try_from(bytes.len()).map_err(|_| Refusal::TooLong)?;
+        let start = 8 * part.units;
+        let end = start.checked_add(len).ok_or(Refusal::TooLong)?;
+        if part.more && len % 8 != 0 {
+            return Err(Refusal::Unaligned);
+        }
+        if self
+            .end
+            .is_some_and(|known| known < end || (!part.more && end != known))
+        {
+            return Err(Refusal::ConflictingEnd);
+        }
+        let place = usize::from(start)..usize::from(end);
+        if self.data.len() < place.end {
+            self.data.resize(place.end, 0);
+        }
+        self.data[place.clone()].copy_from_slice(bytes);
+        let mut joined = Section { start, end };
+        self.sections.retain(|section| {
+            let apart = !joined.touches(*section);
+            if !apart {
+                joined.start = joined.start.min(section.start);
+                joined.end = joined.end.max(section.end);
+            }
+            apart
+        });
+        self.sections.push(joined);
+        if !part.more {
+            self.end = Some(end);
+            self.data.truncate(place.end);
+        }
+        Ok(())
+    }
+
+    fn is_complete(&self) -> bool {
+        self.end.is_some() && matches!(self.sections.as_slice(), [Section { start: 0, .. }])
+    }
+}
+
+/// A hash that is made by a multiplication for each word.
+#[derive(Default)]
+struct FoldHasher(u64);
+
+impl Hasher for FoldHasher {
+    fn write(&mut self, bytes: &[u8]) {
+        for chunk in bytes.chunks(8) {
+            let mut word = [0; 8];
+            word[..chunk.len()].copy_from_slice(chunk);
+            self.write_u64(u64::from_le_bytes(word));
+        }
+    }
+
+    fn write_u8(&mut self, number: u8) {
+        self.write_u64(u64::from(number));
+    }
+
+    fn write_u16(&mut self, number: u16) {
+        self.write_u64(u64::from(number));
+    }
+
+    fn write_u32(&mut self, number: u32) {
+        self.write_u64(u64::from(number));
+    }
+
+    fn write_u64(&mut self, number: u64) {
+        let product = u128::from(self.0 ^ number) * 0x9e37_79b9_7f4a_7c15;
+        self.0 = product as u64 ^ (product >> 64) as u64;
+    }
+
+    fn write_usize(&mut self, number: usize) {
+        self.write_u64(number as u64);
+    }
+
+    fn finish(&self) -> u64 {
+        self.0
+    }
 }
