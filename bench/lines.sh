@@ -6,6 +6,7 @@ cd "$(dirname "$0")/.."
 cpu=${1:-}
 source bench/common.sh
 
+rounds=40
 ours=netlines_cli
 plain=plain_lines
 
@@ -48,7 +49,7 @@ measure() {
         done
     done
     size=$(stat -c %s "$1")
-    printf '%-42s %-5s %12d %12d %7s\n' "$3" "$2" "$(per_second "$size" "${best[$ours]}")" \
+    printf '%-44s %-5s %12d %12d %7s\n' "$3" "$2" "$(per_second "$size" "${best[$ours]}")" \
         "$(per_second "$size" "${best[$plain]}")" "$(quotient "${best[$plain]}" "${best[$ours]}")"
 }
 
@@ -69,7 +70,7 @@ compare_rows
 build_proved "$ours" </dev/null
 compare bench/edges.in "bench/edges.in"
 
-printf '%-42s %-5s %12s %12s %7s\n' input to netlines plain ratio
+printf '%-44s %-5s %12s %12s %7s\n' input to netlines plain ratio
 race "200,000 frames of 64 bytes" whole 200000 64
 race "20,000 frames of 1,500 bytes" whole 20000 1500
 for version in 4 6; do
