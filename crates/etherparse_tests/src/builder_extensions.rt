@@ -1,7 +1,9 @@
 //! Extension headers behind IP headers, whose numbers and lengths were others before. The bytes were worked
 //! out after RFC 791, 4302 and 8200.
 
-use crate::builder_parts::{IPV4_DESTINATION, IPV4_SOURCE, IPV6_DESTINATION, IPV6_SOURCE, PAYLOAD};
+use crate::builder_parts::{
+    IPV4_DESTINATION, IPV4_SOURCE, IPV6_DESTINATION, IPV6_SOURCE, PAYLOAD, writes, writes_with,
+};
 use ep_base::{IpFragOffset, IpNumber};
 use ep_ext::{
     IpAuthHeader, Ipv4Extensions, Ipv6Extensions, Ipv6FragmentHeader, Ipv6RawExtHeader,
@@ -71,12 +73,9 @@ const UDP_BEHIND_AUTH: [u8; 48] = [
 ];
 
 #[test]
-fn udp_behind_auth(rt: HostRuntime) -> Result<(), Fail> {
+fn udp_behind_auth(rt: HostRuntime) {
     let step = PacketBuilder::ip(ipv4_headers(&rt)).udp(21, 1234);
-    let mut buffer = Vec::new(rt.alloc());
-    step.write(&mut buffer, &PAYLOAD)?;
-    assert!(rt; buffer.as_slice() == UDP_BEHIND_AUTH.as_slice());
-    Ok(())
+    assert!(rt; writes(&rt, step, &UDP_BEHIND_AUTH));
 }
 
 const UDP_BEHIND_ALL: [u8; 108] = [
@@ -87,12 +86,9 @@ const UDP_BEHIND_ALL: [u8; 108] = [
 ];
 
 #[test]
-fn udp_behind_all(rt: HostRuntime) -> Result<(), Fail> {
+fn udp_behind_all(rt: HostRuntime) {
     let step = PacketBuilder::ip(ipv6_headers(&rt)).udp(21, 1234);
-    let mut buffer = Vec::new(rt.alloc());
-    step.write(&mut buffer, &PAYLOAD)?;
-    assert!(rt; buffer.as_slice() == UDP_BEHIND_ALL.as_slice());
-    Ok(())
+    assert!(rt; writes(&rt, step, &UDP_BEHIND_ALL));
 }
 
 const RAW_BEHIND_ALL: [u8; 100] = [
@@ -103,12 +99,9 @@ const RAW_BEHIND_ALL: [u8; 100] = [
 ];
 
 #[test]
-fn raw_behind_all(rt: HostRuntime) -> Result<(), Fail> {
-    let mut buffer = Vec::new(rt.alloc());
+fn raw_behind_all(rt: HostRuntime) {
     let step = PacketBuilder::ip(ipv6_headers(&rt));
-    step.write(&mut buffer, IpNumber(253), &PAYLOAD)?;
-    assert!(rt; buffer.as_slice() == RAW_BEHIND_ALL.as_slice());
-    Ok(())
+    assert!(rt; writes_with(&rt, step, IpNumber(253), &PAYLOAD, &RAW_BEHIND_ALL));
 }
 
 // Every number leads through the extension headers, also those of the headers themselves.

@@ -1,12 +1,12 @@
 //! Parts of packets, as the tests of the builder take them. The functions have no contracts: tests alone call
 //! them, and are run.
 
-use ep_base::EtherType;
+use ep_base::{EtherType, IpNumber};
 use ep_link::{
     ArpHardwareId, ArpOperation, ArpPacket, Ethernet2Header, LinuxSllHeader, LinuxSllPacketType,
 };
 use ep_packet::IpHeaders;
-use etherparse::{PacketBuilder, PacketBuilderStep};
+use etherparse::{PacketBuilder, PacketBuilderStep, TransportStep};
 use std::process::Abort;
 use std::test::*;
 
@@ -43,6 +43,28 @@ pub fn ipv4() -> PacketBuilderStep<IpHeaders> {
 /// An IPv6 packet between the addresses above; no contract, as above.
 pub fn ipv6() -> PacketBuilderStep<IpHeaders> {
     PacketBuilder::ipv6(IPV6_SOURCE, IPV6_DESTINATION, 47)
+}
+
+/// Whether the step writes this packet; no contract, as above.
+pub fn writes<L: TransportStep>(
+    rt: &HostRuntime,
+    step: PacketBuilderStep<L>,
+    packet: &[u8],
+) -> bool {
+    let mut buffer = Vec::new(rt.alloc());
+    step.write(&mut buffer, &PAYLOAD) == Ok(()) && buffer.as_slice() == packet
+}
+
+/// Whether the step writes this packet, with a payload of this number; no contract, as above.
+pub fn writes_with(
+    rt: &HostRuntime,
+    step: PacketBuilderStep<IpHeaders>,
+    number: IpNumber,
+    payload: &[u8],
+    packet: &[u8],
+) -> bool {
+    let mut buffer = Vec::new(rt.alloc());
+    step.write(&mut buffer, number, payload) == Ok(()) && buffer.as_slice() == packet
 }
 
 /// A request for a hardware address; no contract, as above.

@@ -4,18 +4,52 @@ use crate::builder_parts::{PAYLOAD, arp, ethernet2, ipv4, ipv6};
 use ep_base::IpNumber;
 use ep_base::err::{ValueTooBigError, ValueType};
 use ep_ext::err::{ipv4_exts, ipv6_exts};
+use ep_packet::IpHeaders;
 use etherparse::err::packet::BuildWriteError;
-use std::alloc::AllocError;
+use etherparse::{PacketBuilderStep, TransportStep};
+use std::alloc::Global;
+use std::process::Abort;
 use std::test::*;
 
-fn held(rt: &HostRuntime) -> Result<Vec<u8>, AllocError> {
-    let mut buffer = Vec::new(rt.alloc());
-    buffer.push(0xaa)?;
-    Ok(buffer)
+// The functions below end a test that finds no memory. They have no contracts, as tests alone call them.
+
+fn held(rt: &impl Abort, alloc: Global) -> Vec<u8> {
+    let mut buffer = Vec::new(alloc);
+    assert!(rt; buffer.push(0xaa).is_ok());
+    buffer
 }
 
-fn zeros(rt: &HostRuntime, len: usize) -> Result<Vec<u8>, AllocError> {
-    vec![in rt.alloc(); 0u8; len]
+fn zeros(rt: &impl Abort, alloc: Global, len: usize) -> Vec<u8> {
+    let Ok(zeros) = vec![in alloc; 0u8; len] else {
+        panic!(rt; "no memory");
+    };
+    zeros
+}
+
+// What the step tells of so many zeros. Where it refuses them, the buffer stays as it was.
+fn told<L: TransportStep>(
+    rt: &impl Abort,
+    alloc: Global,
+    step: PacketBuilderStep<L>,
+    len: usize,
+) -> Result<(), BuildWriteError> {
+    let mut buffer = held(rt, alloc);
+    let told = step.write(&mut buffer, &zeros(rt, alloc, len));
+    assert!(rt; told.is_ok() || buffer.as_slice() == [0xaa].as_slice());
+    told
+}
+
+// The same with no header behind those of IP.
+fn told_with(
+    rt: &impl Abort,
+    alloc: Global,
+    step: PacketBuilderStep<IpHeaders>,
+    len: usize,
+) -> Result<(), BuildWriteError> {
+    let mut buffer = held(rt, alloc);
+    let told = step.write(&mut buffer, IpNumber(253), &zeros(rt, alloc, len));
+    assert!(rt; told.is_ok() || buffer.as_slice() == [0xaa].as_slice());
+    told
 }
 
 fn too_long(
@@ -31,59 +65,41 @@ fn too_long(
 }
 
 #[test]
-fn too_long_over_ipv4(rt: HostRuntime) -> Result<(), Fail> {
-    let mut buffer = held(&rt)?;
+fn too_long_over_ipv4(rt: HostRuntime) {
     let refused = too_long(ValueType::Ipv4PayloadLength, 65515, 65516);
-    let payload = zeros(&rt, 65516)?;
     let step = ethernet2().ipv4([0; 4], [0; 4], 1);
-    assert!(rt; step.write(&mut buffer, IpNumber(253), &payload) == refused);
-    let payload = zeros(&rt, 65508)?;
-    assert!(rt; ipv4().udp(1, 2).write(&mut buffer, &payload) == refused);
-    assert!(rt; ipv4().icmpv4_echo_reply(1, 2).write(&mut buffer, &payload) == refused);
-    let payload = zeros(&rt, 65496)?;
-    assert!(rt; ipv4().tcp(1, 2, 3, 4).write(&mut buffer, &payload) == refused);
-    assert!(rt; buffer.as_slice() == [0xaa].as_slice());
-    Ok(())
+    assert!(rt; told_with(&rt, rt.alloc(), step, 65516) == refused);
+    assert!(rt; told(&rt, rt.alloc(), ipv4().udp(1, 2), 65508) == refused);
+    assert!(rt; told(&rt, rt.alloc(), ipv4().icmpv4_echo_reply(1, 2), 65508) == refused);
+    assert!(rt; told(&rt, rt.alloc(), ipv4().tcp(1, 2, 3, 4), 65496) == refused);
 }
 
 #[test]
-fn too_long_over_ipv6(rt: HostRuntime) -> Result<(), Fail> {
-    let mut buffer = held(&rt)?;
+fn too_long_over_ipv6(rt: HostRuntime) {
     let refused = too_long(ValueType::Ipv6PayloadLength, 65535, 65536);
-    let payload = zeros(&rt, 65536)?;
-    assert!(rt; ipv6().write(&mut buffer, IpNumber(253), &payload) == refused);
-    let payload = zeros(&rt, 65528)?;
-    assert!(rt; ipv6().udp(1, 2).write(&mut buffer, &payload) == refused);
-    assert!(rt; ipv6().icmpv6_echo_reply(1, 2).write(&mut buffer, &payload) == refused);
-    let payload = zeros(&rt, 65516)?;
-    assert!(rt; ipv6().tcp(1, 2, 3, 4).write(&mut buffer, &payload) == refused);
-    assert!(rt; buffer.as_slice() == [0xaa].as_slice());
-    Ok(())
+    assert!(rt; told_with(&rt, rt.alloc(), ipv6(), 65536) == refused);
+    assert!(rt; told(&rt, rt.alloc(), ipv6().udp(1, 2), 65528) == refused);
+    assert!(rt; told(&rt, rt.alloc(), ipv6().icmpv6_echo_reply(1, 2), 65528) == refused);
+    assert!(rt; told(&rt, rt.alloc(), ipv6().tcp(1, 2, 3, 4), 65516) == refused);
 }
 
 #[test]
-fn greatest_lengths_are_written(rt: HostRuntime) -> Result<(), Fail> {
-    let mut buffer = held(&rt)?;
-    let payload = zeros(&rt, 65507)?;
-    ipv4().udp(1, 2).write(&mut buffer, &payload)?;
+fn greatest_lengths_are_written(rt: HostRuntime) {
+    let mut buffer = held(&rt, rt.alloc());
+    let payload = zeros(&rt, rt.alloc(), 65507);
+    assert!(rt; ipv4().udp(1, 2).write(&mut buffer, &payload) == Ok(()));
     assert!(rt; buffer.len() == 1 + 65535);
-    let payload = zeros(&rt, 65527)?;
-    ipv6().udp(1, 2).write(&mut buffer, &payload)?;
+    let payload = zeros(&rt, rt.alloc(), 65527);
+    assert!(rt; ipv6().udp(1, 2).write(&mut buffer, &payload) == Ok(()));
     assert!(rt; buffer.len() == 1 + 65535 + 65575);
-    Ok(())
 }
 
 #[test]
-fn length_before_icmpv6_over_ipv4(rt: HostRuntime) -> Result<(), Fail> {
-    let mut buffer = held(&rt)?;
-    let payload = zeros(&rt, 65508)?;
+fn length_before_icmpv6_over_ipv4(rt: HostRuntime) {
     let refused = too_long(ValueType::Ipv4PayloadLength, 65515, 65516);
-    assert!(rt; ipv4().icmpv6_raw(1, 2, [0; 4]).write(&mut buffer, &payload) == refused);
-    let payload = zeros(&rt, 65507)?;
+    assert!(rt; told(&rt, rt.alloc(), ipv4().icmpv6_raw(1, 2, [0; 4]), 65508) == refused);
     let refused = Err(BuildWriteError::Icmpv6InIpv4);
-    assert!(rt; ipv4().icmpv6_raw(1, 2, [0; 4]).write(&mut buffer, &payload) == refused);
-    assert!(rt; buffer.as_slice() == [0xaa].as_slice());
-    Ok(())
+    assert!(rt; told(&rt, rt.alloc(), ipv4().icmpv6_raw(1, 2, [0; 4]), 65507) == refused);
 }
 
 #[test]
@@ -97,30 +113,31 @@ fn what_errors_tell(rt: HostRuntime) {
         missing_ext: IpNumber(51),
     };
     let v6 = ipv6_exts::ExtsWalkError::HopByHopNotAtStart;
-    assert!(rt; BuildWriteError::Memory.memory());
-    assert!(rt; !BuildWriteError::Ipv4Exts(v4).memory());
-    assert!(rt; BuildWriteError::PayloadLen(length).payload_len() == Some(length));
-    assert!(rt; BuildWriteError::Memory.payload_len() == None);
-    assert!(rt; BuildWriteError::Ipv4Exts(v4).ipv4_exts() == Some(v4));
-    assert!(rt; BuildWriteError::Ipv6Exts(v6).ipv4_exts() == None);
-    assert!(rt; BuildWriteError::Ipv6Exts(v6).ipv6_exts() == Some(v6));
-    assert!(rt; BuildWriteError::ArpHeaderNotMatch.ipv6_exts() == None);
-    assert!(rt; BuildWriteError::Icmpv6InIpv4.is_icmpv6_in_ipv4());
-    assert!(rt; !BuildWriteError::ArpHeaderNotMatch.is_icmpv6_in_ipv4());
+    let memory = BuildWriteError::Memory;
+    let of_ipv4 = BuildWriteError::Ipv4Exts(v4);
+    let of_ipv6 = BuildWriteError::Ipv6Exts(v6);
+    let arp = BuildWriteError::ArpHeaderNotMatch;
+    let icmp = BuildWriteError::Icmpv6InIpv4;
+    let kinds = [memory.memory(), icmp.is_icmpv6_in_ipv4()];
+    let other_kinds = [of_ipv4.memory(), arp.is_icmpv6_in_ipv4()];
+    assert!(rt; (kinds, other_kinds) == ([true, true], [false, false]));
+    let lengths = (
+        BuildWriteError::PayloadLen(length).payload_len(),
+        memory.payload_len(),
+    );
+    assert!(rt; lengths == (Some(length), None));
+    assert!(rt; (of_ipv4.ipv4_exts(), of_ipv6.ipv4_exts()) == (Some(v4), None));
+    assert!(rt; (of_ipv6.ipv6_exts(), arp.ipv6_exts()) == (Some(v6), None));
 }
 
 #[test]
 fn texts(rt: HostRuntime) -> Result<(), Fail> {
     let memory = BuildWriteError::Memory;
-    assert_eq!(rt;
-        format!(in rt.alloc(); "{memory}")?.as_str(),
-        "no memory left for the packet"
-    );
     let icmp = BuildWriteError::Icmpv6InIpv4;
-    assert_eq!(rt;
-        format!(in rt.alloc(); "{icmp}")?.as_str(),
-        "an ICMPv6 message over IPv4, which has no checksum"
-    );
+    let text = format!(in rt.alloc(); "{memory} | {icmp}")?;
+    let wanted =
+        "no memory left for the packet | an ICMPv6 message over IPv4, which has no checksum";
+    assert!(rt; text.as_str() == wanted);
     Ok(())
 }
 

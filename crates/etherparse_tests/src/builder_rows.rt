@@ -1,7 +1,7 @@
 //! Rows of frames. The bytes are from outside: they were worked out after RFC 768, 791 and 8200 and IEEE
 //! 802.1Q.
 
-use crate::builder_parts::{IPV6_DESTINATION, IPV6_SOURCE, PAYLOAD, ipv4};
+use crate::builder_parts::{IPV6_DESTINATION, IPV6_SOURCE, PAYLOAD, ipv4, writes, writes_with};
 use ep_base::IpNumber;
 use ep_base::err::{ValueTooBigError, ValueType};
 use ep_ext::Ipv4Extensions;
@@ -20,15 +20,12 @@ const BUILDER_UDP: [u8; 50] = [
 ];
 
 #[test]
-fn builder_udp(rt: HostRuntime) -> Result<(), Fail> {
+fn builder_udp(rt: HostRuntime) {
     let step = PacketBuilder::ethernet2([1, 2, 3, 4, 5, 6], [7, 8, 9, 10, 11, 12])
         .ipv4([192, 168, 1, 1], [192, 168, 1, 2], 20)
         .udp(21, 1234);
     assert!(rt; step.size(8) == 50);
-    let mut buffer = Vec::new(rt.alloc());
-    step.write(&mut buffer, &PAYLOAD)?;
-    assert!(rt; buffer.as_slice() == BUILDER_UDP.as_slice());
-    Ok(())
+    assert!(rt; writes(&rt, step, &BUILDER_UDP));
 }
 
 fn frame() -> PacketBuilderStep<Ethernet2Header> {
@@ -45,27 +42,23 @@ const IPV6_UDP: [u8; 70] = [
 ];
 
 #[test]
-fn ipv6_udp(rt: HostRuntime) -> Result<(), Fail> {
-    let mut buffer = Vec::new(rt.alloc());
+fn ipv6_udp(rt: HostRuntime) {
     let step = frame().ipv6(IPV6_SOURCE, IPV6_DESTINATION, 64);
-    step.write(&mut buffer, IpNumber::UDP, &UDP_OVER_IPV6)?;
-    assert!(rt; buffer.as_slice() == IPV6_UDP.as_slice());
-    Ok(())
+    assert!(rt; writes_with(&rt, step, IpNumber::UDP, &UDP_OVER_IPV6, &IPV6_UDP));
 }
 
-const ONE_TAG: [u8; 18] = [
-    2, 0, 0, 0, 0, 2, 2, 0, 0, 0, 0, 1, 0x81, 0, 0, 5, 0x86, 0xdd,
+const ONE_TAG: [u8; 74] = [
+    2, 0, 0, 0, 0, 2, 2, 0, 0, 0, 0, 1, 0x81, 0, 0, 5, 0x86, 0xdd, 0x60, 0, 0, 0, 0, 0x10, 0x11,
+    0x40, 0xfd, 0, 0, 0, 0, 0, 0, 0, 0, 0, 0, 0, 0, 0, 0, 1, 0xfd, 0, 0, 0, 0, 0, 0, 0, 0, 0, 0, 0,
+    0, 0, 0, 2, 0, 1, 0, 2, 0, 0x10, 0xf5, 0xb2, 1, 2, 3, 4, 5, 6, 7, 8,
 ];
 
 #[test]
 fn one_tag(rt: HostRuntime) -> Result<(), Fail> {
-    let mut buffer = Vec::new(rt.alloc());
     let step = frame()
         .single_vlan(VlanId::try_new(5)?)
         .ipv6(IPV6_SOURCE, IPV6_DESTINATION, 64);
-    step.write(&mut buffer, IpNumber::UDP, &UDP_OVER_IPV6)?;
-    assert!(rt; &buffer[..18] == ONE_TAG.as_slice());
-    assert!(rt; &buffer[18..] == &IPV6_UDP[14..]);
+    assert!(rt; writes_with(&rt, step, IpNumber::UDP, &UDP_OVER_IPV6, &ONE_TAG));
     Ok(())
 }
 
@@ -88,12 +81,10 @@ fn two_tags(rt: HostRuntime) -> Result<(), Fail> {
         destination: [10, 0, 0, 2],
         ..Ipv4Header::default()
     };
-    let mut buffer = Vec::new(rt.alloc());
     let step = frame()
         .double_vlan(VlanId::try_new(5)?, VlanId::try_new(9)?)
         .ip(IpHeaders::Ipv4(header, Ipv4Extensions { auth: None }));
-    step.write(&mut buffer, IpNumber::UDP, &UDP_OVER_IPV4)?;
-    assert!(rt; buffer.as_slice() == TWO_TAGS.as_slice());
+    assert!(rt; writes_with(&rt, step, IpNumber::UDP, &UDP_OVER_IPV4, &TWO_TAGS));
     Ok(())
 }
 

@@ -1,6 +1,6 @@
 //! Each step of TCP, once. The segments were made by a program of its own after RFC 9293.
 
-use crate::builder_parts::{PAYLOAD, ipv4, ipv6};
+use crate::builder_parts::{PAYLOAD, ipv4, ipv6, writes};
 use ep_tcpudp::{TcpHeader, TcpOptionElement, TcpOptionWriteError};
 use etherparse::PacketBuilderStep;
 use std::test::*;
@@ -25,17 +25,15 @@ fn plain_segment(rt: HostRuntime) {
     assert!(rt; gives(&rt, tcp(), &PLAIN));
 }
 
-const OVER_IPV6: [u8; 28] = [
-    0, 1, 0, 2, 0, 0, 0, 3, 0, 0, 0, 0, 0x50, 0, 0x10, 0, 0x95, 0xbe, 0, 0, 1, 2, 3, 4, 5, 6, 7, 8,
+const OVER_IPV6: [u8; 68] = [
+    0x60, 0, 0, 0, 0, 0x1c, 6, 0x2f, 0xfd, 0, 0, 0, 0, 0, 0, 0, 0, 0, 0, 0, 0, 0, 0, 1, 0xfd, 0, 0,
+    0, 0, 0, 0, 0, 0, 0, 0, 0, 0, 0, 0, 2, 0, 1, 0, 2, 0, 0, 0, 3, 0, 0, 0, 0, 0x50, 0, 0x10, 0,
+    0x95, 0xbe, 0, 0, 1, 2, 3, 4, 5, 6, 7, 8,
 ];
 
 #[test]
-fn segment_over_ipv6(rt: HostRuntime) -> Result<(), Fail> {
-    let mut buffer = Vec::new(rt.alloc());
-    ipv6().tcp(1, 2, 3, 4096).write(&mut buffer, &PAYLOAD)?;
-    assert!(rt; buffer[6] == 6);
-    assert!(rt; &buffer[40..] == OVER_IPV6.as_slice());
-    Ok(())
+fn segment_over_ipv6(rt: HostRuntime) {
+    assert!(rt; writes(&rt, ipv6().tcp(1, 2, 3, 4096), &OVER_IPV6));
 }
 
 // The segment above with other flags: the bytes of offset and flags, the checksum.

@@ -2,7 +2,10 @@
 //! tests alone call them, and are run.
 
 use ep_packet::SlicedPacket;
-use etherparse::defrag::{IpDefragError, IpDefragPayloadVec, IpDefragPool};
+use etherparse::defrag::{
+    IpDefragError, IpDefragPayloadVec, IpDefragPool, PoolCall, PoolReply, run_calls,
+};
+use std::alloc::Global;
 use std::process::Abort;
 use std::test::*;
 
@@ -84,4 +87,17 @@ pub fn delivers(
         Ok(message) => message.is_some(),
         Err(error) => panic!(rt; "{error}"),
     }
+}
+
+/// The replies to calls; no contract, as above.
+pub fn replies(
+    rt: &impl Abort,
+    alloc: Global,
+    pool: &mut IpDefragPool<u64, u32>,
+    calls: &[PoolCall<'_>],
+) -> Vec<PoolReply> {
+    let Ok(replies) = run_calls(alloc, pool, calls) else {
+        panic!(rt; "no room for the replies");
+    };
+    replies
 }

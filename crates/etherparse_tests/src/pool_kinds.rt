@@ -1,12 +1,11 @@
 //! What a pool makes of packets that are no fragments, and of frames that aren't sliced: nothing. The frames
 //! were put together by hand after the RFCs that the comments name.
 
-use crate::frames::{FIRST, MESSAGE, SECOND, delivers, process};
+use crate::frames::{FIRST, MESSAGE, SECOND, delivers, replies};
 use ep_base::LenSource;
 use ep_base::err::{Layer, LenError};
 use ep_packet::err::packet::SliceError;
-use etherparse::defrag::{IpDefragPool, PoolCall, PoolReply, run_calls};
-use std::alloc::AllocError;
+use etherparse::defrag::{IpDefragPool, PoolCall, PoolReply};
 use std::test::*;
 
 // The whole message over IPv4.
@@ -76,9 +75,9 @@ const NO_FRAGMENTS: [&[u8]; 8] = [
 #[test]
 fn no_fragments(rt: HostRuntime) {
     let mut pool = IpDefragPool::new(rt.alloc());
-    assert!(rt; process(&rt, &mut pool, &FIRST, 1, 0) == Ok(None));
+    assert!(rt; !delivers(&rt, &mut pool, &FIRST, 1, 0));
     for frame in NO_FRAGMENTS {
-        assert!(rt; process(&rt, &mut pool, frame, 2, 0) == Ok(None));
+        assert!(rt; !delivers(&rt, &mut pool, frame, 2, 0));
     }
     assert!(rt; delivers(&rt, &mut pool, &SECOND, 3, 0));
 }
@@ -87,16 +86,16 @@ fn no_fragments(rt: HostRuntime) {
 #[test]
 fn no_fragments_renew_no_time(rt: HostRuntime) {
     let mut pool = IpDefragPool::new(rt.alloc());
-    assert!(rt; process(&rt, &mut pool, &FIRST, 1, 0) == Ok(None));
+    assert!(rt; !delivers(&rt, &mut pool, &FIRST, 1, 0));
     for frame in NO_FRAGMENTS {
-        assert!(rt; process(&rt, &mut pool, frame, 2, 0) == Ok(None));
+        assert!(rt; !delivers(&rt, &mut pool, frame, 2, 0));
     }
     assert!(rt; pool.retain(|time: &u64| *time >= 2).is_ok());
     assert!(rt; !delivers(&rt, &mut pool, &SECOND, 3, 0));
 }
 
 #[test]
-fn frames_that_are_not_sliced(rt: HostRuntime) -> Result<(), AllocError> {
+fn frames_that_are_not_sliced(rt: HostRuntime) {
     let mut pool = IpDefragPool::new(rt.alloc());
     let frame = |frame| PoolCall::Frame {
         frame,
@@ -119,7 +118,7 @@ fn frames_that_are_not_sliced(rt: HostRuntime) -> Result<(), AllocError> {
             layer_start_offset,
         })
     };
-    let replies = run_calls(rt.alloc(), &mut pool, &calls)?;
+    let replies = replies(&rt, rt.alloc(), &mut pool, &calls);
     let [
         PoolReply::Nothing,
         PoolReply::NotSliced(short_frame),
@@ -133,5 +132,4 @@ fn frames_that_are_not_sliced(rt: HostRuntime) -> Result<(), AllocError> {
     assert!(rt; *short_frame == want(14, 13, Layer::Ethernet2Header, 0));
     assert!(rt; *short_header == want(20, 1, Layer::Ipv4Header, 14));
     assert!(rt; message.payload.as_slice() == &MESSAGE[..]);
-    Ok(())
 }

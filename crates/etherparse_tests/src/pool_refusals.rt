@@ -1,9 +1,8 @@
 //! What a pool refuses, over both versions, and that a refusal changes nothing.
 
 use crate::fragments::offset;
-use crate::frames::{FIRST, IPV6_FIRST, IPV6_SECOND, SECOND, delivers, process};
-use etherparse::defrag::{IpDefragError, IpDefragPool, PoolCall, PoolReply, run_calls};
-use std::alloc::AllocError;
+use crate::frames::{FIRST, IPV6_FIRST, IPV6_SECOND, SECOND, delivers, process, replies};
+use etherparse::defrag::{IpDefragError, IpDefragPool, PoolCall, PoolReply};
 use std::test::*;
 
 // Eight bytes over IPv4 at the greatest offset, so that they end at 65536.
@@ -86,7 +85,7 @@ fn refused_over_ipv6(rt: HostRuntime) {
 }
 
 #[test]
-fn refusals_in_a_row(rt: HostRuntime) -> Result<(), AllocError> {
+fn refusals_in_a_row(rt: HostRuntime) {
     let mut pool = IpDefragPool::new(rt.alloc());
     let frame = |frame| PoolCall::Frame {
         frame,
@@ -102,7 +101,7 @@ fn refusals_in_a_row(rt: HostRuntime) -> Result<(), AllocError> {
         frame(&behind[..]),
         frame(&FIRST[..]),
     ];
-    let replies = run_calls(rt.alloc(), &mut pool, &calls)?;
+    let replies = replies(&rt, rt.alloc(), &mut pool, &calls);
     assert!(rt;
         matches!(
             replies.as_slice(),
@@ -115,5 +114,4 @@ fn refusals_in_a_row(rt: HostRuntime) -> Result<(), AllocError> {
             ]
         )
     );
-    Ok(())
 }

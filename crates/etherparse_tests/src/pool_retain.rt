@@ -1,8 +1,7 @@
 //! Which messages a pool keeps by their times, and how often it asks.
 
-use crate::frames::{FIRST, MESSAGE, SECOND, delivers};
-use etherparse::defrag::{IpDefragPool, PoolCall, PoolReply, run_calls};
-use std::alloc::AllocError;
+use crate::frames::{FIRST, MESSAGE, SECOND, delivers, replies};
+use etherparse::defrag::{IpDefragPool, PoolCall, PoolReply};
 use std::cell::Cell;
 use std::test::*;
 
@@ -20,7 +19,7 @@ fn a_time_at_the_bound(rt: HostRuntime) {
 
 /// An accepted fragment renews its message's time.
 #[test]
-fn a_renewed_time_at_the_bound(rt: HostRuntime) -> Result<(), AllocError> {
+fn a_renewed_time_at_the_bound(rt: HostRuntime) {
     let mut pool = IpDefragPool::new(rt.alloc());
     let frame = |frame, timestamp, channel| PoolCall::Frame {
         frame,
@@ -35,7 +34,7 @@ fn a_renewed_time_at_the_bound(rt: HostRuntime) -> Result<(), AllocError> {
         frame(&SECOND[..], 3, 0),
         frame(&SECOND[..], 3, 1),
     ];
-    let replies = run_calls(rt.alloc(), &mut pool, &calls)?;
+    let replies = replies(&rt, rt.alloc(), &mut pool, &calls);
     let [
         PoolReply::Nothing,
         PoolReply::Nothing,
@@ -48,7 +47,6 @@ fn a_renewed_time_at_the_bound(rt: HostRuntime) -> Result<(), AllocError> {
         panic!(rt; "the replies are others");
     };
     assert!(rt; message.payload.as_slice() == &MESSAGE[..]);
-    Ok(())
 }
 
 /// No clause says how often the test is asked: once for each message, whether it stays or goes.

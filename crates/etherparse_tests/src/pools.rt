@@ -1,23 +1,27 @@
 //! Many messages put together at a time, with memory enough.
 
 use crate::frames::{
-    FIRST, IPV6_FIRST, IPV6_MESSAGE, IPV6_SECOND, MESSAGE, SECOND, delivers, process,
+    FIRST, IPV6_FIRST, IPV6_MESSAGE, IPV6_SECOND, MESSAGE, SECOND, delivers, process, replies,
 };
 use ep_base::{IpNumber, LenSource};
-use etherparse::defrag::{IpDefragError, IpDefragPool, PoolCall, PoolReply, run_calls};
-use std::alloc::AllocError;
+use etherparse::defrag::{IpDefragError, IpDefragPayloadVec, IpDefragPool, PoolCall, PoolReply};
 use std::test::*;
+
+// Whether this is the message over UDP, bounded by such a length. It has no contract, as tests alone call it.
+fn is_udp(message: &IpDefragPayloadVec, len_source: LenSource, bytes: &[u8]) -> bool {
+    message.ip_number == IpNumber::UDP
+        && message.len_source == len_source
+        && message.payload.as_slice() == bytes
+}
 
 #[test]
 fn two_fragments(rt: HostRuntime) {
     let mut pool = IpDefragPool::new(rt.alloc());
-    assert!(rt; process(&rt, &mut pool, &FIRST, 1, 0) == Ok(None));
+    assert!(rt; !delivers(&rt, &mut pool, &FIRST, 1, 0));
     let Ok(Some(message)) = process(&rt, &mut pool, &SECOND, 2, 0) else {
         panic!(rt; "the second half doesn't complete the message");
     };
-    assert!(rt; message.ip_number == IpNumber::UDP);
-    assert!(rt; message.len_source == LenSource::Ipv4HeaderTotalLen);
-    assert!(rt; message.payload.as_slice() == &MESSAGE[..]);
+    assert!(rt; is_udp(&message, LenSource::Ipv4HeaderTotalLen, &MESSAGE));
     assert!(rt; pool.return_buf(message).is_ok());
     assert!(rt; !delivers(&rt, &mut pool, &SECOND, 3, 0));
 }
@@ -25,13 +29,11 @@ fn two_fragments(rt: HostRuntime) {
 #[test]
 fn two_fragments_ipv6(rt: HostRuntime) {
     let mut pool = IpDefragPool::new(rt.alloc());
-    assert!(rt; process(&rt, &mut pool, &IPV6_SECOND, 1, 0) == Ok(None));
+    assert!(rt; !delivers(&rt, &mut pool, &IPV6_SECOND, 1, 0));
     let Ok(Some(message)) = process(&rt, &mut pool, &IPV6_FIRST, 2, 0) else {
         panic!(rt; "the first half doesn't complete the message");
     };
-    assert!(rt; message.ip_number == IpNumber::UDP);
-    assert!(rt; message.len_source == LenSource::Ipv6HeaderPayloadLen);
-    assert!(rt; message.payload.as_slice() == &IPV6_MESSAGE[..]);
+    assert!(rt; is_udp(&message, LenSource::Ipv6HeaderPayloadLen, &IPV6_MESSAGE));
 }
 
 #[test]
@@ -58,7 +60,7 @@ fn refused_fragments_keep_the_time(rt: HostRuntime) {
 }
 
 #[test]
-fn calls_in_a_row(rt: HostRuntime) -> Result<(), AllocError> {
+fn calls_in_a_row(rt: HostRuntime) {
     let mut pool = IpDefragPool::new(rt.alloc());
     let frame = |frame, timestamp| PoolCall::Frame {
         frame,
@@ -72,7 +74,7 @@ fn calls_in_a_row(rt: HostRuntime) -> Result<(), AllocError> {
         frame(&FIRST[..], 4),
         PoolCall::RetainFrom(5),
     ];
-    let replies = run_calls(rt.alloc(), &mut pool, &calls)?;
+    let replies = replies(&rt, rt.alloc(), &mut pool, &calls);
     let [
         PoolReply::Nothing,
         PoolReply::Nothing,
@@ -83,8 +85,5 @@ fn calls_in_a_row(rt: HostRuntime) -> Result<(), AllocError> {
     else {
         panic!(rt; "the replies are others");
     };
-    assert!(rt; message.ip_number == IpNumber::UDP);
-    assert!(rt; message.len_source == LenSource::Ipv4HeaderTotalLen);
-    assert!(rt; message.payload.as_slice() == &MESSAGE[..]);
-    Ok(())
+    assert!(rt; is_udp(message, LenSource::Ipv4HeaderTotalLen, &MESSAGE));
 }
