@@ -2,6 +2,8 @@ use ep_base::err::{ValueTooBigError, ValueType};
 use ep_base::{IpNumber, Ipv6FlowLabel};
 use ep_ip::{Ipv4Header, Ipv4HeaderSlice, Ipv6Header, Ipv6HeaderSlice};
 use ep_tcpudp::{TcpHeader, TcpHeaderSlice, TcpOptions, TcpSlice, UdpHeader, laws};
+use std::alloc::Global;
+use std::process::Abort;
 use std::test::*;
 
 const PAYLOAD: [u8; 8] = [1, 2, 3, 4, 5, 6, 7, 8];
@@ -13,8 +15,16 @@ const V6: ([u8; 16], [u8; 16]) = (
     [0xfd, 0, 0, 0, 0, 0, 0, 0, 0, 0, 0, 0, 0, 0, 0, 2],
 );
 
-fn ipv4_header(number: IpNumber) -> Result<Ipv4Header, Fail> {
-    Ok(Ipv4Header::new(16, 64, number, V4.0, V4.1)?)
+type Checksum = Result<u16, ValueTooBigError<usize>>;
+
+// The functions below that take the test's handle end it where there is no such value. They have no
+// contracts, as tests alone call them.
+
+fn ipv4_header(rt: &impl Abort, number: IpNumber) -> Ipv4Header {
+    let Ok(header) = Ipv4Header::new(16, 64, number, V4.0, V4.1) else {
+        panic!(rt; "no header");
+    };
+    header
 }
 
 fn ipv6_header(next_header: IpNumber) -> Ipv6Header {
@@ -30,84 +40,127 @@ fn ipv6_header(next_header: IpNumber) -> Ipv6Header {
     }
 }
 
-fn udp_over_ipv4(header: &UdpHeader, payload: &[u8]) -> Result<[u16; 2], Fail> {
-    let ipv4 = ipv4_header(IpNumber::UDP)?;
-    Ok([
-        header.calc_checksum_ipv4(&ipv4, payload)?,
-        header.calc_checksum_ipv4_raw(V4.0, V4.1, payload)?,
-    ])
+fn tcp_header_slice<'a>(rt: &impl Abort, bytes: &'a [u8]) -> TcpHeaderSlice<'a> {
+    let Ok(header) = TcpHeaderSlice::from_slice(bytes) else {
+        panic!(rt; "no header");
+    };
+    header
 }
 
-fn udp_over_ipv6(header: &UdpHeader, payload: &[u8]) -> Result<[u16; 2], Fail> {
+fn tcp_segment<'a>(rt: &impl Abort, bytes: &'a [u8]) -> TcpSlice<'a> {
+    let Ok(segment) = TcpSlice::from_slice(bytes) else {
+        panic!(rt; "no segment");
+    };
+    segment
+}
+
+// So many bytes of this value.
+fn repeated(rt: &impl Abort, alloc: Global, byte: u8, len: usize) -> Vec<u8> {
+    let Ok(bytes) = vec![in alloc; byte; len] else {
+        panic!(rt; "no memory");
+    };
+    bytes
+}
+
+fn udp_over_ipv4(rt: &impl Abort, header: &UdpHeader, payload: &[u8]) -> [Checksum; 2] {
+    let ipv4 = ipv4_header(rt, IpNumber::UDP);
+    [
+        header.calc_checksum_ipv4(&ipv4, payload),
+        header.calc_checksum_ipv4_raw(V4.0, V4.1, payload),
+    ]
+}
+
+fn udp_over_ipv6(header: &UdpHeader, payload: &[u8]) -> [Checksum; 2] {
     let ipv6 = ipv6_header(IpNumber::UDP);
-    Ok([
-        header.calc_checksum_ipv6(&ipv6, payload)?,
-        header.calc_checksum_ipv6_raw(V6.0, V6.1, payload)?,
-    ])
+    [
+        header.calc_checksum_ipv6(&ipv6, payload),
+        header.calc_checksum_ipv6_raw(V6.0, V6.1, payload),
+    ]
+}
+
+// A header from port 1 to port 2.
+fn udp_header(length: u16, checksum: u16) -> UdpHeader {
+    UdpHeader {
+        source_port: 1,
+        destination_port: 2,
+        length,
+        checksum,
+    }
+}
+
+type Sealed = Result<UdpHeader, ValueTooBigError<usize>>;
+
+// Such a header with its checksum.
+fn sealed_over_ipv4(rt: &impl Abort, payload: &[u8]) -> Sealed {
+    UdpHeader::with_ipv4_checksum(1, 2, &ipv4_header(rt, IpNumber::UDP), payload)
+}
+
+fn sealed_over_ipv6(payload: &[u8]) -> Sealed {
+    UdpHeader::with_ipv6_checksum(1, 2, &ipv6_header(IpNumber::UDP), payload)
 }
 
 // Ports 1 and 2 and the payload 1 to 8: other tools give dbb4 over IPv4 and f5b2 over IPv6.
 #[test]
-fn udp_checksums_over_ipv4(rt: HostRuntime) -> Result<(), Fail> {
-    let header = UdpHeader::with_ipv4_checksum(1, 2, &ipv4_header(IpNumber::UDP)?, &PAYLOAD)?;
-    assert!(rt; (header.length, header.checksum) == (16, 0xdbb4));
-    assert!(rt; udp_over_ipv4(&header, &PAYLOAD)? == [0xdbb4, 0xdbb4]);
-    Ok(())
+fn udp_checksums_over_ipv4(rt: HostRuntime) {
+    let header = udp_header(16, 0xdbb4);
+    assert!(rt; sealed_over_ipv4(&rt, &PAYLOAD) == Ok(udp_header(16, 0xdbb4)));
+    assert!(rt; udp_over_ipv4(&rt, &header, &PAYLOAD) == [Ok(0xdbb4), Ok(0xdbb4)]);
 }
 
 #[test]
-fn udp_checksums_over_ipv6(rt: HostRuntime) -> Result<(), Fail> {
-    let header = UdpHeader::with_ipv6_checksum(1, 2, &ipv6_header(IpNumber::UDP), &PAYLOAD)?;
-    assert!(rt; header.checksum == 0xf5b2);
-    assert!(rt; udp_over_ipv6(&header, &PAYLOAD)? == [0xf5b2, 0xf5b2]);
-    Ok(())
+fn udp_checksums_over_ipv6(rt: HostRuntime) {
+    let header = udp_header(16, 0xf5b2);
+    assert!(rt; sealed_over_ipv6(&PAYLOAD) == Ok(udp_header(16, 0xf5b2)));
+    assert!(rt; udp_over_ipv6(&header, &PAYLOAD) == [Ok(0xf5b2), Ok(0xf5b2)]);
 }
 
 // A sum of ffff gives 0, in whose place stands ffff.
 #[test]
-fn udp_zero_checksum(rt: HostRuntime) -> Result<(), Fail> {
-    let header = UdpHeader::without_ipv4_checksum(0xffff - 17 - 8 - 8, 0, 0)?;
-    assert!(rt; header.calc_checksum_ipv4_raw([0; 4], [0; 4], &[])? == 0xffff);
-    Ok(())
+fn udp_zero_checksum(rt: HostRuntime) {
+    let header = UdpHeader {
+        source_port: 0xffff - 17 - 8 - 8,
+        destination_port: 0,
+        length: 8,
+        checksum: 0,
+    };
+    assert!(rt; header.calc_checksum_ipv4_raw([0; 4], [0; 4], &[]) == Ok(0xffff));
+}
+
+fn udp_too_long(value_type: ValueType) -> Option<ValueTooBigError<usize>> {
+    Some(ValueTooBigError {
+        actual: 65528,
+        max_allowed: 65527,
+        value_type,
+    })
 }
 
 #[test]
-fn udp_payload_too_long(rt: HostRuntime) -> Result<(), Fail> {
-    let payload = vec![in rt.alloc(); 0; 65528]?;
-    let refused = |value_type| {
-        Some(ValueTooBigError {
-            actual: 65528,
-            max_allowed: 65527,
-            value_type,
-        })
-    };
-    let header = UdpHeader::without_ipv4_checksum(1, 2, 65527)?;
+fn udp_payload_too_long_for_a_header(rt: HostRuntime) {
+    let payload = repeated(&rt, rt.alloc(), 0, 65528);
+    let header = udp_header(65535, 0);
     let over_v4 = header.calc_checksum_ipv4_raw(V4.0, V4.1, &payload);
-    assert!(rt; over_v4.err() == refused(ValueType::UdpPayloadLengthIpv4));
-    assert!(rt;
-        header
-            .calc_checksum_ipv4_raw(V4.0, V4.1, &payload[1..])
-            .is_ok()
-            == true
-    );
-    let ipv4 = ipv4_header(IpNumber::UDP)?;
-    let sealed = UdpHeader::with_ipv4_checksum(1, 2, &ipv4, &payload);
-    assert!(rt; sealed.err() == refused(ValueType::UdpPayloadLengthIpv4));
-    let sealed = UdpHeader::with_ipv6_checksum(1, 2, &ipv6_header(IpNumber::UDP), &payload);
-    assert!(rt; sealed.err() == refused(ValueType::UdpPayloadLengthIpv6));
-    assert!(rt; header.calc_checksum_ipv6_raw(V6.0, V6.1, &payload).is_ok());
-    Ok(())
+    assert!(rt; over_v4.err() == udp_too_long(ValueType::UdpPayloadLengthIpv4));
+    let over_v6 = header.calc_checksum_ipv6_raw(V6.0, V6.1, &payload);
+    let greatest = repeated(&rt, rt.alloc(), 0, 65527);
+    let over_v4 = header.calc_checksum_ipv4_raw(V4.0, V4.1, &greatest);
+    assert!(rt; (over_v4.is_ok(), over_v6.is_ok()) == (true, true));
+}
+
+#[test]
+fn udp_payload_too_long_to_be_sealed(rt: HostRuntime) {
+    let payload = repeated(&rt, rt.alloc(), 0, 65528);
+    let over_v4 = sealed_over_ipv4(&rt, &payload);
+    assert!(rt; over_v4.err() == udp_too_long(ValueType::UdpPayloadLengthIpv4));
+    let over_v6 = sealed_over_ipv6(&payload);
+    assert!(rt; over_v6.err() == udp_too_long(ValueType::UdpPayloadLengthIpv6));
 }
 
 // The greatest payload, of zeros: other tools give ebe8 over IPv4 and 05e7 over IPv6.
 #[test]
-fn udp_greatest_payload(rt: HostRuntime) -> Result<(), Fail> {
-    let payload = vec![in rt.alloc(); 0; 65527]?;
-    let over_v4 = UdpHeader::with_ipv4_checksum(1, 2, &ipv4_header(IpNumber::UDP)?, &payload)?;
-    assert!(rt; (over_v4.length, over_v4.checksum) == (65535, 0xebe8));
-    let over_v6 = UdpHeader::with_ipv6_checksum(1, 2, &ipv6_header(IpNumber::UDP), &payload)?;
-    assert!(rt; (over_v6.length, over_v6.checksum) == (65535, 0x05e7));
-    Ok(())
+fn udp_greatest_payload(rt: HostRuntime) {
+    let payload = repeated(&rt, rt.alloc(), 0, 65527);
+    assert!(rt; sealed_over_ipv4(&rt, &payload) == Ok(udp_header(65535, 0xebe8)));
+    assert!(rt; sealed_over_ipv6(&payload) == Ok(udp_header(65535, 0x05e7)));
 }
 
 // The header from port 1 to port 2 with the number 3 and the window 1024.
@@ -123,37 +176,37 @@ fn too_long(actual: usize, max_allowed: usize) -> Option<ValueTooBigError<usize>
     })
 }
 
+// The checksum over IPv4 of a header and so many ones.
+fn of_ones(rt: &impl Abort, alloc: Global, header: &TcpHeader, len: usize) -> Checksum {
+    header.calc_checksum_ipv4_raw(V4.0, V4.1, &repeated(rt, alloc, 1, len))
+}
+
 // The greatest payload over IPv4, of ones, behind headers of 20 and of 60 bytes, and one byte more: other
 // tools give 217b and 817a. (Over IPv6 the limit is above 4 gigabytes; `laws::examples` has it.)
 #[test]
-fn tcp_greatest_payload(rt: HostRuntime) -> Result<(), Fail> {
-    let payload = vec![in rt.alloc(); 1; 65516]?;
+fn tcp_greatest_payload(rt: HostRuntime) {
     let mut header = tcp_header();
-    let greatest = header.calc_checksum_ipv4_raw(V4.0, V4.1, &payload[1..])?;
-    assert!(rt; greatest == 0x217b);
-    let more = header.calc_checksum_ipv4_raw(V4.0, V4.1, &payload);
-    assert!(rt; more.err() == too_long(65516, 65515));
+    assert!(rt; of_ones(&rt, rt.alloc(), &header, 65515) == Ok(0x217b));
+    assert!(rt; of_ones(&rt, rt.alloc(), &header, 65516).err() == too_long(65516, 65515));
     header.options = TcpOptions::from([1; 40]);
-    let greatest = header.calc_checksum_ipv4_raw(V4.0, V4.1, &payload[41..])?;
-    assert!(rt; greatest == 0x817a);
-    let more = header.calc_checksum_ipv4_raw(V4.0, V4.1, &payload[40..]);
-    assert!(rt; more.err() == too_long(65476, 65475));
-    let over_v6 = header.calc_checksum_ipv6_raw(V6.0, V6.1, &payload);
-    assert!(rt; over_v6.is_ok());
-    Ok(())
+    assert!(rt; of_ones(&rt, rt.alloc(), &header, 65475) == Ok(0x817a));
+    assert!(rt; of_ones(&rt, rt.alloc(), &header, 65476).err() == too_long(65476, 65475));
+    let payload = repeated(&rt, rt.alloc(), 1, 65516);
+    assert!(rt; header.calc_checksum_ipv6_raw(V6.0, V6.1, &payload).is_ok());
 }
 
 // Checksums over IPv4 and IPv6 between these addresses: of a whole segment, ..
 fn of_segment(
+    rt: &impl Abort,
     bytes: &[u8],
     v4: ([u8; 4], [u8; 4]),
     v6: ([u8; 16], [u8; 16]),
-) -> Result<[u16; 2], Fail> {
-    let segment = TcpSlice::from_slice(bytes)?;
-    Ok([
-        segment.calc_checksum_ipv4(v4.0, v4.1)?,
-        segment.calc_checksum_ipv6(v6.0, v6.1)?,
-    ])
+) -> [Checksum; 2] {
+    let segment = tcp_segment(rt, bytes);
+    [
+        segment.calc_checksum_ipv4(v4.0, v4.1),
+        segment.calc_checksum_ipv6(v6.0, v6.1),
+    ]
 }
 
 // .. of the fields of its header, and a payload, ..
@@ -162,105 +215,101 @@ fn of_fields(
     payload: &[u8],
     v4: ([u8; 4], [u8; 4]),
     v6: ([u8; 16], [u8; 16]),
-) -> Result<[u16; 2], Fail> {
-    Ok([
-        header.calc_checksum_ipv4_raw(v4.0, v4.1, payload)?,
-        header.calc_checksum_ipv6_raw(v6.0, v6.1, payload)?,
-    ])
+) -> [Checksum; 2] {
+    [
+        header.calc_checksum_ipv4_raw(v4.0, v4.1, payload),
+        header.calc_checksum_ipv6_raw(v6.0, v6.1, payload),
+    ]
 }
 
 // .. and of the bytes of its header, with no payload.
-fn of_header(bytes: &[u8]) -> Result<[u16; 2], Fail> {
-    let header = TcpHeaderSlice::from_slice(bytes)?;
-    Ok([
-        header.calc_checksum_ipv4_raw(V4.0, V4.1, &[])?,
-        header.calc_checksum_ipv6_raw(V6.0, V6.1, &[])?,
-    ])
+fn of_header(rt: &impl Abort, bytes: &[u8]) -> [Checksum; 2] {
+    let header = tcp_header_slice(rt, bytes);
+    [
+        header.calc_checksum_ipv4_raw(V4.0, V4.1, &[]),
+        header.calc_checksum_ipv6_raw(V6.0, V6.1, &[]),
+    ]
 }
 
 // The same with the addresses of IP headers.
-fn of_fields_in_packets(header: &TcpHeader) -> Result<[u16; 2], Fail> {
-    Ok([
-        header.calc_checksum_ipv4(&ipv4_header(IpNumber::TCP)?, &[])?,
-        header.calc_checksum_ipv6(&ipv6_header(IpNumber::TCP), &[])?,
-    ])
+fn of_fields_in_packets(rt: &impl Abort, header: &TcpHeader) -> [Checksum; 2] {
+    [
+        header.calc_checksum_ipv4(&ipv4_header(rt, IpNumber::TCP), &[]),
+        header.calc_checksum_ipv6(&ipv6_header(IpNumber::TCP), &[]),
+    ]
 }
 
-fn of_header_in_ipv4(bytes: &[u8]) -> Result<u16, Fail> {
-    let ipv4 = ipv4_header(IpNumber::TCP)?.to_bytes();
-    let ipv4 = Ipv4HeaderSlice::from_slice(&ipv4)?;
-    Ok(TcpHeaderSlice::from_slice(bytes)?.calc_checksum_ipv4(&ipv4, &[])?)
+fn of_header_in_ipv4(rt: &impl Abort, bytes: &[u8]) -> Checksum {
+    let ipv4 = ipv4_header(rt, IpNumber::TCP).to_bytes();
+    let Ok(ipv4) = Ipv4HeaderSlice::from_slice(&ipv4) else {
+        panic!(rt; "no header");
+    };
+    tcp_header_slice(rt, bytes).calc_checksum_ipv4(&ipv4, &[])
 }
 
-fn of_header_in_ipv6(bytes: &[u8]) -> Result<u16, Fail> {
+fn of_header_in_ipv6(rt: &impl Abort, bytes: &[u8]) -> Checksum {
     let ipv6 = ipv6_header(IpNumber::TCP).to_bytes();
-    let ipv6 = Ipv6HeaderSlice::from_slice(&ipv6)?;
-    Ok(TcpHeaderSlice::from_slice(bytes)?.calc_checksum_ipv6(&ipv6, &[])?)
+    let Ok(ipv6) = Ipv6HeaderSlice::from_slice(&ipv6) else {
+        panic!(rt; "no header");
+    };
+    tcp_header_slice(rt, bytes).calc_checksum_ipv6(&ipv6, &[])
 }
 
 // The first segment below with its three reserved bits set: slices sum them as they stand, which gives
 // 89da over IPv4 and a3d8 over IPv6, and fields don't have them.
 #[test]
-fn tcp_reserved_bits_are_summed(rt: HostRuntime) -> Result<(), Fail> {
+fn tcp_reserved_bits_are_summed(rt: HostRuntime) {
     let mut bytes = SYN;
     bytes[12] = 0x5e;
-    assert!(rt; of_segment(&bytes, V4, V6)? == [0x89da, 0xa3d8]);
-    assert!(rt; of_header(&bytes)? == [0x89da, 0xa3d8]);
-    let fields = TcpHeaderSlice::from_slice(&bytes)?.to_header();
-    assert!(rt; of_fields(&fields, &[], V4, V6)? == [0x97da, 0xb1d8]);
-    Ok(())
+    let as_they_stand = [Ok(0x89da), Ok(0xa3d8)];
+    assert!(rt; of_segment(&rt, &bytes, V4, V6) == as_they_stand);
+    assert!(rt; of_header(&rt, &bytes) == as_they_stand);
+    let fields = tcp_header_slice(&rt, &bytes).to_header();
+    assert!(rt; of_fields(&fields, &[], V4, V6) == [Ok(0x97da), Ok(0xb1d8)]);
 }
 
-// The checksum over IPv4 of a segment, and of its header and its payload apart.
-fn whole(segment: &[u8]) -> Result<Result<u16, ValueTooBigError<usize>>, Fail> {
-    Ok(TcpSlice::from_slice(segment)?.calc_checksum_ipv4(V4.0, V4.1))
+// So many ones, but for the data offset: the checksum over IPv4 of the segment, ..
+fn whole(rt: &impl Abort, alloc: Global, data_offset: u8, len: usize) -> Checksum {
+    let bytes = ones_behind(rt, alloc, data_offset, len);
+    tcp_segment(rt, &bytes).calc_checksum_ipv4(V4.0, V4.1)
 }
 
-fn in_parts(segment: &[u8]) -> Result<Result<u16, ValueTooBigError<usize>>, Fail> {
-    let payload = TcpSlice::from_slice(segment)?.payload();
-    let header = TcpHeaderSlice::from_slice(segment)?;
-    Ok(header.calc_checksum_ipv4_raw(V4.0, V4.1, payload))
+// .. and of its header and its payload apart.
+fn in_parts(rt: &impl Abort, alloc: Global, data_offset: u8, len: usize) -> Checksum {
+    let bytes = ones_behind(rt, alloc, data_offset, len);
+    let payload = tcp_segment(rt, &bytes).payload();
+    tcp_header_slice(rt, &bytes).calc_checksum_ipv4_raw(V4.0, V4.1, payload)
 }
 
-// At most so many bytes from the front.
-fn front(bytes: &[u8], len: usize) -> &[u8] {
-    if len < bytes.len() {
-        &bytes[..len]
-    } else {
-        bytes
+fn ones_behind(rt: &impl Abort, alloc: Global, data_offset: u8, len: usize) -> Vec<u8> {
+    let mut bytes = repeated(rt, alloc, 1, len);
+    if let Some(byte) = bytes.get_mut(12) {
+        *byte = data_offset;
     }
+    bytes
 }
 
-// Segments of ones, but for the data offset, of 65534 and 65535 bytes, and one byte more: a program
-// apart gives 1e79 and 1d78, and with 40 bytes of options 7e78 and 7d77.
+// Segments of 65534 and 65535 bytes, and one byte more: a program apart gives 1e79 and 1d78, and with 40
+// bytes of options 7e78 and 7d77.
 #[test]
-fn tcp_greatest_segment(rt: HostRuntime) -> Result<(), Fail> {
-    let mut bytes = vec![in rt.alloc(); 1; 65536]?;
-    bytes[12] = 0x50;
-    assert!(rt; whole(front(&bytes, 65534))? == Ok(0x1e79));
-    assert!(rt; whole(front(&bytes, 65535))? == Ok(0x1d78));
-    assert!(rt; whole(&bytes)?.err() == too_long(65536, 65535));
-    Ok(())
-}
-
-#[test]
-fn tcp_greatest_payload_of_a_header_slice(rt: HostRuntime) -> Result<(), Fail> {
-    let mut bytes = vec![in rt.alloc(); 1; 65536]?;
-    bytes[12] = 0x50;
-    assert!(rt; in_parts(front(&bytes, 65534))? == Ok(0x1e79));
-    assert!(rt; in_parts(front(&bytes, 65535))? == Ok(0x1d78));
-    assert!(rt; in_parts(&bytes)?.err() == too_long(65516, 65515));
-    Ok(())
+fn tcp_greatest_segment(rt: HostRuntime) {
+    assert!(rt; whole(&rt, rt.alloc(), 0x50, 65534) == Ok(0x1e79));
+    assert!(rt; whole(&rt, rt.alloc(), 0x50, 65535) == Ok(0x1d78));
+    assert!(rt; whole(&rt, rt.alloc(), 0x50, 65536).err() == too_long(65536, 65535));
 }
 
 #[test]
-fn tcp_greatest_payload_behind_options(rt: HostRuntime) -> Result<(), Fail> {
-    let mut bytes = vec![in rt.alloc(); 1; 65536]?;
-    bytes[12] = 0xf0;
-    assert!(rt; in_parts(front(&bytes, 65534))? == Ok(0x7e78));
-    assert!(rt; in_parts(front(&bytes, 65535))? == Ok(0x7d77));
-    assert!(rt; in_parts(&bytes)?.err() == too_long(65476, 65475));
-    Ok(())
+fn tcp_greatest_payload_of_a_header_slice(rt: HostRuntime) {
+    assert!(rt; in_parts(&rt, rt.alloc(), 0x50, 65534) == Ok(0x1e79));
+    assert!(rt; in_parts(&rt, rt.alloc(), 0x50, 65535) == Ok(0x1d78));
+    assert!(rt; in_parts(&rt, rt.alloc(), 0x50, 65536).err() == too_long(65516, 65515));
+}
+
+#[test]
+fn tcp_greatest_payload_behind_options(rt: HostRuntime) {
+    assert!(rt; in_parts(&rt, rt.alloc(), 0xf0, 65534) == Ok(0x7e78));
+    assert!(rt; in_parts(&rt, rt.alloc(), 0xf0, 65535) == Ok(0x7d77));
+    assert!(rt; in_parts(&rt, rt.alloc(), 0xf0, 65536).err() == too_long(65476, 65475));
 }
 
 #[test]
@@ -269,16 +318,18 @@ fn laws_are_called() {
     laws::examples::greatest_lengths();
 }
 
+// No port but for the number 40905, and the payload 1 to 8.
+const SUM_OF_ZERO: [u8; 28] = [
+    0, 0, 0, 0, 0, 0, 0x9f, 0xc9, 0, 0, 0, 0, 0x50, 0, 0, 0, 0, 0, 0, 0, 1, 2, 3, 4, 5, 6, 7, 8,
+];
+
 #[test]
-fn tcp_zero_checksum(rt: HostRuntime) -> Result<(), Fail> {
-    let header = TcpHeader::new(0, 0, 40905, 0);
-    let mut bytes = vec![in rt.alloc();]?;
-    header.write(&mut bytes)?;
-    bytes.extend_from_slice(&PAYLOAD)?;
+fn tcp_zero_checksum(rt: HostRuntime) {
     let nowhere = (([0; 4], [0; 4]), ([0; 16], [0; 16]));
-    assert!(rt; of_segment(&bytes, nowhere.0, nowhere.1)? == [0, 0]);
-    assert!(rt; of_fields(&header, &PAYLOAD, nowhere.0, nowhere.1)? == [0, 0]);
-    Ok(())
+    let zeros = [Ok(0), Ok(0)];
+    assert!(rt; of_segment(&rt, &SUM_OF_ZERO, nowhere.0, nowhere.1) == zeros);
+    let header = TcpHeader::new(0, 0, 40905, 0);
+    assert!(rt; of_fields(&header, &PAYLOAD, nowhere.0, nowhere.1) == zeros);
 }
 
 // A first segment of port 1 to port 2: other tools give 97da over IPv4 and b1d8 over IPv6.
@@ -287,19 +338,18 @@ const SYN: [u8; 20] = [
 ];
 
 #[test]
-fn tcp_checksums_between_addresses(rt: HostRuntime) -> Result<(), Fail> {
-    let (header, _) = TcpHeader::from_slice(&SYN)?;
-    assert!(rt; of_fields(&header, &[], V4, V6)? == [0x97da, 0xb1d8]);
-    assert!(rt; of_header(&SYN)? == [0x97da, 0xb1d8]);
-    assert!(rt; of_segment(&SYN, V4, V6)? == [0x97da, 0xb1d8]);
-    Ok(())
+fn tcp_checksums_between_addresses(rt: HostRuntime) {
+    let sums = [Ok(0x97da), Ok(0xb1d8)];
+    let header = tcp_header_slice(&rt, &SYN).to_header();
+    assert!(rt; of_fields(&header, &[], V4, V6) == sums);
+    assert!(rt; of_header(&rt, &SYN) == sums);
+    assert!(rt; of_segment(&rt, &SYN, V4, V6) == sums);
 }
 
 #[test]
-fn tcp_checksums_in_packets(rt: HostRuntime) -> Result<(), Fail> {
-    let (header, _) = TcpHeader::from_slice(&SYN)?;
-    assert!(rt; of_fields_in_packets(&header)? == [0x97da, 0xb1d8]);
-    assert!(rt; of_header_in_ipv4(&SYN)? == 0x97da);
-    assert!(rt; of_header_in_ipv6(&SYN)? == 0xb1d8);
-    Ok(())
+fn tcp_checksums_in_packets(rt: HostRuntime) {
+    let sums = [Ok(0x97da), Ok(0xb1d8)];
+    let header = tcp_header_slice(&rt, &SYN).to_header();
+    assert!(rt; of_fields_in_packets(&rt, &header) == sums);
+    assert!(rt; [of_header_in_ipv4(&rt, &SYN), of_header_in_ipv6(&rt, &SYN)] == sums);
 }

@@ -11,12 +11,19 @@ fn first(bytes: &[u8]) -> Option<Result<TcpOptionElement, TcpOptionReadError>> {
     TcpOptionsIterator::from_slice(bytes).next()
 }
 
+// The options of these elements. It has no contract, as tests alone call it.
+fn options_of(rt: &impl Abort, elements: &[TcpOptionElement]) -> TcpOptions {
+    let Ok(options) = TcpOptions::try_from_elements(elements) else {
+        panic!(rt; "no options");
+    };
+    options
+}
+
 #[test]
-fn option_lengths(rt: HostRuntime) -> Result<(), Fail> {
-    let options = TcpOptions::try_from_elements(&[WindowScale(123), Noop, Noop])?;
+fn option_lengths(rt: HostRuntime) {
+    let options = options_of(&rt, &[WindowScale(123), Noop, Noop]);
     assert!(rt; options.as_slice() == [3, 3, 0x7b, 1, 1, 0, 0, 0].as_slice());
     assert!(rt; (options.len(), options.len_u8(), options.is_empty()) == (8, 8, false));
-    Ok(())
 }
 
 #[test]
@@ -49,84 +56,83 @@ const FIRST_SEGMENT: [u8; 20] = [
 ];
 
 #[test]
-fn elements_of_a_first_segment(rt: HostRuntime) -> Result<(), Fail> {
+fn elements_of_a_first_segment(rt: HostRuntime) {
     let mut header = TcpHeader::new(1, 2, 3, 4);
-    header.set_options(&[
+    let elements = [
         MaximumSegmentSize(1460),
         SelectiveAcknowledgementPermitted,
         Timestamp(1, 0),
         Noop,
         WindowScale(7),
-    ])?;
+    ];
+    assert!(rt; header.set_options(&elements) == Ok(()));
     assert!(rt; header.options() == FIRST_SEGMENT.as_slice());
     let mut items = header.options_iterator();
-    assert!(rt; items.next() == Some(Ok(MaximumSegmentSize(1460))));
-    assert!(rt; items.next() == Some(Ok(SelectiveAcknowledgementPermitted)));
-    assert!(rt; items.next() == Some(Ok(Timestamp(1, 0))));
-    assert!(rt; items.rest() == [1, 3, 3, 7].as_slice());
-    assert!(rt; items.next() == Some(Ok(Noop)));
-    assert!(rt; items.next() == Some(Ok(WindowScale(7))));
+    for element in elements {
+        assert!(rt; items.next() == Some(Ok(element)));
+    }
     assert!(rt; items.next() == None);
-    Ok(())
 }
 
 #[test]
-fn blocks_are_packed(rt: HostRuntime) -> Result<(), Fail> {
+fn what_is_left_behind_elements(rt: HostRuntime) {
+    let mut items = TcpOptionsIterator::from_slice(&FIRST_SEGMENT);
+    items.next();
+    items.next();
+    items.next();
+    assert!(rt; items.rest() == [1, 3, 3, 7].as_slice());
+}
+
+#[test]
+fn blocks_are_packed(rt: HostRuntime) {
     let element = SelectiveAcknowledgement((1, 2), [None, Some((3, 4)), None]);
-    let options = TcpOptions::try_from_elements(&[element])?;
+    let options = options_of(&rt, &[element]);
     let bytes = [5, 18, 0, 0, 0, 1, 0, 0, 0, 2, 0, 0, 0, 3, 0, 0, 0, 4, 0, 0];
     assert!(rt; options.as_slice() == bytes.as_slice());
     let packed = SelectiveAcknowledgement((1, 2), [Some((3, 4)), None, None]);
     let mut items = options.elements_iter();
-    assert!(rt; items.next() == Some(Ok(packed)));
-    assert!(rt; items.next() == None);
-    Ok(())
+    assert!(rt; (items.next(), items.next()) == (Some(Ok(packed)), None));
 }
 
 #[test]
-fn four_blocks(rt: HostRuntime) -> Result<(), Fail> {
+fn four_blocks(rt: HostRuntime) {
     let element = SelectiveAcknowledgement((1, 2), [Some((3, 4)), Some((5, 6)), Some((7, 8))]);
-    let options = TcpOptions::try_from_elements(&[element, Noop, Noop])?;
-    assert!(rt; options.len() == 36);
-    assert!(rt; options.elements_iter().next() == Some(Ok(element)));
-    Ok(())
+    let options = options_of(&rt, &[element, Noop, Noop]);
+    assert!(rt; (options.len(), options.elements_iter().next()) == (36, Some(Ok(element))));
 }
 
 #[test]
-fn room_for_forty_bytes(rt: HostRuntime) -> Result<(), Fail> {
-    assert!(rt; TcpOptions::try_from_elements(&[Timestamp(1, 2); 4])?.len() == 40);
-    let refused = TcpOptions::try_from_elements(&[
-        Timestamp(1, 2),
-        Timestamp(1, 2),
-        Timestamp(1, 2),
-        Timestamp(1, 2),
-        Noop,
-    ]);
+fn room_for_forty_bytes(rt: HostRuntime) {
+    assert!(rt; options_of(&rt, &[Timestamp(1, 2); 4]).len() == 40);
+    let four = Timestamp(1, 2);
+    let refused = TcpOptions::try_from_elements(&[four, four, four, four, Noop]);
     assert!(rt; refused.err() == Some(TcpOptionWriteError::NotEnoughSpace(41)));
+}
+
+#[test]
+fn refused_options_change_nothing(rt: HostRuntime) {
     let mut header = TcpHeader::new(1, 2, 3, 4);
     let refused = header.set_options(&[Noop; 41]);
-    assert!(rt; refused.err() == Some(TcpOptionWriteError::NotEnoughSpace(41)));
+    assert!(rt; refused == Err(TcpOptionWriteError::NotEnoughSpace(41)));
     assert!(rt; header == TcpHeader::new(1, 2, 3, 4));
-    Ok(())
 }
 
 #[test]
-fn options_of_bytes(rt: HostRuntime) -> Result<(), Fail> {
-    assert!(rt; TcpOptions::try_from_slice(&[])? == TcpOptions::new());
-    assert!(rt; TcpOptions::try_from_slice(&[1])?.as_slice() == [1, 0, 0, 0].as_slice());
-    assert!(rt; TcpOptions::try_from([Noop].as_slice())?.len() == 4);
+fn options_of_bytes(rt: HostRuntime) {
+    assert!(rt; TcpOptions::try_from_slice(&[]) == Ok(TcpOptions::new()));
+    assert!(rt; TcpOptions::try_from_slice(&[1]) == Ok(TcpOptions::from([1, 0, 0, 0])));
+    assert!(rt; TcpOptions::try_from([Noop].as_slice()) == Ok(TcpOptions::from([1, 0, 0, 0])));
     let refused = TcpOptions::try_from_slice(&[1; 41]);
     assert!(rt; refused.err() == Some(TcpOptionWriteError::NotEnoughSpace(41)));
-    Ok(())
 }
 
 #[test]
-fn options_changed_in_place(rt: HostRuntime) -> Result<(), Fail> {
-    let mut options = TcpOptions::try_from([1, 1, 1, 1].as_slice())?;
+fn options_changed_in_place(rt: HostRuntime) {
+    let mut options = TcpOptions::from([1, 1, 1, 1]);
     options.as_mut_slice()[3] = 0;
     assert!(rt; options == TcpOptions::from([1, 1, 1, 0]));
+    assert!(rt; TcpOptions::try_from([1, 1, 1, 0].as_slice()) == Ok(options));
     assert!(rt; TcpOptions::default().is_empty());
-    Ok(())
 }
 
 // Nothing comes behind the end of the list, or behind a fault.
@@ -257,8 +263,7 @@ fn laws_are_called() {
 #[test]
 fn errors_as_text(rt: HostRuntime) -> Result<(), Fail> {
     let alloc = rt.alloc();
-    let text = format!(in alloc; "{}", TcpOptionReadError::UnknownId(6))?;
-    assert!(rt; text.as_str() == "TCP option of kind 6: the kind is unknown");
+    let unknown = TcpOptionReadError::UnknownId(6);
     let wrong = TcpOptionReadError::UnexpectedSize {
         option_id: 3,
         size: 4,
@@ -268,11 +273,9 @@ fn errors_as_text(rt: HostRuntime) -> Result<(), Fail> {
         expected_len: 4,
         actual_len: 3,
     };
-    let text = format!(in alloc; "{short}")?;
-    let wanted = "TCP option of kind 2: 4 byte(s) are needed, and 3 are left";
-    assert!(rt; text.as_str() == wanted);
-    let text = format!(in alloc; "{wrong}")?;
-    let wanted = "TCP option of kind 3: the length byte is 4, which this kind doesn't have";
+    let text = format!(in alloc; "{unknown} | {short} | {wrong}")?;
+    let wanted =
+        "TCP option of kind 6: the kind is unknown | TCP option of kind 2: 4 byte(s) are needed, and 3 are left | TCP option of kind 3: the length byte is 4, which this kind doesn't have";
     assert!(rt; text.as_str() == wanted);
     Ok(())
 }
