@@ -5,58 +5,35 @@ use ep_base::{EtherType, LenSource};
 use ep_tag::err::macsec::{HeaderError, HeaderSliceError};
 use ep_tag::{MacsecPType, MacsecSlice};
 
+// The lengths of a payload behind short lengths 0, 1, 2, 3, 47 and 63, or none where they are refused.
+type PayloadLens = [Option<u8>; 6];
+
+// Where the two bytes of the ether type belong to the header and are counted by the short length, ..
+fn unmodified(whole: u8) -> PayloadLens {
+    [Some(whole), None, Some(0), Some(1), Some(45), Some(61)]
+}
+
+// .. and where they do not.
+fn modified(whole: u8) -> PayloadLens {
+    [Some(whole), Some(1), Some(2), Some(3), Some(47), Some(63)]
+}
+
 // Of 80 bytes: the flags E, C and SC of the first one, the length of the header, what its payload is,
-// and the payload's length behind short lengths 0, 1, 2, 3, 47 and 63, or none where they are refused.
-const BY_FLAGS: [(u8, u8, MacsecPType, [Option<u8>; 6]); 8] = [
-    (
-        0,
-        8,
-        MacsecPType::Unmodified(EtherType(0x0607)),
-        [Some(72), None, Some(0), Some(1), Some(45), Some(61)],
-    ),
-    (
-        0x20,
-        16,
-        MacsecPType::Unmodified(EtherType(0x0e0f)),
-        [Some(64), None, Some(0), Some(1), Some(45), Some(61)],
-    ),
-    (
-        0x04,
-        6,
-        MacsecPType::Modified,
-        [Some(74), Some(1), Some(2), Some(3), Some(47), Some(63)],
-    ),
-    (
-        0x24,
-        14,
-        MacsecPType::Modified,
-        [Some(66), Some(1), Some(2), Some(3), Some(47), Some(63)],
-    ),
-    (
-        0x08,
-        6,
-        MacsecPType::EncryptedUnmodified,
-        [Some(74), Some(1), Some(2), Some(3), Some(47), Some(63)],
-    ),
-    (
-        0x28,
-        14,
-        MacsecPType::EncryptedUnmodified,
-        [Some(66), Some(1), Some(2), Some(3), Some(47), Some(63)],
-    ),
-    (
-        0x0c,
-        6,
-        MacsecPType::Encrypted,
-        [Some(74), Some(1), Some(2), Some(3), Some(47), Some(63)],
-    ),
-    (
-        0x2c,
-        14,
-        MacsecPType::Encrypted,
-        [Some(66), Some(1), Some(2), Some(3), Some(47), Some(63)],
-    ),
-];
+// and the payload's lengths.
+fn by_flags() -> [(u8, u8, MacsecPType, PayloadLens); 8] {
+    let no_identifier = MacsecPType::Unmodified(EtherType(0x0607));
+    let identifier = MacsecPType::Unmodified(EtherType(0x0e0f));
+    [
+        (0, 8, no_identifier, unmodified(72)),
+        (0x20, 16, identifier, unmodified(64)),
+        (0x04, 6, MacsecPType::Modified, modified(74)),
+        (0x24, 14, MacsecPType::Modified, modified(66)),
+        (0x08, 6, MacsecPType::EncryptedUnmodified, modified(74)),
+        (0x28, 14, MacsecPType::EncryptedUnmodified, modified(66)),
+        (0x0c, 6, MacsecPType::Encrypted, modified(74)),
+        (0x2c, 14, MacsecPType::Encrypted, modified(66)),
+    ]
+}
 
 // 80 bytes, each its own place but the first two.
 fn numbered(first: u8, short_len: u8) -> [u8; 80] {
@@ -79,7 +56,7 @@ fn told(bytes: &[u8]) -> Told<'_> {
     Ok((macsec.header.ptype(), payload_of(&macsec)))
 }
 
-// What `BY_FLAGS` says of a header that its payload stands behind.
+// What `by_flags` says of a header that its payload stands behind.
 fn expected(
     bytes: &[u8],
     header_len: u8,
@@ -106,7 +83,7 @@ fn expected(
 
 #[test]
 fn every_flag_and_short_length(rt: HostRuntime) {
-    for (flags, header_len, ptype, payload_lens) in BY_FLAGS {
+    for (flags, header_len, ptype, payload_lens) in by_flags() {
         for (short_len, payload_len) in SHORT_LENS.into_iter().zip(payload_lens) {
             let bytes = numbered(flags, short_len);
             let expected = expected(&bytes, header_len, ptype, short_len, payload_len);
@@ -117,7 +94,7 @@ fn every_flag_and_short_length(rt: HostRuntime) {
 
 #[test]
 fn every_flag_and_short_length_of_version_1(rt: HostRuntime) {
-    for (flags, _, _, _) in BY_FLAGS {
+    for (flags, _, _, _) in by_flags() {
         for short_len in SHORT_LENS {
             let error = HeaderError::UnexpectedVersion.into();
             assert!(rt; refusal(&numbered(0x80 | flags, short_len)) == Some(error));
@@ -146,7 +123,7 @@ fn one_byte_fewer(
 
 #[test]
 fn every_flag_and_short_length_of_too_few_bytes(rt: HostRuntime) {
-    for (flags, header_len, _, payload_lens) in BY_FLAGS {
+    for (flags, header_len, _, payload_lens) in by_flags() {
         let [_, _, two, three, forty_seven, greatest] = payload_lens;
         for (short_len, payload_len) in [(2, two), (3, three), (47, forty_seven), (63, greatest)] {
             let Some((refused, error)) = one_byte_fewer(flags, header_len, short_len, payload_len)
