@@ -1,8 +1,11 @@
 //! The job of `reassembly_bench` in plain Rust, with the same arguments and the same lines.
 
+mod reassembly;
+
+use crate::reassembly::{FoldHasher, Reassembly};
 use std::collections::HashMap;
 use std::collections::hash_map::Entry;
-use std::hash::{BuildHasherDefault, Hasher};
+use std::hash::BuildHasherDefault;
 use std::process::ExitCode;
 use std::time::{Duration, Instant};
 
@@ -33,80 +36,6 @@ impl Order {
             Order::EvenFirst if place < FRAGMENTS / 2 => 2 * place,
             Order::EvenFirst => 2 * (place - FRAGMENTS / 2) + 1,
         }
-    }
-}
-
-enum Refusal {
-    TooLong,
-    Unaligned,
-    ConflictingEnd,
-}
-
-/// The places from `start` to `end`, where the end is none.
-#[derive(Clone, Copy)]
-struct Section {
-    start: u16,
-    end: u16,
-}
-
-impl Section {
-    fn touches(self, other: Section) -> bool {
-        self.start <= other.end && other.start <= self.end
-    }
-}
-
-/// The fragments of one message.
-struct Reassembly {
-    data: Vec<u8>,
-    sections: Vec<Section>,
-    end: Option<u16>,
-}
-
-impl Reassembly {
-    fn new(mut data: Vec<u8>, mut sections: Vec<Section>) -> Reassembly {
-        data.clear();
-        sections.clear();
-        Reassembly {
-            data,
-            sections,
-            end: None,
-        }
-    }
-
-    fn add(&mut self, units: u16, more: bool, bytes: &[u8]) -> Result<(), Refusal> {
-        let len = u16::try_from(bytes.len()).map_err(|_| Refusal::TooLong)?;
-        let start = 8 * units;
-        let end = start.checked_add(len).ok_or(Refusal::TooLong)?;
-        if more && len % 8 != 0 {
-            return Err(Refusal::Unaligned);
-        }
-        if self.end.is_some_and(|known| known < end || (!more && end != known)) {
-            return Err(Refusal::ConflictingEnd);
-        }
-        let place = usize::from(start)..usize::from(end);
-        if self.data.len() < place.end {
-            self.data.resize(place.end, 0);
-        }
-        self.data[place.clone()].copy_from_slice(bytes);
-        let mut joined = Section { start, end };
-        self.sections.retain(|section| {
-            let apart = !joined.touches(*section);
-            if !apart {
-                joined.start = joined.start.min(section.start);
-                joined.end = joined.end.max(section.end);
-            }
-            apart
-        });
-        self.sections.push(joined);
-        if !more {
-            self.end = Some(end);
-            self.data.truncate(place.end);
-        }
-        Ok(())
-    }
-
-    fn is_complete(&self) -> bool {
-        self.end.is_some() && matches!(self.sections.as_slice(), [Section { start: 0, .. }])
     }
 }
 
@@ -156,41 +85,6 @@ fn fragment_in(frame: &[u8]) -> Option<Fragment<'_>> {
         more: place & 0x2000 != 0,
         bytes: &packet[header_len..total_len],
     })
-}
-
-/// A hash that is made by a multiplication for each word.
-#[derive(Default)]
-struct FoldHasher(u64);
-
-impl Hasher for FoldHasher {
-    fn write(&mut self, bytes: &[u8]) {
-        for chunk in bytes.chunks(8) {
-            let mut word = [0; 8];
-            word[..chunk.len()].copy_from_slice(chunk);
-            self.write_u64(u64::from_le_bytes(word));
-        }
-    }
-
-    fn write_u8(&mut self, number: u8) {
-        self.write_u64(u64::from(number));
-    }
-
-    fn write_u16(&mut self, number: u16) {
-        self.write_u64(u64::from(number));
-    }
-
-    fn write_u64(&mut self, number: u64) {
-        let product = u128::from(self.0 ^ number) * 0x9e37_79b9_7f4a_7c15;
-        self.0 = product as u64 ^ (product >> 64) as u64;
-    }
-
-    fn write_usize(&mut self, number: usize) {
-        self.write_u64(number as u64);
-    }
-
-    fn finish(&self) -> u64 {
-        self.0
-    }
 }
 
 type Pool = HashMap<Name, Reassembly, BuildHasherDefault<FoldHasher>>;
