@@ -24,7 +24,7 @@ fn read_kind(
 }
 
 #[test]
-fn a_chain_is_read_in_pieces(rt: HostRuntime) -> Result<(), Fail> {
+fn a_chain_is_read_in_pieces(rt: HostRuntime) {
     let bytes = CHAIN;
     let (headers, _, _, _) = Ipv6Extensions::from_slice_lax(IpNumber(0), &bytes);
     for piece in [1usize, 5, 100] {
@@ -38,11 +38,10 @@ fn a_chain_is_read_in_pieces(rt: HostRuntime) -> Result<(), Fail> {
         }
         assert!(rt; reader.rest == [0xaa, 0xbb].as_slice());
     }
-    Ok(())
 }
 
 #[test]
-fn each_read_of_a_chain_fails(rt: HostRuntime) -> Result<(), Fail> {
+fn each_read_of_a_chain_fails(rt: HostRuntime) {
     let bytes = CHAIN;
     for call in 0..72usize {
         let mut reader = failing_reader(&bytes, 1, call, ErrorKind::ConnectionReset);
@@ -51,11 +50,10 @@ fn each_read_of_a_chain_fails(rt: HostRuntime) -> Result<(), Fail> {
             Err(kind) => assert!(rt; kind == Err(ErrorKind::ConnectionReset)),
         }
     }
-    Ok(())
 }
 
 #[test]
-fn a_reader_ends_within_a_chain(rt: HostRuntime) -> Result<(), Fail> {
+fn a_reader_ends_within_a_chain(rt: HostRuntime) {
     let bytes = CHAIN;
     for len in 0..72usize {
         let mut reader = reader_of(&bytes[..len], 100);
@@ -64,11 +62,10 @@ fn a_reader_ends_within_a_chain(rt: HostRuntime) -> Result<(), Fail> {
             Err(kind) => assert!(rt; kind == Err(ErrorKind::UnexpectedEof)),
         }
     }
-    Ok(())
 }
 
 #[test]
-fn faults_of_a_chain_that_is_read(rt: HostRuntime) -> Result<(), Fail> {
+fn faults_of_a_chain_that_is_read(rt: HostRuntime) {
     let mut reader = reader_of(&[0u8; 16], 100);
     match read_kind(&mut reader, 60) {
         Ok(_) => panic!(rt; "read"),
@@ -82,11 +79,10 @@ fn faults_of_a_chain_that_is_read(rt: HostRuntime) -> Result<(), Fail> {
         Err(fault) => assert!(rt; fault == Ok(zero)),
     }
     assert!(rt; reader.rest.len() == 4);
-    Ok(())
 }
 
 #[test]
-fn the_header_of_ipv4_is_read(rt: HostRuntime) -> Result<(), Fail> {
+fn the_header_of_ipv4_is_read(rt: HostRuntime) {
     let bytes = AUTH;
     let mut reader = reader_of(&bytes, 1);
     match Ipv4Extensions::read(&mut reader, IpNumber(51)) {
@@ -106,11 +102,10 @@ fn the_header_of_ipv4_is_read(rt: HostRuntime) -> Result<(), Fail> {
         Err(_) => panic!(rt; "refused"),
     }
     assert!(rt; reader.calls == 0);
-    Ok(())
 }
 
 #[test]
-fn each_read_of_the_header_of_ipv4_fails(rt: HostRuntime) -> Result<(), Fail> {
+fn each_read_of_the_header_of_ipv4_fails(rt: HostRuntime) {
     let bytes = AUTH;
     for call in 0..16usize {
         let mut reader = failing_reader(&bytes, 1, call, ErrorKind::ConnectionReset);
@@ -121,11 +116,10 @@ fn each_read_of_the_header_of_ipv4_fails(rt: HostRuntime) -> Result<(), Fail> {
             _ => panic!(rt; "no failed read"),
         }
     }
-    Ok(())
 }
 
 #[test]
-fn a_length_field_of_zero_behind_ipv4_is_read(rt: HostRuntime) -> Result<(), Fail> {
+fn a_length_field_of_zero_behind_ipv4_is_read(rt: HostRuntime) {
     let mut reader = reader_of(&[0; 16], 100);
     match Ipv4Extensions::read(&mut reader, IpNumber(51)) {
         Err(ip_auth::HeaderReadError::Content(fault)) => {
@@ -134,5 +128,4 @@ fn a_length_field_of_zero_behind_ipv4_is_read(rt: HostRuntime) -> Result<(), Fai
         _ => panic!(rt; "no fault"),
     }
     assert!(rt; reader.rest.len() == 4);
-    Ok(())
 }

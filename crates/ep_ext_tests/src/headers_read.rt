@@ -44,7 +44,7 @@ fn auth_kind(reader: &mut PieceReader) -> Result<IpAuthHeader, Option<ErrorKind>
 }
 
 #[test]
-fn headers_are_read_in_pieces(rt: HostRuntime) -> Result<(), Fail> {
+fn headers_are_read_in_pieces(rt: HostRuntime) {
     for piece in [1usize, 3, 100] {
         let mut reader = reader_of(&RAW, piece);
         let Ok(header) = raw_kind(&mut reader) else {
@@ -53,11 +53,10 @@ fn headers_are_read_in_pieces(rt: HostRuntime) -> Result<(), Fail> {
         assert!(rt; header.to_bytes().as_slice() == &RAW[..16]);
         assert!(rt; reader.rest == [0xaa, 0xbb].as_slice());
     }
-    Ok(())
 }
 
 #[test]
-fn fragment_headers_are_read_in_pieces(rt: HostRuntime) -> Result<(), Fail> {
+fn fragment_headers_are_read_in_pieces(rt: HostRuntime) {
     for piece in [1usize, 3, 100] {
         let mut reader = reader_of(&FRAGMENT, piece);
         let Ok(header) = fragment_kind(&mut reader) else {
@@ -66,11 +65,10 @@ fn fragment_headers_are_read_in_pieces(rt: HostRuntime) -> Result<(), Fail> {
         assert!(rt; header.to_bytes().as_slice() == &FRAGMENT[..8]);
         assert!(rt; reader.rest == [0xaa, 0xbb].as_slice());
     }
-    Ok(())
 }
 
 #[test]
-fn authentication_headers_are_read_in_pieces(rt: HostRuntime) -> Result<(), Fail> {
+fn authentication_headers_are_read_in_pieces(rt: HostRuntime) {
     for piece in [1usize, 3, 100] {
         let mut reader = reader_of(&AUTH, piece);
         let Ok(header) = auth_kind(&mut reader) else {
@@ -79,11 +77,10 @@ fn authentication_headers_are_read_in_pieces(rt: HostRuntime) -> Result<(), Fail
         assert!(rt; header.to_bytes().as_slice() == &AUTH[..16]);
         assert!(rt; reader.rest == [0xaa, 0xbb].as_slice());
     }
-    Ok(())
 }
 
 #[test]
-fn a_raw_header_from_a_failing_reader(rt: HostRuntime) -> Result<(), Fail> {
+fn a_raw_header_from_a_failing_reader(rt: HostRuntime) {
     // The two reads of the header, whole; then byte by byte.
     for (piece, calls) in [(100usize, 2usize), (1, 16)] {
         for call in 0..calls {
@@ -96,11 +93,10 @@ fn a_raw_header_from_a_failing_reader(rt: HostRuntime) -> Result<(), Fail> {
         assert!(rt; raw_kind(&mut reader).is_ok());
         assert!(rt; reader.calls == calls);
     }
-    Ok(())
 }
 
 #[test]
-fn a_fragment_header_from_a_failing_reader(rt: HostRuntime) -> Result<(), Fail> {
+fn a_fragment_header_from_a_failing_reader(rt: HostRuntime) {
     for (piece, calls) in [(100usize, 1usize), (1, 8)] {
         for call in 0..calls {
             let mut reader = failing_reader(&FRAGMENT, piece, call, ErrorKind::PermissionDenied);
@@ -110,11 +106,10 @@ fn a_fragment_header_from_a_failing_reader(rt: HostRuntime) -> Result<(), Fail> 
         assert!(rt; fragment_kind(&mut reader).is_ok());
         assert!(rt; reader.calls == calls);
     }
-    Ok(())
 }
 
 #[test]
-fn an_authentication_header_from_a_failing_reader(rt: HostRuntime) -> Result<(), Fail> {
+fn an_authentication_header_from_a_failing_reader(rt: HostRuntime) {
     for (piece, calls) in [(100usize, 2usize), (1, 16)] {
         for call in 0..calls {
             let mut reader = failing_reader(&AUTH, piece, call, ErrorKind::PermissionDenied);
@@ -124,11 +119,10 @@ fn an_authentication_header_from_a_failing_reader(rt: HostRuntime) -> Result<(),
         assert!(rt; auth_kind(&mut reader).is_ok());
         assert!(rt; reader.calls == calls);
     }
-    Ok(())
 }
 
 #[test]
-fn readers_that_end_within_a_header(rt: HostRuntime) -> Result<(), Fail> {
+fn readers_that_end_within_a_header(rt: HostRuntime) {
     let end = ErrorKind::UnexpectedEof;
     for len in 0..16usize {
         assert!(rt; raw_kind(&mut reader_of(&RAW[..len], 5)).err() == Some(end));
@@ -137,15 +131,13 @@ fn readers_that_end_within_a_header(rt: HostRuntime) -> Result<(), Fail> {
     for len in 0..8usize {
         assert!(rt; fragment_kind(&mut reader_of(&FRAGMENT[..len], 5)).err() == Some(end));
     }
-    Ok(())
 }
 
 #[test]
-fn a_length_byte_of_zero_is_read(rt: HostRuntime) -> Result<(), Fail> {
+fn a_length_byte_of_zero_is_read(rt: HostRuntime) {
     let mut reader = reader_of(&[0; 16], 100);
     assert!(rt; auth_kind(&mut reader).err() == Some(None));
     assert!(rt; reader.rest.len() == 4);
-    Ok(())
 }
 
 // A reader that gives three bytes a call, of which so many may be read, 10 bytes into a packet.
@@ -175,7 +167,7 @@ fn wanted(error: LimitedReadError) -> Option<LenError> {
 }
 
 #[test]
-fn a_raw_header_within_its_limit(rt: HostRuntime) -> Result<(), Fail> {
+fn a_raw_header_within_its_limit(rt: HostRuntime) {
     for limit in [16usize, 17] {
         let mut reader = limited(&RAW, limit);
         let Ok(header) = Ipv6RawExtHeader::read_limited(&mut reader) else {
@@ -186,11 +178,10 @@ fn a_raw_header_within_its_limit(rt: HostRuntime) -> Result<(), Fail> {
         assert!(rt; reader.layer() == Layer::Ipv6ExtHeader);
         assert!(rt; reader.take_reader().rest.len() == 2);
     }
-    Ok(())
 }
 
 #[test]
-fn a_raw_header_beyond_its_limit(rt: HostRuntime) -> Result<(), Fail> {
+fn a_raw_header_beyond_its_limit(rt: HostRuntime) {
     // The limit, the length that is asked for, and how many bytes are read.
     for (limit, required_len, read) in [
         (0usize, 8usize, 0usize),
@@ -209,11 +200,10 @@ fn a_raw_header_beyond_its_limit(rt: HostRuntime) -> Result<(), Fail> {
         assert!(rt; reader.read_len() == read);
         assert!(rt; reader.take_reader().rest == &RAW[read..]);
     }
-    Ok(())
 }
 
 #[test]
-fn a_fragment_header_at_its_limit(rt: HostRuntime) -> Result<(), Fail> {
+fn a_fragment_header_at_its_limit(rt: HostRuntime) {
     for limit in [8usize, 9] {
         let mut reader = limited(&FRAGMENT, limit);
         let Ok(header) = Ipv6FragmentHeader::read_limited(&mut reader) else {
@@ -233,11 +223,10 @@ fn a_fragment_header_at_its_limit(rt: HostRuntime) -> Result<(), Fail> {
         }
         assert!(rt; reader.take_reader().rest.len() == 10);
     }
-    Ok(())
 }
 
 #[test]
-fn an_authentication_header_within_its_limit(rt: HostRuntime) -> Result<(), Fail> {
+fn an_authentication_header_within_its_limit(rt: HostRuntime) {
     for limit in [16usize, 17] {
         let mut reader = limited(&AUTH, limit);
         let Ok(header) = IpAuthHeader::read_limited(&mut reader) else {
@@ -247,11 +236,10 @@ fn an_authentication_header_within_its_limit(rt: HostRuntime) -> Result<(), Fail
         assert!(rt; reader.layer() == Layer::IpAuthHeader);
         assert!(rt; reader.take_reader().rest.len() == 2);
     }
-    Ok(())
 }
 
 #[test]
-fn an_authentication_header_beyond_its_limit(rt: HostRuntime) -> Result<(), Fail> {
+fn an_authentication_header_beyond_its_limit(rt: HostRuntime) {
     for (limit, required_len, read) in [
         (0usize, 12usize, 0usize),
         (11, 12, 0),
@@ -267,11 +255,10 @@ fn an_authentication_header_beyond_its_limit(rt: HostRuntime) -> Result<(), Fail
         }
         assert!(rt; reader.take_reader().rest == &AUTH[read..]);
     }
-    Ok(())
 }
 
 #[test]
-fn a_length_byte_of_zero_within_a_limit(rt: HostRuntime) -> Result<(), Fail> {
+fn a_length_byte_of_zero_within_a_limit(rt: HostRuntime) {
     let mut reader = limited(&[0; 16], 16);
     match IpAuthHeader::read_limited(&mut reader) {
         Err(HeaderLimitedReadError::Content(error)) => {
@@ -280,11 +267,10 @@ fn a_length_byte_of_zero_within_a_limit(rt: HostRuntime) -> Result<(), Fail> {
         _ => panic!(rt; "no fault"),
     }
     assert!(rt; reader.read_len() == 12);
-    Ok(())
 }
 
 #[test]
-fn limited_headers_from_failing_readers(rt: HostRuntime) -> Result<(), Fail> {
+fn limited_headers_from_failing_readers(rt: HostRuntime) {
     let source = LenSource::Slice;
     for call in 0..16usize {
         let inner = failing_reader(&RAW, 1, call, ErrorKind::PermissionDenied);
@@ -298,11 +284,10 @@ fn limited_headers_from_failing_readers(rt: HostRuntime) -> Result<(), Fail> {
         // What was read of the first eight bytes or of the rest doesn't count.
         assert!(rt; reader.read_len() == if call < 8 { 0 } else { 8 });
     }
-    Ok(())
 }
 
 #[test]
-fn limited_authentication_headers_from_failing_readers(rt: HostRuntime) -> Result<(), Fail> {
+fn limited_authentication_headers_from_failing_readers(rt: HostRuntime) {
     let source = LenSource::Slice;
     for call in 0..16usize {
         let inner = failing_reader(&AUTH, 1, call, ErrorKind::PermissionDenied);
@@ -324,11 +309,10 @@ fn limited_authentication_headers_from_failing_readers(rt: HostRuntime) -> Resul
             )
         );
     }
-    Ok(())
 }
 
 #[test]
-fn headers_in_a_row_within_a_limit(rt: HostRuntime) -> Result<(), Fail> {
+fn headers_in_a_row_within_a_limit(rt: HostRuntime) {
     let mut bytes = [0; 24];
     bytes[..16].copy_from_slice(&RAW[..16]);
     bytes[16..].copy_from_slice(&FRAGMENT[..8]);
@@ -338,5 +322,4 @@ fn headers_in_a_row_within_a_limit(rt: HostRuntime) -> Result<(), Fail> {
         Ok(_) => panic!(rt; "a header beyond the limit"),
         Err(e) => assert!(rt; wanted(e) == Some(want(8, 7, Layer::Ipv6FragHeader, 26))),
     }
-    Ok(())
 }

@@ -12,7 +12,7 @@ use std::test::*;
 pub const AUTH: [u8; 17] = [6, 2, 0, 0, 0, 0, 0, 1, 0, 0, 0, 2, 1, 2, 3, 4, 0xaa];
 
 #[test]
-fn no_header_behind_udp(rt: HostRuntime) -> Result<(), Fail> {
+fn no_header_behind_udp(rt: HostRuntime) {
     let (headers, number, rest, fault) = Ipv4Extensions::from_slice_lax(
         IpNumber::UDP,
         &[0, 1, 2, 3],
@@ -23,11 +23,10 @@ fn no_header_behind_udp(rt: HostRuntime) -> Result<(), Fail> {
     assert!(rt; rest == [0, 1, 2, 3].as_slice());
     assert!(rt; fault == None);
     assert!(rt; headers.next_header(IpNumber::UDP) == Ok(IpNumber::UDP));
-    Ok(())
 }
 
 #[test]
-fn an_authentication_header(rt: HostRuntime) -> Result<(), Fail> {
+fn an_authentication_header(rt: HostRuntime) {
     let bytes = AUTH;
     let Ok((headers, number, rest)) = Ipv4Extensions::from_slice(IpNumber(51), &bytes) else {
         panic!(rt; "refused");
@@ -36,7 +35,6 @@ fn an_authentication_header(rt: HostRuntime) -> Result<(), Fail> {
     assert!(rt; headers.header_len() == 16);
     assert!(rt; number == IpNumber(6));
     assert!(rt; rest == [0xaa].as_slice());
-    Ok(())
 }
 
 #[test]
@@ -65,7 +63,7 @@ fn what_is_written_reads_back(rt: HostRuntime) -> Result<(), Fail> {
 }
 
 #[test]
-fn a_header_that_is_not_named(rt: HostRuntime) -> Result<(), Fail> {
+fn a_header_that_is_not_named(rt: HostRuntime) {
     let bytes = AUTH;
     let (mut headers, _, _, _) = Ipv4Extensions::from_slice_lax(IpNumber(51), &bytes);
     let missing = ExtsWalkError::ExtNotReferenced {
@@ -80,11 +78,10 @@ fn a_header_that_is_not_named(rt: HostRuntime) -> Result<(), Fail> {
     assert!(rt; headers.next_header(IpNumber(51)) == Ok(IpNumber(17)));
     assert!(rt; Ipv4Extensions::default().set_next_headers(IpNumber(17)) == IpNumber(17));
     assert!(rt; Ipv4Extensions::MAX_LEN == 1028);
-    Ok(())
 }
 
 #[test]
-fn every_front_of_an_authentication_header(rt: HostRuntime) -> Result<(), Fail> {
+fn every_front_of_an_authentication_header(rt: HostRuntime) {
     let bytes = AUTH;
     for len in 0..16usize {
         let required = if len < 12 { 12 } else { 16 };
@@ -94,7 +91,6 @@ fn every_front_of_an_authentication_header(rt: HostRuntime) -> Result<(), Fail> 
             Err(found) => assert!(rt; found == error),
         }
     }
-    Ok(())
 }
 
 #[test]
@@ -118,12 +114,11 @@ fn a_want_of_bytes_keeps_the_slice(rt: HostRuntime) {
 }
 
 #[test]
-fn a_fault_keeps_the_number_and_the_slice(rt: HostRuntime) -> Result<(), Fail> {
+fn a_fault_keeps_the_number_and_the_slice(rt: HostRuntime) {
     let (headers, number, rest, fault) = Ipv4Extensions::from_slice_lax(IpNumber(51), &[0u8; 12]);
     assert!(rt; headers.is_empty());
     assert!(rt; number == IpNumber(51));
     assert!(rt; rest.len() == 12);
     let zero = HeaderError::ZeroPayloadLen;
     assert!(rt; fault == Some(HeaderSliceError::Content(zero)));
-    Ok(())
 }

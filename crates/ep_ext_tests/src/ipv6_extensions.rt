@@ -66,7 +66,7 @@ fn cut_at(len: usize) -> (IpNumber, Layer, LenError) {
 }
 
 #[test]
-fn every_front_of_a_chain_is_refused(rt: HostRuntime) -> Result<(), Fail> {
+fn every_front_of_a_chain_is_refused(rt: HostRuntime) {
     let bytes = CHAIN;
     for len in 0..72usize {
         let (_, _, error) = cut_at(len);
@@ -75,11 +75,10 @@ fn every_front_of_a_chain_is_refused(rt: HostRuntime) -> Result<(), Fail> {
             Err(found) => assert!(rt; found == HeaderSliceError::Len(error)),
         }
     }
-    Ok(())
 }
 
 #[test]
-fn every_front_of_a_chain_up_to_the_fault(rt: HostRuntime) -> Result<(), Fail> {
+fn every_front_of_a_chain_up_to_the_fault(rt: HostRuntime) {
     let bytes = CHAIN;
     for len in 0..72usize {
         let (number, layer, error) = cut_at(len);
@@ -93,7 +92,6 @@ fn every_front_of_a_chain_up_to_the_fault(rt: HostRuntime) -> Result<(), Fail> {
         assert!(rt; headers.header_len() == error.layer_start_offset);
         assert!(rt; found == fault);
     }
-    Ok(())
 }
 
 // Whether the skip walk ends behind the six headers, and the law says so too.
@@ -108,7 +106,7 @@ fn has_payload(header: &Ipv6RawExtHeader, payload: &[u8]) -> bool {
 }
 
 #[test]
-fn all_six_headers(rt: HostRuntime) -> Result<(), Fail> {
+fn all_six_headers(rt: HostRuntime) {
     let bytes = CHAIN;
     let Ok((headers, number, rest)) = Ipv6Extensions::from_slice(IpNumber(0), &bytes) else {
         panic!(rt; "refused");
@@ -124,11 +122,10 @@ fn all_six_headers(rt: HostRuntime) -> Result<(), Fail> {
     assert!(rt; routing.header_len() == 24);
     assert!(rt; has_payload(&routing.routing, &bytes[18..32]));
     assert!(rt; is_skipped_to_its_end(&bytes));
-    Ok(())
 }
 
 #[test]
-fn each_header_at_its_place(rt: HostRuntime) -> Result<(), Fail> {
+fn each_header_at_its_place(rt: HostRuntime) {
     let bytes = CHAIN;
     let (headers, _, _, fault) = Ipv6Extensions::from_slice_lax(IpNumber(0), &bytes);
     assert!(rt; fault == None);
@@ -148,11 +145,10 @@ fn each_header_at_its_place(rt: HostRuntime) -> Result<(), Fail> {
         panic!(rt; "no authentication header");
     };
     assert!(rt; auth.raw_icv() == &bytes[52..64]);
-    Ok(())
 }
 
 #[test]
-fn a_second_fragment_header_ends_the_chain(rt: HostRuntime) -> Result<(), Fail> {
+fn a_second_fragment_header_ends_the_chain(rt: HostRuntime) {
     let bytes = [
         0x2c, 0, 0, 1, 0, 0, 0, 7, 0x11, 0, 0, 0, 0, 0, 0, 7, 0xaa, 0xbb,
     ];
@@ -162,7 +158,6 @@ fn a_second_fragment_header_ends_the_chain(rt: HostRuntime) -> Result<(), Fail> 
     assert!(rt; number == IpNumber(44));
     assert!(rt; rest == &bytes[8..]);
     assert!(rt; headers.header_len() == 8);
-    Ok(())
 }
 
 // Whether the headers from this number on end behind so many bytes, at the same kind of header again.
@@ -198,7 +193,7 @@ fn a_second_header_of_a_kind_ends_the_chain(rt: HostRuntime) {
 }
 
 #[test]
-fn hop_by_hop_options_behind_a_header_are_refused(rt: HostRuntime) -> Result<(), Fail> {
+fn hop_by_hop_options_behind_a_header_are_refused(rt: HostRuntime) {
     let bytes = [0, 0, 0, 0, 0, 0, 0, 0, 17, 0, 0, 0, 0, 0, 0, 0];
     let fault = HeaderSliceError::Content(HeaderError::HopByHopNotAtStart);
     match Ipv6Extensions::from_slice(IpNumber(60), &bytes) {
@@ -210,11 +205,10 @@ fn hop_by_hop_options_behind_a_header_are_refused(rt: HostRuntime) -> Result<(),
     assert!(rt; rest == &bytes[8..]);
     assert!(rt; headers.destination_options.is_some());
     assert!(rt; found == Some((fault, Layer::Ipv6HopByHopHeader)));
-    Ok(())
 }
 
 #[test]
-fn an_authentication_header_of_length_zero_is_refused(rt: HostRuntime) -> Result<(), Fail> {
+fn an_authentication_header_of_length_zero_is_refused(rt: HostRuntime) {
     let zero = ip_auth::HeaderError::ZeroPayloadLen;
     let fault = HeaderSliceError::Content(HeaderError::IpAuth(zero));
     match Ipv6Extensions::from_slice(IpNumber(51), &[0u8; 12]) {
@@ -226,11 +220,10 @@ fn an_authentication_header_of_length_zero_is_refused(rt: HostRuntime) -> Result
     assert!(rt; number == IpNumber(51));
     assert!(rt; rest.len() == 12);
     assert!(rt; found == Some((fault, Layer::IpAuthHeader)));
-    Ok(())
 }
 
 #[test]
-fn numbers_without_a_place_end_the_chain(rt: HostRuntime) -> Result<(), Fail> {
+fn numbers_without_a_place_end_the_chain(rt: HostRuntime) {
     // Mobility, host identity and shim6 headers end it too.
     for number in [6u8, 17, 50, 58, 59, 135, 139, 140, 253] {
         match Ipv6Extensions::from_slice(IpNumber(number), &[1, 2, 3]) {
@@ -242,7 +235,6 @@ fn numbers_without_a_place_end_the_chain(rt: HostRuntime) -> Result<(), Fail> {
             Err(_) => panic!(rt; "refused"),
         }
     }
-    Ok(())
 }
 
 #[test]

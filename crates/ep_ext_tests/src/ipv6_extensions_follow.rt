@@ -47,7 +47,7 @@ fn what_is_written_reads_back(rt: HostRuntime) -> Result<(), Fail> {
 }
 
 #[test]
-fn a_fragment_header_alone(rt: HostRuntime) -> Result<(), Fail> {
+fn a_fragment_header_alone(rt: HostRuntime) {
     let mut headers = Ipv6Extensions::default();
     headers.fragment = Some(Ipv6FragmentHeader::new(IpNumber(17), IpFragOffset::ZERO, false, 0));
     assert!(rt; !headers.is_fragmenting_payload());
@@ -56,11 +56,10 @@ fn a_fragment_header_alone(rt: HostRuntime) -> Result<(), Fail> {
     let mut buffer = Vec::new(rt.alloc());
     assert!(rt; headers.write(&mut buffer, IpNumber(44)) == Ok(()));
     assert!(rt; buffer.as_slice() == [0x11, 0, 0, 0, 0, 0, 0, 0].as_slice());
-    Ok(())
 }
 
 #[test]
-fn no_header_at_all(rt: HostRuntime) -> Result<(), Fail> {
+fn no_header_at_all(rt: HostRuntime) {
     let headers = Ipv6Extensions::default();
     assert!(rt; headers.is_empty());
     assert!(rt; !headers.is_fragmenting_payload());
@@ -70,13 +69,12 @@ fn no_header_at_all(rt: HostRuntime) -> Result<(), Fail> {
     assert!(rt; headers.write(&mut buffer, IpNumber(17)) == Ok(()));
     assert!(rt; buffer.len() == 0);
     assert!(rt; Ipv6Extensions::MAX_LEN == 9228);
-    Ok(())
 }
 
 // The headers are named in the order hop by hop, destination, routing, fragment, authentication,
 // final destination.
 #[test]
-fn the_first_header_that_is_not_reached(rt: HostRuntime) -> Result<(), Fail> {
+fn the_first_header_that_is_not_reached(rt: HostRuntime) {
     let mut headers = all_headers();
     assert!(rt; headers.next_header(IpNumber(17)) == Err(not_referenced(0)));
     assert!(rt; headers.next_header(IpNumber(60)) == Err(not_referenced(0)));
@@ -85,11 +83,10 @@ fn the_first_header_that_is_not_reached(rt: HostRuntime) -> Result<(), Fail> {
     headers.destination_options = None;
     assert!(rt; headers.next_header(IpNumber(17)) == Err(not_referenced(43)));
     assert!(rt; headers.next_header(IpNumber(51)) == Err(not_referenced(43)));
-    Ok(())
 }
 
 #[test]
-fn the_later_headers_that_are_not_reached(rt: HostRuntime) -> Result<(), Fail> {
+fn the_later_headers_that_are_not_reached(rt: HostRuntime) {
     let mut headers = all_headers();
     headers.hop_by_hop_options = None;
     headers.destination_options = None;
@@ -101,7 +98,6 @@ fn the_later_headers_that_are_not_reached(rt: HostRuntime) -> Result<(), Fail> {
     assert!(rt; headers.next_header(IpNumber(43)) == Err(not_referenced(51)));
     headers.auth = None;
     assert!(rt; headers.next_header(IpNumber(43)) == Err(not_referenced(60)));
-    Ok(())
 }
 
 #[test]
@@ -123,7 +119,7 @@ fn hop_by_hop_options_that_are_named_later(rt: HostRuntime) -> Result<(), Fail> 
 }
 
 #[test]
-fn headers_made_to_name_one_another(rt: HostRuntime) -> Result<(), Fail> {
+fn headers_made_to_name_one_another(rt: HostRuntime) {
     let mut headers = Ipv6Extensions::default();
     assert!(rt; headers.set_next_headers(IpNumber(6)) == IpNumber(6));
     let Ok(auth) = IpAuthHeader::new(IpNumber(0), 1, 2, &[1, 2, 3, 4]) else {
@@ -141,11 +137,10 @@ fn headers_made_to_name_one_another(rt: HostRuntime) -> Result<(), Fail> {
         51, 0, 1, 4, 0, 0, 0, 0, 6, 2, 0, 0, 0, 0, 0, 1, 0, 0, 0, 2, 1, 2, 3, 4,
     ];
     assert!(rt; buffer.as_slice() == written.as_slice());
-    Ok(())
 }
 
 #[test]
-fn all_headers_made_to_name_one_another(rt: HostRuntime) -> Result<(), Fail> {
+fn all_headers_made_to_name_one_another(rt: HostRuntime) {
     let mut headers = all_headers();
     assert!(rt; headers.set_next_headers(IpNumber(6)) == IpNumber(0));
     assert!(rt; headers.next_header(IpNumber(0)) == Ok(IpNumber(6)));
@@ -154,5 +149,4 @@ fn all_headers_made_to_name_one_another(rt: HostRuntime) -> Result<(), Fail> {
     let mut written = CHAIN;
     written[64] = 6;
     assert!(rt; buffer.as_slice() == &written[..72]);
-    Ok(())
 }

@@ -16,7 +16,7 @@ use std::test::*;
 const BYTES: [u8; 6] = [1, 2, 3, 4, 5, 6];
 
 #[test]
-fn a_new_reader(rt: HostRuntime) -> Result<(), Fail> {
+fn a_new_reader(rt: HostRuntime) {
     let source = LenSource::Ipv4HeaderTotalLen;
     let reader = LimitedReader::new(reader_of(&BYTES, 1), 5, source, 20, Layer::Ipv4Packet);
     assert!(rt; reader.max_len() == 5);
@@ -25,11 +25,10 @@ fn a_new_reader(rt: HostRuntime) -> Result<(), Fail> {
     assert!(rt; reader.layer_offset() == 20);
     assert!(rt; reader.read_len() == 0);
     assert!(rt; reader.take_reader().rest == BYTES.as_slice());
-    Ok(())
 }
 
 #[test]
-fn reads_up_to_the_limit(rt: HostRuntime) -> Result<(), Fail> {
+fn reads_up_to_the_limit(rt: HostRuntime) {
     let source = LenSource::Ipv4HeaderTotalLen;
     let mut reader = LimitedReader::new(reader_of(&BYTES, 1), 5, source, 20, Layer::Ipv4Packet);
     let mut two = [0; 2];
@@ -60,11 +59,10 @@ fn reads_up_to_the_limit(rt: HostRuntime) -> Result<(), Fail> {
     assert!(rt; reader.read_exact(&mut []).is_ok());
     assert!(rt; reader.read_len() == 5);
     assert!(rt; reader.take_reader().rest == [6].as_slice());
-    Ok(())
 }
 
 #[test]
-fn a_layer_begins(rt: HostRuntime) -> Result<(), Fail> {
+fn a_layer_begins(rt: HostRuntime) {
     let source = LenSource::Ipv4HeaderTotalLen;
     let mut reader = LimitedReader::new(reader_of(&BYTES, 1), 5, source, 20, Layer::Ipv4Packet);
     let mut two = [0; 2];
@@ -74,11 +72,10 @@ fn a_layer_begins(rt: HostRuntime) -> Result<(), Fail> {
     assert!(rt; reader.layer() == Layer::IpAuthHeader);
     assert!(rt; reader.layer_offset() == 22);
     assert!(rt; reader.read_len() == 0);
-    Ok(())
 }
 
 #[test]
-fn a_failed_read_counts_for_nothing(rt: HostRuntime) -> Result<(), Fail> {
+fn a_failed_read_counts_for_nothing(rt: HostRuntime) {
     let inner = failing_reader(&BYTES, 1, 2, ErrorKind::PermissionDenied);
     let mut reader = LimitedReader::new(inner, 5, LenSource::Slice, 0, Layer::Ipv4Packet);
     let mut two = [0; 2];
@@ -92,7 +89,6 @@ fn a_failed_read_counts_for_nothing(rt: HostRuntime) -> Result<(), Fail> {
     assert!(rt; reader.read_len() == 2);
     assert!(rt; reader.read_exact(&mut two).is_ok());
     assert!(rt; two == [3, 4]);
-    Ok(())
 }
 
 const WANT: LenError = LenError {
