@@ -28,7 +28,7 @@ pub(super) const IPV6: [u8; 87] = [
 ];
 
 #[test]
-fn ipv4_with_an_authentication_header(rt: HostRuntime) -> Result<(), Fail> {
+fn ipv4_with_an_authentication_header(rt: HostRuntime) {
     let bytes = IPV4;
     let Ok(packet) = Ipv4Slice::from_slice(&bytes) else {
         panic!(rt; "no packet");
@@ -39,11 +39,10 @@ fn ipv4_with_an_authentication_header(rt: HostRuntime) -> Result<(), Fail> {
     assert!(rt; !packet.is_payload_fragmented());
     assert!(rt; packet.header().slice() == &IPV4[..20]);
     assert!(rt; !packet.extensions().is_empty());
-    Ok(())
 }
 
 #[test]
-fn ipv6_with_all_extension_headers(rt: HostRuntime) -> Result<(), Fail> {
+fn ipv6_with_all_extension_headers(rt: HostRuntime) {
     let bytes = IPV6;
     let Ok(packet) = Ipv6Slice::from_slice(&bytes) else {
         panic!(rt; "no packet");
@@ -53,7 +52,6 @@ fn ipv6_with_all_extension_headers(rt: HostRuntime) -> Result<(), Fail> {
     assert!(rt; packet.payload().len_source == LenSource::Ipv6HeaderPayloadLen);
     assert!(rt; packet.is_payload_fragmented());
     assert!(rt; packet.extensions().slice() == &IPV6[40..84]);
-    Ok(())
 }
 
 #[test]
@@ -77,7 +75,7 @@ fn extension_headers_in_their_order(rt: HostRuntime) -> Result<(), Fail> {
 }
 
 #[test]
-fn repeated_fragment_headers(rt: HostRuntime) -> Result<(), Fail> {
+fn repeated_fragment_headers(rt: HostRuntime) {
     let bytes = [
         0x2c, 0, 0, 1, 0, 0, 0, 7, 0x11, 0, 0, 0, 0, 0, 0, 7, 0xaa, 0xbb,
     ];
@@ -90,12 +88,11 @@ fn repeated_fragment_headers(rt: HostRuntime) -> Result<(), Fail> {
         }
         Err(_) => panic!(rt; "refused"),
     }
-    Ok(())
 }
 
 // Extension headers in a row from the number 44, or 0, and whether they are those of a part of a message.
 #[test]
-fn which_headers_are_of_a_part(rt: HostRuntime) -> Result<(), Fail> {
+fn which_headers_are_of_a_part(rt: HostRuntime) {
     let whole = [0x11, 0, 0, 0, 0, 0, 0, 7];
     let whole_then_part = [0x2c, 0, 0, 0, 0, 0, 0, 7, 0x11, 0, 0, 1, 0, 0, 0, 7];
     let others = [43, 0, 1, 4, 0, 0, 0, 0, 17, 0, 0xff, 0xff, 0, 0, 0, 0];
@@ -114,12 +111,11 @@ fn which_headers_are_of_a_part(rt: HostRuntime) -> Result<(), Fail> {
             "from {first}"
         );
     }
-    Ok(())
 }
 
 // Where there is no header there is no first number.
 #[test]
-fn no_headers(rt: HostRuntime) -> Result<(), Fail> {
+fn no_headers(rt: HostRuntime) {
     let bytes = [1, 2, 3];
     let Ok((extensions, number, rest)) = Ipv6ExtensionsSlice::from_slice(IpNumber::TCP, &bytes)
     else {
@@ -130,11 +126,10 @@ fn no_headers(rt: HostRuntime) -> Result<(), Fail> {
     assert!(rt; number == IpNumber::TCP);
     assert!(rt; rest == bytes.as_slice());
     assert!(rt; extensions.iter().count() == 0);
-    Ok(())
 }
 
 #[test]
-fn hop_by_hop_options_behind_another_header(rt: HostRuntime) -> Result<(), Fail> {
+fn hop_by_hop_options_behind_another_header(rt: HostRuntime) {
     let bytes = [0, 0, 0, 0, 0, 0, 0, 0, 0x11, 0, 0, 0, 0, 0, 0, 0];
     let (extensions, number, rest, fault) = Ipv6ExtensionsSlice::from_slice_lax(
         IpNumber(60),
@@ -149,11 +144,10 @@ fn hop_by_hop_options_behind_another_header(rt: HostRuntime) -> Result<(), Fail>
         Ok(_) => panic!(rt; "taken"),
         Err(e) => assert!(rt; e == error),
     }
-    Ok(())
 }
 
 #[test]
-fn an_authentication_header_of_length_zero(rt: HostRuntime) -> Result<(), Fail> {
+fn an_authentication_header_of_length_zero(rt: HostRuntime) {
     let bytes = [0; 12];
     let content = ip_auth::HeaderError::ZeroPayloadLen;
     match Ipv6ExtensionsSlice::from_slice(IpNumber(51), &bytes) {
@@ -166,11 +160,10 @@ fn an_authentication_header_of_length_zero(rt: HostRuntime) -> Result<(), Fail> 
         Ok(_) => panic!(rt; "taken"),
         Err(e) => assert!(rt; e == ip_auth::HeaderSliceError::Content(content)),
     }
-    Ok(())
 }
 
 #[test]
-fn no_number_of_an_authentication_header(rt: HostRuntime) -> Result<(), Fail> {
+fn no_number_of_an_authentication_header(rt: HostRuntime) {
     let bytes = [0, 1, 2, 3];
     let (extensions, number, rest, fault) = Ipv4ExtensionsSlice::from_slice_lax(
         IpNumber::UDP,
@@ -180,7 +173,6 @@ fn no_number_of_an_authentication_header(rt: HostRuntime) -> Result<(), Fail> {
     assert!(rt; number == IpNumber::UDP);
     assert!(rt; rest == bytes.as_slice());
     assert!(rt; fault.is_none());
-    Ok(())
 }
 
 // A want of bytes that isn't told by the packet's own length.
@@ -195,7 +187,7 @@ pub(super) fn want(required_len: usize, len: usize, layer: Layer) -> LenError {
 }
 
 #[test]
-fn every_front_of_an_ipv4_packet(rt: HostRuntime) -> Result<(), Fail> {
+fn every_front_of_an_ipv4_packet(rt: HostRuntime) {
     let bytes = IPV4;
     for end in 0..34usize {
         let required = if end < 20 {
@@ -209,11 +201,10 @@ fn every_front_of_an_ipv4_packet(rt: HostRuntime) -> Result<(), Fail> {
         }
     }
     assert!(rt; Ipv4Slice::from_slice(&bytes[..34]).is_ok());
-    Ok(())
 }
 
 #[test]
-fn every_front_of_an_ipv6_packet(rt: HostRuntime) -> Result<(), Fail> {
+fn every_front_of_an_ipv6_packet(rt: HostRuntime) {
     let bytes = IPV6;
     for end in 0..86usize {
         let required = if end < 40 {
@@ -227,12 +218,11 @@ fn every_front_of_an_ipv6_packet(rt: HostRuntime) -> Result<(), Fail> {
         }
     }
     assert!(rt; Ipv6Slice::from_slice(&bytes[..86]).is_ok());
-    Ok(())
 }
 
 // A want inside an extension header names the packet's own length, and the place in the whole slice.
 #[test]
-fn a_cut_extension_header(rt: HostRuntime) -> Result<(), Fail> {
+fn a_cut_extension_header(rt: HostRuntime) {
     let mut bytes = IPV6;
     bytes[5] = 12;
     match Ipv6Slice::from_slice(&bytes) {
@@ -261,11 +251,10 @@ fn a_cut_extension_header(rt: HostRuntime) -> Result<(), Fail> {
             })
         ),
     }
-    Ok(())
 }
 
 #[test]
-fn a_payload_length_of_zero(rt: HostRuntime) -> Result<(), Fail> {
+fn a_payload_length_of_zero(rt: HostRuntime) {
     let mut bytes = IPV6;
     bytes[5] = 0;
     bytes[6] = 253;
@@ -279,11 +268,10 @@ fn a_payload_length_of_zero(rt: HostRuntime) -> Result<(), Fail> {
     };
     assert!(rt; packet.payload().payload.len() == 0);
     assert!(rt; packet.payload().len_source == LenSource::Ipv6HeaderPayloadLen);
-    Ok(())
 }
 
 #[test]
-fn a_total_length_below_the_header(rt: HostRuntime) -> Result<(), Fail> {
+fn a_total_length_below_the_header(rt: HostRuntime) {
     let mut bytes = IPV4;
     bytes[3] = 19;
     match Ipv4Slice::from_slice(&bytes) {
@@ -298,11 +286,10 @@ fn a_total_length_below_the_header(rt: HostRuntime) -> Result<(), Fail> {
             })
         ),
     }
-    Ok(())
 }
 
 #[test]
-fn packets_of_either_version(rt: HostRuntime) -> Result<(), Fail> {
+fn packets_of_either_version(rt: HostRuntime) {
     let bytes = IPV4;
     let Ok(packet) = IpSlice::from_slice(&bytes) else {
         panic!(rt; "no packet");
@@ -322,11 +309,10 @@ fn packets_of_either_version(rt: HostRuntime) -> Result<(), Fail> {
             == IpAddr::from([0xfd, 0, 0, 0, 0, 0, 0, 0, 0, 0, 0, 0, 0, 0, 0, 2])
     );
     assert!(rt; packet.payload_ip_number() == IpNumber::UDP);
-    Ok(())
 }
 
 #[test]
-fn no_bytes_and_another_version(rt: HostRuntime) -> Result<(), Fail> {
+fn no_bytes_and_another_version(rt: HostRuntime) {
     match IpSlice::from_slice(&[]) {
         Ok(_) => panic!(rt; "taken"),
         Err(e) => assert!(rt; e == ip::SliceError::Len(want(1, 0, Layer::IpHeader))),
@@ -347,5 +333,4 @@ fn no_bytes_and_another_version(rt: HostRuntime) -> Result<(), Fail> {
             ))
         ),
     }
-    Ok(())
 }

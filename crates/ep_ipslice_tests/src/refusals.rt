@@ -39,7 +39,7 @@ fn want_of_header(start: u8, end: u8, len: u8, layer: Layer, len_source: LenSour
 }
 
 #[test]
-fn extension_headers_cut_by_the_payload_length(rt: HostRuntime) -> Result<(), Fail> {
+fn extension_headers_cut_by_the_payload_length(rt: HostRuntime) {
     for (start, len, layer) in HEADERS {
         for end in start.max(1)..start.saturating_add(len) {
             let mut bytes = IPV6;
@@ -48,12 +48,11 @@ fn extension_headers_cut_by_the_payload_length(rt: HostRuntime) -> Result<(), Fa
             assert_wants(&rt, &bytes, want_of_header(start, end, len, layer, source));
         }
     }
-    Ok(())
 }
 
 // Where the packet's own length isn't given, the slice bounds its headers.
 #[test]
-fn extension_headers_cut_by_the_slice(rt: HostRuntime) -> Result<(), Fail> {
+fn extension_headers_cut_by_the_slice(rt: HostRuntime) {
     let mut bytes = IPV6;
     bytes[5] = 0;
     for (start, len, layer) in HEADERS {
@@ -63,12 +62,11 @@ fn extension_headers_cut_by_the_slice(rt: HostRuntime) -> Result<(), Fail> {
             assert_wants(&rt, front, want_of_header(start, end, len, layer, source));
         }
     }
-    Ok(())
 }
 
 // A routing header of 16 bytes, of which 15 are there.
 #[test]
-fn an_extension_header_longer_than_the_least(rt: HostRuntime) -> Result<(), Fail> {
+fn an_extension_header_longer_than_the_least(rt: HostRuntime) {
     let mut bytes = IPV6;
     bytes[5] = 23;
     bytes[49] = 1;
@@ -78,11 +76,10 @@ fn an_extension_header_longer_than_the_least(rt: HostRuntime) -> Result<(), Fail
         &bytes,
         want_of_header(8, 23, 16, Layer::Ipv6ExtHeader, source),
     );
-    Ok(())
 }
 
 #[test]
-fn packets_of_the_other_version(rt: HostRuntime) -> Result<(), Fail> {
+fn packets_of_the_other_version(rt: HostRuntime) {
     match Ipv4Slice::from_slice(&IPV6) {
         Ok(_) => panic!(rt; "taken"),
         Err(e) => assert!(rt;
@@ -101,7 +98,6 @@ fn packets_of_the_other_version(rt: HostRuntime) -> Result<(), Fail> {
             })
         ),
     }
-    Ok(())
 }
 
 // What a packet of either version says of an extension header that breaks its format.
@@ -113,7 +109,7 @@ fn assert_refused(rt: &impl Abort, bytes: &[u8], error: ip::HeadersError) {
 }
 
 #[test]
-fn an_authentication_header_that_breaks_its_format(rt: HostRuntime) -> Result<(), Fail> {
+fn an_authentication_header_that_breaks_its_format(rt: HostRuntime) {
     let content = ip_auth::HeaderError::ZeroPayloadLen;
     let mut bytes = IPV4;
     bytes[21] = 0;
@@ -128,11 +124,10 @@ fn an_authentication_header_that_breaks_its_format(rt: HostRuntime) -> Result<()
         Ok(_) => panic!(rt; "taken"),
         Err(e) => assert!(rt; e == ipv6::SliceError::Exts(ipv6_exts::HeaderError::IpAuth(content))),
     }
-    Ok(())
 }
 
 #[test]
-fn hop_by_hop_options_behind_a_routing_header(rt: HostRuntime) -> Result<(), Fail> {
+fn hop_by_hop_options_behind_a_routing_header(rt: HostRuntime) {
     let mut bytes = IPV6;
     bytes[48] = 0;
     let content = ipv6_exts::HeaderError::HopByHopNotAtStart;
@@ -141,12 +136,11 @@ fn hop_by_hop_options_behind_a_routing_header(rt: HostRuntime) -> Result<(), Fai
         Err(e) => assert!(rt; e == ipv6::SliceError::Exts(content)),
     }
     assert_refused(&rt, &bytes, ip::HeadersError::Ipv6Ext(content));
-    Ok(())
 }
 
 // A packet of either version refuses as one of its version.
 #[test]
-fn a_want_of_either_version(rt: HostRuntime) -> Result<(), Fail> {
+fn a_want_of_either_version(rt: HostRuntime) {
     let rows = [
         ([0x45, 0, 0], want(20, 3, Layer::Ipv4Header)),
         ([0x60, 0, 0], want(40, 3, Layer::Ipv6Header)),
@@ -157,12 +151,11 @@ fn a_want_of_either_version(rt: HostRuntime) -> Result<(), Fail> {
             Err(e) => assert!(rt; e == ip::SliceError::Len(error)),
         }
     }
-    Ok(())
 }
 
 // Up to the fault: all was handed in is left, or the headers in front of it are there.
 #[test]
-fn a_fault_behind_which_nothing_is_read(rt: HostRuntime) -> Result<(), Fail> {
+fn a_fault_behind_which_nothing_is_read(rt: HostRuntime) {
     let bytes = [17, 1, 0, 0, 1];
     let first = IpNumber::AUTHENTICATION_HEADER;
     let (extensions, number, rest, fault) = Ipv4ExtensionsSlice::from_slice_lax(first, &bytes);
@@ -190,11 +183,10 @@ fn a_fault_behind_which_nothing_is_read(rt: HostRuntime) -> Result<(), Fail> {
                 Layer::Ipv6FragHeader
             ))
     );
-    Ok(())
 }
 
 #[test]
-fn a_want_further_on(rt: HostRuntime) -> Result<(), Fail> {
+fn a_want_further_on(rt: HostRuntime) {
     let len = LenError {
         required_len: 12,
         len: 3,
@@ -211,5 +203,4 @@ fn a_want_further_on(rt: HostRuntime) -> Result<(), Fail> {
     let version = ip::HeaderError::UnsupportedIpVersion { version_number: 5 };
     let content = ip::HeadersSliceError::Content(ip::HeadersError::Ip(version));
     assert!(rt; content.add_slice_offset(14) == content);
-    Ok(())
 }

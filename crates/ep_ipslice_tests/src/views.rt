@@ -12,7 +12,7 @@ use std::test::*;
 
 // Flags and offset of an IPv4 header, and whether the payload is a part of a message.
 #[test]
-fn ipv4_fragments(rt: HostRuntime) -> Result<(), Fail> {
+fn ipv4_fragments(rt: HostRuntime) {
     let rows = [
         (0x20, 0, true),
         (0, 1, true),
@@ -31,11 +31,10 @@ fn ipv4_fragments(rt: HostRuntime) -> Result<(), Fail> {
         assert!(rt; packet.is_fragmenting_payload() == is_part);
         assert!(rt; packet.payload().fragmented == is_part);
     }
-    Ok(())
 }
 
 #[test]
-fn fragment_fields_of_an_ipv4_packet(rt: HostRuntime) -> Result<(), Fail> {
+fn fragment_fields_of_an_ipv4_packet(rt: HostRuntime) {
     let mut bytes = IPV4;
     bytes[4] = 1;
     bytes[6] = 0x20;
@@ -47,11 +46,10 @@ fn fragment_fields_of_an_ipv4_packet(rt: HostRuntime) -> Result<(), Fail> {
     assert!(rt; identification == 0x107);
     assert!(rt; offset.value() == 5);
     assert!(rt; more);
-    Ok(())
 }
 
 #[test]
-fn fragment_fields_of_an_ipv6_packet(rt: HostRuntime) -> Result<(), Fail> {
+fn fragment_fields_of_an_ipv6_packet(rt: HostRuntime) {
     let bytes = IPV6;
     let Ok(packet) = Ipv6Slice::from_slice(&bytes) else {
         panic!(rt; "no packet");
@@ -62,12 +60,11 @@ fn fragment_fields_of_an_ipv6_packet(rt: HostRuntime) -> Result<(), Fail> {
     assert!(rt; identification == 7);
     assert!(rt; offset.value() == 1);
     assert!(rt; !more);
-    Ok(())
 }
 
 // Two fragment headers behind a routing header, and none.
 #[test]
-fn the_first_fragment_header(rt: HostRuntime) -> Result<(), Fail> {
+fn the_first_fragment_header(rt: HostRuntime) {
     let bytes = [
         44, 0, 0, 0, 0, 0, 0, 0, 44, 0, 0, 0x10, 0, 0, 0, 7, 17, 0, 0, 1, 0, 0, 0, 8,
     ];
@@ -82,12 +79,11 @@ fn the_first_fragment_header(rt: HostRuntime) -> Result<(), Fail> {
         panic!(rt; "refused");
     };
     assert!(rt; extensions.first_fragment_header().is_none());
-    Ok(())
 }
 
 // An IPv4 packet takes one authentication header, an IPv6 packet each.
 #[test]
-fn authentication_headers_behind_one_another(rt: HostRuntime) -> Result<(), Fail> {
+fn authentication_headers_behind_one_another(rt: HostRuntime) {
     let mut bytes = IPV4;
     bytes[20] = 51;
     let Ok(packet) = Ipv4Slice::from_slice(&bytes) else {
@@ -108,11 +104,10 @@ fn authentication_headers_behind_one_another(rt: HostRuntime) -> Result<(), Fail
     assert!(rt; headers.next().is_some());
     assert!(rt; headers.next().is_some());
     assert!(rt; headers.next().is_none());
-    Ok(())
 }
 
 #[test]
-fn packets_of_a_version_as_packets_of_either(rt: HostRuntime) -> Result<(), Fail> {
+fn packets_of_a_version_as_packets_of_either(rt: HostRuntime) {
     let bytes = IPV4;
     let Ok(packet) = Ipv4Slice::from_slice(&bytes) else {
         panic!(rt; "no packet");
@@ -129,18 +124,16 @@ fn packets_of_a_version_as_packets_of_either(rt: HostRuntime) -> Result<(), Fail
     assert!(rt; either.ipv4().is_none());
     assert!(rt; either.ipv6().is_some());
     assert!(rt; either.payload().payload == [0xaa, 0xbb].as_slice());
-    Ok(())
 }
 
 #[test]
-fn views_of_nothing(rt: HostRuntime) -> Result<(), Fail> {
+fn views_of_nothing(rt: HostRuntime) {
     assert!(rt; Ipv4ExtensionsSlice::default().is_empty());
     assert!(rt; Ipv6ExtensionSliceIter::default().next().is_none());
-    Ok(())
 }
 
 #[test]
-fn an_authentication_header_with_its_own_fields(rt: HostRuntime) -> Result<(), Fail> {
+fn an_authentication_header_with_its_own_fields(rt: HostRuntime) {
     let bytes = IPV4;
     let Ok((extensions, _, _)) = Ipv4ExtensionsSlice::from_slice(IpNumber(51), &bytes[20..]) else {
         panic!(rt; "refused");
@@ -151,7 +144,6 @@ fn an_authentication_header_with_its_own_fields(rt: HostRuntime) -> Result<(), F
     assert!(rt; auth.next_header == IpNumber::UDP);
     assert!(rt; auth.spi == 0x01020304);
     assert!(rt; auth.sequence_number == 0x05060708);
-    Ok(())
 }
 
 fn payload(
@@ -170,7 +162,7 @@ fn payload(
 
 // Each row is above those before it: number, flag, source and bytes count in this order.
 #[test]
-fn payloads_in_their_order(rt: HostRuntime) -> Result<(), Fail> {
+fn payloads_in_their_order(rt: HostRuntime) {
     let rows = [
         payload(6, true, LenSource::Ipv6HeaderPayloadLen, &[9]),
         payload(17, false, LenSource::Ipv6HeaderPayloadLen, &[9]),
@@ -185,16 +177,14 @@ fn payloads_in_their_order(rt: HostRuntime) -> Result<(), Fail> {
             assert!(rt; (a == b) == (at == other));
         }
     }
-    Ok(())
 }
 
 #[test]
-fn equal_payloads_are_hashed_alike(rt: HostRuntime) -> Result<(), Fail> {
+fn equal_payloads_are_hashed_alike(rt: HostRuntime) {
     let (a, b) = ([1, 2], [1, 2]);
     let (mut one, mut other) = (FoldHasher::default(), FoldHasher::default());
     let source = LenSource::Ipv4HeaderTotalLen;
     laws::traits::payload_hashes_all_fields(&payload(17, true, source, &a), &mut one);
     laws::traits::payload_hashes_all_fields(&payload(17, true, source, &b), &mut other);
     assert!(rt; one.finish() == other.finish());
-    Ok(())
 }
