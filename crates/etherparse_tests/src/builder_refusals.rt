@@ -7,7 +7,7 @@ use ep_ext::err::{ipv4_exts, ipv6_exts};
 use ep_packet::IpHeaders;
 use etherparse::err::packet::BuildWriteError;
 use etherparse::{PacketBuilderStep, TransportStep};
-use std::alloc::Global;
+use std::alloc::{AllocError, Global};
 use std::process::Abort;
 use std::test::*;
 
@@ -142,31 +142,32 @@ fn texts(rt: HostRuntime) -> Result<(), Fail> {
 }
 
 // Where the byte wants memory, the next try gets it.
-fn held_at_last(rt: &HostRuntime) -> Result<Vec<u8>, AllocError> {
-    match held(rt) {
-        Ok(buffer) => Ok(buffer),
-        Err(_) => held(rt),
+fn held_at_last(alloc: Global) -> Result<Vec<u8>, AllocError> {
+    let mut buffer = Vec::new(alloc);
+    if buffer.push(0xaa).is_err() {
+        buffer.push(0xaa)?;
     }
+    Ok(buffer)
 }
 
 // To be run with each allocation failing in turn, too.
 #[test]
 fn want_of_memory(rt: HostRuntime) -> Result<(), Fail> {
-    let mut buffer = held_at_last(&rt)?;
+    let mut buffer = held_at_last(rt.alloc())?;
     if let Err(error) = ipv4().udp(1, 2).write(&mut buffer, &PAYLOAD) {
         assert!(rt; error.memory());
         assert!(rt; buffer.as_slice() == [0xaa].as_slice());
         assert!(rt; ipv4().udp(1, 2).write(&mut buffer, &PAYLOAD).is_ok());
     }
     assert!(rt; buffer.len() == 1 + 36);
-    let mut buffer = held_at_last(&rt)?;
+    let mut buffer = held_at_last(rt.alloc())?;
     if let Err(error) = ipv4().write(&mut buffer, IpNumber(253), &PAYLOAD) {
         assert!(rt; error.memory());
         assert!(rt; buffer.as_slice() == [0xaa].as_slice());
         assert!(rt; ipv4().write(&mut buffer, IpNumber(253), &PAYLOAD).is_ok());
     }
     assert!(rt; buffer.len() == 1 + 28);
-    let mut buffer = held_at_last(&rt)?;
+    let mut buffer = held_at_last(rt.alloc())?;
     if let Err(error) = ethernet2().arp(arp(&rt)).write(&mut buffer) {
         assert!(rt; error.memory());
         assert!(rt; buffer.as_slice() == [0xaa].as_slice());
