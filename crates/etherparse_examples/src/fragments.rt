@@ -4,9 +4,9 @@ use etherparse::defrag::{IpDefragPayloadVec, IpDefragPool};
 use etherparse::{SlicedPacket, UdpSlice, ip_number};
 use std::alloc::Global;
 
-/// Prints each UDP message that fragments in these frames complete, in whatever order they come. Each frame stands
-/// beside the second at which it came: a message of which no fragment came for a minute is dropped, so that none
-/// is held for ever.
+/// Prints each UDP message that fragments in these frames complete, in whatever order they come, up to the first
+/// frame or fragment that is refused. Each frame stands beside the second at which it came: with each of them every
+/// message of which no fragment came for a minute is dropped.
 /// It has no contract: what the program prints is compared with what is stored.
 pub fn print_messages(
     rt: &impl Print,

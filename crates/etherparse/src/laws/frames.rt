@@ -1,4 +1,4 @@
-//! Laws of Ethernet II frames whose IP packet was built.
+//! Laws of frames and packets whose IP packet was built.
 ghost use Rattle.std.specs.Prelude.{◌≡◌, ◌++◌, ℕ, true, false, List, [], ◌∷◌, length, Option, None, Some, Ok, Err, IsErr};
 ghost use Rattle.ep_ext.specs.Chain.{Row};
 ghost use Rattle.ep_ext.specs.Link.{all_places, first_named, pieces_in, with_links};
