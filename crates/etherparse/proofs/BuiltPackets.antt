@@ -33,7 +33,7 @@ use Rattle.ep_tag.specs.declared.link.vlan_header.VlanHeader.TheVariants.{Single
 use Rattle.etherparse.proofs.FrameTags.{NamesNoTag, class_behind, class_framed, named, short_first, two_bytes}
 use Rattle.etherparse.specs.Built.{built, first_type, ip_bytes, link_bytes, linked, measured, message_len, vlan_bytes}
 use Rattle.etherparse.specs.BuiltFrameExamples.{link_by_hand}
-use Rattle.etherparse.specs.BuiltFrames.{CookedPackets, Frames, IpFits, Packets, TagsFit, alone, behind_cooked, framed, ids_in}
+use Rattle.etherparse.specs.BuiltFrames.{CookedPackets, Frames, IpFits, Packets, TagsFit, behind_cooked, framed, ids_in, without_link}
 use Rattle.etherparse.specs.BuiltSteps.{cooked}
 
 -- IP headers and payload, with nothing in front
@@ -96,7 +96,7 @@ alone_told (Ipv6 h e) number payload fits =
     ∙ with_ipv6_told (ipv6_packet_at bytes)
 
 pub alone_is : (ip : IpHeaders) (number : ℕ) (payload : List ℕ) (class : Class) → Packets ip number (length payload) → class_of (built (framed link_by_hand None ip) number payload) ≡ class
-    → class_told (sliced_ip (built (alone ip) number payload)) ≡ class
+    → class_told (sliced_ip (built (without_link ip) number payload)) ≡ class
 alone_is ip number payload class packet is = alone_told ip number payload packet.ip_fits ∙ payload_is None ip number payload class tt is
 
 -- ---- behind the header of a cooked capture

@@ -102,14 +102,14 @@ pub record Frames (link : Ethernet2Header) (vlan : Option VlanHeader) (ip : IpHe
   pub written : refusal_of (framed link vlan ip) len ≡ None
 
 -- the headers of an IP packet with no link header
-abbrev pub alone : IpHeaders → PacketImpl
-alone ip = record { link_header = None; vlan_header = None; ip_headers = Some ip; arp_packet = None; transport_header = None }
+abbrev pub without_link : IpHeaders → PacketImpl
+without_link ip = record { link_header = None; vlan_header = None; ip_headers = Some ip; arp_packet = None; transport_header = None }
 
 -- a packet that a builder writes, with headers as their types hold them
 pub record Packets (ip : IpHeaders) (number len : ℕ) : Type 0 where
   pub ip_fits : IpFits ip number
   pub names_none : NamesNone ip number
-  pub written : refusal_of (alone ip) len ≡ None
+  pub written : refusal_of (without_link ip) len ≡ None
 
 -- the headers of one behind the header of a cooked capture
 abbrev pub behind_cooked : (packet_type address_len : ℕ) → (address : List ℕ) → Option VlanHeader → IpHeaders → PacketImpl

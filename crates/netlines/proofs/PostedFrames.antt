@@ -17,12 +17,17 @@ use Rattle.etherparse.specs.packet.Readable.{ReadMessage, message_at}
 use Rattle.etherparse.specs.packet.declared.err.packet.slice_error.SliceError.{SliceError}
 use Rattle.etherparse.specs.packet.declared.net.ip_headers.IpHeaders.{IpHeaders}
 use Rattle.etherparse.specs.tag.declared.link.vlan_header.VlanHeader.{VlanHeader}
-use Rattle.netlines.specs.Letter.{CanCarry, HeadersFit, addresses_between, ethernet_of, identification_of, name_of}
+use Rattle.netlines.specs.Letter.{HeadersFit, addresses_between, ethernet_of, identification_of, name_of}
 use Rattle.netlines.specs.Posted.{frame}
-use Rattle.netlines.specs.PostRefusal.{names_extension}
+use Rattle.netlines.specs.PostRefusal.{names_extension, room}
 use Rattle.netlines.specs.PostedHeaders.{ip_headers_of, tags_of}
 use Rattle.netlines.specs.declared.letter.Letter.{Letter}
 use Rattle.netlines.proofs.PostLemmas.{framed, unrefused_piece}
+
+-- a letter's number names no extension header, and a packet has room for a message or a piece of these bytes
+pub record CanCarry (letter : Letter) (cut : Bool) (text : List ℕ) : Type 0 where
+  pub number : names_extension letter.stream letter.number.0 ≡ false
+  pub fits : length text ≤ room letter.stream cut
 
 not_number : (n m : ℕ) → (n == m) ≡ false → n ≢ m
 not_number n m is same = let e = sym (eq-eqb n m same) ∙ is in cc

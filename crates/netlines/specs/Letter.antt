@@ -1,5 +1,5 @@
 -- Letters: the name and the headers of the packets in which a message is sent.
-use Rattle.std.specs.Prelude.{◌≡◌, ℕ, ◌≤◌, Bool, false, List, length}
+use Rattle.std.specs.Prelude.{ℕ, ◌≤◌, Bool, List, length}
 use Rattle.etherparse.specs.BuiltFrames.{IpFits, TagsFit}
 use Rattle.etherparse.specs.declared.defrag.ip_frag_version_spec_id.IpFragVersionSpecId.{IpFragVersionSpecId}
 use Rattle.etherparse.specs.declared.defrag.ip_frag_version_spec_id.IpFragVersionSpecId.TheVariants.{Ipv4, Ipv6}
@@ -8,7 +8,6 @@ use Rattle.etherparse.specs.link.declared.link.ethernet2_header.Ethernet2Header.
 use Rattle.etherparse.specs.packet.Class.{Addresses, Class, FragmentName}
 use Rattle.etherparse.specs.packet.Class.Addresses.{V4, V6}
 use Rattle.etherparse.specs.packet.Class.Class.{Cut}
-use Rattle.netlines.specs.PostRefusal.{names_extension, room}
 use Rattle.netlines.specs.PostedHeaders.{ip_headers_of, tags_of}
 use Rattle.netlines.specs.Posted.{Piece}
 use Rattle.netlines.specs.declared.letter.Letter.{Letter}
@@ -34,11 +33,6 @@ name_of letter = record {
 -- what the frame of a piece is read as
 abbrev pub piece_class : Letter → Piece → Class
 piece_class letter piece = Cut (name_of letter) piece.offset piece.more piece.text
-
--- a letter's number names no extension header, and a packet has room for a message or a piece of these bytes
-pub record CanCarry (letter : Letter) (cut : Bool) (text : List ℕ) : Type 0 where
-  pub number : names_extension letter.stream letter.number.0 ≡ false
-  pub fits : length text ≤ room letter.stream cut
 
 -- the link header of a letter's frames
 abbrev pub ethernet_of : Letter → Ethernet2Header

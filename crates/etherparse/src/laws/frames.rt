@@ -1,5 +1,5 @@
 //! Laws of frames and packets whose IP packet was built.
-ghost use Rattle.std.specs.Prelude.{◌≡◌, ◌++◌, ℕ, true, false, List, [], ◌∷◌, length, Option, None, Some, Ok, Err, IsErr};
+ghost use Rattle.std.specs.Prelude.{◌≡◌, ◌≤◌, ◌++◌, ℕ, true, false, List, [], ◌∷◌, length, Option, None, Some, Ok, Err, IsErr};
 ghost use Rattle.ep_ext.specs.Chain.{Row};
 ghost use Rattle.ep_ext.specs.Link.{all_places, first_named, pieces_in, with_links};
 ghost use Rattle.ep_ext.specs.Place.{place_of};
@@ -7,6 +7,7 @@ ghost use Rattle.ep_ip.specs.Ipv4 as ipv4;
 ghost use Rattle.ep_ip.specs.Ipv6 as ipv6;
 ghost use Rattle.ep_ipslice.specs.Packet.{FragmentFields};
 ghost use Rattle.ep_link.specs.Ethernet as ethernet;
+ghost use Rattle.ep_link.specs.Sll.{greatest_packet_type};
 ghost use Rattle.ep_link.specs.declared.link.ethernet2_header.Ethernet2Header.{Ethernet2Header};
 ghost use Rattle.ep_packet.specs.Class.{class_of, class_told};
 ghost use Rattle.ep_packet.specs.Class.Addresses.{V6};
@@ -20,13 +21,13 @@ ghost use Rattle.ep_tag.specs.Vlan as vlan;
 ghost use Rattle.ep_tag.specs.declared.link.vlan_header.VlanHeader.{VlanHeader};
 ghost use Rattle.etherparse.specs.Built.{built};
 ghost use Rattle.etherparse.specs.BuiltFrameExamples.{ipv4_part, ipv6_part, link_by_hand, two_tags};
-ghost use Rattle.etherparse.specs.BuiltFrames.{AuthFits, CookedPackets, FragmentFits, Frames, IpFits, NamesNone, Packets, TagsFit, addresses_in, alone, behind_cooked, fields_in, framed, ids_in, part_with};
+ghost use Rattle.etherparse.specs.BuiltFrames.{AuthFits, CookedPackets, FragmentFits, Frames, IpFits, NamesNone, Packets, TagsFit, addresses_in, behind_cooked, fields_in, framed, ids_in, part_with, without_link};
 
 use super::builder::{ipv4_address_is_whole, ipv6_address_is_whole};
 use ep_base::IpNumber;
 use ep_ext::{IpAuthHeader, Ipv6Extensions, Ipv6FragmentHeader};
 use ep_ip::{Ipv4Header, Ipv6Header};
-use ep_link::Ethernet2Header;
+use ep_link::{Ethernet2Header, LinuxSllPacketType};
 use ep_packet::err::packet::SliceError;
 use ep_packet::{IpHeaders, SlicedPacket};
 use ep_tag::{SingleVlanHeader, VlanHeader};
@@ -76,14 +77,14 @@ pub fn built_frames_are_sliced(frame: &[u8]) -> Result<SlicedPacket<'_>, SliceEr
 /// So is a packet that was built with no link header, which `SlicedPacket::from_ip` slices.
 pub fn built_packets_are_sliced(packet: &[u8]) -> Result<SlicedPacket<'_>, SliceError>
     ensures whole { (ip : IpHeaders) (number : ℕ) (payload : List ℕ)
-        → Packets ip number (length payload) → packet.now ≡ built (alone ip) number payload
+        → Packets ip number (length payload) → packet.now ≡ built (without_link ip) number payload
         → (read : ReadMessage) → is_fragmenting ip ≡ false → message_at number payload ≡ Ok read
         → class_told result ≡ Whole (addresses_in ip) number payload read }
     ensures refused { (ip : IpHeaders) (number : ℕ) (payload : List ℕ)
-        → Packets ip number (length payload) → packet.now ≡ built (alone ip) number payload
+        → Packets ip number (length payload) → packet.now ≡ built (without_link ip) number payload
         → (e : SliceError) → is_fragmenting ip ≡ false → message_at number payload ≡ Err e → IsErr result }
     ensures part { (ip : IpHeaders) (number : ℕ) (payload : List ℕ)
-        → Packets ip number (length payload) → packet.now ≡ built (alone ip) number payload
+        → Packets ip number (length payload) → packet.now ≡ built (without_link ip) number payload
         → (told : FragmentFields) → is_fragmenting ip ≡ true → fields_in ip ≡ Some told
         → class_told result ≡ part_with None ip number payload told }
 {
@@ -123,6 +124,15 @@ pub fn headers_fit(link: Ethernet2Header, vlan: Option<VlanHeader>, ip: IpHeader
     ethernet_fits(&link);
     tags_fit(&vlan);
     ip_fits(ip, number);
+}
+
+/// So are those of the header of a cooked capture, as `PacketBuilder::linux_sll` begins it.
+pub fn cooked_header_fits(packet_type: LinuxSllPacketType, sender_address: [u8; 8])
+    ensures packet_type { packet_type ≤ greatest_packet_type }
+    ensures address { length sender_address ≡ 8 }
+{
+    let _packet_type = packet_type.value();
+    let _sender_address = sender_address[7];
 }
 
 fn ethernet_fits(header: &Ethernet2Header)

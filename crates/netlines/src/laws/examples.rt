@@ -112,12 +112,16 @@ pub fn messages_have_packets()
 {}
 
 /// Memory may be wanting for a fragment, alone or behind the first half of its message. It isn't for one that
-/// is refused, for a `forget` line, for a line with an uncut message, with a frame of another ether type or of
+/// is refused, alone or behind another, for a `forget` line, for a line with an uncut message, with a frame of another ether type or of
 /// 13 bytes, or for one that asks for nothing.
 pub fn lines_that_take_memory()
     ensures fragment { takes_memory [] (codes "frame 0 02000000000202000000000108004500001c00072000401146c80a0000010a000002000100020010dbb4") ≡ true }
     ensures second { takes_memory (codes "frame 0 02000000000202000000000108004500001c00072000401146c80a0000010a000002000100020010dbb4" ∷ [])
         (codes "frame 0 02000000000202000000000108004500001c00070001401166c70a0000010a0000020102030405060708") ≡ true }
+    // It is refused since the line before it has named another end.
+    ensures ended { takes_memory (codes "frame 0 02000000000202000000000108004500001c00070001401166c70a0000010a0000020102030405060708" ∷ [])
+        (codes "frame 0 02000000000202000000000108004500001c00070002401166c60a0000010a0000020102030405060708") ≡ false }
+    ensures alone { takes_memory [] (codes "frame 0 02000000000202000000000108004500001c00070002401166c60a0000010a0000020102030405060708") ≡ true }
     ensures unaligned { takes_memory [] (codes "frame 0 02000000000202000000000108004500001b00072000401146c90a0000010a00000200010002001000") ≡ false }
     ensures forget { (earlier : List (List ℕ)) → takes_memory earlier (codes "forget 1") ≡ false }
     ensures whole { (earlier : List (List ℕ)) → takes_memory earlier (codes "frame 0 02000000000202000000000108004500002400070000401166c00a0000010a000002000100020010dbb40102030405060708") ≡ false }

@@ -13,6 +13,14 @@ pub returns-clause-second : goal.returns-clause-second
 unfolding takes_memory lists_after_lines command_of decode_pairs tags_in
 returns-clause-second c = refl
 
+pub returns-clause-ended : goal.returns-clause-ended
+unfolding takes_memory lists_after_lines command_of decode_pairs tags_in
+returns-clause-ended c = refl
+
+pub returns-clause-alone : goal.returns-clause-alone
+unfolding takes_memory lists_after_lines command_of decode_pairs tags_in
+returns-clause-alone c = refl
+
 pub returns-clause-unaligned : goal.returns-clause-unaligned
 unfolding takes_memory lists_after_lines command_of decode_pairs tags_in
 returns-clause-unaligned c = refl
