@@ -8,7 +8,7 @@ use crate::builder_parts::{
 use ep_base::{EtherType, IpNumber};
 use ep_ext::{Ipv4Extensions, Ipv6Extensions};
 use ep_ip::{Ipv4Header, Ipv6Header};
-use ep_link::ArpPacket;
+use ep_link::{ArpPacket, LinuxSllPacketType};
 use ep_packet::{IpHeaders, SlicedPacket};
 use ep_tag::{DoubleVlanHeader, SingleVlanHeader, VlanHeader, VlanId, VlanPcp};
 use etherparse::err::packet::BuildWriteError;
@@ -333,19 +333,46 @@ fn cooked_packet_holds_payload(packet: &[u8]) -> bool {
 fn bytes_of(
     rt: &HostRuntime,
     step: PacketBuilderStep<IpHeaders>,
+    number: IpNumber,
 ) -> Result<Vec<u8>, BuildWriteError> {
     let mut bytes = Vec::new(rt.alloc());
-    step.write(&mut bytes, IpNumber(253), &PAYLOAD)?;
+    step.write(&mut bytes, number, &PAYLOAD)?;
     Ok(bytes)
 }
 
 #[test]
 fn what_is_built_is_sliced_again(rt: HostRuntime) -> Result<(), Fail> {
-    let frame = bytes_of(&rt, ethernet2().ip(ipv4_header()))?;
+    laws::frames::cooked_header_fits(LinuxSllPacketType::OUTGOING, [1, 2, 3, 4, 5, 6, 0, 0]);
+    let tagged = ethernet2().single_vlan(id(&rt, 5)).ip(ipv4_header());
+    let frame = bytes_of(&rt, tagged, IpNumber(253))?;
     assert!(rt; frame_holds_payload(frame.as_slice()));
-    let packet = bytes_of(&rt, PacketBuilder::ip(ipv6_header()))?;
+    let packet = bytes_of(&rt, PacketBuilder::ip(ipv6_header()), IpNumber(253))?;
     assert!(rt; packet_holds_payload(packet.as_slice()));
-    let cooked = bytes_of(&rt, linux_sll().ip(ipv4_header()))?;
+    let cooked = bytes_of(&rt, linux_sll().ip(ipv4_header()), IpNumber(253))?;
     assert!(rt; cooked_packet_holds_payload(cooked.as_slice()));
+    Ok(())
+}
+
+fn frame_is_refused(frame: &[u8]) -> bool {
+    laws::frames::built_frames_are_sliced(frame).is_err()
+}
+
+fn packet_is_refused(packet: &[u8]) -> bool {
+    laws::frames::built_packets_are_sliced(packet).is_err()
+}
+
+fn cooked_packet_is_refused(packet: &[u8]) -> bool {
+    laws::frames::built_cooked_packets_are_sliced(packet).is_err()
+}
+
+// The payload is no datagram: its length field says 1286.
+#[test]
+fn what_is_no_message_is_refused(rt: HostRuntime) -> Result<(), Fail> {
+    let frame = bytes_of(&rt, ethernet2().ip(ipv4_header()), IpNumber::UDP)?;
+    assert!(rt; frame_is_refused(frame.as_slice()));
+    let packet = bytes_of(&rt, PacketBuilder::ip(ipv6_header()), IpNumber::UDP)?;
+    assert!(rt; packet_is_refused(packet.as_slice()));
+    let cooked = bytes_of(&rt, linux_sll().ip(ipv4_header()), IpNumber::UDP)?;
+    assert!(rt; cooked_packet_is_refused(cooked.as_slice()));
     Ok(())
 }
