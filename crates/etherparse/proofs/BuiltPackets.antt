@@ -1,8 +1,8 @@
 -- What an IP packet that was built is sliced to with no link header, and behind the header of a cooked capture.
-use Rattle.std.proofs.Common.{◌≡◌, ◌∙◌, sym, ap, refl, ℕ, ◌+◌, ◌*◌, ◌/◌, ◌%◌, ◌≤◌, ◌==◌, Bool, true, false, List, [], ◌∷◌, ◌++◌, length, drop, get_or, Option, Some, None, Result, Ok, Err, arith, append_assoc, length-append, if◌then◌else◌}
+use Rattle.std.proofs.Common.{◌≡◌, ◌∙◌, sym, ap, refl, ℕ, ◌+◌, ◌/◌, ◌%◌, ◌≤◌, ◌==◌, Bool, true, false, List, [], ◌∷◌, ◌++◌, length, drop, get_or, Option, Some, None, Result, Ok, Err, arith, append_assoc, length-append, if◌then◌else◌}
 use Rattle.std.specs.Int.{w16, to_be_bytes}
 use Rattle.std.proofs.lemmas.List.{drop_at, get_or_at, get_or-append_right, drop-drop}
-use Rattle.std.proofs.lemmas.Bool.{cases_Bool, eq-eqb, le-leb, le-ltb, ne_eqb}
+use Rattle.std.proofs.lemmas.Bool.{eq-eqb, le-leb, le-ltb, ne_eqb}
 use Rattle.std.specs.Prelude.{nat_le}
 use Rattle.ep_base.specs.Bytes.{num}
 use Rattle.ep_ip.specs.Ipv4 as ipv4
@@ -13,7 +13,7 @@ use Rattle.ep_ipslice.specs.Packet.{Ipv4Packet, Ipv6Packet}
 use Rattle.ep_ipslice.specs.declared.err.ipv4.slice_error.SliceError.{SliceError as Ipv4Fault}
 use Rattle.ep_ipslice.specs.declared.err.ipv6.slice_error.SliceError.{SliceError as Ipv6Fault}
 use Rattle.ep_link.specs.Ethernet.{Fits}
-use Rattle.ep_link.specs.Sll.{ether_protocol, greatest_packet_type, number_of, packet_type_of, sll_len}
+use Rattle.ep_link.specs.Sll.{ether_protocol, number_of, packet_type_of, sll_len}
 use Rattle.ep_link.specs.SllFault.{whole_at}
 use Rattle.ep_link.specs.SllPayload.{ether_payload_of, named_payload, payload_of}
 use Rattle.ep_link.specs.declared.link.link_slice.LinkSlice.{LinkSlice}

@@ -16,6 +16,7 @@ pub mod Members
 pub mod PartLemmas
 pub mod PoolLemmas
 pub mod Push
+pub mod PutBack
 pub mod Retaining
 pub mod Runs
 pub mod SameBuffers

@@ -1,11 +1,12 @@
 -- Streams that are asked one by one, the last one put in the place of one that goes.
-use Rattle.std.proofs.Common.{◌≡◌, ℕ, ◌+◌, ◌-◌, ◌<◌, ◌⊎◌, Bool, true, false, cond, inl, inr, Option, Some, None, List, [], ◌∷◌, length, get_or, set, arith, sym, ap, ◌∙◌, refl, subst}
+use Rattle.std.proofs.Common.{◌≡◌, ℕ, ◌+◌, ◌-◌, ◌<◌, ◌⊎◌, Bool, true, false, cond, inl, inr, Option, Some, None, List, length, get_or, set, arith, sym, ◌∙◌, refl, subst}
 use Rattle.std.proofs.lemmas.Bool.{cases_lt, cases_Bool}
 use Rattle.std.proofs.lemmas.List.{get_or-take, get_or-set_other}
 use Rattle.std.proofs.lemmas.Option.{get_or_from_slice_get, slice_get_within}
 use Rattle.std.proofs.lemmas.Map.Entries.{place_from_lookup}
 use Rattle.std.specs.Cmp.{IsEquivalence}
 use Rattle.std.specs.List.{slice_get, swap_remove}
+use Rattle.std.specs.HashMap.Eq.{lookup_congr}
 use Rattle.std.specs.Map.{lookup}
 use Rattle.etherparse.specs.declared.defrag.stream.Stream.{Stream}
 use Rattle.etherparse.specs.Streams.{Retained}
@@ -32,12 +33,6 @@ module _ {E : Type 0} (P : E → Type 0) where
       subst P (sym (taken ∙ kept)) (below k d h)
 
 module _ {K T : Type 0} {eq : K → K → Bool} (laws : IsEquivalence eq) (answers : T → Bool → Type 0) where
-  -- equal names find the same
-  lookup_congr : (a b : K) (es : List (K × Stream T)) → eq a b ≡ true → lookup (eq a) es ≡ lookup (eq b) es
-  lookup_congr a b [] h = refl
-  lookup_congr a b (e ∷ es) h =
-      ap (λ (c : Bool). cond c (Some e.1) (lookup (eq a) es)) (laws.congr a b e.0 h) ∙ ap (λ (o : Option (Stream T)). cond (eq b e.0) (Some e.1) o) (lookup_congr a b es h)
-
   goes : (s : Stream T) (old : Option (Stream T)) → answers s.timestamp false → MayStay answers old (Some s) → MayStay answers old None
   goes s None denied h = cc
   goes s (Some t) denied (inl h) = let same : s ≡ t = cc in inr (refl, subst (λ (u : Stream T). answers u.timestamp false) same denied)
@@ -50,7 +45,7 @@ module _ {K T : Type 0} {eq : K → K → Bool} (laws : IsEquivalence eq) (answe
       subst (λ (o : Option (Stream T)). MayStay answers (lookup (eq q) first) o) (sym (gone q))
       (elim (cases_Bool (eq a q)) [
         | inl t ↦ subst (λ (c : Bool). MayStay answers (lookup (eq q) first) (cond c None (lookup (eq q) old))) (sym t)
-            (goes s (lookup (eq q) first) denied (subst (λ (o : Option (Stream T)). MayStay answers (lookup (eq q) first) o) (sym (lookup_congr a q old t) ∙ at) (before q)))
+            (goes s (lookup (eq q) first) denied (subst (λ (o : Option (Stream T)). MayStay answers (lookup (eq q) first) o) (sym (lookup_congr eq laws.congr old a q t) ∙ at) (before q)))
         | inr t ↦ subst (λ (c : Bool). MayStay answers (lookup (eq q) first) (cond c None (lookup (eq q) old))) (sym t) (before q)
       ])
 

@@ -1,6 +1,7 @@
 -- The names of fragmented messages (RFC 791, section 3.2; RFC 8200, section 4.5), and which part of one a packet is.
-use Rattle.std.specs.Prelude.{ℕ, Bool, false, ◌&&◌, ◌==◌, nat_eq, List, Option, Some, None}
+use Rattle.std.specs.Prelude.{ℕ, Bool, false, ◌&&◌, ◌==◌, ◌∷◌, nat_eq, List, Option, Some, None}
 use Rattle.std.specs.Cmp.Lexicographic.{pointwise}
+use Rattle.std.specs.Hash as fed
 use Rattle.ep_base.specs.declared.len_source.LenSource.{LenSource}
 use Rattle.ep_base.specs.declared.len_source.LenSource.TheVariants.{Ipv4HeaderTotalLen, Ipv6HeaderPayloadLen}
 use Rattle.ep_packet.specs.Class.{Addresses, Class, FragmentName}
@@ -35,6 +36,11 @@ same_addresses (V6 s d) (V4 t e) = false
 -- the same tags, version, addresses, identification and number
 abbrev pub same_name : FragmentName → FragmentName → Bool
 same_name a b = pointwise nat_eq a.vlan_ids b.vlan_ids && (same_addresses a.addresses b.addresses && ((a.identification == b.identification) && (a.number == b.number)))
+
+-- what a hasher is given of an id: both addresses, each as one piece, and the identification
+abbrev pub hashed_as : IpFragVersionSpecId → fed.HashWrites
+hashed_as (Ipv4 source destination identification) = source ∷ destination ∷ fed.u16 identification
+hashed_as (Ipv6 source destination identification) = source ∷ destination ∷ fed.u32 identification
 
 -- what the lengths of packets of a version come from
 abbrev pub len_source_of : IpFragVersionSpecId → LenSource

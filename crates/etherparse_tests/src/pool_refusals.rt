@@ -47,6 +47,26 @@ fn refused_over_ipv4(rt: HostRuntime) {
     assert!(rt; delivers(&rt, &mut pool, &FIRST, 1, 0));
 }
 
+/// To be run with each allocation failing in turn, too: a message's first fragment is refused then as ever.
+#[test]
+fn refused_without_memory(rt: HostRuntime) {
+    let mut pool = IpDefragPool::new(rt.alloc());
+    for _ in 0..2 {
+        assert!(rt;
+            matches!(
+                process(&rt, &mut pool, &LONG, 1, 0),
+                Err(IpDefragError::SegmentTooBig { .. })
+            )
+        );
+        assert!(rt;
+            matches!(
+                process(&rt, &mut pool, &UNALIGNED, 1, 1),
+                Err(IpDefragError::UnalignedFragmentPayloadLen { .. })
+            )
+        );
+    }
+}
+
 /// Offset and flag stand in the fragment header's third and fourth bytes, the length in the fifth and sixth
 /// of the IPv6 header (RFC 8200, sections 3 and 4.5).
 #[test]

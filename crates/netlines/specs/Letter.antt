@@ -1,5 +1,5 @@
 -- Letters: the name and the headers of the packets in which a message is sent.
-use Rattle.std.specs.Prelude.{ℕ, ◌≤◌, Bool, List, length}
+use Rattle.std.specs.Prelude.{ℕ, ◌≤◌, Bool, length}
 use Rattle.etherparse.specs.BuiltFrames.{IpFits, TagsFit}
 use Rattle.etherparse.specs.declared.defrag.ip_frag_version_spec_id.IpFragVersionSpecId.{IpFragVersionSpecId}
 use Rattle.etherparse.specs.declared.defrag.ip_frag_version_spec_id.IpFragVersionSpecId.TheVariants.{Ipv4, Ipv6}

@@ -2,7 +2,6 @@
 
 use ep_packet::SlicedPacket;
 use etherparse::defrag::IpDefragPool;
-use std::alloc::Global;
 
 /// How many messages there are for each of two sources.
 const IDENTIFICATIONS: u16 = 50_000;
@@ -22,8 +21,7 @@ const HEADERS: [u8; 34] = [
 /// Puts 100,000 messages of two fragments together, all of whose first fragments come before the second ones,
 /// and gives a sum of what is handed out. It has no contract: the sum is compared with that of a plain
 /// program.
-pub fn put_together(alloc: Global) -> u64 {
-    let mut pool = IpDefragPool::new(alloc);
+pub fn put_together(pool: &mut IpDefragPool) -> u64 {
     let mut frame = [0; FRAME_LEN];
     frame[..34].copy_from_slice(&HEADERS);
     let mut sum = 0;
@@ -37,7 +35,7 @@ pub fn put_together(alloc: Global) -> u64 {
                 frame[18] = high;
                 frame[19] = low;
                 frame[34] = low;
-                sum = sum_with(sum, &mut pool, &frame);
+                sum = sum_with(sum, pool, &frame);
             }
         }
     }

@@ -9,6 +9,7 @@ ghost use Rattle.etherparse.specs.Streams.{Becomes, IsStreamOf, ShowsStream, fra
 use super::part::Part;
 use super::{IpDefragBuf, IpDefragError};
 use indexmap::IndexMap;
+use indexmap::map::Entry;
 use std::alloc::Global;
 use std::hash::{BuildHasher, Hash};
 
@@ -34,35 +35,18 @@ impl<T: Drop> Stream<T> {
     }
 }
 
-// Begins a stream. One that is complete at once isn't kept: no packet's part is a whole message, but the
-// contract speaks of every part.
-fn begin<K: Eq + Hash + Drop, T: Drop, S: BuildHasher>(
-    alloc: Global,
-    streams: &mut IndexMap<K, Stream<T>, S>,
-    name: K,
-    part: &Part<'_>,
-    timestamp: T,
-) -> Result<Option<IpDefragBuf>, IpDefragError>
-    requires { get K.eq streams.old name ≡ None }
-    ensures accepted { let f = fragment_of part.now in
-        IfOk result (λ whole. Becomes (λ fs buf. Shows buf fs) (f ∷ []) timestamp (get K.eq streams.new name) whole) }
+// The buffer of a message of which this is the first part.
+fn begin(alloc: Global, part: &Part<'_>) -> Result<IpDefragBuf, IpDefragError>
+    ensures accepted { IfOk result (λ buf. Shows buf (fragment_of part.now ∷ [])) }
     ensures refused { let f = fragment_of part.now in AnswersAdd (refusal_at None f) (end_of f) result }
-    ensures others { (q : K) → K.eq name q ≡ false → get K.eq streams.new q ≡ get K.eq streams.old q }
-    ensures err { OnErr result ((q : K) → get K.eq streams.new q ≡ get K.eq streams.old q) }
 {
     let mut buf = IpDefragBuf::new(part.ip_number, Vec::new(alloc), Vec::new(alloc));
     buf.add(part.offset, part.more_fragments, part.bytes)?;
-    if buf.is_complete() {
-        return Ok(Some(buf));
-    }
-    let len = usize::from(part.offset.byte_offset()) + part.bytes.len();
-    match streams.insert(name, Stream { buf, timestamp }) {
-        Ok(_) => Ok(None),
-        Err(_) => Err(IpDefragError::AllocationFailure { len }),
-    }
+    Ok(buf)
 }
 
-// Takes a part of the message with this name. The stream ends where the message is complete.
+// Takes a part of the message with this name. The stream ends where the message is complete. One that is complete
+// at once isn't kept: no packet's part is a whole message, but the contract speaks of every part.
 pub(crate) fn add_part<K: Eq + Hash + Drop, T: Drop, S: BuildHasher>(
     alloc: Global,
     streams: &mut IndexMap<K, Stream<T>, S>,
@@ -77,13 +61,31 @@ pub(crate) fn add_part<K: Eq + Hash + Drop, T: Drop, S: BuildHasher>(
     ensures others { (q : K) → K.eq name q ≡ false → get K.eq streams.new q ≡ get K.eq streams.old q }
     ensures err { OnErr result ((q : K) → get K.eq streams.new q ≡ get K.eq streams.old q) }
 {
-    let Some(stream) = streams.get_mut(&name) else {
-        return begin(alloc, streams, name, part, timestamp);
-    };
-    stream.add(part, timestamp)?;
-    if !stream.buf.is_complete() {
-        return Ok(None);
+    match streams.entry(name) {
+        Ok(Entry::Occupied(mut entry)) => match entry.get_mut().add(part, timestamp) {
+            Ok(()) if entry.get().buf.is_complete() => Ok(Some(entry.swap_remove().buf)),
+            Ok(()) => Ok(None),
+            Err(error) => Err(error),
+        },
+        Ok(Entry::Vacant(entry)) => match begin(alloc, part) {
+            Ok(buf) if buf.is_complete() => {
+                entry.into_key();
+                Ok(Some(buf))
+            }
+            Ok(buf) => {
+                entry.insert(Stream { buf, timestamp });
+                Ok(None)
+            }
+            Err(error) => {
+                entry.into_key();
+                Err(error)
+            }
+        },
+        Err(_) => {
+            // A part that is refused is refused in want of memory too.
+            let _buf = begin(alloc, part)?;
+            let len = usize::from(part.offset.byte_offset()) + part.bytes.len();
+            Err(IpDefragError::AllocationFailure { len })
+        }
     }
-    let whole = streams.swap_remove(&name).unwrap();
-    Ok(Some(whole.buf))
 }

@@ -1,6 +1,6 @@
 //! What `Clone`, `PartialEq`, `Ord` and `Hash` of the types here mean, each clause about the relation
 //! that the type's own impl names.
-ghost use Rattle.std.specs.Prelude.{◌≡◌, ◌↔◌, ◌++◌, IsTrue, [], ◌∷◌};
+ghost use Rattle.std.specs.Prelude.{◌≡◌, ◌↔◌, ◌++◌, IsTrue, ℕ, List, [], ◌∷◌};
 ghost use Rattle.std.specs.Cmp.Lexicographic.{slice_cmp};
 ghost use Rattle.std.specs.Hash as fed;
 ghost use Rattle.std.specs.Ordering.{nat_cmp};
@@ -10,6 +10,7 @@ ghost use Rattle.etherparse.specs.IpDefragPool.{payload_told};
 ghost use Rattle.etherparse.specs.declared.defrag.ip_defrag_error.IpDefragError.{IpDefragError};
 ghost use Rattle.etherparse.specs.declared.defrag.ip_defrag_payload_vec.IpDefragPayloadVec.{IpDefragPayloadVec};
 ghost use Rattle.etherparse.specs.declared.defrag.ip_frag_range.IpFragRange.{IpFragRange};
+ghost use Rattle.etherparse.specs.declared.defrag.ip_frag_version_spec_id.IpFragVersionSpecId.TheVariants.{Ipv4, Ipv6};
 
 use crate::defrag::{
     IpDefragBuf, IpDefragError, IpDefragPayloadVec, IpFragId, IpFragRange, IpFragVersionSpecId,
@@ -68,4 +69,13 @@ pub fn ranges_by_start_and_end()
     ensures order { (a b : IpFragRange) → ⟦<IpFragRange as Ord>⟧.cmp a b
         ≡ slice_cmp nat_cmp (a.start ∷ a.end ∷ []) (b.start ∷ b.end ∷ []) }
     ensures hash { (a : IpFragRange) → ⟦<IpFragRange as Hash>⟧.hash_input a ≡ fed.u16 a.start ++ fed.u16 a.end }
+{}
+
+/// A hasher is fed source and destination of a name's packets, each as one piece, and the identification, its low byte
+/// first.
+pub fn names_by_addresses_and_identification()
+    ensures ipv4 { (source destination : List ℕ) (identification : ℕ) →
+        ⟦<IpFragVersionSpecId as Hash>⟧.hash_input (Ipv4 source destination identification) ≡ source ∷ destination ∷ fed.u16 identification }
+    ensures ipv6 { (source destination : List ℕ) (identification : ℕ) →
+        ⟦<IpFragVersionSpecId as Hash>⟧.hash_input (Ipv6 source destination identification) ≡ source ∷ destination ∷ fed.u32 identification }
 {}

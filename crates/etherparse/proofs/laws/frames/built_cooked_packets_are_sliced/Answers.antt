@@ -1,4 +1,4 @@
-use Rattle.std.proofs.Common.{◌∙◌, ap, None}
+use Rattle.std.proofs.Common.{◌∙◌, ap}
 use Rattle.ep_packet.proofs.ClassLemmas.{told_refused}
 use Rattle.ep_packet.specs.Class.{class_told}
 use Rattle.ep_packet.specs.Sliced.{sliced_linux_sll}

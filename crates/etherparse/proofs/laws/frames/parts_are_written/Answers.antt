@@ -3,7 +3,7 @@ use Rattle.ep_link.specs.Ethernet.{Fits}
 use Rattle.etherparse.proofs.laws.frames.parts_are_written.Goals as goal
 use Rattle.etherparse.specs.Built.{refusal_of}
 use Rattle.etherparse.specs.BuiltFrameExamples.{ipv4_part, ipv6_part, link_by_hand, two_tags}
-use Rattle.etherparse.specs.BuiltFrames.{CookedPackets, Frames, IpFits, Packets, TagsFit, framed}
+use Rattle.etherparse.specs.BuiltFrames.{Frames, IpFits, Packets, TagsFit, framed}
 use Rattle.etherparse.specs.declared.err.packet.build_write_error.BuildWriteError.{BuildWriteError}
 
 link_fits : Fits link_by_hand
