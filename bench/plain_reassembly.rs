@@ -1,11 +1,14 @@
 //! The job of `reassembly_bench` in plain Rust, with the same arguments and the same lines.
 
+// The answers to lines need more of a packet.
+#[allow(dead_code)]
+mod frames;
+mod pool;
 mod reassembly;
 
-use crate::reassembly::{FoldHasher, Reassembly};
-use std::collections::HashMap;
-use std::collections::hash_map::Entry;
-use std::hash::BuildHasherDefault;
+use crate::frames::read_frame;
+use crate::pool::{Pool, add_part};
+use crate::reassembly::Reassembly;
 use std::process::ExitCode;
 use std::time::{Duration, Instant};
 
@@ -39,79 +42,14 @@ impl Order {
     }
 }
 
-/// What a fragment's message is known by.
-#[derive(PartialEq, Eq, Hash)]
-struct Name {
-    vlan_ids: [u16; 3],
-    vlan_count: u8,
-    source: [u8; 4],
-    destination: [u8; 4],
-    identification: u16,
-    number: u8,
-}
-
-struct Fragment<'a> {
-    name: Name,
-    units: u16,
-    more: bool,
-    bytes: &'a [u8],
-}
-
-/// The fragment in a frame, if it is one; of the link and network layers Ethernet and IPv4 alone are read.
-fn fragment_in(frame: &[u8]) -> Option<Fragment<'_>> {
-    let (ethernet, packet) = frame.split_at_checked(14)?;
-    if ethernet[12..] != [8, 0] || packet.len() < 20 || packet[0] >> 4 != 4 {
-        return None;
-    }
-    let header_len = 4 * usize::from(packet[0] & 15);
-    let total_len = usize::from(u16::from_be_bytes([packet[2], packet[3]]));
-    if header_len < 20 || total_len < header_len || packet.len() < total_len {
-        return None;
-    }
-    let place = u16::from_be_bytes([packet[6], packet[7]]);
-    if place & 0x3fff == 0 || packet[9] == 51 {
-        return None;
-    }
-    Some(Fragment {
-        name: Name {
-            vlan_ids: [0; 3],
-            vlan_count: 0,
-            source: packet[12..16].try_into().ok()?,
-            destination: packet[16..20].try_into().ok()?,
-            identification: u16::from_be_bytes([packet[4], packet[5]]),
-            number: packet[9],
-        },
-        units: place & 0x1fff,
-        more: place & 0x2000 != 0,
-        bytes: &packet[header_len..total_len],
-    })
-}
-
-type Pool = HashMap<Name, Reassembly, BuildHasherDefault<FoldHasher>>;
-
 /// The message that a frame completes.
-fn process(pool: &mut Pool, frame: &[u8]) -> Option<Vec<u8>> {
-    let Fragment { name, units, more, bytes } = fragment_in(frame)?;
-    match pool.entry(name) {
-        Entry::Occupied(mut stream) => {
-            stream.get_mut().add(units, more, bytes).ok()?;
-            stream.get().is_complete().then(|| stream.remove().data)
-        }
-        Entry::Vacant(place) => {
-            let mut stream = Reassembly::new(Vec::new(), Vec::new());
-            stream.add(units, more, bytes).ok()?;
-            if stream.is_complete() {
-                return Some(stream.data);
-            }
-            place.insert(stream);
-            None
-        }
-    }
+fn process(pool: &mut Pool<(), ()>, frame: &[u8]) -> Option<Vec<u8>> {
+    let packet = read_frame(frame).ok()?;
+    add_part(pool, &packet, packet.part?, (), ()).ok()?
 }
 
 /// 100,000 messages of two fragments, all of whose first fragments come before the second ones.
-fn put_together() -> u64 {
-    let mut pool = Pool::default();
+fn put_together(pool: &mut Pool<(), ()>) -> u64 {
     let mut frame = [0; 98];
     frame[..34].copy_from_slice(&[
         2, 0, 0, 0, 0, 2, 2, 0, 0, 0, 0, 1, 8, 0, 0x45, 0, 0, 84, 0, 0, 0, 0, 64, 17, 0, 0, 10, 0, 0, 0, 10, 0, 0, 2,
@@ -127,7 +65,7 @@ fn put_together() -> u64 {
                 frame[18] = high;
                 frame[19] = low;
                 frame[34] = low;
-                if let Some(bytes) = process(&mut pool, &frame) {
+                if let Some(bytes) = process(pool, &frame) {
                     let ends = bytes.first().zip(bytes.last());
                     let (first, last) = ends.map_or((0, 0), |(first, last)| (*first, *last));
                     sum = sum
@@ -143,11 +81,12 @@ fn put_together() -> u64 {
 }
 
 fn measure_interleaved(turns: u32) -> (u64, Duration) {
+    let mut pool = Pool::default();
     let mut sum = 0;
     let mut fastest = Duration::MAX;
     for _ in 0..turns {
         let start = Instant::now();
-        sum = put_together();
+        sum = put_together(&mut pool);
         fastest = fastest.min(start.elapsed());
     }
     (sum, fastest)

@@ -1,0 +1,64 @@
+//! Messages put together in plain Rust, many at once, each under its name.
+
+use crate::frames::{Addresses, Packet, Part, VlanIds};
+use crate::reassembly::{FoldHasher, Reassembly, Refusal};
+use std::collections::HashMap;
+use std::collections::hash_map::Entry;
+use std::hash::{BuildHasherDefault, Hash};
+
+/// What a fragment's message is known by.
+#[derive(PartialEq, Eq, Hash)]
+pub struct Name<C> {
+    channel: C,
+    vlan_ids: VlanIds,
+    addresses: Addresses,
+    identification: u32,
+    protocol: u8,
+}
+
+/// A message on its way.
+pub struct Stream<T> {
+    reassembly: Reassembly,
+    /// Of the fragment that was accepted last.
+    pub timestamp: T,
+}
+
+pub type Pool<C, T> = HashMap<Name<C>, Stream<T>, BuildHasherDefault<FoldHasher>>;
+
+/// Adds a packet, which is this part of a message, to the others of it. The message is handed out if it is complete now.
+pub fn add_part<C: Eq + Hash, T>(
+    pool: &mut Pool<C, T>,
+    packet: &Packet,
+    part: Part,
+    channel: C,
+    timestamp: T,
+) -> Result<Option<Vec<u8>>, Refusal> {
+    let name = Name {
+        channel,
+        vlan_ids: packet.vlan_ids,
+        addresses: packet.addresses,
+        identification: part.identification,
+        protocol: packet.protocol,
+    };
+    match pool.entry(name) {
+        Entry::Occupied(mut entry) => {
+            let stream = entry.get_mut();
+            stream
+                .reassembly
+                .add(part.units, part.more, packet.payload)?;
+            stream.timestamp = timestamp;
+            let is_complete = stream.reassembly.is_complete();
+            Ok(is_complete.then(|| entry.remove().reassembly.data))
+        }
+        Entry::Vacant(place) => {
+            let mut reassembly = Reassembly::new(Vec::new(), Vec::new());
+            reassembly.add(part.units, part.more, packet.payload)?;
+            // One fragment is no message: more follow it, or bytes before it are missing.
+            place.insert(Stream {
+                reassembly,
+                timestamp,
+            });
+            Ok(None)
+        }
+    }
+}
