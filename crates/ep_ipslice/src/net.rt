@@ -1,3 +1,5 @@
+//! IP packets, borrowed.
+
 mod ip_payload_slice;
 mod ip_slice;
 mod ipv4_extensions_slice;

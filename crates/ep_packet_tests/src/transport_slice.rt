@@ -1,3 +1,5 @@
+//! Transport messages, borrowed.
+
 use ep_icmp::{Icmpv4Slice, Icmpv6Slice};
 use ep_packet::TransportSlice;
 use ep_tcpudp::{TcpSlice, UdpSlice};

@@ -1,3 +1,5 @@
+//! TCP and UDP: headers as values, and views of the bytes of messages.
+
 mod limit;
 mod tcp_header;
 mod tcp_header_slice;

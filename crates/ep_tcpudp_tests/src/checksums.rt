@@ -1,3 +1,5 @@
+//! Checksums of UDP and TCP over both IP versions.
+
 use ep_base::err::{ValueTooBigError, ValueType};
 use ep_base::{IpNumber, Ipv6FlowLabel};
 use ep_ip::{Ipv4Header, Ipv4HeaderSlice, Ipv6Header, Ipv6HeaderSlice};

@@ -1,3 +1,5 @@
+//! Options of TCP, as bytes and as elements.
+
 use ep_tcpudp::TcpOptionElement::*;
 use ep_tcpudp::{
     TcpHeader, TcpOptionElement, TcpOptionReadError, TcpOptionWriteError, TcpOptions,

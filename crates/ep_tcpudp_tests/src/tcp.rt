@@ -1,3 +1,5 @@
+//! TCP headers and segments.
+
 use ep_base::LenSource;
 use ep_base::err::{Layer, LenError};
 use ep_tcpudp::err::tcp::{HeaderError, HeaderSliceError};

@@ -1,3 +1,5 @@
+//! UDP headers and datagrams.
+
 use ep_base::LenSource;
 use ep_base::err::{Layer, LenError, ValueTooBigError, ValueType};
 use ep_tcpudp::{UdpHeader, UdpHeaderSlice, UdpSlice, laws};

@@ -1,3 +1,5 @@
+//! The extension headers of an IPv4 packet from a reader.
+
 ghost use Rattle.std.specs.Prelude.{◌≡◌, ◌≤◌, ◌-◌, ℕ, List, ◌++◌, length, IfOk, IfErr, MatchResult, Option, Some};
 ghost use Rattle.ep_ext.specs.Ipv4Exts.{IsAuthBehind, auth_bytes, auth_number, ipv4_exts_of, number_behind};
 ghost use Rattle.ep_ext.specs.Limited.{started};

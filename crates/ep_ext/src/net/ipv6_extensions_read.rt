@@ -1,3 +1,5 @@
+//! The extension headers of an IPv6 packet from a reader.
+
 ghost use Rattle.std.specs.Prelude.{◌≡◌, ℕ, List, [], ◌++◌, IfOk, IfErr, MatchResult, Some};
 ghost use Rattle.std.specs.Io.KnownBytes.{Consumes};
 ghost use Rattle.ep_base.specs.Bytes.{num};

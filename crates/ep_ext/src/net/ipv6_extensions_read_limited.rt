@@ -1,3 +1,5 @@
+//! The extension headers of an IPv6 packet from a reader with a limit.
+
 ghost use Rattle.std.specs.Prelude.{◌≡◌, ◌≤◌, ◌-◌, ℕ, List, [], ◌++◌, IfOk, IfErr, MatchResult, Some, length};
 ghost use Rattle.ep_base.specs.Bytes.{num};
 ghost use Rattle.ep_ext.specs.Chain.{IsPiece};

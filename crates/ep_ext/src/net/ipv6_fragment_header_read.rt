@@ -1,3 +1,5 @@
+//! A fragment header from a reader.
+
 ghost use Rattle.std.specs.Prelude.{◌≡◌, ℕ, List, ◌++◌, IfOk, IfErr, MatchResult, Some, ◌≤◌, ◌-◌};
 ghost use Rattle.std.specs.Io.KnownBytes.{Consumes};
 ghost use Rattle.ep_ext.specs.Fragment.{IsFragment, fragment_of};

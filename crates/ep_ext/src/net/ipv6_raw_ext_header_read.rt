@@ -1,3 +1,5 @@
+//! A raw extension header from a reader.
+
 ghost use Rattle.std.specs.Prelude.{◌≡◌, ℕ, List, ◌++◌, IfOk, IfErr, Some, length, take, ◌≤◌, ◌-◌, MatchResult};
 ghost use Rattle.std.specs.Io.KnownBytes.{Consumes};
 ghost use Rattle.ep_ext.specs.Limited.{started, Takes};

@@ -1,3 +1,5 @@
+//! The refusal of bytes that are too few.
+
 ghost use Rattle.std.specs.Prelude.{◌≡◌};
 ghost use Rattle.ep_tag.specs.Front.{too_short};
 

@@ -5,7 +5,7 @@ ghost use Rattle.ep_tcpudp.specs.Limit.{value_up_to};
 
 use ep_base::err::{ValueTooBigError, ValueType};
 
-// A length is at most this, or the error names both.
+/// A length is at most this, or the error names both.
 pub fn at_most(
     len: usize,
     max_allowed: usize,
