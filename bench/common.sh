@@ -50,15 +50,14 @@ quotient() {
     printf '%d.%03d' $(($1 / $2)) $(($1 * 1000 / $2 % 1000))
 }
 
-# race_by_name OURS PLAIN ITEMS HEADING [NAME...]: nanoseconds an item of our program and of the plain one of the
-# same jobs, a name a line (all of crates/OURS/args where none is given), and their ratio. Of a name both tell a
+# race_by_name OURS PLAIN ITEMS HEADING NAME...: nanoseconds an item of our program and of the plain one of the
+# same jobs, a name a line, and their ratio. Of a name both tell a
 # sum, which has to agree, and behind --timed also the nanoseconds of their fastest turn over so many items. They
 # run in turns, the best of all rounds of each.
 race_by_name() {
     local ours=$1 plain=$2 items=$3 round program name sum nanoseconds names
     local -A sums
     names=("${@:5}")
-    [[ $# -gt 4 ]] || mapfile -t names <"crates/$ours/args"
     build_plain "$plain" -C codegen-units=1
     build_proved "$ours" "${names[@]}" </dev/null
     cmp <("$work/$ours" "${names[@]}") <("$work/$plain" "${names[@]}") >&2 || fail "the sums differ"

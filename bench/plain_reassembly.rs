@@ -1,4 +1,4 @@
-//! The job of `reassembly_bench` in plain Rust, with the same arguments and the same lines.
+//! The benchmarks of `benchmarks::reassembly` in plain Rust, with the same arguments and the same lines.
 
 // The answers to lines need more of a packet.
 #[allow(dead_code)]

@@ -1,4 +1,4 @@
-//! The benchmarks of `calls_bench` in plain Rust, a module for each kind of packet, with the same
+//! The benchmarks of library calls of `benchmarks` in plain Rust, a module for each kind of packet, with the same
 //! arguments and the same lines.
 
 mod built_frames;

@@ -1,77 +1,156 @@
 -- What a block can't say.
-use Rattle.std.proofs.Common.{◌≡◌, ◌∙◌, sym, ap, refl, ℕ, ◌+◌, ◌≤◌, List, ◌++◌, length, inl, inr, arith}
+use Rattle.std.proofs.Common.{◌≡◌, ◌∙◌, sym, ap, refl, ℕ, ◌+◌, ◌≤◌, List, ◌++◌, length, inl, inr}
+use Rattle.std.proofs.Common.{arith}
 use Rattle.std.specs.Prelude.{slice_index}
 use Rattle.std.proofs.lemmas.List.{get_or_append_left, get_or-append-add}
 use Rattle.captures.specs.Numbers.{word}
-use Rattle.captures.specs.Pcapng.{Content, Says, IsEnhancedPacket, enhanced_packet, HasOrder, IsBlock, IsSkipped, IsTaken, RefusesBlock}
-use Rattle.captures.specs.Units.{RefusesAt}
+use Rattle.captures.specs.Pcapng.{Content, Says, IsEnhancedPacket, enhanced_packet, HasOrder}
+use Rattle.captures.specs.Pcapng.{IsBlock, IsSkipped, IsTaken, RefusesBlock}
+use Rattle.captures.specs.Units.{HasRefusedBlock, RefusesAt}
 use Rattle.captures.specs.declared.byte_order.ByteOrder.TheVariants.{Big, Little}
 use Rattle.captures.specs.declared.capture_error.CaptureError.{CaptureError}
-use Rattle.captures.specs.declared.capture_error.CaptureError.TheVariants.{NotCapture, LinkType, FrameTooLong, CutOff, BlockTooLong, BadBlock}
+use Rattle.captures.specs.declared.capture_error.CaptureError.TheVariants.{NotCapture, LinkType}
+use Rattle.captures.specs.declared.capture_error.CaptureError.TheVariants.{FrameTooLong, CutOff}
+use Rattle.captures.specs.declared.capture_error.CaptureError.TheVariants.{BlockTooLong, BadBlock}
 use Rattle.captures.specs.Pcapng.Content.{Opens, Describes, Holds, Nothing}
 use Rattle.captures.specs.declared.byte_order.ByteOrder.{ByteOrder}
-use Rattle.captures.specs.declared.section.Section.{Section}
+use Rattle.captures.specs.declared.pcapng.section.Section.{Section}
 
 -- where it holds no enhanced packet and is of that kind
-pub no_enhanced : (section : Section) (order : ByteOrder) (block : List ℕ) → word order block 0 ≡ enhanced_packet
-    → ((channel : ℕ) (frame : List ℕ) → IsEnhancedPacket section order block channel frame → ⊥) → (content : Content) → Says section order block content → ⊥
-no_enhanced section order block kind none (Opens first) says = let other = says.0 in absurd (omega arith)
-no_enhanced section order block kind none (Describes link_type snap_len) says = let other = says.0 in absurd (omega arith)
+pub no_enhanced : (section : Section) (order : ByteOrder) (block : List ℕ)
+    → word order block 0 ≡ enhanced_packet
+    → ((channel : ℕ) (frame : List ℕ) → IsEnhancedPacket section order block channel frame → ⊥)
+    → (content : Content) → Says section order block content → ⊥
+no_enhanced section order block kind none (Opens first) says = let other =
+    says.0 in absurd (omega arith)
+no_enhanced section order block kind none (Describes link_type snap_len) says = let other =
+    says.0 in absurd (omega arith)
 no_enhanced section order block kind none (Holds channel frame) (inl says) = none channel frame says
-no_enhanced section order block kind none (Holds channel frame) (inr says) = let other = says.kind in absurd (omega arith)
+no_enhanced section order block kind none (Holds channel frame) (inr says) = let other =
+    says.kind in absurd (omega arith)
 no_enhanced section order block kind none Nothing says = says.2 kind
 
 -- a number of the front
-pub word_front : (order : ByteOrder) (front rest : List ℕ) (p : ℕ) → p + 4 ≤ length front → word order (front ++ rest) p ≡ word order front p
+pub word_front : (order : ByteOrder) (front rest : List ℕ) (p : ℕ) → p + 4 ≤ length front
+    → word order (front ++ rest) p ≡ word order front p
 word_front Big front rest p fits =
-    rw (get_or_append_left front rest 0 p (omega arith), get_or_append_left front rest 0 (p + 1) (omega arith), get_or_append_left front rest 0 (p + 2) (omega arith), get_or_append_left front rest 0 (p + 3) (omega arith)) refl
+    rw (
+      get_or_append_left front rest 0 p (omega arith),
+      get_or_append_left front rest 0 (p + 1)
+          (omega arith),
+      get_or_append_left front rest 0 (p + 2)
+          (omega arith),
+      get_or_append_left front rest 0 (p + 3) (omega arith),
+    ) refl
 word_front Little front rest p fits =
-    rw (get_or_append_left front rest 0 p (omega arith), get_or_append_left front rest 0 (p + 1) (omega arith), get_or_append_left front rest 0 (p + 2) (omega arith), get_or_append_left front rest 0 (p + 3) (omega arith)) refl
+    rw (
+      get_or_append_left front rest 0 p (omega arith),
+      get_or_append_left front rest 0 (p + 1)
+          (omega arith),
+      get_or_append_left front rest 0 (p + 2)
+          (omega arith),
+      get_or_append_left front rest 0 (p + 3) (omega arith),
+    ) refl
 
-pub word_of : (order : ByteOrder) (bytes front rest : List ℕ) (p : ℕ) → bytes ≡ front ++ rest → p + 4 ≤ length front → word order bytes p ≡ word order front p
-word_of order bytes front rest p parts fits = ap (λ l. word order l p) parts ∙ word_front order front rest p fits
+pub word_of : (order : ByteOrder) (bytes front rest : List ℕ) (p : ℕ) → bytes ≡ front ++ rest
+    → p + 4 ≤ length front → word order bytes p ≡ word order front p
+word_of order bytes front rest p parts fits =
+    ap (λ l. word order l p) parts ∙ word_front order front rest p fits
 
-pub order_of : (order order' : ByteOrder) (bytes front rest : List ℕ) → bytes ≡ front ++ rest → 12 ≤ length front → HasOrder order bytes order' → HasOrder order front order'
-order_of order order' bytes front rest parts size (inl h) = inl (rw (word_of Big bytes front rest 0 parts (omega arith)) at h.0, h.1)
-order_of order order' bytes front rest parts size (inr h) = inr (rw (word_of Big bytes front rest 0 parts (omega arith)) at h.0, rw (word_of order' bytes front rest 8 parts (omega arith)) at h.1)
+pub order_of : (order order' : ByteOrder) (bytes front rest : List ℕ) → bytes ≡ front ++ rest
+    → 12 ≤ length front → HasOrder order bytes order' → HasOrder order front order'
+order_of order order' bytes front rest parts size (inl h) =
+    inl (rw (word_of Big bytes front rest 0 parts (omega arith)) at h.0, h.1)
+order_of order order' bytes front rest parts size (inr h) =
+    inr (
+      rw (word_of Big bytes front rest 0 parts (omega arith)) at h.0,
+      rw
+          (word_of order' bytes front rest 8 parts (omega arith)) at h.1,
+    )
 
 -- a number behind the front
-byte_back : (front rest : List ℕ) (i : ℕ) → slice_index (front ++ rest) (length front + i) ≡ slice_index rest i
+byte_back : (front rest : List ℕ) (i : ℕ)
+    → slice_index (front ++ rest) (length front + i) ≡ slice_index rest i
 byte_back front rest i = get_or-append-add front rest i 0
 
 first_back : (front rest : List ℕ) → slice_index (front ++ rest) (length front) ≡ slice_index rest 0
-first_back front rest = let at : length front ≡ length front + 0 = omega arith in ap (slice_index (front ++ rest)) at ∙ byte_back front rest 0
+first_back front rest = let at : length front ≡ length front + 0 = omega arith in
+    ap (slice_index (front ++ rest)) at ∙ byte_back front rest 0
 
-pub word_back : (order : ByteOrder) (front rest : List ℕ) → word order (front ++ rest) (length front) ≡ word order rest 0
-word_back Big front rest = rw (first_back front rest, byte_back front rest 1, byte_back front rest 2, byte_back front rest 3) refl
-word_back Little front rest = rw (first_back front rest, byte_back front rest 1, byte_back front rest 2, byte_back front rest 3) refl
+pub word_back : (order : ByteOrder) (front rest : List ℕ)
+    → word order (front ++ rest) (length front) ≡ word order rest 0
+word_back Big front rest =
+    rw (
+      first_back front rest,
+      byte_back front rest 1,
+      byte_back front rest
+          2,
+      byte_back front rest 3,
+    ) refl
+word_back Little front rest =
+    rw (
+      first_back front rest,
+      byte_back front rest 1,
+      byte_back front rest
+          2,
+      byte_back front rest 3,
+    ) refl
 
 -- what the front tells is so of more bytes
-pub skipped_front : (order : ByteOrder) (bytes front rest : List ℕ) → bytes ≡ front ++ rest → 4 ≤ length front → IsSkipped order front → IsSkipped order bytes
-skipped_front order bytes front rest parts size skipped =
-    let big = word_of Big bytes front rest 0 parts size in
-    let own = word_of order bytes front rest 0 parts size in
-    (λ e. skipped.0 (sym big ∙ e), (λ e. skipped.1.0 (sym own ∙ e), λ e. skipped.1.1 (sym own ∙ e), λ e. skipped.1.2 (sym own ∙ e), λ e. skipped.1.3 (sym own ∙ e)))
+skipped_same : (order : ByteOrder) (bytes bytes' : List ℕ) → word Big bytes 0 ≡ word Big bytes' 0
+    → word order bytes 0 ≡ word order bytes' 0 → IsSkipped order bytes → IsSkipped order bytes'
+skipped_same order bytes bytes' big own s = (
+  λ e. s.0 (big ∙ e),
+  (
+    λ e. s.1.0 (own ∙ e),
+    λ e. s.1.1 (own ∙ e),
+    λ e. s.1.2 (own ∙ e),
+    λ e. s.1.3 (own ∙ e),
+  ),
+)
 
-pub skipped_of : (order : ByteOrder) (bytes front rest : List ℕ) → bytes ≡ front ++ rest → 4 ≤ length front → IsSkipped order bytes → IsSkipped order front
-skipped_of order bytes front rest parts size skipped =
-    let big = word_of Big bytes front rest 0 parts size in
-    let own = word_of order bytes front rest 0 parts size in
-    (λ e. skipped.0 (big ∙ e), (λ e. skipped.1.0 (own ∙ e), λ e. skipped.1.1 (own ∙ e), λ e. skipped.1.2 (own ∙ e), λ e. skipped.1.3 (own ∙ e)))
+pub skipped_front : (order : ByteOrder) (bytes front rest : List ℕ) → bytes ≡ front ++ rest
+    → 4 ≤ length front → IsSkipped order front → IsSkipped order bytes
+skipped_front order bytes front rest parts size =
+    skipped_same order front bytes (sym (word_of Big bytes front rest 0 parts size))
+    (sym (word_of order bytes front rest 0 parts size))
 
-pub taken_of : (order : ByteOrder) (bytes block rest : List ℕ) (len : ℕ) → bytes ≡ block ++ rest → 4 ≤ length block → length block ≡ len → IsTaken order bytes len → IsTaken order block (length block)
+pub skipped_of : (order : ByteOrder) (bytes front rest : List ℕ) → bytes ≡ front ++ rest
+    → 4 ≤ length front → IsSkipped order bytes → IsSkipped order front
+skipped_of order bytes front rest parts size =
+    skipped_same order bytes front (word_of Big bytes front rest 0 parts size)
+    (word_of order bytes front rest 0 parts size)
+
+pub taken_of : (order : ByteOrder) (bytes block rest : List ℕ) (len : ℕ) → bytes ≡ block ++ rest
+    → 4 ≤ length block → length block ≡ len → IsTaken order bytes len
+    → IsTaken order block (length block)
 taken_of order bytes block rest len parts size whole (inl few) = inl (omega arith)
-taken_of order bytes block rest len parts size whole (inr skipped) = inr (skipped_of order bytes block rest parts size skipped)
+taken_of order bytes block rest len parts size whole (inr skipped) =
+    inr (skipped_of order bytes block rest parts size skipped)
 
 -- a whole block is refused
-pub refused_at : (section : Section) (order : ByteOrder) (bytes block rest : List ℕ) (error : CaptureError) → bytes ≡ block ++ rest → IsTaken order block (length block) → HasOrder section.order block order → IsBlock order block
+by_error : (section : Section) (order : ByteOrder) (bytes block : List ℕ) (error : CaptureError)
+    → HasRefusedBlock section bytes error → 12 ≤ length bytes
+    → RefusesBlock section order block error → RefusesAt section bytes error
+by_error section order bytes block NotCapture has size refused = refused
+by_error section order bytes block (LinkType number) has size refused = has
+by_error section order bytes block (FrameTooLong captured) has size refused = has
+by_error section order bytes block CutOff has size refused = refused
+by_error section order bytes block (BlockTooLong len) has size refused = absurd refused
+by_error section order bytes block BadBlock has size refused = (size, inr (inr has))
+
+pub refused_at : (section : Section) (order : ByteOrder) (bytes block rest : List ℕ)
+    (error : CaptureError) → bytes ≡ block ++ rest → IsTaken order block (length block)
+    → HasOrder section.order block order → IsBlock order block
     → 12 ≤ length bytes → RefusesBlock section order block error → RefusesAt section bytes error
-refused_at section order bytes block rest NotCapture parts fits has_order is_block size refused = refused
-refused_at section order bytes block rest (LinkType number) parts fits has_order is_block size refused =
-    record { order = order; block = block; rest = rest; parts = parts; fits = fits; has_order = has_order; is_block = is_block; refused = refused }
-refused_at section order bytes block rest (FrameTooLong captured) parts fits has_order is_block size refused =
-    record { order = order; block = block; rest = rest; parts = parts; fits = fits; has_order = has_order; is_block = is_block; refused = refused }
-refused_at section order bytes block rest CutOff parts fits has_order is_block size refused = refused
-refused_at section order bytes block rest (BlockTooLong len) parts fits has_order is_block size refused = absurd refused
-refused_at section order bytes block rest BadBlock parts fits has_order is_block size refused =
-    (size, inr (inr (record { order = order; block = block; rest = rest; parts = parts; fits = fits; has_order = has_order; is_block = is_block; refused = refused })))
+refused_at section order bytes block rest error parts fits has_order is_block size refused =
+    by_error section order bytes block error (record {
+      order = order;
+      block = block;
+      rest = rest;
+      parts = parts;
+      fits = fits;
+      has_order = has_order;
+      is_block = is_block;
+      refused = refused;
+    }) size refused

@@ -1,18 +1,19 @@
 -- Each packet of a capture has a line.
-use Rattle.std.proofs.Common.{◌≡◌, sym, ap, subst, ℕ, zero, suc, ◌^◌, ◌<◌, ◌≤◌, arith, List, [], ◌∷◌, ◌++◌, length, take, drop, inl, inr}
+use Rattle.std.proofs.Common.{◌≡◌, sym, ap, subst, ℕ, zero, suc, ◌^◌, ◌<◌, ◌≤◌, arith, List, []}
+use Rattle.std.proofs.Common.{◌∷◌, ◌++◌, length, take, drop, inl, inr}
 use Rattle.std.specs.List.{AllByRecursion}
 use Rattle.hex.specs.Hex.{IsBytes}
 use Rattle.captures.specs.ComeBack.{HasLine, CapturedPacketsHaveLines}
 use Rattle.captures.specs.Lines.{Packet, packets_of}
 use Rattle.captures.specs.Pcapng.{Content, Says, Becomes}
 use Rattle.captures.specs.Pcapng.Content.{Opens, Describes, Holds, Nothing}
-use Rattle.captures.specs.Units.{IsUnit, IsBlockUnit, Row, joined, no_section}
+use Rattle.captures.specs.Units.{IsUnit, IsBlockUnit, Row, in_a_row, no_section}
 use Rattle.captures.specs.declared.byte_order.ByteOrder.{ByteOrder}
 use Rattle.captures.specs.declared.limits.TheConstants.{FRAME_LIMIT}
-use Rattle.captures.specs.declared.section.Section.{Section}
-use Rattle.captures.specs.declared.state.State.{State}
-use Rattle.captures.specs.declared.state.State.TheVariants.{Start, Classic, Pcapng}
-use Rattle.captures.proofs.CallLemmas.{AllByRecursion-append}
+use Rattle.captures.specs.declared.pcapng.section.Section.{Section}
+use Rattle.captures.specs.declared.translation.state.State.{State}
+use Rattle.captures.specs.declared.translation.state.State.TheVariants.{Start, Classic, Pcapng}
+use Rattle.runs.proofs.CallLemmas.{AllByRecursion-append}
 
 -- ---- parts of bytes are bytes
 
@@ -51,9 +52,18 @@ bytes_back (x ∷ xs) ys all = bytes_back xs ys all.1
 abbrev Fit : ℕ → List ℕ → Type 0
 Fit channel frame = AllByRecursion HasLine (packets_of channel frame)
 
-fits_line : (channel : ℕ) (frame : List ℕ) → length frame ≤ FRAME_LIMIT → Bytes frame → channel < 2 ^ 32 → Fit channel frame
+fits_line : (channel : ℕ) (frame : List ℕ) → length frame ≤ FRAME_LIMIT → Bytes frame
+    → channel < 2 ^ 32 → Fit channel frame
 fits_line channel [] short bytes number = tt
-fits_line channel (b ∷ frame) short bytes number = (record { some = omega arith; short = short; bytes = bytes_at (b ∷ frame) bytes; number = number }, tt)
+fits_line channel (b ∷ frame) short bytes number = (
+  record {
+    some = omega arith;
+    short = short;
+    bytes = bytes_at (b ∷ frame) bytes;
+    number = number;
+  },
+  tt,
+)
 
 none_fits : (channel : ℕ) (frame : List ℕ) → frame ≡ [] → Fit channel frame
 none_fits channel frame none = subst (λ (f : List ℕ). Fit channel f) (sym none) tt
@@ -64,55 +74,87 @@ InRange Start = Unit {0}
 InRange (Classic order) = Unit {0}
 InRange (Pcapng section) = section.first < 2 ^ 32
 
-block_fits : (section : Section) (order : ByteOrder) (block : List ℕ) (after : Section) (channel : ℕ) (frame : List ℕ) → section.first < 2 ^ 32 → Bytes block
-    → (content : Content) → Says section order block content → Becomes section order content after channel frame → (after.first < 2 ^ 32) × Fit channel frame
-block_fits section order block after channel frame range bytes (Opens first) says becomes =
-    (subst (λ (s : Section). s.first < 2 ^ 32) (sym becomes.0) says.4, none_fits channel frame becomes.1)
-block_fits section order block after channel frame range bytes (Describes link_type snap_len) says becomes =
-    (subst (λ (s : Section). s.first < 2 ^ 32) (sym becomes.1) range, none_fits channel frame becomes.2)
-block_fits section order block after channel frame range bytes (Holds number held) (inl says) becomes =
+block_fits : (section : Section) (order : ByteOrder) (block : List ℕ) (after : Section)
+    (channel : ℕ) (frame : List ℕ) → section.first < 2 ^ 32 → Bytes block
+    → (content : Content) → Says section order block content
+    → Becomes section order content after channel frame → (after.first < 2 ^ 32) × Fit channel frame
+block_fits section order block after channel frame range bytes (Opens first) says becomes = (
+  subst (λ (s : Section). s.first < 2 ^ 32)
+      (sym becomes.0) says.4,
+  none_fits channel frame becomes.1,
+)
+block_fits section order block after channel frame range bytes
+    (Describes link_type snap_len) says becomes = (
+      subst (λ (s : Section). s.first < 2 ^ 32)
+          (sym becomes.1) range,
+      none_fits channel frame becomes.2,
+    )
+block_fits section order block after channel frame range bytes
+    (Holds number held) (inl says) becomes =
     let number' = becomes.1 in
     let size = ap length becomes.2 in
     let most = becomes.3 in
     let in' = says.fits in
-    let held' : Bytes held = subst Bytes (sym says.bytes) (bytes_take (length held) (drop 28 block) (bytes_drop 28 block bytes)) in (
+    let held' : Bytes held = subst Bytes (sym says.bytes)
+    (bytes_take (length held) (drop 28 block) (bytes_drop 28 block bytes)) in (
       subst (λ (s : Section). s.first < 2 ^ 32) (sym becomes.0) range,
       fits_line channel frame (omega arith) (subst Bytes (sym becomes.2) held') (omega arith),
     )
-block_fits section order block after channel frame range bytes (Holds number held) (inr says) becomes =
+block_fits section order block after channel frame range bytes
+    (Holds number held) (inr says) becomes =
     let number' = becomes.1 in
     let size = ap length becomes.2 in
     let most = becomes.3 in
     let first = says.number in
-    let held' : Bytes held = subst Bytes (sym says.bytes) (bytes_take (length held) (drop 12 block) (bytes_drop 12 block bytes)) in (
+    let held' : Bytes held = subst Bytes (sym says.bytes)
+    (bytes_take (length held) (drop 12 block) (bytes_drop 12 block bytes)) in (
       subst (λ (s : Section). s.first < 2 ^ 32) (sym becomes.0) range,
       fits_line channel frame (omega arith) (subst Bytes (sym becomes.2) held') (omega arith),
     )
-block_fits section order block after channel frame range bytes Nothing says becomes =
-    (subst (λ (s : Section). s.first < 2 ^ 32) (sym becomes.0) range, none_fits channel frame becomes.1)
+block_fits section order block after channel frame range bytes Nothing says becomes = (
+  subst (λ (s : Section). s.first < 2 ^ 32)
+      (sym becomes.0) range,
+  none_fits channel frame becomes.1,
+)
 
-block_unit_fits : (section : Section) (unit : List ℕ) (after : State) (channel : ℕ) (frame : List ℕ) → section.first < 2 ^ 32 → Bytes unit
+block_unit_fits : (section : Section) (unit : List ℕ) (after : State) (channel : ℕ) (frame : List ℕ)
+    → section.first < 2 ^ 32 → Bytes unit
     → IsBlockUnit section unit after channel frame → InRange after × Fit channel frame
 block_unit_fits section unit after channel frame range bytes b =
-    let both = block_fits section b.order unit b.next channel frame range bytes b.reads.content b.reads.says b.reads.becomes in
+    let both = block_fits section b.order unit b.next channel frame range bytes b.reads.content
+    b.reads.says b.reads.becomes in
     (subst InRange (sym b.becomes) both.0, both.1)
 
-unit_fits : (state : State) (unit : List ℕ) (after : State) (channel : ℕ) (frame : List ℕ) → InRange state → Bytes unit → IsUnit state unit after channel frame → InRange after × Fit channel frame
-unit_fits Start unit after channel frame range bytes (inl is) = (subst InRange (sym is.0.next) tt, none_fits channel frame is.1)
-unit_fits Start unit after channel frame range bytes (inr is) = block_unit_fits no_section unit after channel frame (omega arith) bytes is.1
+unit_fits : (state : State) (unit : List ℕ) (after : State) (channel : ℕ) (frame : List ℕ)
+    → InRange state → Bytes unit → IsUnit state unit after channel frame
+    → InRange after × Fit channel frame
+unit_fits Start unit after channel frame range bytes (inl is) =
+    (subst InRange (sym is.0.next) tt, none_fits channel frame is.1)
+unit_fits Start unit after channel frame range bytes (inr is) =
+    block_unit_fits no_section unit after channel frame (omega arith) bytes is.1
 unit_fits (Classic order) unit after channel frame range bytes is =
-    let zero' = is.3 in
-    (subst InRange (sym is.2) tt, fits_line channel frame is.1 (bytes_back is.0.head frame (subst Bytes is.0.parts bytes)) (omega arith))
-unit_fits (Pcapng section) unit after channel frame range bytes is = block_unit_fits section unit after channel frame range bytes is
+    let zero' = is.3 in (
+      subst InRange (sym is.2) tt,
+      fits_line channel frame is.1
+          (bytes_back is.0.head frame (subst Bytes is.0.parts bytes)) (omega arith),
+    )
+unit_fits (Pcapng section) unit after channel frame range bytes is =
+    block_unit_fits section unit after channel frame range bytes is
 
-row_fits : (state : State) (units : List (List ℕ)) (packets : List Packet) (after : State) → InRange state → Bytes (joined units) → Row state units packets after → AllByRecursion HasLine packets
+row_fits : (state : State) (units : List (List ℕ)) (packets : List Packet) (after : State)
+    → InRange state → Bytes (in_a_row units) → Row state units packets after
+    → AllByRecursion HasLine packets
 row_fits state [] packets after range bytes row = subst (AllByRecursion HasLine) (sym row.0) tt
 row_fits state (unit ∷ units) packets after range bytes row =
-    let first = unit_fits state unit row.0 row.1 row.2 range (bytes_front unit (joined units) bytes) row.4 in
-    let later = row_fits row.0 units row.3 after first.0 (bytes_back unit (joined units) bytes) row.5 in
-    subst (AllByRecursion HasLine) (sym row.6) (AllByRecursion-append HasLine (packets_of row.1 row.2) row.3 first.1 later)
+    let first = unit_fits state unit row.0 row.1 row.2 range
+    (bytes_front unit (in_a_row units) bytes) row.4 in
+    let later = row_fits row.0 units row.3 after first.0
+    (bytes_back unit (in_a_row units) bytes) row.5 in
+    subst (AllByRecursion HasLine) (sym row.6)
+    (AllByRecursion-append HasLine (packets_of row.1 row.2) row.3 first.1 later)
 
 pub captured_packets_have_lines : CapturedPacketsHaveLines
 captured_packets_have_lines bytes packets all capture =
     let p = capture.passes in
-    row_fits Start p.units packets capture.state tt (bytes_front (joined p.units) [] (subst Bytes p.parts (bytes_by bytes all))) p.row
+    row_fits Start p.units packets capture.state tt
+    (bytes_front (in_a_row p.units) [] (subst Bytes p.parts (bytes_by bytes all))) p.row

@@ -1,19 +1,17 @@
-pub mod AloneLemmas
-pub mod BlockLemmas
-pub mod BufferLemmas
-pub mod CallLemmas
-pub mod CapturedLemmas
-pub mod ComeBackLemmas
-pub mod Going
-pub mod KnownLemmas
-pub mod NumberLemmas
-pub mod RecordLemmas
-pub mod SkipLemmas
-pub mod SpellingLemmas
-pub mod Standing
-pub mod StopLemmas
-pub mod TextAloneLemmas
-pub mod TextLemmas
-pub mod UnitLemmas
-pub mod WriteLemmas
-pub mod Writing
+mod AloneLemmas
+mod BlockLemmas
+mod BufferLemmas
+mod CapturedLemmas
+mod ComeBackLemmas
+mod KnownLemmas
+mod NumberLemmas
+mod RecordLemmas
+mod SkipLemmas
+mod SpellingLemmas
+mod StopLemmas
+mod Telling
+mod TextAloneLemmas
+mod TextLemmas
+mod Translating
+mod UnitLemmas
+mod Writing

@@ -1,50 +1,41 @@
 -- Decimal numbers in a line.
-use Rattle.std.proofs.Common.{◌≡◌, ◌∙◌, sym, ap, refl, ℕ, ◌<◌, ◌≤◌, ◌^◌, zero, suc, true, List, [], ◌∷◌, length, Some, None, Result, Ok, Err, arith, inl, inr, rules}
-use Rattle.std.specs.Prelude.{nat_le, MatchResult}
+use Rattle.std.proofs.Common.{◌≡◌, ap, refl, ℕ, ◌<◌, ◌≤◌, ◌^◌, true, List, length, Some, Result}
+use Rattle.std.proofs.Common.{Ok, Err, arith, inl, inr}
 use Rattle.std.specs.Char.{is_ascii_digit}
 use Rattle.std.specs.List.{list_all}
 use Rattle.std.specs.Result.{result_ok}
-use Rattle.std.specs.Str.{IsAscii, IsUtf8}
-use Rattle.std.specs.Borrow.{Bor}
 use Rattle.std.specs.Str.Parse.{digits_value, ParsesUnsigned}
-use Rattle.std.proofs.lemmas.Bool.{le-leb, lt-leb, cases_lt, and_parts, leb-true}
-use Rattle.std.proofs.lemmas.Str.Parse.{IsNumeralModel, numerals_by_value, parse_digits}
-use Rattle.std.proofs.lemmas.Str.{IsUtf8-from_ascii}
+use Rattle.std.proofs.lemmas.Bool.{le-leb, lt-leb, cases_lt}
+use Rattle.std.proofs.lemmas.Str.Parse.{parse_digits}
+use Rattle.digits.proofs.Numerals.{decimals}
 use Rattle.captures.specs.FrameLines.{number_of}
 
-pub decimals : IsNumeralModel (λ digits. list_all is_ascii_digit digits ≡ true) (digits_value 10)
-decimals = numerals_by_value _ (search rules)
-
--- digits are text
-IsAscii-digits : (digits : List ℕ) → list_all is_ascii_digit digits ≡ true → IsAscii digits
-IsAscii-digits [] all i = omega arith
-IsAscii-digits (digit ∷ digits) all zero =
-    let parts = and_parts (is_ascii_digit digit) (list_all is_ascii_digit digits) all in
-    let most = leb-true digit 57 (and_parts (nat_le 48 digit) (nat_le digit 57) parts.0).1 in
-    omega arith
-IsAscii-digits (digit ∷ digits) all (suc i) = IsAscii-digits digits (and_parts (is_ascii_digit digit) (list_all is_ascii_digit digits) all).1 i
-
-pub digits_are_text : {X E : Type 0} (digits : List ℕ) (P : X → Type 0) (Q : E → Type 0) (r : Result X E) → list_all is_ascii_digit digits ≡ true
-    → MatchResult r P (λ e. ¬ (IsUtf8 digits) × Q e) → result_ok r ≡ None → ⊥
-digits_are_text digits P Q (Ok s) all told none = cc
-digits_are_text digits P Q (Err e) all told none = told.0 (IsUtf8-from_ascii digits (IsAscii-digits digits all))
-
-pub text_is : {E : Type 0} (digits : List ℕ) (Q : E → Type 0) (r : Result (Bor (List ℕ)) E) (s : Bor (List ℕ))
-    → MatchResult r (λ t. (t.now ≡ digits) × IsUtf8 digits) Q → result_ok r ≡ Some s → s.now ≡ digits
-text_is digits Q (Ok t) s told is = (let e : t ≡ s = cc in ap (λ (b : Bor (List ℕ)). b.now) (sym e) ∙ told.0)
-text_is digits Q (Err e) s told is = cc
-
 -- what `parse` reads of at most ten digits
-pub number_parsed : {E : Type 0} (digits : List ℕ) (r : Result ℕ E) → 0 < length digits → length digits ≤ 10 → list_all is_ascii_digit digits ≡ true → ParsesUnsigned 32 10 digits r
+pub number_parsed : {E : Type 0} (digits : List ℕ) (r : Result ℕ E) → 0 < length digits
+    → length digits ≤ 10 → list_all is_ascii_digit digits ≡ true → ParsesUnsigned 32 10 digits r
     → result_ok r ≡ number_of digits
 number_parsed {E} digits (Ok n) some short all told =
     let is = parse_digits decimals {E = E} 32 digits (Ok n) told all in
     let value : n ≡ digits_value 10 digits = is.1 in
     let fits : digits_value 10 digits ≤ 4294967295 = omega (arith, is.0.1) in
-    rw (le-leb 1 (length digits) (omega arith), le-leb (length digits) 10 short, all, le-leb (digits_value 10 digits) 4294967295 fits) (ap Some value)
+    rw (
+      le-leb 1 (length digits) (omega arith),
+      le-leb (length digits) 10 short,
+      all,
+      le-leb
+          (digits_value 10 digits) 4294967295 fits,
+    ) (ap Some value)
 number_parsed digits (Err e) some short all told =
-    let is : ((0 < length digits) × (digits_value 10 digits < 2 ^ 32) → ⊥) = parse_digits decimals 32 digits (Err e) told all in
+    let is : ((0 < length digits) × (digits_value 10 digits < 2 ^ 32) → ⊥) =
+    parse_digits decimals 32 digits (Err e) told all in
     elim (cases_lt (digits_value 10 digits) 4294967296) [
       | inl fits ↦ absurd (is (some, omega arith))
-      | inr large ↦ (rw (le-leb 1 (length digits) (omega arith), le-leb (length digits) 10 short, all, lt-leb (digits_value 10 digits) 4294967295 (omega arith)) refl)
+      | inr large ↦
+          (rw (
+            le-leb 1 (length digits) (omega arith),
+            le-leb (length digits) 10 short,
+            all,
+            lt-leb
+                (digits_value 10 digits) 4294967295 (omega arith),
+          ) refl)
     ]

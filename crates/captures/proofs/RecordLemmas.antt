@@ -1,5 +1,7 @@
 -- The record of the frame that a line hands in.
-use Rattle.std.proofs.Common.{◌≡◌, ◌∙◌, sym, ap, refl, ℕ, ◌+◌, ◌/◌, ◌<◌, ◌≤◌, Bool, true, false, List, [], ◌∷◌, ◌++◌, length, take, drop, Some, None, Result, Ok, Err, append_assoc, arith, inl, inr, nat_eq}
+use Rattle.std.proofs.Common.{◌≡◌, ◌∙◌, sym, ap, refl, ℕ, ◌+◌, ◌/◌, ◌<◌, ◌≤◌, Bool, true, false}
+use Rattle.std.proofs.Common.{List, [], ◌∷◌, ◌++◌, length, take, drop, Some, None, Result, Ok, Err}
+use Rattle.std.proofs.Common.{append_assoc, arith, inl, inr, nat_eq}
 use Rattle.std.specs.Prelude.{◌⊎◌, codes, MatchResult}
 use Rattle.std.specs.List.{starts_with}
 use Rattle.std.proofs.Math.Seq.{take-append-add, take-append_seam}
@@ -11,61 +13,83 @@ use Rattle.hex.specs.declared.error.FromHexError.{FromHexError}
 use Rattle.hex.proofs.HexLemmas.{decode_of-ok, decode_sized-ok, decode_sized-twice}
 use Rattle.captures.specs.FrameLines.{frame_at, frame_in, frame_of}
 use Rattle.captures.specs.Spelling.{record_head, record_of}
-use Rattle.captures.specs.declared.frame_line.Time.{Time}
+use Rattle.captures.specs.declared.text.frame_line.Time.{Time}
 use Rattle.captures.specs.declared.limits.TheConstants.{FRAME_LIMIT}
 
-pub frame_of-other : (line : List ℕ) → starts_with nat_eq line (codes "frame ") ≡ false → frame_of line ≡ None
+pub frame_of-other : (line : List ℕ) → starts_with nat_eq line (codes "frame ") ≡ false
+    → frame_of line ≡ None
 unfolding frame_of
 frame_of-other line other = rw other refl
 
-pub frame_of-behind : (line text : List ℕ) → starts_with nat_eq line (codes "frame ") ≡ true → text ≡ drop 6 line → frame_of line ≡ frame_in text
+pub frame_of-behind : (line text : List ℕ) → starts_with nat_eq line (codes "frame ") ≡ true
+    → text ≡ drop 6 line → frame_of line ≡ frame_in text
 unfolding frame_of
 frame_of-behind line text starts behind = rw starts (ap frame_in (sym behind))
 
 -- no frame has no bytes, or so many
-frame_none : (time : Time) (frame : List ℕ) → (length frame ≡ 0) ⊎ (FRAME_LIMIT < length frame) → frame_at (Some time) (Ok frame) ≡ None
+frame_none : (time : Time) (frame : List ℕ) → (length frame ≡ 0) ⊎ (FRAME_LIMIT < length frame)
+    → frame_at (Some time) (Ok frame) ≡ None
 frame_none time [] (inl none) = refl
 frame_none time (b ∷ frame) (inl none) = absurd (omega arith)
-frame_none time frame (inr long) = rw (le-leb 1 (length frame) (omega arith), lt-leb (length frame) FRAME_LIMIT long) refl
+frame_none time frame (inr long) =
+    rw (le-leb 1 (length frame) (omega arith), lt-leb (length frame) FRAME_LIMIT long) refl
 
-by_digits : (time : Time) (digits : List ℕ) (d : Result (List ℕ) FromHexError) → decode_of digits ≡ d → (length digits / 2 ≡ 0) ⊎ (FRAME_LIMIT < length digits / 2) → frame_at (Some time) d ≡ None
-by_digits time digits (Ok frame) is (inl none) = let twice = (decode_of-ok digits frame is).2 in frame_none time frame (inl (omega arith))
-by_digits time digits (Ok frame) is (inr long) = let twice = (decode_of-ok digits frame is).2 in frame_none time frame (inr (omega arith))
+by_digits : (time : Time) (digits : List ℕ) (d : Result (List ℕ) FromHexError)
+    → decode_of digits ≡ d → (length digits / 2 ≡ 0) ⊎ (FRAME_LIMIT < length digits / 2)
+    → frame_at (Some time) d ≡ None
+by_digits time digits (Ok frame) is (inl none) = let twice = (decode_of-ok digits frame is).2 in
+    frame_none time frame (inl (omega arith))
+by_digits time digits (Ok frame) is (inr long) = let twice = (decode_of-ok digits frame is).2 in
+    frame_none time frame (inr (omega arith))
 by_digits time digits (Err e) is size = refl
 
 -- digits of no byte, or of too many
-pub no_frame_at : (time : Time) (digits : List ℕ) → (length digits / 2 ≡ 0) ⊎ (FRAME_LIMIT < length digits / 2) → frame_at (Some time) (decode_of digits) ≡ None
+pub no_frame_at : (time : Time) (digits : List ℕ) → (length digits / 2 ≡ 0)
+    ⊎ (FRAME_LIMIT < length digits / 2) → frame_at (Some time) (decode_of digits) ≡ None
 no_frame_at time digits size = by_digits time digits (decode_of digits) refl size
 
-sized_is : (digits new : List ℕ) (n : ℕ) (r : Bool) (d : Result (List ℕ) FromHexError) → decode_sized digits n ≡ d → MatchResult d (λ v. (r ≡ true) × (new ≡ v)) (λ e. r ≡ false) → r ≡ true
+sized_is : (digits new : List ℕ) (n : ℕ) (r : Bool) (d : Result (List ℕ) FromHexError)
+    → decode_sized digits n ≡ d → MatchResult d (λ v. (r ≡ true) × (new ≡ v)) (λ e. r ≡ false)
+    → r ≡ true
     → (decode_of digits ≡ Ok new) × (length new ≡ n)
 sized_is digits new n r (Ok v) is told yes' =
     let size = decode_sized-ok digits n v is in
-    let whole : decode_of digits ≡ Ok new = sym (decode_sized-twice digits n size) ∙ is ∙ ap Ok (sym told.1) in
+    let whole : decode_of digits ≡ Ok new =
+    sym (decode_sized-twice digits n size) ∙ is ∙ ap Ok (sym told.1) in
     let twice = (decode_of-ok digits new whole).2 in
     (whole, omega arith)
-sized_is digits new n r (Err e) is told yes' = absurd (let no' : true ≡ false = sym yes' ∙ told in cc)
+sized_is digits new n r (Err e) is told yes' =
+    absurd (let no' : true ≡ false = sym yes' ∙ told in cc)
 
 -- digits that are decoded
-pub decoded : (digits new : List ℕ) (n : ℕ) (r : Bool) → MatchResult (decode_sized digits n) (λ v. (r ≡ true) × (new ≡ v)) (λ e. r ≡ false) → r ≡ true
+pub decoded : (digits new : List ℕ) (n : ℕ) (r : Bool)
+    → MatchResult (decode_sized digits n) (λ v. (r ≡ true) × (new ≡ v)) (λ e. r ≡ false) → r ≡ true
     → (decode_of digits ≡ Ok new) × (length new ≡ n)
 decoded digits new n r told yes' = sized_is digits new n r (decode_sized digits n) refl told yes'
 
 pub frame_is : (time : Time) (frame : List ℕ) → 0 < length frame → length frame ≤ FRAME_LIMIT
-    → frame_at (Some time) (Ok frame) ≡ Some (record { seconds = time.seconds; microseconds = time.microseconds; frame = frame })
-frame_is time frame some short = rw (le-leb 1 (length frame) (omega arith), le-leb (length frame) FRAME_LIMIT short) refl
+    → frame_at (Some time) (Ok frame)
+    ≡ Some (record { seconds = time.seconds; microseconds = time.microseconds; frame = frame })
+frame_is time frame some short =
+    rw (le-leb 1 (length frame) (omega arith), le-leb (length frame) FRAME_LIMIT short) refl
 
 -- what is put behind the first bytes
-put_front : (out new : List ℕ) (a n m : ℕ) → a ≤ length out → length new ≡ n → m ≡ n → take (a + n) (put_mid a m out new) ≡ take a out ++ new
+put_front : (out new : List ℕ) (a n m : ℕ) → a ≤ length out → length new ≡ n → m ≡ n
+    → take (a + n) (put_mid a m out new) ≡ take a out ++ new
 put_front out new a n m fits size same =
     ap (λ k. take (k + n) (put_mid a m out new)) (sym (length-take-le a out fits))
     ∙ take-append-add (take a out) (new ++ drop m (drop a out)) n
-    ∙ ap (λ l. take a out ++ l) (ap (λ k. take k (new ++ drop m (drop a out))) (sym size) ∙ take-append_seam new (drop m (drop a out)))
+    ∙ ap (λ l. take a out ++ l) (ap (λ k. take k (new ++ drop m (drop a out))) (sym size)
+    ∙ take-append_seam new (drop m (drop a out)))
 
 -- a record's head, and the frame behind it
-pub record_put : (out out' new head : List ℕ) (used start n m : ℕ) (time : Time) → start ≤ length out' → length new ≡ n → m ≡ n → take start out' ≡ take used out ++ head
+pub record_put : (out out' new head : List ℕ) (used start n m : ℕ) (time : Time)
+    → start ≤ length out' → length new ≡ n → m ≡ n → take start out' ≡ take used out ++ head
     → head ≡ record_head time.seconds time.microseconds n
-    → take (start + n) (put_mid start m out' new) ≡ take used out ++ record_of (record { seconds = time.seconds; microseconds = time.microseconds; frame = new })
+    → take (start + n) (put_mid start m out' new) ≡ take used out
+    ++ record_of (record { seconds = time.seconds; microseconds = time.microseconds; frame = new })
 record_put out out' new head used start n m time fits size same front is =
-    put_front out' new start n m fits size same ∙ ap (λ l. l ++ new) front ∙ append_assoc (take used out) head new
-    ∙ ap (λ l. take used out ++ (l ++ new)) (is ∙ ap (record_head time.seconds time.microseconds) (sym size))
+    put_front out' new start n m fits size same ∙ ap (λ l. l ++ new) front
+    ∙ append_assoc (take used out) head new
+    ∙ ap (λ l. take used out ++ (l ++ new))
+    (is ∙ ap (record_head time.seconds time.microseconds) (sym size))

@@ -1,5 +1,7 @@
 -- A long block that is skipped, piece by piece.
-use Rattle.std.proofs.Common.{◌≡◌, ◌≢◌, ◌∙◌, sym, ap, refl, subst, ℕ, ◌-◌, ◌<◌, ◌≤◌, arith, List, [], ◌∷◌, ◌++◌, length, take, drop, append_assoc, length-append, Option, Some, None, inl, inr}
+use Rattle.std.proofs.Common.{◌≡◌, ◌≢◌, ◌∙◌, sym, ap, refl, subst, ℕ, ◌-◌, ◌<◌, ◌≤◌, arith, List}
+use Rattle.std.proofs.Common.{[], ◌∷◌, ◌++◌, length, take, drop, append_assoc, length-append}
+use Rattle.std.proofs.Common.{Option, Some, None, inl, inr}
 use Rattle.std.proofs.lemmas.List.{take-append-drop, length-take-le}
 use Rattle.captures.specs.Dropped.{IsFrontOf, IsDropped, Leaves}
 use Rattle.captures.specs.Numbers.{word}
@@ -9,10 +11,10 @@ use Rattle.captures.specs.Units.{HasUnit, IsBegun, Refuses, Takes}
 use Rattle.captures.specs.declared.byte_order.ByteOrder.{ByteOrder}
 use Rattle.captures.specs.declared.capture_error.CaptureError.{CaptureError}
 use Rattle.captures.specs.declared.capture_error.CaptureError.TheVariants.{BadBlock}
-use Rattle.captures.specs.declared.long_block.LongBlock.{LongBlock}
-use Rattle.captures.specs.declared.section.Section.{Section}
-use Rattle.captures.specs.declared.state.State.{State}
-use Rattle.captures.specs.declared.state.State.TheVariants.{Pcapng}
+use Rattle.captures.specs.declared.pcapng.long_block.LongBlock.{LongBlock}
+use Rattle.captures.specs.declared.pcapng.section.Section.{Section}
+use Rattle.captures.specs.declared.translation.state.State.{State}
+use Rattle.captures.specs.declared.translation.state.State.TheVariants.{Pcapng}
 use Rattle.captures.proofs.BlockLemmas.{word_of, word_back, skipped_front}
 use Rattle.captures.proofs.UnitLemmas.{passes_start}
 
@@ -20,7 +22,8 @@ use Rattle.captures.proofs.UnitLemmas.{passes_start}
 abbrev pub behind : LongBlock → ℕ → LongBlock
 behind block n = record { order = block.order; len = block.len; left = block.left - n }
 
-front_more : (block : LongBlock) (section : Section) (dropped front : List ℕ) (n : ℕ) → IsFrontOf block section dropped → length front ≡ n → n ≤ block.left
+front_more : (block : LongBlock) (section : Section) (dropped front : List ℕ) (n : ℕ)
+    → IsFrontOf block section dropped → length front ≡ n → n ≤ block.left
     → IsFrontOf (behind block n) section (dropped ++ front)
 front_more block section dropped front n f size few =
     let long = f.size in
@@ -28,19 +31,22 @@ front_more block section dropped front n f size few =
     let all = length-append dropped front in
     record {
       order = f.order;
-      skipped = skipped_front section.order (dropped ++ front) dropped front refl (omega arith) f.skipped;
+      skipped = skipped_front section.order (dropped ++ front) dropped front refl
+          (omega arith) f.skipped;
       size = omega arith;
       words = f.words;
       told = word_of section.order (dropped ++ front) dropped front 4 refl (omega arith) ∙ f.told;
       left = omega arith;
     }
 
-front_begun : (block : LongBlock) (section : Section) (dropped rest : List ℕ) → IsFrontOf block section dropped → length rest < 4 → IsBegun (Pcapng section) (dropped ++ rest)
+front_begun : (block : LongBlock) (section : Section) (dropped rest : List ℕ)
+    → IsFrontOf block section dropped → length rest < 4 → IsBegun (Pcapng section) (dropped ++ rest)
 front_begun block section dropped rest f few =
     let long = f.size in
     let left = f.left in
     let all = length-append dropped rest in
-    let skipped = skipped_front section.order (dropped ++ rest) dropped rest refl (omega arith) f.skipped in
+    let skipped = skipped_front section.order (dropped ++ rest) dropped rest refl
+    (omega arith) f.skipped in
     let told = word_of section.order (dropped ++ rest) dropped rest 4 refl (omega arith) ∙ f.told in
     inr (record {
       order = section.order;
@@ -51,7 +57,8 @@ front_begun block section dropped rest f few =
       fits = inr skipped;
     })
 
-module _ (block : LongBlock) (section : Section) (dropped back later : List ℕ) (f : IsFrontOf block section dropped) (none : block.left ≡ 0) (four : length back ≡ 4) where
+module _ (block : LongBlock) (section : Section) (dropped back later : List ℕ)
+    (f : IsFrontOf block section dropped) (none : block.left ≡ 0) (four : length back ≡ 4) where
   whole : List ℕ
   whole = dropped ++ back
 
@@ -66,7 +73,8 @@ module _ (block : LongBlock) (section : Section) (dropped back later : List ℕ)
   unfolding whole
   whole_told =
       let long = f.size in
-      word_of section.order (dropped ++ back) dropped back 4 refl (omega arith) ∙ f.told ∙ sym whole_size
+      word_of section.order (dropped ++ back) dropped back 4 refl (omega arith)
+      ∙ f.told ∙ sym whole_size
 
   -- the second length
   whole_back : word section.order whole (length whole - 4) ≡ word block.order (back ++ later) 0
@@ -75,16 +83,20 @@ module _ (block : LongBlock) (section : Section) (dropped back later : List ℕ)
       let all = length-append dropped back in
       let at : length (dropped ++ back) - 4 ≡ length dropped = omega arith in
       ap (λ p. word section.order (dropped ++ back) p) at ∙ word_back section.order dropped back
-      ∙ sym (word_of section.order (back ++ later) back later 0 refl (omega arith)) ∙ ap (λ (o : ByteOrder). word o (back ++ later) 0) (sym f.order)
+      ∙ sym (word_of section.order (back ++ later) back later 0 refl (omega arith))
+      ∙ ap (λ (o : ByteOrder). word o (back ++ later) 0) (sym f.order)
 
   -- another one refuses the block
-  refused_back : word block.order (back ++ later) 0 ≢ block.len → Refuses (Pcapng section) (dropped ++ (back ++ later)) BadBlock
+  refused_back : word block.order (back ++ later) 0 ≢ block.len
+      → Refuses (Pcapng section) (dropped ++ (back ++ later)) BadBlock
   unfolding whole
   refused_back other =
       let long = f.size in
       let all = length-append dropped (back ++ later) in
-      let skipped = skipped_front section.order (dropped ++ (back ++ later)) dropped (back ++ later) refl (omega arith) f.skipped in
-      let told = word_of section.order (dropped ++ (back ++ later)) dropped (back ++ later) 4 refl (omega arith) ∙ f.told in (
+      let skipped = skipped_front section.order (dropped ++ (back ++ later)) dropped
+      (back ++ later) refl (omega arith) f.skipped in
+      let told = word_of section.order (dropped ++ (back ++ later)) dropped (back ++ later) 4 refl
+      (omega arith) ∙ f.told in (
         omega arith,
         inr (inl (record {
           order = section.order;
@@ -94,22 +106,31 @@ module _ (block : LongBlock) (section : Section) (dropped back later : List ℕ)
             rest = later;
             parts = sym (append_assoc dropped back later);
             size = whole_size ∙ sym told;
-            fits = inr (skipped_front section.order (dropped ++ back) dropped back refl (omega arith) f.skipped);
+            fits = inr (skipped_front section.order (dropped ++ back) dropped back refl
+                (omega arith) f.skipped);
             other = λ e. other (sym whole_back ∙ e ∙ whole_size);
           }));
         })),
       )
 
   -- the block is a unit without a packet
-  passed_back : word block.order (back ++ later) 0 ≡ block.len → HasUnit (Pcapng section) (dropped ++ (back ++ later)) (Pcapng section) 0 [] later
+  passed_back : word block.order (back ++ later) 0 ≡ block.len
+      → HasUnit (Pcapng section) (dropped ++ (back ++ later)) (Pcapng section) 0 [] later
   unfolding whole
   passed_back same =
       let long = f.size in
       let words = f.words in
       let size' = whole_size in
       let all = length-append dropped back in
-      let skipped = skipped_front section.order (dropped ++ back) dropped back refl (omega arith) f.skipped in
-      let is_block : IsBlock section.order (dropped ++ back) = record { size = omega arith; words = rw whole_size words; front = whole_told; back = whole_back ∙ same ∙ sym whole_size } in
+      let skipped = skipped_front section.order (dropped ++ back) dropped back refl
+      (omega arith) f.skipped in
+      let is_block : IsBlock section.order (dropped ++ back) =
+      record {
+        size = omega arith;
+        words = rw whole_size words;
+        front = whole_told;
+        back = whole_back ∙ same ∙ sym whole_size;
+      } in
       record {
         unit = dropped ++ back;
         parts = sym (append_assoc dropped back later);
@@ -125,7 +146,8 @@ module _ (block : LongBlock) (section : Section) (dropped back later : List ℕ)
       }
 
 -- a unit without a packet in front of others
-takes_behind : (state mid after : State) (bytes rest rest' text : List ℕ) (channel : ℕ) (refusal : Option CaptureError) → HasUnit state bytes mid channel [] rest
+takes_behind : (state mid after : State) (bytes rest rest' text : List ℕ) (channel : ℕ)
+    (refusal : Option CaptureError) → HasUnit state bytes mid channel [] rest
     → Takes mid rest after rest' text refusal → Takes state bytes after rest' text refusal
 takes_behind state mid after bytes rest rest' text channel refusal h t = record {
   packets = t.packets;
@@ -139,60 +161,92 @@ takes_behind state mid after bytes rest rest' text channel refusal h t = record 
 }
 
 -- fewer bytes than a second length are left
-pub held_behind : (state : State) (block : LongBlock) (n : ℕ) (dropped bytes front rest : List ℕ) → IsDropped state (Some block) dropped → bytes ≡ front ++ rest → length front ≡ n → n ≤ block.left
+pub held_behind : (state : State) (block : LongBlock) (n : ℕ) (dropped bytes front rest : List ℕ)
+    → IsDropped state (Some block) dropped → bytes ≡ front ++ rest
+    → length front ≡ n → n ≤ block.left
     → length rest < 4 → Leaves state (dropped ++ bytes) state (Some (behind block n)) rest [] None
 held_behind state block n dropped bytes front rest d parts size few short =
     let f = front_more block d.0 dropped front n d.2 size few in
     rw (d.1, parts) (record {
       dropped = dropped ++ front;
       is_dropped = (d.0, refl, f);
-      takes = subst (λ l. Takes (Pcapng d.0) l (Pcapng d.0) ((dropped ++ front) ++ rest) [] None) (append_assoc dropped front rest)
-          (record { packets = []; passes = passes_start (Pcapng d.0) ((dropped ++ front) ++ rest); told = refl; left = front_begun (behind block n) d.0 (dropped ++ front) rest f short });
+      takes = subst (λ l. Takes (Pcapng d.0) l (Pcapng d.0) ((dropped ++ front) ++ rest) [] None)
+          (append_assoc dropped front rest)
+          (record {
+            packets = [];
+            passes = passes_start (Pcapng d.0) ((dropped ++ front) ++ rest);
+            told = refl;
+            left = front_begun (behind block n) d.0 (dropped ++ front) rest f short;
+          });
     })
 
 -- another second length is there
-refused_here : (state : State) (block : LongBlock) (n : ℕ) (dropped bytes front back later : List ℕ) → IsDropped state (Some block) dropped → bytes ≡ front ++ (back ++ later) → length front ≡ n → n ≡ block.left
-    → length back ≡ 4 → word block.order (back ++ later) 0 ≢ block.len → Leaves state (dropped ++ bytes) state (Some (behind block n)) (back ++ later) [] (Some BadBlock)
+refused_here : (state : State) (block : LongBlock) (n : ℕ) (dropped bytes front back later : List ℕ)
+    → IsDropped state (Some block) dropped → bytes ≡ front ++ (back ++ later)
+    → length front ≡ n → n ≡ block.left
+    → length back ≡ 4 → word block.order (back ++ later) 0 ≢ block.len
+    → Leaves state (dropped ++ bytes) state (Some (behind block n))
+    (back ++ later) [] (Some BadBlock)
 refused_here state block n dropped bytes front back later d parts size all four other =
     let f = front_more block d.0 dropped front n d.2 size (omega arith) in
     rw (d.1, parts) (record {
       dropped = dropped ++ front;
       is_dropped = (d.0, refl, f);
-      takes = subst (λ l. Takes (Pcapng d.0) l (Pcapng d.0) ((dropped ++ front) ++ (back ++ later)) [] (Some BadBlock)) (append_assoc dropped front (back ++ later))
+      takes = subst (λ l. Takes (Pcapng d.0) l (Pcapng d.0) ((dropped ++ front) ++ (back ++ later))
+          [] (Some BadBlock)) (append_assoc dropped front (back ++ later))
           (record {
             packets = [];
             passes = passes_start (Pcapng d.0) ((dropped ++ front) ++ (back ++ later));
             told = refl;
-            left = refused_back (behind block n) d.0 (dropped ++ front) back later f (omega arith) four other;
+            left = refused_back (behind block n) d.0 (dropped ++ front) back later f
+                (omega arith) four other;
           });
     })
 
-pub refused_behind : (state : State) (block : LongBlock) (n : ℕ) (dropped bytes front rest : List ℕ) → IsDropped state (Some block) dropped → bytes ≡ front ++ rest → length front ≡ n → n ≡ block.left
-    → 4 ≤ length rest → word block.order rest 0 ≢ block.len → Leaves state (dropped ++ bytes) state (Some (behind block n)) rest [] (Some BadBlock)
+pub refused_behind : (state : State) (block : LongBlock) (n : ℕ) (dropped bytes front rest : List ℕ)
+    → IsDropped state (Some block) dropped → bytes ≡ front ++ rest
+    → length front ≡ n → n ≡ block.left
+    → 4 ≤ length rest → word block.order rest 0 ≢ block.len
+    → Leaves state (dropped ++ bytes) state (Some (behind block n)) rest [] (Some BadBlock)
 refused_behind state block n dropped bytes front rest d parts size all four other =
     let split = take-append-drop 4 rest in
-    subst (λ (r : List ℕ). Leaves state (dropped ++ bytes) state (Some (behind block n)) r [] (Some BadBlock)) split
-    (refused_here state block n dropped bytes front (take 4 rest) (drop 4 rest) d (parts ∙ ap (λ l. front ++ l) (sym split)) size all (length-take-le 4 rest four)
+    subst (λ (r : List ℕ). Leaves state (dropped ++ bytes) state (Some (behind block n)) r
+    [] (Some BadBlock)) split
+    (refused_here state block n dropped bytes front (take 4 rest) (drop 4 rest) d
+    (parts ∙ ap (λ l. front ++ l) (sym split)) size all (length-take-le 4 rest four)
     (λ e. other (ap (λ (r : List ℕ). word block.order r 0) (sym split) ∙ e)))
 
 -- its own is, and units may follow
-pub passed_behind : (state : State) (block : LongBlock) (n : ℕ) (dropped bytes front back later : List ℕ) → IsDropped state (Some block) dropped → bytes ≡ front ++ (back ++ later) → length front ≡ n → n ≡ block.left
+pub passed_behind : (state : State) (block : LongBlock) (n : ℕ)
+    (dropped bytes front back later : List ℕ) → IsDropped state (Some block) dropped
+    → bytes ≡ front ++ (back ++ later) → length front ≡ n → n ≡ block.left
     → length back ≡ 4 → word block.order (back ++ later) 0 ≡ block.len
-    → (after : State) (begun : Option LongBlock) (rest text : List ℕ) (refusal : Option CaptureError) → Leaves state later after begun rest text refusal
+    → (after : State) (begun : Option LongBlock) (rest text : List ℕ)
+    (refusal : Option CaptureError) → Leaves state later after begun rest text refusal
     → Leaves state (dropped ++ bytes) after begun rest text refusal
-passed_behind state block n dropped bytes front back later d parts size all four same after begun rest text refusal leaves =
+passed_behind state block n dropped bytes front back later d parts size all four same after begun
+    rest text refusal leaves =
     let f = front_more block d.0 dropped front n d.2 size (omega arith) in
-    let unit = passed_back (behind block n) d.0 (dropped ++ front) back later f (omega arith) four same in
-    let takes' : Takes (Pcapng d.0) later after (leaves.dropped ++ rest) text refusal = subst (λ (s : State). Takes s later after (leaves.dropped ++ rest) text refusal) d.1 leaves.takes in
+    let unit = passed_back (behind block n) d.0 (dropped ++ front) back later f
+    (omega arith) four same in
+    let takes' : Takes (Pcapng d.0) later after (leaves.dropped ++ rest) text refusal =
+    subst (λ (s : State). Takes s later after (leaves.dropped ++ rest) text refusal)
+    d.1 leaves.takes in
     rw (d.1, parts) (record {
       dropped = leaves.dropped;
       is_dropped = leaves.is_dropped;
-      takes = subst (λ l. Takes (Pcapng d.0) l after (leaves.dropped ++ rest) text refusal) (append_assoc dropped front (back ++ later))
-          (takes_behind (Pcapng d.0) (Pcapng d.0) after ((dropped ++ front) ++ (back ++ later)) later (leaves.dropped ++ rest) text 0 refusal unit takes');
+      takes = subst (λ l. Takes (Pcapng d.0) l after (leaves.dropped ++ rest) text refusal)
+          (append_assoc dropped front (back ++ later))
+          (takes_behind (Pcapng d.0) (Pcapng d.0) after
+          ((dropped ++ front) ++ (back ++ later)) later
+          (leaves.dropped ++ rest) text 0 refusal unit takes');
     })
 
 -- what is taken of a piece that was read behind what is held
-pub takes_piece : (state after : State) (dropped held piece : List ℕ) (begun : Option LongBlock) (rest text : List ℕ) (refusal : Option CaptureError)
-    → (l : Leaves state (dropped ++ (held ++ piece)) after begun rest text refusal) → Takes state ((dropped ++ held) ++ piece) after (l.dropped ++ rest) text refusal
+pub takes_piece : (state after : State) (dropped held piece : List ℕ) (begun : Option LongBlock)
+    (rest text : List ℕ) (refusal : Option CaptureError)
+    → (l : Leaves state (dropped ++ (held ++ piece)) after begun rest text refusal)
+    → Takes state ((dropped ++ held) ++ piece) after (l.dropped ++ rest) text refusal
 takes_piece state after dropped held piece begun rest text refusal l =
-    subst (λ (bytes : List ℕ). Takes state bytes after (l.dropped ++ rest) text refusal) (sym (append_assoc dropped held piece)) l.takes
+    subst (λ (bytes : List ℕ). Takes state bytes after (l.dropped ++ rest) text refusal)
+    (sym (append_assoc dropped held piece)) l.takes

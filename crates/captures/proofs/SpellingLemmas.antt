@@ -1,19 +1,23 @@
 -- What is written is read again.
-use Rattle.std.proofs.Common.{◌≡◌, ◌∙◌, sym, ap, refl, ℕ, ◌+◌, ◌*◌, ◌/◌, ◌%◌, ◌^◌, ◌<◌, ◌≤◌, arith, List, [], ◌∷◌, ◌++◌, length, inl, append-nil}
+use Rattle.std.proofs.Common.{◌≡◌, ◌∙◌, sym, ap, refl, ℕ, ◌+◌, ◌*◌, ◌/◌, ◌%◌, ◌^◌, ◌<◌, ◌≤◌, arith}
+use Rattle.std.proofs.Common.{List, [], ◌∷◌, ◌++◌, length, inl, append-nil}
 use Rattle.std.specs.List.{AllByRecursion, flat_map}
 use Rattle.captures.specs.Pcap.{IsPacketRecord}
 use Rattle.captures.specs.Runs.{IsCapture}
-use Rattle.captures.specs.Spelling.{TimedFrame, file_header, record_head, record_of, capture_of, packets_in}
-use Rattle.captures.specs.Units.{Row, joined, OpensFile}
+use Rattle.captures.specs.Spelling.{TimedFrame, file_header, record_head, record_of, capture_of}
+use Rattle.captures.specs.Spelling.{packets_in}
+use Rattle.captures.specs.Units.{Row, in_a_row, OpensFile}
 use Rattle.captures.specs.declared.byte_order.ByteOrder.TheVariants.{Little}
 use Rattle.captures.specs.declared.limits.TheConstants.{FRAME_LIMIT}
-use Rattle.captures.specs.declared.state.State.TheVariants.{Classic}
+use Rattle.captures.specs.declared.translation.state.State.TheVariants.{Classic}
 
 -- the bytes of a number spell it
-spelled : (n : ℕ) → n < 2 ^ 32 → n % 256 + 256 * (n / 256 % 256 + 256 * (n / 65536 % 256 + 256 * (n / 16777216 % 256))) ≡ n
+spelled : (n : ℕ) → n < 2 ^ 32
+    → n % 256 + 256 * (n / 256 % 256 + 256 * (n / 65536 % 256 + 256 * (n / 16777216 % 256))) ≡ n
 spelled n fits = omega arith
 
-record_is : (timed : TimedFrame) → length timed.frame ≤ FRAME_LIMIT → IsPacketRecord Little (record_of timed) timed.frame
+record_is : (timed : TimedFrame) → length timed.frame ≤ FRAME_LIMIT
+    → IsPacketRecord Little (record_of timed) timed.frame
 record_is timed fits = record {
   head = record_head timed.seconds timed.microseconds (length timed.frame);
   parts = refl;
@@ -25,26 +29,55 @@ units_of : List TimedFrame → List (List ℕ)
 units_of [] = []
 units_of (timed ∷ frames) = record_of timed ∷ units_of frames
 
-joined-units_of : (frames : List TimedFrame) → joined (units_of frames) ≡ flat_map record_of frames
+in_a_row-units_of : (frames : List TimedFrame) → in_a_row (units_of frames) ≡ flat_map record_of
+    frames
 unfolding units_of
-joined-units_of [] = refl
-joined-units_of (timed ∷ frames) = ap (λ l. record_of timed ++ l) (joined-units_of frames)
+in_a_row-units_of [] = refl
+in_a_row-units_of (timed ∷ frames) = ap (λ l. record_of timed ++ l) (in_a_row-units_of frames)
 
-row_of : (frames : List TimedFrame) → AllByRecursion (λ timed. length timed.frame ≤ FRAME_LIMIT) frames → Row (Classic Little) (units_of frames) (packets_in frames) (Classic Little)
+row_of : (frames : List TimedFrame)
+    → AllByRecursion (λ timed. length timed.frame ≤ FRAME_LIMIT) frames
+    → Row (Classic Little) (units_of frames) (packets_in frames) (Classic Little)
 unfolding units_of
 row_of [] all = (refl, refl)
-row_of (timed ∷ frames) all = (Classic Little, 0, timed.frame, packets_in frames, (record_is timed all.0, all.0, refl, refl), row_of frames all.1, refl)
+row_of (timed ∷ frames) all = (
+  Classic Little,
+  0,
+  timed.frame,
+  packets_in
+      frames,
+  (record_is timed all.0, all.0, refl, refl),
+  row_of frames all.1,
+  refl,
+)
 
 header_is : OpensFile file_header (Classic Little)
-header_is = record { order = Little; header = record { size = refl; magic = refl; major = refl; minor = refl }; ethernet = refl; next = refl }
+header_is = record {
+  order = Little;
+  header = record { size = refl; magic = refl; major = refl; minor = refl };
+  ethernet = refl;
+  next = refl;
+}
 
-pub capture_is : (frames : List TimedFrame) → AllByRecursion (λ timed. length timed.frame ≤ FRAME_LIMIT) frames → IsCapture (capture_of frames) (packets_in frames)
+pub capture_is : (frames : List TimedFrame)
+    → AllByRecursion (λ timed. length timed.frame ≤ FRAME_LIMIT) frames
+    → IsCapture (capture_of frames) (packets_in frames)
 capture_is frames all = record {
   state = Classic Little;
   passes = record {
     units = file_header ∷ units_of frames;
-    row = (Classic Little, 0, [], packets_in frames, inl (header_is, refl), row_of frames all, refl);
-    parts = ap (λ l. file_header ++ l) (sym (joined-units_of frames)) ∙ sym (append-nil (file_header ++ joined (units_of frames)));
+    row = (
+      Classic Little,
+      0,
+      [],
+      packets_in frames,
+      inl
+          (header_is, refl),
+      row_of frames all,
+      refl,
+    );
+    parts = ap (λ l. file_header ++ l) (sym (in_a_row-units_of frames))
+        ∙ sym (append-nil (file_header ++ in_a_row (units_of frames)));
   };
   known = λ e. cc e;
 }

@@ -1,83 +1,82 @@
 -- What is told of bytes is known by them: where no more units are taken, none follows.
-use Rattle.std.proofs.Common.{◌≡◌, ◌∙◌, sym, ap, ap₂, refl, subst, ℕ, ◌+◌, ◌-◌, ◌*◌, ◌%◌, ◌<◌, ◌≤◌, arith, List, [], ◌∷◌, ◌++◌, length, append_assoc, length-append, inl, inr, Option, Some, None}
+use Rattle.std.proofs.Common.{◌≡◌, ◌∙◌, sym, ap, ap₂, refl, subst, ℕ, ◌+◌, ◌-◌, ◌*◌, ◌%◌, ◌<◌, ◌≤◌}
+use Rattle.std.proofs.Common.{arith, List, [], ◌∷◌, ◌++◌, length, append_assoc, length-append, inl}
+use Rattle.std.proofs.Common.{inr, Option, Some, None}
 use Rattle.std.specs.Prelude.{IsTrue, slice_index}
 use Rattle.hex.specs.Hex.{IsBytes}
 use Rattle.captures.specs.Lines.{Packet, lines_of}
 use Rattle.captures.specs.Numbers.{word}
 use Rattle.captures.specs.Pcap.{is_magic, IsPacketRecord, link_type}
-use Rattle.captures.specs.Pcapng.{Content, HasOrder, Says, Becomes, Reads, IsSkipped, RefusesBlock, section_header}
-use Rattle.captures.specs.Pcapng.Content.{Opens, Describes, Holds, Nothing}
-use Rattle.captures.specs.Units.{IsUnit, IsBlockUnit, OpensFile, Row, joined, no_section, IsShortBlock, IsShortRecord, HasLongFrame, HasLinkType, HasBadLength, HasRefusedBlock, RefusesAt, RefusesFirst, BeginsSection, IsLeft, Takes}
+use Rattle.captures.specs.Pcapng.{Content, HasOrder, Says, Reads, IsSkipped, RefusesBlock}
+use Rattle.captures.specs.Pcapng.{section_header}
+use Rattle.captures.specs.Pcapng.Content.{Opens, Describes, Holds}
+use Rattle.captures.specs.Runs.{IsCapture}
+use Rattle.captures.specs.Units.{IsUnit, IsBlockUnit, OpensFile, Row, in_a_row, no_section}
+use Rattle.captures.specs.Units.{IsShortBlock, IsShortRecord, HasLongFrame, HasLinkType}
+use Rattle.captures.specs.Units.{HasBadLength, HasRefusedBlock, RefusesAt, RefusesFirst}
+use Rattle.captures.specs.Units.{BeginsSection, IsLeft, Takes}
 use Rattle.captures.specs.declared.byte_order.ByteOrder.{ByteOrder}
 use Rattle.captures.specs.declared.byte_order.ByteOrder.TheVariants.{Big, Little}
 use Rattle.captures.specs.declared.capture_error.CaptureError.{CaptureError}
-use Rattle.captures.specs.declared.capture_error.CaptureError.TheVariants.{NotCapture, LinkType, FrameTooLong, CutOff, BlockTooLong, BadBlock}
+use Rattle.captures.specs.declared.capture_error.CaptureError.TheVariants.{NotCapture, LinkType}
+use Rattle.captures.specs.declared.capture_error.CaptureError.TheVariants.{FrameTooLong, CutOff}
+use Rattle.captures.specs.declared.capture_error.CaptureError.TheVariants.{BlockTooLong, BadBlock}
 use Rattle.captures.specs.declared.limits.TheConstants.{FRAME_LIMIT}
-use Rattle.captures.specs.declared.section.Section.{Section}
-use Rattle.captures.specs.declared.section.TheConstants.{ETHERNET}
-use Rattle.captures.specs.declared.state.State.{State}
-use Rattle.captures.specs.declared.state.State.TheVariants.{Start, Classic, Pcapng}
-use Rattle.captures.proofs.AloneLemmas.{front_same, rest_same, bytes_behind, order_alone, order_more, file_order, no_section_in, unit_alone}
+use Rattle.captures.specs.declared.pcapng.section.Section.{Section}
+use Rattle.captures.specs.declared.translation.state.State.{State}
+use Rattle.captures.specs.declared.translation.state.State.TheVariants.{Start, Classic, Pcapng}
+use Rattle.captures.proofs.AloneLemmas.{becomes_as, content_at, content_is, front_same, rest_same}
+use Rattle.captures.proofs.AloneLemmas.{bytes_behind, order_alone}
+use Rattle.captures.proofs.AloneLemmas.{order_more, file_order, no_section_in, unit_alone}
 use Rattle.captures.proofs.BlockLemmas.{word_of, skipped_front}
 
 -- ---- a section header's kind reads the same in both byte orders
 
-same_back : (a b c d : ℕ) → a < 256 → b < 256 → c < 256 → d < 256 → 256 * (256 * (256 * a + b) + c) + d ≡ section_header
+same_back : (a b c d : ℕ) → a < 256 → b < 256 → c < 256 → d < 256
+    → 256 * (256 * (256 * a + b) + c) + d ≡ section_header
     → a + 256 * (b + 256 * (c + 256 * d)) ≡ section_header
 same_back a b c d la lb lc ld big = omega arith
 
-section_kind : (o : ByteOrder) (bytes : List ℕ) → IsBytes bytes → word Big bytes 0 ≡ section_header → word o bytes 0 ≡ section_header
+section_kind : (o : ByteOrder) (bytes : List ℕ) → IsBytes bytes → word Big bytes 0 ≡ section_header
+    → word o bytes 0 ≡ section_header
 section_kind Big bytes all big = big
-section_kind Little bytes all big = same_back (slice_index bytes 0) (slice_index bytes 1) (slice_index bytes 2) (slice_index bytes 3) (all 0) (all 1) (all 2) (all 3) big
+section_kind Little bytes all big =
+    same_back (slice_index bytes 0) (slice_index bytes 1) (slice_index bytes 2)
+    (slice_index bytes 3) (all 0) (all 1) (all 2) (all 3) big
 
 -- a block of that kind has 28 bytes at least
-opens : (section : Section) (order : ByteOrder) (block : List ℕ) (content : Content) → Says section order block content → word order block 0 ≡ section_header → 28 ≤ length block
-opens section order block (Opens first) says kind = says.1
-opens section order block (Describes link snap) says kind = let k = says.0 in absurd (omega arith)
-opens section order block (Holds number bytes) (inl says) kind = let k = says.kind in absurd (omega arith)
-opens section order block (Holds number bytes) (inr says) kind = let k = says.kind in absurd (omega arith)
-opens section order block Nothing says kind = absurd (says.0 kind)
+opens : (section : Section) (order : ByteOrder) (block : List ℕ) (content : Content)
+    → Says section order block content → word order block 0 ≡ section_header → 28 ≤ length block
+opens section order block content says kind =
+    let is : content ≡ Opens (section.first + section.interfaces) =
+    sym (content_is section order block content says)
+    ∙ ap (content_at section order block) kind in
+    (subst (λ (k : Content). Says section order block k) is says).1
 
 -- ---- a block that is refused says nothing that is read
 
-link_type_says : (section : Section) (order : ByteOrder) (block : List ℕ) (number snap' : ℕ) → Says section order block (Describes number snap') → (content : Content)
-    → Says section order block content → (after : Section) (channel : ℕ) (frame : List ℕ) → Becomes section order content after channel frame → number ≡ ETHERNET
-link_type_says section order block told_number snap' told (Opens first) says after channel frame becomes = let k = told.0 in let k' = says.0 in absurd (omega arith)
-link_type_says section order block told_number snap' told (Describes link snap) says after channel frame becomes = sym told.2 ∙ says.2 ∙ becomes.0
-link_type_says section order block told_number snap' told (Holds number bytes) (inl says) after channel frame becomes = let k = told.0 in let k' = says.kind in absurd (omega arith)
-link_type_says section order block told_number snap' told (Holds number bytes) (inr says) after channel frame becomes = let k = told.0 in let k' = says.kind in absurd (omega arith)
-link_type_says section order block told_number snap' told Nothing says after channel frame becomes = absurd (says.1 told.0)
-
-frame_says : (section : Section) (order : ByteOrder) (block : List ℕ) (channel' : ℕ) (frame' : List ℕ) → Says section order block (Holds channel' frame') → (content : Content)
-    → Says section order block content → (after : Section) (channel : ℕ) (frame : List ℕ) → Becomes section order content after channel frame → length frame' ≤ FRAME_LIMIT
-frame_says section order block channel' frame' (inl told) (Opens first) says after channel frame becomes = let k = told.kind in let k' = says.0 in absurd (omega arith)
-frame_says section order block channel' frame' (inl told) (Describes link snap) says after channel frame becomes = let k = told.kind in let k' = says.0 in absurd (omega arith)
-frame_says section order block channel' frame' (inl told) (Holds number bytes) (inl says) after channel frame becomes = let most = becomes.3 in let size : length frame' ≡ length bytes = sym told.captured ∙ says.captured in omega arith
-frame_says section order block channel' frame' (inl told) (Holds number bytes) (inr says) after channel frame becomes = let k = told.kind in let k' = says.kind in absurd (omega arith)
-frame_says section order block channel' frame' (inl told) Nothing says after channel frame becomes = absurd (says.2 told.kind)
-frame_says section order block channel' frame' (inr told) (Opens first) says after channel frame becomes = let k = told.kind in let k' = says.0 in absurd (omega arith)
-frame_says section order block channel' frame' (inr told) (Describes link snap) says after channel frame becomes = let k = told.kind in let k' = says.0 in absurd (omega arith)
-frame_says section order block channel' frame' (inr told) (Holds number bytes) (inl says) after channel frame becomes = let k = told.kind in let k' = says.kind in absurd (omega arith)
-frame_says section order block channel' frame' (inr told) (Holds number bytes) (inr says) after channel frame becomes = let most = becomes.3 in let size : length frame' ≡ length bytes = sym told.captured ∙ says.captured in omega arith
-frame_says section order block channel' frame' (inr told) Nothing says after channel frame becomes = absurd (says.3 told.kind)
-
-refused_says : (section : Section) (order : ByteOrder) (block : List ℕ) (error : CaptureError) → RefusesBlock section order block error → (after : Section) (channel : ℕ) (frame : List ℕ)
+refused_says : (section : Section) (order : ByteOrder) (block : List ℕ) (error : CaptureError)
+    → RefusesBlock section order block error → (after : Section) (channel : ℕ) (frame : List ℕ)
     → Reads section order block after channel frame → ⊥
 refused_says section order block NotCapture refused after channel frame reads = refused
 refused_says section order block (LinkType number) refused after channel frame reads =
-    refused.2 (link_type_says section order block number refused.0 refused.1 reads.content reads.says after channel frame reads.becomes)
+    refused.2 (becomes_as section order block reads.content (Describes number refused.0) reads.says
+    refused.1 after channel frame reads.becomes).0
 refused_says section order block (FrameTooLong captured) refused after channel frame reads =
-    let most = frame_says section order block refused.0 refused.1 refused.2 reads.content reads.says after channel frame reads.becomes in
+    let most = (becomes_as section order block reads.content (Holds refused.0 refused.1) reads.says
+    refused.2 after channel frame reads.becomes).3 in
     let size = refused.3 in
     let long = refused.4 in
     absurd (omega arith)
 refused_says section order block CutOff refused after channel frame reads = refused
 refused_says section order block (BlockTooLong len) refused after channel frame reads = refused
-refused_says section order block BadBlock refused after channel frame reads = refused reads.content reads.says
+refused_says section order block BadBlock refused after channel frame reads =
+    refused reads.content reads.says
 
 -- ---- where a unit is the front of the bytes
 
-module _ (bytes u r : List ℕ) (all : IsBytes bytes) (parts : bytes ≡ u ++ r) (after : State) (channel : ℕ) (frame : List ℕ) where
+module _ (bytes u r : List ℕ) (all : IsBytes bytes) (parts : bytes ≡ u ++ r) (after : State)
+    (channel : ℕ) (frame : List ℕ) where
   fits : length u ≤ length bytes
   fits = let sizes = ap length parts in omega (arith, length-append u r)
 
@@ -87,10 +86,12 @@ module _ (bytes u r : List ℕ) (all : IsBytes bytes) (parts : bytes ≡ u ++ r)
     long = b.block.size
 
     its_order : (o : ByteOrder) → HasOrder section.order bytes o → o ≡ b.order
-    its_order o has = order_alone section.order o b.order bytes all has (order_more section.order b.order bytes u r parts long b.has_order)
+    its_order o has = order_alone section.order o b.order bytes all has
+        (order_more section.order b.order bytes u r parts long b.has_order)
 
     its_length : (o : ByteOrder) → HasOrder section.order bytes o → word o bytes 4 ≡ length u
-    its_length o has = let l = long in ap (λ (p : ByteOrder). word p bytes 4) (its_order o has) ∙ word_of b.order bytes u r 4 parts (omega arith) ∙ b.block.front
+    its_length o has = let l = long in ap (λ (p : ByteOrder). word p bytes 4) (its_order o has)
+        ∙ word_of b.order bytes u r 4 parts (omega arith) ∙ b.block.front
 
     -- is whole,
     not_short : IsShortBlock section bytes → ⊥
@@ -101,17 +102,23 @@ module _ (bytes u r : List ℕ) (all : IsBytes bytes) (parts : bytes ≡ u ++ r)
         absurd (omega arith)
 
     -- and the block that is refused would be this one
-    block_is : (o : ByteOrder) (block rest : List ℕ) → bytes ≡ block ++ rest → HasOrder section.order bytes o → word o bytes 4 ≡ length block → u ≡ block
-    block_is o block rest parts' has size = front_same bytes u r block rest parts parts' (sym (its_length o has) ∙ size)
+    block_is : (o : ByteOrder) (block rest : List ℕ) → bytes ≡ block ++ rest
+        → HasOrder section.order bytes o → word o bytes 4 ≡ length block → u ≡ block
+    block_is o block rest parts' has size =
+        front_same bytes u r block rest parts parts' (sym (its_length o has) ∙ size)
 
     not_refused : (error : CaptureError) → HasRefusedBlock section bytes error → ⊥
     not_refused error h =
         let size = h.is_block.size in
         let has = order_more section.order h.order bytes h.block h.rest h.parts size h.has_order in
-        let told = word_of h.order bytes h.block h.rest 4 h.parts (omega arith) ∙ h.is_block.front in
+        let told = word_of h.order bytes h.block h.rest 4 h.parts (omega arith)
+        ∙ h.is_block.front in
         let same = block_is h.order h.block h.rest h.parts has told in
-        let refused = subst (λ (l : List ℕ). RefusesBlock section h.order l error) (sym same) h.refused in
-        refused_says section b.order u error (subst (λ (o : ByteOrder). RefusesBlock section o u error) (its_order h.order has) refused) b.next channel frame b.reads
+        let refused = subst (λ (l : List ℕ). RefusesBlock section h.order l error)
+        (sym same) h.refused in
+        refused_says section b.order u error
+        (subst (λ (o : ByteOrder). RefusesBlock section o u error)
+        (its_order h.order has) refused) b.next channel frame b.reads
 
     not_bad : HasBadLength section bytes → ⊥
     not_bad h =
@@ -122,9 +129,12 @@ module _ (bytes u r : List ℕ) (all : IsBytes bytes) (parts : bytes ≡ u ++ r)
           | inl few ↦ absurd (omega arith)
           | inr (inl half) ↦ half (ap (λ n. n % 4) size ∙ words)
           | inr (inr other) ↦
-              (let same = block_is h.order other.block other.rest other.parts h.has_order (sym other.size) in
-              let back = subst (λ (o : ByteOrder). word o u (length u - 4) ≡ length u) (sym (its_order h.order h.has_order)) b.block.back in
-              other.other (subst (λ (k : List ℕ). word h.order k (length k - 4) ≡ length k) same back))
+              (let same = block_is h.order other.block other.rest other.parts h.has_order
+              (sym other.size) in
+              let back = subst (λ (o : ByteOrder). word o u (length u - 4) ≡ length u)
+              (sym (its_order h.order h.has_order)) b.block.back in
+              other.other (subst (λ (k : List ℕ). word h.order k (length k - 4)
+              ≡ length k) same back))
         ]
 
     not_at : (error : CaptureError) → RefusesAt section bytes error → ⊥
@@ -139,9 +149,12 @@ module _ (bytes u r : List ℕ) (all : IsBytes bytes) (parts : bytes ≡ u ++ r)
         let l = long in
         h.long (elim b.fits [
           | inl few ↦ inl (omega arith)
-          | inr skipped ↦ inr (subst (λ (o : ByteOrder). IsSkipped o bytes) (sym order) (skipped_front b.order bytes u r parts (omega arith) skipped))
+          | inr skipped ↦
+              inr (subst (λ (o : ByteOrder). IsSkipped o bytes) (sym order)
+              (skipped_front b.order bytes u r parts (omega arith) skipped))
         ])
-    not_at BadBlock (size, inl none) = none b.order (order_more section.order b.order bytes u r parts long b.has_order)
+    not_at BadBlock (size, inl none) =
+        none b.order (order_more section.order b.order bytes u r parts long b.has_order)
     not_at BadBlock (size, inr (inl bad)) = not_bad bad
     not_at BadBlock (size, inr (inr refused)) = not_refused BadBlock refused
 
@@ -150,17 +163,23 @@ module _ (bytes u r : List ℕ) (all : IsBytes bytes) (parts : bytes ≡ u ++ r)
     no_kind : word Big bytes 0 ≡ section_header → ⊥
     no_kind kind =
         let size = o.header.size in
-        no_section_in o.order bytes all (subst (λ (n : ℕ). IsTrue (is_magic n)) (sym (word_of o.order bytes u r 0 parts (omega arith))) o.header.magic) kind
+        no_section_in o.order bytes all
+        (subst (λ (n : ℕ). IsTrue (is_magic n))
+        (sym (word_of o.order bytes u r 0 parts (omega arith))) o.header.magic) kind
 
     not_link_type : (number : ℕ) → HasLinkType bytes number → ⊥
     not_link_type number h =
         let size = o.header.size in
         let size' = h.is_header.size in
         let same = front_same bytes u r h.header h.rest parts h.parts (size ∙ sym size') in
-        let magic = subst (λ (n : ℕ). IsTrue (is_magic n)) (sym (word_of o.order bytes u r 0 parts (omega arith))) o.header.magic in
-        let magic' = subst (λ (n : ℕ). IsTrue (is_magic n)) (sym (word_of h.order bytes h.header h.rest 0 h.parts (omega arith))) h.is_header.magic in
+        let magic = subst (λ (n : ℕ). IsTrue (is_magic n))
+        (sym (word_of o.order bytes u r 0 parts (omega arith))) o.header.magic in
+        let magic' = subst (λ (n : ℕ). IsTrue (is_magic n))
+        (sym (word_of h.order bytes h.header h.rest 0 h.parts (omega arith)))
+        h.is_header.magic in
         let order = file_order o.order h.order bytes all magic magic' in
-        h.other (sym h.told ∙ ap₂ (λ (p : ByteOrder) (l : List ℕ). link_type p l) (sym order) (sym same) ∙ o.ethernet)
+        h.other (sym h.told ∙ ap₂ (λ (p : ByteOrder) (l : List ℕ). link_type p l) (sym order)
+        (sym same) ∙ o.ethernet)
 
     not_first : (error : CaptureError) → RefusesFirst bytes error → ⊥
     not_first NotCapture refuses = refuses.0 o.order u r parts o.header
@@ -172,7 +191,8 @@ module _ (bytes u r : List ℕ) (all : IsBytes bytes) (parts : bytes ≡ u ++ r)
     not_first BadBlock refuses = no_kind refuses.0.0
 
   -- a section header
-  module _ (kind : word Big u 0 ≡ section_header) (b : IsBlockUnit no_section u after channel frame) where
+  module _ (kind : word Big u 0 ≡ section_header)
+      (b : IsBlockUnit no_section u after channel frame) where
     kind_in : word Big bytes 0 ≡ section_header
     kind_in = let l = b.block.size in word_of Big bytes u r 0 parts (omega arith) ∙ kind
 
@@ -188,16 +208,22 @@ module _ (bytes u r : List ℕ) (all : IsBytes bytes) (parts : bytes ≡ u ++ r)
     long_enough : (content : Content) → Says no_section b.order u content → 28 ≤ length u
     long_enough content says =
         let l = b.block.size in
-        let own = sym (word_of b.order bytes u r 0 parts (omega arith)) ∙ section_kind b.order bytes all kind_in in
+        let own = sym (word_of b.order bytes u r 0 parts (omega arith))
+        ∙ section_kind b.order bytes all kind_in in
         opens no_section b.order u content says own
 
     not_section : (error : CaptureError) → RefusesFirst bytes error → ⊥
-    not_section NotCapture refuses = let l = long_enough b.reads.content b.reads.says in let f = fits in refuses.1 (omega arith) begins
+    not_section NotCapture refuses = let l = long_enough b.reads.content b.reads.says in
+        let f = fits in refuses.1 (omega arith) begins
     not_section (LinkType number) (inl h) =
         let size = h.is_header.size in
-        no_section_in h.order bytes all (subst (λ (n : ℕ). IsTrue (is_magic n)) (sym (word_of h.order bytes h.header h.rest 0 h.parts (omega arith))) h.is_header.magic) kind_in
+        no_section_in h.order bytes all
+        (subst (λ (n : ℕ). IsTrue (is_magic n))
+        (sym (word_of h.order bytes h.header h.rest 0 h.parts (omega arith)))
+        h.is_header.magic) kind_in
     not_section (LinkType number) (inr h) = not_at no_section b (LinkType number) h.1
-    not_section (FrameTooLong captured) refuses = not_at no_section b (FrameTooLong captured) refuses.1
+    not_section (FrameTooLong captured) refuses =
+        not_at no_section b (FrameTooLong captured) refuses.1
     not_section CutOff refuses = refuses
     not_section (BlockTooLong len) refuses = not_at no_section b (BlockTooLong len) refuses.1
     not_section BadBlock refuses = not_at no_section b BadBlock refuses.1
@@ -205,12 +231,16 @@ module _ (bytes u r : List ℕ) (all : IsBytes bytes) (parts : bytes ≡ u ++ r)
   -- a packet record
   module _ (order : ByteOrder) (p : IsPacketRecord order u frame) where
     long_record : 16 ≤ length u
-    long_record = let size = p.size in let sizes = ap length p.parts in omega (arith, length-append p.head frame)
+    long_record = let size = p.size in let sizes = ap length p.parts in
+        omega (arith, length-append p.head frame)
 
-    head_is : (head rest : List ℕ) → bytes ≡ head ++ rest → length head ≡ 16 → word order head 8 ≡ length frame
+    head_is : (head rest : List ℕ) → bytes ≡ head ++ rest → length head ≡ 16
+        → word order head 8 ≡ length frame
     head_is head rest parts' size =
         let front = parts ∙ ap (λ l. l ++ r) p.parts ∙ append_assoc p.head frame r in
-        ap (λ (l : List ℕ). word order l 8) (front_same bytes head rest p.head (frame ++ r) parts' front (size ∙ sym p.size)) ∙ p.captured
+        ap (λ (l : List ℕ). word order l 8)
+        (front_same bytes head rest p.head (frame ++ r) parts' front (size ∙ sym p.size))
+        ∙ p.captured
 
     not_cut : IsShortRecord order bytes → ⊥
     not_cut h =
@@ -232,53 +262,105 @@ module _ (bytes u r : List ℕ) (all : IsBytes bytes) (parts : bytes ≡ u ++ r)
 
 -- ---- so none is the front of what is left
 
-left_no_unit : (state : State) (bytes u r : List ℕ) → IsBytes bytes → bytes ≡ u ++ r → (after : State) (channel : ℕ) (frame : List ℕ) → IsUnit state u after channel frame
+left_no_unit : (state : State) (bytes u r : List ℕ) → IsBytes bytes → bytes ≡ u ++ r
+    → (after : State) (channel : ℕ) (frame : List ℕ) → IsUnit state u after channel frame
     → (refusal : Option CaptureError) → IsLeft state bytes refusal → ⊥
-left_no_unit Start bytes u r all parts after channel frame (inl i) None (inl few) = let size = i.0.header.size in let f = fits bytes u r all parts after channel frame in absurd (omega arith)
-left_no_unit Start bytes u r all parts after channel frame (inl i) None (inr h) = no_kind bytes u r all parts after channel frame i.0 h.0
+left_no_unit Start bytes u r all parts after channel frame (inl i) None (inl few) = let size =
+    i.0.header.size in let f = fits bytes u r all parts after channel frame in absurd (omega arith)
+left_no_unit Start bytes u r all parts after channel frame (inl i) None (inr h) =
+    no_kind bytes u r all parts after channel frame i.0 h.0
 left_no_unit Start bytes u r all parts after channel frame (inr i) None (inl few) =
-    let l = long_enough bytes u r all parts after channel frame i.0 i.1 i.1.reads.content i.1.reads.says in
+    let l = long_enough bytes u r all parts after channel frame i.0 i.1
+    i.1.reads.content i.1.reads.says in
     let f = fits bytes u r all parts after channel frame in
     absurd (omega arith)
-left_no_unit Start bytes u r all parts after channel frame (inr i) None (inr h) = not_short bytes u r all parts after channel frame no_section i.1 h.1
-left_no_unit Start bytes u r all parts after channel frame (inl i) (Some error) refuses = not_first bytes u r all parts after channel frame i.0 error refuses.1
-left_no_unit Start bytes u r all parts after channel frame (inr i) (Some error) refuses = not_section bytes u r all parts after channel frame i.0 i.1 error refuses.1
+left_no_unit Start bytes u r all parts after channel frame (inr i) None (inr h) =
+    not_short bytes u r all parts after channel frame no_section i.1 h.1
+left_no_unit Start bytes u r all parts after channel frame (inl i) (Some error) refuses =
+    not_first bytes u r all parts after channel frame i.0 error refuses.1
+left_no_unit Start bytes u r all parts after channel frame (inr i) (Some error) refuses =
+    not_section bytes u r all parts after channel frame i.0 i.1 error refuses.1
 left_no_unit (Classic order) bytes u r all parts after channel frame i None (inl few) =
     let l = long_record bytes u r all parts after channel frame order i.0 in
     let f = fits bytes u r all parts after channel frame in
     absurd (omega arith)
-left_no_unit (Classic order) bytes u r all parts after channel frame i None (inr h) = not_cut bytes u r all parts after channel frame order i.0 h
-left_no_unit (Classic order) bytes u r all parts after channel frame i (Some NotCapture) refuses = refuses
-left_no_unit (Classic order) bytes u r all parts after channel frame i (Some (LinkType number)) refuses = refuses
-left_no_unit (Classic order) bytes u r all parts after channel frame i (Some (FrameTooLong captured)) refuses = not_long bytes u r all parts after channel frame order i.0 captured i.1 refuses
-left_no_unit (Classic order) bytes u r all parts after channel frame i (Some CutOff) refuses = refuses
-left_no_unit (Classic order) bytes u r all parts after channel frame i (Some (BlockTooLong len)) refuses = refuses
-left_no_unit (Classic order) bytes u r all parts after channel frame i (Some BadBlock) refuses = refuses
-left_no_unit (Pcapng section) bytes u r all parts after channel frame i None (inl few) = let size = i.block.size in let f = fits bytes u r all parts after channel frame in absurd (omega arith)
-left_no_unit (Pcapng section) bytes u r all parts after channel frame i None (inr h) = not_short bytes u r all parts after channel frame section i h
-left_no_unit (Pcapng section) bytes u r all parts after channel frame i (Some error) refuses = not_at bytes u r all parts after channel frame section i error refuses
+left_no_unit (Classic order) bytes u r all parts after channel frame i None (inr h) =
+    not_cut bytes u r all parts after channel frame order i.0 h
+left_no_unit (Classic order) bytes u r all parts after channel frame i (Some NotCapture) refuses =
+    refuses
+left_no_unit (Classic order) bytes u r all parts after channel frame i
+    (Some (LinkType number)) refuses = refuses
+left_no_unit (Classic order) bytes u r all parts after channel frame i
+    (Some (FrameTooLong captured)) refuses =
+    not_long bytes u r all parts after channel frame order i.0 captured i.1 refuses
+left_no_unit (Classic order) bytes u r all parts after channel frame i (Some CutOff) refuses =
+    refuses
+left_no_unit (Classic order) bytes u r all parts after channel frame i
+    (Some (BlockTooLong len)) refuses = refuses
+left_no_unit (Classic order) bytes u r all parts after channel frame i (Some BadBlock) refuses =
+    refuses
+left_no_unit (Pcapng section) bytes u r all parts after channel frame i None (inl few) = let size =
+    i.block.size in let f = fits bytes u r all parts after channel frame in absurd (omega arith)
+left_no_unit (Pcapng section) bytes u r all parts after channel frame i None (inr h) =
+    not_short bytes u r all parts after channel frame section i h
+left_no_unit (Pcapng section) bytes u r all parts after channel frame i (Some error) refuses =
+    not_at bytes u r all parts after channel frame section i error refuses
 
-rows_alone : (state : State) (us vs : List (List ℕ)) (ps qs : List Packet) (after after' : State) (rest rest' : List ℕ) (refusal refusal' : Option CaptureError)
-    → IsBytes (joined us ++ rest) → joined us ++ rest ≡ joined vs ++ rest' → Row state us ps after → Row state vs qs after' → IsLeft after rest refusal → IsLeft after' rest' refusal' → ps ≡ qs
-rows_alone state [] [] ps qs after after' rest rest' refusal refusal' all same row row' left left' = row.0 ∙ sym row'.0
-rows_alone state [] (v ∷ vs) ps qs after after' rest rest' refusal refusal' all same row row' left left' =
-    absurd (left_no_unit state rest v (joined vs ++ rest') all (same ∙ append_assoc v (joined vs) rest') row'.0 row'.1 row'.2 row'.4 refusal (subst (λ (s : State). IsLeft s rest refusal) row.1 left))
-rows_alone state (u ∷ us) [] ps qs after after' rest rest' refusal refusal' all same row row' left left' =
-    absurd (left_no_unit state rest' u (joined us ++ rest) (subst IsBytes same all) (sym same ∙ append_assoc u (joined us) rest) row.0 row.1 row.2 row.4 refusal' (subst (λ (s : State). IsLeft s rest' refusal') row'.1 left'))
-rows_alone state (u ∷ us) (v ∷ vs) ps qs after after' rest rest' refusal refusal' all same row row' left left' =
-    let bytes = u ++ (joined us ++ rest) in
-    let bytes' : IsBytes bytes = subst IsBytes (append_assoc u (joined us) rest) all in
-    let parts : bytes ≡ v ++ (joined vs ++ rest') = sym (append_assoc u (joined us) rest) ∙ same ∙ append_assoc v (joined vs) rest' in
-    let one = unit_alone state bytes u (joined us ++ rest) v (joined vs ++ rest') bytes' refl parts row.0 row'.0 row.1 row'.1 row.2 row'.2 row.4 row'.4 in
-    let behind = rest_same bytes u (joined us ++ rest) v (joined vs ++ rest') refl parts (ap length one.0) in
+rows_alone : (state : State) (us vs : List (List ℕ)) (ps qs : List Packet) (after after' : State)
+    (rest rest' : List ℕ) (refusal refusal' : Option CaptureError)
+    → IsBytes (in_a_row us ++ rest) → in_a_row us ++ rest ≡ in_a_row vs ++ rest' → Row state us ps
+    after
+    → Row state vs qs after' → IsLeft after rest refusal → IsLeft after' rest' refusal' → ps ≡ qs
+rows_alone state [] [] ps qs after after' rest rest' refusal refusal' all same row row' left left' =
+    row.0 ∙ sym row'.0
+rows_alone state [] (v ∷ vs) ps qs after after' rest rest' refusal refusal' all
+    same row row' left left' =
+    absurd (left_no_unit state rest v (in_a_row vs ++ rest') all
+    (same ∙ append_assoc v (in_a_row vs) rest') row'.0 row'.1 row'.2 row'.4 refusal
+    (subst (λ (s : State). IsLeft s rest refusal) row.1 left))
+rows_alone state (u ∷ us) [] ps qs after after' rest rest' refusal refusal' all
+    same row row' left left' =
+    absurd (left_no_unit state rest' u (in_a_row us ++ rest) (subst IsBytes same all)
+    (sym same ∙ append_assoc u (in_a_row us) rest) row.0 row.1 row.2 row.4 refusal'
+    (subst (λ (s : State). IsLeft s rest' refusal') row'.1 left'))
+rows_alone state (u ∷ us) (v ∷ vs) ps qs after after' rest rest' refusal refusal' all
+    same row row' left left' =
+    let bytes = u ++ (in_a_row us ++ rest) in
+    let bytes' : IsBytes bytes = subst IsBytes (append_assoc u (in_a_row us) rest) all in
+    let parts : bytes ≡ v ++ (in_a_row vs ++ rest') =
+    sym (append_assoc u (in_a_row us) rest) ∙ same ∙ append_assoc v (in_a_row vs) rest' in
+    let one = unit_alone state bytes u (in_a_row us ++ rest) v
+    (in_a_row vs ++ rest') bytes' refl parts row.0 row'.0 row.1 row'.1
+    row.2 row'.2 row.4 row'.4 in
+    let behind = rest_same bytes u (in_a_row us ++ rest) v
+    (in_a_row vs ++ rest') refl parts (ap length one.0) in
     let later' = subst (λ (s : State). Row s vs row'.3 after') (sym one.1) row'.5 in
-    let later = rows_alone row.0 us vs row.3 row'.3 after after' rest rest' refusal refusal' (bytes_behind u (joined us ++ rest) bytes') behind row.5 later' left left' in
+    let later = rows_alone row.0 us vs row.3 row'.3 after after' rest rest' refusal refusal'
+    (bytes_behind u (in_a_row us ++ rest) bytes') behind row.5 later' left left' in
     row.6 ∙ ap₂ (λ (a b : List Packet). a ++ b) one.2 later ∙ sym row'.6
 
-pub told_alone : (bytes rest rest' text text' : List ℕ) (state state' : State) (refusal refusal' : Option CaptureError) → IsBytes bytes → Takes Start bytes state rest text refusal
+pub told_alone : (bytes rest rest' text text' : List ℕ) (state state' : State)
+    (refusal refusal' : Option CaptureError) → IsBytes bytes
+    → Takes Start bytes state rest text refusal
     → Takes Start bytes state' rest' text' refusal' → text ≡ text'
 told_alone bytes rest rest' text text' state state' refusal refusal' all t t' =
     let p = t.passes in
     let p' = t'.passes in
-    let same = rows_alone Start p.units p'.units t.packets t'.packets state state' rest rest' refusal refusal' (subst IsBytes p.parts all) (sym p.parts ∙ p'.parts) p.row p'.row t.left t'.left in
+    let same = rows_alone Start p.units p'.units t.packets t'.packets state state' rest rest'
+    refusal refusal' (subst IsBytes p.parts all)
+    (sym p.parts ∙ p'.parts) p.row p'.row t.left t'.left in
     t.told ∙ ap lines_of same ∙ sym t'.told
+
+nothing_left : (state : State) → IsLeft state [] None
+nothing_left Start = inl (omega arith)
+nothing_left (Classic order) = inl (omega arith)
+nothing_left (Pcapng section) = inl (omega arith)
+
+pub capture_alone : (bytes : List ℕ) (packets packets' : List Packet) → IsBytes bytes
+    → IsCapture bytes packets → IsCapture bytes packets' → packets ≡ packets'
+capture_alone bytes packets packets' all capture capture' =
+    let p = capture.passes in
+    let p' = capture'.passes in
+    rows_alone Start p.units p'.units packets packets' capture.state capture'.state [] [] None None
+    (subst IsBytes p.parts all) (sym p.parts ∙ p'.parts) p.row p'.row
+    (nothing_left capture.state) (nothing_left capture'.state)

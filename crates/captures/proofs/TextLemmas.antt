@@ -1,5 +1,8 @@
 -- Lines at the front of a text.
-use Rattle.std.proofs.Common.{◌≡◌, ◌∙◌, sym, ap, refl, subst, ℕ, suc, ◌+◌, ◌-◌, ◌<◌, ◌≤◌, Bool, true, false, List, [], ◌∷◌, ◌++◌, length, take, drop, get_or, Some, None, append_assoc, append-nil, length-append, arith, inl, inr, eqb-true, ltb-true, ltb-false}
+use Rattle.std.proofs.Common.{◌≡◌, ◌∙◌, sym, ap, refl, subst, ℕ, suc, ◌+◌, ◌-◌, ◌<◌, ◌≤◌, Bool}
+use Rattle.std.proofs.Common.{true, false, List, [], ◌∷◌, ◌++◌, length, take, drop, get_or, Some}
+use Rattle.std.proofs.Common.{None, append_assoc, append-nil, length-append, arith, inl, inr}
+use Rattle.std.proofs.Common.{eqb-true, ltb-true, ltb-false}
 use Rattle.std.specs.Prelude.{position, nat_lt}
 use Rattle.std.specs.List.{flat_map, position_or_len, before_first, after_first}
 use Rattle.std.proofs.lemmas.Bool.{lt-ltb, le-ltb, cases_lt}
@@ -9,11 +12,21 @@ use Rattle.std.proofs.lemmas.List.Concat.{flat_map-append}
 use Rattle.captures.specs.FrameLines.{frame_of}
 use Rattle.captures.specs.declared.limits.TheConstants.{LINE_LIMIT}
 use Rattle.captures.specs.Spelling.{TimedFrame, record_of}
-use Rattle.captures.specs.Texts.{is_newline, HasNoNewline, ended, HandIn, Hands, ends_line, closed, known_text, coming, IsLeftLine}
+use Rattle.captures.specs.Texts.{is_newline, HasNoNewline, with_line_ends, HandIn, Hands, ends_line}
+use Rattle.captures.specs.Texts.{with_last_line_end}
+use Rattle.captures.specs.Texts.{IsLeftLine}
+
+-- what comes behind a begun line: what a read gave, or at the end the 0a that a begun line lacks
+abbrev pub coming : Bool → (begun piece : List ℕ) → List ℕ
+coming false begun piece = piece
+coming true [] piece = []
+coming true (byte ∷ begun) piece = 10 ∷ []
 
 -- ---- the first 0a
 
-step_none : (x : ℕ) (xs : List ℕ) (b : Bool) → is_newline x ≡ b → length (x ∷ xs) ≤ position_or_len is_newline (x ∷ xs) → (length xs ≤ position_or_len is_newline xs → HasNoNewline xs) → HasNoNewline (x ∷ xs)
+step_none : (x : ℕ) (xs : List ℕ) (b : Bool) → is_newline x ≡ b
+    → length (x ∷ xs) ≤ position_or_len is_newline (x ∷ xs)
+    → (length xs ≤ position_or_len is_newline xs → HasNoNewline xs) → HasNoNewline (x ∷ xs)
 step_none x xs true is none later = absurd (let none' = rw is at none in omega arith)
 step_none x xs false is none later = (is, later (let none' = rw is at none in omega arith))
 
@@ -24,67 +37,90 @@ no_newline (x ∷ xs) none = step_none x xs (is_newline x) refl none (no_newline
 pub none_found : (xs : List ℕ) → position is_newline xs ≡ None → HasNoNewline xs
 none_found xs none =
     elim (cases_lt (position_or_len is_newline xs) (length xs)) [
-      | inl found ↦ (let e = rw (lt-ltb (position_or_len is_newline xs) (length xs) found) at none in absurd (cc))
+      | inl found ↦
+          (let e = rw (lt-ltb (position_or_len is_newline xs) (length xs) found) at none in
+          absurd (cc))
       | inr past ↦ no_newline xs past
     ]
 
-step_before : (x : ℕ) (xs : List ℕ) (b : Bool) → is_newline x ≡ b → HasNoNewline (before_first is_newline xs) → HasNoNewline (before_first is_newline (x ∷ xs))
+step_before : (x : ℕ) (xs : List ℕ) (b : Bool) → is_newline x ≡ b
+    → HasNoNewline (before_first is_newline xs) → HasNoNewline (before_first is_newline (x ∷ xs))
 step_before x xs true is later = rw is tt
 step_before x xs false is later =
-    let at : suc (position_or_len is_newline xs) ≡ position_or_len is_newline (x ∷ xs) = rw is (omega arith) in
+    let at : suc (position_or_len is_newline xs) ≡ position_or_len is_newline (x ∷ xs) =
+    rw is (omega arith) in
     subst (λ n. HasNoNewline (take n (x ∷ xs))) at (is, later)
 
 none_before : (xs : List ℕ) → HasNoNewline (before_first is_newline xs)
 none_before [] = tt
 none_before (x ∷ xs) = step_before x xs (is_newline x) refl (none_before xs)
 
-found_at : (xs : List ℕ) (end : ℕ) → position is_newline xs ≡ Some end → (position_or_len is_newline xs ≡ end) × (position_or_len is_newline xs < length xs)
+found_at : (xs : List ℕ) (end : ℕ) → position is_newline xs ≡ Some end
+    → (position_or_len is_newline xs ≡ end) × (position_or_len is_newline xs < length xs)
 found_at xs end some =
     elim (cases_lt (position_or_len is_newline xs) (length xs)) [
-      | inl found ↦ (let e = rw (lt-ltb (position_or_len is_newline xs) (length xs) found) at some in (cc, found))
-      | inr past ↦ (let e = rw (le-ltb (position_or_len is_newline xs) (length xs) past) at some in absurd (cc))
+      | inl found ↦
+          (let e = rw (lt-ltb (position_or_len is_newline xs) (length xs) found) at some in
+          (cc, found))
+      | inr past ↦
+          (let e = rw (le-ltb (position_or_len is_newline xs) (length xs) past) at some in
+          absurd (cc))
     ]
 
 -- bytes up to the first 0a, and those behind it
-pub found_line : (xs : List ℕ) (end : ℕ) → position is_newline xs ≡ Some end → HasNoNewline (take end xs) × (xs ≡ take end xs ++ 10 ∷ drop (end + 1) xs)
+pub found_line : (xs : List ℕ) (end : ℕ) → position is_newline xs ≡ Some end
+    → HasNoNewline (take end xs) × (xs ≡ take end xs ++ 10 ∷ drop (end + 1) xs)
 found_line xs end some =
     let at = found_at xs end some in
-    let newline : get_or xs (position_or_len is_newline xs) 0 ≡ 10 = eqb-true _ 10 (passes_at_first is_newline xs 0 at.1) in
-    let split = split_at_first is_newline xs 0 at.1 ∙ ap (λ n. before_first is_newline xs ++ n ∷ after_first is_newline xs) newline in (
+    let newline : get_or xs (position_or_len is_newline xs) 0 ≡ 10 =
+    eqb-true _ 10 (passes_at_first is_newline xs 0 at.1) in
+    let split = split_at_first is_newline xs 0 at.1
+    ∙ ap (λ n. before_first is_newline xs ++ n ∷ after_first is_newline xs) newline in (
       subst (λ n. HasNoNewline (take n xs)) at.0 (none_before xs),
       subst (λ n. xs ≡ take n xs ++ 10 ∷ drop (n + 1) xs) at.0 split,
     )
 
 -- what follows a line, as the code takes it
-pub after_line : (rest : List ℕ) (n : ℕ) → n < length rest → take (length (drop n rest) - 1) (drop 1 (drop n rest)) ≡ drop (n + 1) rest
+pub after_line : (rest : List ℕ) (n : ℕ) → n < length rest
+    → take (length (drop n rest) - 1) (drop 1 (drop n rest)) ≡ drop (n + 1) rest
 after_line rest n lt = take_rest (drop n rest) 1 ∙ drop-drop 1 n rest
 
 -- ---- lines in a row
 
-ended-append : (xs ys : List (List ℕ)) → ended (xs ++ ys) ≡ ended xs ++ ended ys
-ended-append [] ys = refl
-ended-append (x ∷ xs) ys = ap (λ l. x ++ 10 ∷ l) (ended-append xs ys) ∙ sym (append_assoc x (10 ∷ ended xs) (ended ys))
+with_line_ends-append : (xs ys : List (List ℕ)) → with_line_ends (xs ++ ys) ≡ with_line_ends xs
+    ++ with_line_ends ys
+with_line_ends-append [] ys = refl
+with_line_ends-append (x ∷ xs) ys = ap (λ l. x ++ 10 ∷ l) (with_line_ends-append xs ys)
+    ∙ sym (append_assoc x (10 ∷ with_line_ends xs) (with_line_ends ys))
 
-HandIn-append : (xs ys : List (List ℕ)) (fs gs : List TimedFrame) → HandIn xs fs → HandIn ys gs → HandIn (xs ++ ys) (fs ++ gs)
+HandIn-append : (xs ys : List (List ℕ)) (fs gs : List TimedFrame) → HandIn xs fs → HandIn ys gs
+    → HandIn (xs ++ ys) (fs ++ gs)
 HandIn-append [] ys fs gs p q = rw p q
-HandIn-append (x ∷ xs) ys fs gs p q = (p.0, p.1 ++ gs, p.2, p.3, HandIn-append xs ys p.1 gs p.4 q, ap (λ l. l ++ gs) p.5)
+HandIn-append (x ∷ xs) ys fs gs p q =
+    (p.0, p.1 ++ gs, p.2, p.3, HandIn-append xs ys p.1 gs p.4 q, ap (λ l. l ++ gs) p.5)
 
 pub hands_start : (bytes : List ℕ) → Hands bytes 0 [] bytes
 hands_start bytes = record { lines = []; each = refl; number = refl; parts = refl }
 
 -- lines in the rest and what follows it
-pub hands_more : (bytes piece rest rest' : List ℕ) (m n : ℕ) (fs gs : List TimedFrame) → Hands bytes m fs rest → Hands (rest ++ piece) n gs rest' → Hands (bytes ++ piece) (m + n) (fs ++ gs) rest'
+pub hands_more : (bytes piece rest rest' : List ℕ) (m n : ℕ) (fs gs : List TimedFrame)
+    → Hands bytes m fs rest → Hands (rest ++ piece) n gs rest'
+    → Hands (bytes ++ piece) (m + n) (fs ++ gs) rest'
 hands_more bytes piece rest rest' m n fs gs p q = record {
   lines = p.lines ++ q.lines;
   each = HandIn-append p.lines q.lines fs gs p.each q.each;
   number = let a = p.number in let b = q.number in length-append p.lines q.lines ∙ omega arith;
   parts =
-      ap (λ l. l ++ piece) p.parts ∙ append_assoc (ended p.lines) rest piece ∙ ap (λ l. ended p.lines ++ l) q.parts
-      ∙ sym (append_assoc (ended p.lines) (ended q.lines) rest') ∙ ap (λ l. l ++ rest') (sym (ended-append p.lines q.lines));
+      ap (λ l. l ++ piece) p.parts ∙ append_assoc (with_line_ends p.lines) rest piece
+      ∙ ap (λ l. with_line_ends p.lines ++ l) q.parts
+      ∙ sym (append_assoc (with_line_ends p.lines) (with_line_ends q.lines) rest')
+      ∙ ap (λ l. l ++ rest') (sym (with_line_ends-append p.lines q.lines));
 }
 
 -- one more line
-pub hands_line : (bytes rest line rest' : List ℕ) (n : ℕ) (fs : List TimedFrame) (timed : TimedFrame) → Hands bytes n fs rest → rest ≡ line ++ 10 ∷ rest' → HasNoNewline line → frame_of line ≡ Some timed
+pub hands_line : (bytes rest line rest' : List ℕ) (n : ℕ) (fs : List TimedFrame)
+    (timed : TimedFrame) → Hands bytes n fs rest → rest ≡ line ++ 10 ∷ rest' → HasNoNewline line
+    → frame_of line ≡ Some timed
     → Hands bytes (n + 1) (fs ++ timed ∷ []) rest'
 hands_line bytes rest line rest' n fs timed p parts whole is =
     subst (λ l. Hands l (n + 1) (fs ++ timed ∷ []) rest') (append-nil bytes)
@@ -97,7 +133,8 @@ hands_line bytes rest line rest' n fs timed p parts whole is =
 
 -- ---- the end of a text
 
-ends_line-front : (xs : List ℕ) (b : ℕ) (bs : List ℕ) → ends_line (xs ++ b ∷ bs) ≡ ends_line (b ∷ bs)
+ends_line-front : (xs : List ℕ) (b : ℕ) (bs : List ℕ)
+    → ends_line (xs ++ b ∷ bs) ≡ ends_line (b ∷ bs)
 ends_line-front [] b bs = refl
 ends_line-front (x ∷ []) b bs = refl
 ends_line-front (x ∷ y ∷ xs) b bs = ends_line-front (y ∷ xs) b bs
@@ -110,32 +147,25 @@ ends_newline : (xs : List ℕ) → ends_line xs ≡ true → ends_line (10 ∷ x
 ends_newline [] ends = refl
 ends_newline (x ∷ xs) ends = ends
 
-pub ends_ended : (lines : List (List ℕ)) → ends_line (ended lines) ≡ true
+pub ends_ended : (lines : List (List ℕ)) → ends_line (with_line_ends lines) ≡ true
 ends_ended [] = refl
-ends_ended (line ∷ lines) = ends_line-front line 10 (ended lines) ∙ ends_newline (ended lines) (ends_ended lines)
+ends_ended (line ∷ lines) = ends_line-front line 10 (with_line_ends lines)
+    ∙ ends_newline (with_line_ends lines) (ends_ended lines)
 
 -- what ends a begun line
-pub closed_is : (bytes rest : List ℕ) (n : ℕ) (fs : List TimedFrame) → Hands bytes n fs rest → HasNoNewline rest → closed bytes ≡ bytes ++ coming true rest []
+pub closed_is : (bytes rest : List ℕ) (n : ℕ) (fs : List TimedFrame) → Hands bytes n fs rest
+    → HasNoNewline rest → with_last_line_end bytes ≡ bytes ++ coming true rest []
 closed_is bytes [] n fs p none =
-    let all : bytes ≡ ended p.lines = p.parts ∙ append-nil (ended p.lines) in
+    let all : bytes ≡ with_line_ends p.lines = p.parts ∙ append-nil (with_line_ends p.lines) in
     let ends : ends_line bytes ≡ true = ap ends_line all ∙ ends_ended p.lines in
     rw ends (sym (append-nil bytes))
 closed_is bytes (b ∷ rest) n fs p none =
-    let ends : ends_line bytes ≡ false = ap ends_line p.parts ∙ ends_line-front (ended p.lines) b rest ∙ ends_none b rest none in
+    let ends : ends_line bytes ≡ false = ap ends_line p.parts
+    ∙ ends_line-front (with_line_ends p.lines) b rest ∙ ends_none b rest none in
     rw ends refl
 
--- what is known of a text after one more piece
-pub known_is : (told : Bool) (bytes piece rest : List ℕ) (n : ℕ) (fs : List TimedFrame) → Hands bytes n fs rest → HasNoNewline rest → (told ≡ true → piece ≡ [])
-    → known_text told (bytes ++ piece) ≡ bytes ++ coming told rest piece
-known_is false bytes piece rest n fs p none end = refl
-known_is true bytes piece rest n fs p none end =
-    ap (λ l. closed (bytes ++ l)) (end refl) ∙ ap closed (append-nil bytes) ∙ closed_is bytes rest n fs p none ∙ ends_same rest piece
-  where
-    ends_same : (rest piece : List ℕ) → bytes ++ coming true rest [] ≡ bytes ++ coming true rest piece
-    ends_same [] piece = refl
-    ends_same (b ∷ rest) piece = refl
-
-not_ended : (xs : List ℕ) (rest : List ℕ) → ends_line (xs ++ rest) ≡ true → HasNoNewline rest → rest ≡ []
+not_ended : (xs : List ℕ) (rest : List ℕ) → ends_line (xs ++ rest) ≡ true
+    → HasNoNewline rest → rest ≡ []
 not_ended xs [] ends none = refl
 not_ended xs (b ∷ rest) ends none =
     let e : true ≡ false = sym ends ∙ ends_line-front xs b rest ∙ ends_none b rest none in
@@ -146,24 +176,31 @@ text_ends [] piece = refl
 text_ends (b ∷ begun) piece = ends_line-front (b ∷ begun) 10 []
 
 -- nothing is left of a text that is ended
-pub ended_rest : (begun piece text rest : List ℕ) (n : ℕ) (fs : List TimedFrame) → text ≡ begun ++ coming true begun piece → Hands text n fs rest → HasNoNewline rest → rest ≡ []
+pub ended_rest : (begun piece text rest : List ℕ) (n : ℕ) (fs : List TimedFrame)
+    → text ≡ begun ++ coming true begun piece → Hands text n fs rest → HasNoNewline rest → rest ≡ []
 ended_rest begun piece text rest n fs parts p none =
-    not_ended (ended p.lines) rest (ap ends_line (sym p.parts ∙ parts) ∙ text_ends begun piece) none
+    not_ended (with_line_ends p.lines) rest (ap ends_line (sym p.parts ∙ parts) ∙ text_ends begun
+    piece) none
 
 -- ---- what is taken
 
 -- where no line ends any more
-left_by : (rest : List ℕ) (b : Bool) → nat_lt LINE_LIMIT (length rest) ≡ b → HasNoNewline rest → IsLeftLine b rest
+left_by : (rest : List ℕ) (b : Bool) → nat_lt LINE_LIMIT (length rest) ≡ b
+    → HasNoNewline rest → IsLeftLine b rest
 left_by rest true is none = inr (none, ltb-true LINE_LIMIT (length rest) is)
 left_by rest false is none = (none, ltb-false LINE_LIMIT (length rest) is)
 
-pub left_line : (rest : List ℕ) → HasNoNewline rest → IsLeftLine (nat_lt LINE_LIMIT (length rest)) rest
+pub left_line : (rest : List ℕ) → HasNoNewline rest
+    → IsLeftLine (nat_lt LINE_LIMIT (length rest)) rest
 left_line rest none = left_by rest (nat_lt LINE_LIMIT (length rest)) refl none
 
-pub left_bad : (rest line rest' : List ℕ) → rest ≡ line ++ 10 ∷ rest' → HasNoNewline line → frame_of line ≡ None → IsLeftLine true rest
-left_bad rest line rest' parts whole none = inl (record { line = line; rest = rest'; parts = parts; whole = whole; none = none })
+pub left_bad : (rest line rest' : List ℕ) → rest ≡ line ++ 10 ∷ rest' → HasNoNewline line
+    → frame_of line ≡ None → IsLeftLine true rest
+left_bad rest line rest' parts whole none =
+    inl (record { line = line; rest = rest'; parts = parts; whole = whole; none = none })
 
-pub records-append : (fs gs : List TimedFrame) → flat_map record_of (fs ++ gs) ≡ flat_map record_of fs ++ flat_map record_of gs
+pub records-append : (fs gs : List TimedFrame)
+    → flat_map record_of (fs ++ gs) ≡ flat_map record_of fs ++ flat_map record_of gs
 records-append fs gs = flat_map-append record_of fs gs
 
 -- so many lines are taken, and their records written
@@ -175,10 +212,14 @@ pub record Taking (bytes : List ℕ) (count : ℕ) (rest written : List ℕ) : T
 pub taking_start : (bytes written : List ℕ) → written ≡ [] → Taking bytes 0 bytes written
 taking_start bytes written none = record { frames = []; hands = hands_start bytes; spelled = none }
 
-pub taking_line : (bytes rest line rest' written written' : List ℕ) (n : ℕ) (timed : TimedFrame) → Taking bytes n rest written → rest ≡ line ++ 10 ∷ rest' → HasNoNewline line → frame_of line ≡ Some timed
+pub taking_line : (bytes rest line rest' written written' : List ℕ) (n : ℕ) (timed : TimedFrame)
+    → Taking bytes n rest written → rest ≡ line ++ 10 ∷ rest' → HasNoNewline line
+    → frame_of line ≡ Some timed
     → written' ≡ written ++ record_of timed → Taking bytes (n + 1) rest' written'
 taking_line bytes rest line rest' written written' n timed t parts whole is more = record {
   frames = t.frames ++ timed ∷ [];
   hands = hands_line bytes rest line rest' n t.frames timed t.hands parts whole is;
-  spelled = more ∙ ap (λ l. l ++ record_of timed) t.spelled ∙ ap (λ l. flat_map record_of t.frames ++ l) (sym (append-nil (record_of timed))) ∙ sym (records-append t.frames (timed ∷ []));
+  spelled = more ∙ ap (λ l. l ++ record_of timed) t.spelled
+      ∙ ap (λ l. flat_map record_of t.frames ++ l) (sym (append-nil (record_of timed)))
+      ∙ sym (records-append t.frames (timed ∷ []));
 }

@@ -1,27 +1,33 @@
 -- Units in a row.
-use Rattle.std.proofs.Common.{◌≡◌, ◌∙◌, sym, ap, refl, subst, ℕ, ◌==◌, true, false, ◌<◌, arith, List, [], ◌∷◌, ◌++◌, length, take, append_assoc, append-nil, inl, inr, length-append, eqb-true, Option, None}
+use Rattle.std.proofs.Common.{◌≡◌, ◌∙◌, sym, ap, refl, subst, ℕ, ◌==◌, true, false, ◌<◌, arith}
+use Rattle.std.proofs.Common.{List, [], ◌∷◌, ◌++◌, length, take, append_assoc, append-nil, inl, inr}
+use Rattle.std.proofs.Common.{length-append, eqb-true, Option, None}
 use Rattle.std.proofs.Math.Seq.{take-append_seam}
 use Rattle.std.proofs.lemmas.List.Concat.{flat_map-append}
 use Rattle.captures.specs.Lines.{Packet, packets_of, line_of, lines_of}
-use Rattle.captures.specs.Units.{IsUnit, Row, joined, Passes, HasUnit, IsNoCapture, Takes}
+use Rattle.captures.specs.Units.{IsUnit, Row, in_a_row, Passes, HasUnit, IsNoCapture, Takes}
 use Rattle.captures.specs.declared.capture_error.CaptureError.{CaptureError}
-use Rattle.captures.specs.declared.state.State.{State}
-use Rattle.captures.specs.declared.state.State.TheVariants.{Start, Classic, Pcapng}
+use Rattle.captures.specs.declared.translation.state.State.{State}
+use Rattle.captures.specs.declared.translation.state.State.TheVariants.{Start, Classic, Pcapng}
 use Rattle.captures.specs.declared.limits.TheConstants.{FIRST_UNIT_LEN}
 
 -- bytes with so many in front have that front
-pub front_is : (bytes header rest front : List ℕ) (n : ℕ) → bytes ≡ header ++ rest → front ≡ take n bytes → length header ≡ n → front ≡ header
+pub front_is : (bytes header rest front : List ℕ) (n : ℕ) → bytes ≡ header ++ rest
+    → front ≡ take n bytes → length header ≡ n → front ≡ header
 front_is bytes header rest front n parts is size =
-    is ∙ ap (λ l. take n l) parts ∙ ap (λ m. take m (header ++ rest)) (sym size) ∙ take-append_seam header rest
+    is ∙ ap (λ l. take n l) parts ∙ ap (λ m. take m (header ++ rest)) (sym size)
+    ∙ take-append_seam header rest
 
 pub lines_of-append : (ps qs : List Packet) → lines_of (ps ++ qs) ≡ lines_of ps ++ lines_of qs
 lines_of-append ps qs = flat_map-append line_of ps qs
 
-joined-append : (us vs : List (List ℕ)) → joined (us ++ vs) ≡ joined us ++ joined vs
-joined-append [] vs = refl
-joined-append (u ∷ us) vs = ap (λ l. u ++ l) (joined-append us vs) ∙ sym (append_assoc u (joined us) (joined vs))
+in_a_row-append : (us vs : List (List ℕ)) → in_a_row (us ++ vs) ≡ in_a_row us ++ in_a_row vs
+in_a_row-append [] vs = refl
+in_a_row-append (u ∷ us) vs = ap (λ l. u ++ l) (in_a_row-append us vs)
+    ∙ sym (append_assoc u (in_a_row us) (in_a_row vs))
 
-Row-append : (state mid after : State) (us vs : List (List ℕ)) (ps qs : List Packet) → Row state us ps mid → Row mid vs qs after → Row state (us ++ vs) (ps ++ qs) after
+Row-append : (state mid after : State) (us vs : List (List ℕ)) (ps qs : List Packet)
+    → Row state us ps mid → Row mid vs qs after → Row state (us ++ vs) (ps ++ qs) after
 Row-append state mid after [] vs ps qs p q = rw p.0 (subst (λ (s : State). Row s vs qs after) p.1 q)
 Row-append state mid after (u ∷ us) vs ps qs p q = (
   p.0,
@@ -38,25 +44,41 @@ pub passes_start : (state : State) (bytes : List ℕ) → Passes state bytes [] 
 passes_start state bytes = record { units = []; row = (refl, refl); parts = refl }
 
 -- one more unit
-pub passes_unit : (state mid after : State) (bytes rest rest' : List ℕ) (packets : List Packet) (channel : ℕ) (frame : List ℕ) → Passes state bytes packets mid rest
-    → HasUnit mid rest after channel frame rest' → Passes state bytes (packets ++ packets_of channel frame) after rest'
+pub passes_unit : (state mid after : State) (bytes rest rest' : List ℕ) (packets : List Packet)
+    (channel : ℕ) (frame : List ℕ) → Passes state bytes packets mid rest
+    → HasUnit mid rest after channel frame rest'
+    → Passes state bytes (packets ++ packets_of channel frame) after rest'
 passes_unit state mid after bytes rest rest' packets channel frame p h = record {
   units = p.units ++ h.unit ∷ [];
-  row = Row-append state mid after p.units (h.unit ∷ []) packets (packets_of channel frame) p.row (after, channel, frame, [], h.is_unit, (refl, refl), sym (append-nil (packets_of channel frame)));
+  row = Row-append state mid after p.units (h.unit ∷ []) packets (packets_of channel frame) p.row (
+    after,
+    channel,
+    frame,
+    [],
+    h.is_unit,
+    (refl, refl),
+    sym
+        (append-nil (packets_of channel frame)),
+  );
   parts =
-      p.parts ∙ ap (λ l. joined p.units ++ l) h.parts ∙ sym (append_assoc (joined p.units) h.unit rest')
-      ∙ ap (λ l. l ++ rest') (ap (λ l. joined p.units ++ l) (sym (append-nil h.unit)) ∙ sym (joined-append p.units (h.unit ∷ [])));
+      p.parts ∙ ap (λ l. in_a_row p.units ++ l) h.parts
+      ∙ sym (append_assoc (in_a_row p.units) h.unit rest')
+      ∙ ap (λ l. l ++ rest') (ap (λ l. in_a_row p.units ++ l) (sym (append-nil h.unit))
+      ∙ sym (in_a_row-append p.units (h.unit ∷ [])));
 }
 
 -- more units, in the rest and what follows it
-pub passes_more : (state mid after : State) (bytes piece rest rest' : List ℕ) (ps qs : List Packet) → Passes state bytes ps mid rest → Passes mid (rest ++ piece) qs after rest'
+pub passes_more : (state mid after : State) (bytes piece rest rest' : List ℕ) (ps qs : List Packet)
+    → Passes state bytes ps mid rest → Passes mid (rest ++ piece) qs after rest'
     → Passes state (bytes ++ piece) (ps ++ qs) after rest'
 passes_more state mid after bytes piece rest rest' ps qs p q = record {
   units = p.units ++ q.units;
   row = Row-append state mid after p.units q.units ps qs p.row q.row;
   parts =
-      ap (λ l. l ++ piece) p.parts ∙ append_assoc (joined p.units) rest piece ∙ ap (λ l. joined p.units ++ l) q.parts
-      ∙ sym (append_assoc (joined p.units) (joined q.units) rest') ∙ ap (λ l. l ++ rest') (sym (joined-append p.units q.units));
+      ap (λ l. l ++ piece) p.parts ∙ append_assoc (in_a_row p.units) rest piece
+      ∙ ap (λ l. in_a_row p.units ++ l) q.parts
+      ∙ sym (append_assoc (in_a_row p.units) (in_a_row q.units) rest')
+      ∙ ap (λ l. l ++ rest') (sym (in_a_row-append p.units q.units));
 }
 
 -- units are passed, and their packets are told
@@ -65,47 +87,63 @@ pub record Told (state : State) (bytes : List ℕ) (after : State) (rest text : 
   pub passes : Passes state bytes packets after rest
   pub lines : text ≡ lines_of packets
 
-pub told_start : (state : State) (bytes text : List ℕ) → text ≡ [] → Told state bytes state bytes text
-told_start state bytes text none = record { packets = []; passes = passes_start state bytes; lines = none }
+pub told_start : (state : State) (bytes text : List ℕ) → text ≡ []
+    → Told state bytes state bytes text
+told_start state bytes text none =
+    record { packets = []; passes = passes_start state bytes; lines = none }
 
 -- one more unit, of which this is the text
-pub told_unit : (state mid after : State) (bytes rest rest' text more text' : List ℕ) (channel : ℕ) (frame : List ℕ) → Told state bytes mid rest text
-    → HasUnit mid rest after channel frame rest' → more ≡ lines_of (packets_of channel frame) → text' ≡ text ++ more → Told state bytes after rest' text'
+pub told_unit : (state mid after : State) (bytes rest rest' text more text' : List ℕ) (channel : ℕ)
+    (frame : List ℕ) → Told state bytes mid rest text
+    → HasUnit mid rest after channel frame rest' → more ≡ lines_of (packets_of channel frame)
+    → text' ≡ text ++ more → Told state bytes after rest' text'
 told_unit state mid after bytes rest rest' text more text' channel frame t h is all = record {
   packets = t.packets ++ packets_of channel frame;
   passes = passes_unit state mid after bytes rest rest' t.packets channel frame t.passes h;
-  lines = all ∙ ap (λ l. l ++ more) t.lines ∙ ap (λ l. lines_of t.packets ++ l) is ∙ sym (lines_of-append t.packets (packets_of channel frame));
+  lines = all ∙ ap (λ l. l ++ more) t.lines ∙ ap (λ l. lines_of t.packets ++ l) is
+      ∙ sym (lines_of-append t.packets (packets_of channel frame));
 }
 
 -- the lines of a packet that has bytes, and of none
-pub some_frame : (channel : ℕ) (frame : List ℕ) → (length frame == 0) ≡ false → line_of (record { channel = channel; frame = frame }) ≡ lines_of (packets_of channel frame)
+pub some_frame : (channel : ℕ) (frame : List ℕ) → (length frame == 0) ≡ false
+    → line_of (record { channel = channel; frame = frame }) ≡ lines_of (packets_of channel frame)
 some_frame channel [] some = absurd (cc)
-some_frame channel (b ∷ bytes) some = sym (append-nil (line_of (record { channel = channel; frame = b ∷ bytes })))
+some_frame channel (b ∷ bytes) some =
+    sym (append-nil (line_of (record { channel = channel; frame = b ∷ bytes })))
 
-pub no_frame : (channel : ℕ) (frame : List ℕ) → (length frame == 0) ≡ true → [] ≡ lines_of (packets_of channel frame)
+pub no_frame : (channel : ℕ) (frame : List ℕ) → (length frame == 0) ≡ true
+    → [] ≡ lines_of (packets_of channel frame)
 no_frame channel [] none = refl
-no_frame channel (b ∷ bytes) none = absurd (let zero = eqb-true (length (b ∷ bytes)) 0 none in omega arith)
+no_frame channel (b ∷ bytes) none =
+    absurd (let zero = eqb-true (length (b ∷ bytes)) 0 none in omega arith)
 
 -- after a unit something is known
-known_after : (state : State) (unit : List ℕ) (after : State) (channel : ℕ) (frame : List ℕ) → IsUnit state unit after channel frame → after ≡ Start → ⊥
+known_after : (state : State) (unit : List ℕ) (after : State) (channel : ℕ) (frame : List ℕ)
+    → IsUnit state unit after channel frame → after ≡ Start → ⊥
 known_after Start unit after channel frame (inl h) is = let next = h.0.next in cc
 known_after Start unit after channel frame (inr h) is = let next = h.1.becomes in cc
 known_after (Classic order) unit after channel frame h is = let next = h.2 in cc
 known_after (Pcapng section) unit after channel frame h is = let next = h.becomes in cc
 
-row_known : (state after : State) (units : List (List ℕ)) (packets : List Packet) → Row state units packets after → (state ≡ Start → ⊥) → after ≡ Start → ⊥
+row_known : (state after : State) (units : List (List ℕ)) (packets : List Packet)
+    → Row state units packets after → (state ≡ Start → ⊥) → after ≡ Start → ⊥
 row_known state after [] packets row known is = known (sym row.1 ∙ is)
-row_known state after (unit ∷ units) packets row known is = row_known row.0 after units row.3 row.5 (known_after state unit row.0 row.1 row.2 row.4) is
+row_known state after (unit ∷ units) packets row known is =
+    row_known row.0 after units row.3 row.5 (known_after state unit row.0 row.1 row.2 row.4) is
 
-row_start : (units : List (List ℕ)) (packets : List Packet) → Row Start units packets Start → (units ≡ []) × (packets ≡ [])
+row_start : (units : List (List ℕ)) (packets : List Packet) → Row Start units packets Start
+    → (units ≡ []) × (packets ≡ [])
 row_start [] packets row = (refl, row.0)
-row_start (unit ∷ units) packets row = absurd (row_known row.0 Start units row.3 row.5 (known_after Start unit row.0 row.1 row.2 row.4) refl)
+row_start (unit ∷ units) packets row =
+    absurd (row_known row.0 Start units row.3 row.5
+    (known_after Start unit row.0 row.1 row.2 row.4) refl)
 
 -- where nothing is known yet, no unit is passed
-pub passes_to_start : (bytes rest : List ℕ) (packets : List Packet) → Passes Start bytes packets Start rest → (bytes ≡ rest) × (packets ≡ [])
+pub passes_to_start : (bytes rest : List ℕ) (packets : List Packet)
+    → Passes Start bytes packets Start rest → (bytes ≡ rest) × (packets ≡ [])
 passes_to_start bytes rest packets p =
     let none = row_start p.units packets p.row in
-    (p.parts ∙ ap (λ (us : List (List ℕ)). joined us ++ rest) none.0, none.1)
+    (p.parts ∙ ap (λ (us : List (List ℕ)). in_a_row us ++ rest) none.0, none.1)
 
 -- fewer bytes than a header has begin with none
 pub no_capture_begun : (bytes : List ℕ) → length bytes < FIRST_UNIT_LEN → IsNoCapture bytes
@@ -119,11 +157,14 @@ no_capture_begun bytes begun = (
 )
 
 -- the units of what was left and of what came then
-pub takes_more : (state mid after : State) (bytes piece rest rest' text text' : List ℕ) (refusal : Option CaptureError) → Takes state bytes mid rest text None
-    → Takes mid (rest ++ piece) after rest' text' refusal → Takes state (bytes ++ piece) after rest' (text ++ text') refusal
+pub takes_more : (state mid after : State) (bytes piece rest rest' text text' : List ℕ)
+    (refusal : Option CaptureError) → Takes state bytes mid rest text None
+    → Takes mid (rest ++ piece) after rest' text' refusal
+    → Takes state (bytes ++ piece) after rest' (text ++ text') refusal
 takes_more state mid after bytes piece rest rest' text text' refusal p q = record {
   packets = p.packets ++ q.packets;
   passes = passes_more state mid after bytes piece rest rest' p.packets q.packets p.passes q.passes;
-  told = ap (λ l. l ++ text') p.told ∙ ap (λ l. lines_of p.packets ++ l) q.told ∙ sym (lines_of-append p.packets q.packets);
+  told = ap (λ l. l ++ text') p.told ∙ ap (λ l. lines_of p.packets ++ l) q.told
+      ∙ sym (lines_of-append p.packets q.packets);
   left = q.left;
 }

@@ -1,149 +1,169 @@
--- A run from lines to a capture, call by call.
-use Rattle.std.proofs.Common.{◌≡◌, ◌∙◌, sym, ap, refl, subst, ℕ, ◌+◌, ◌<◌, arith, Bool, true, false, List, [], ◌∷◌, ◌++◌, length, Some, None, Ok, Err, append_assoc, inl, inr}
+-- What a run from lines to a capture makes of its input.
+use Rattle.std.proofs.Common.{◌≡◌, ◌∙◌, sym, ap, refl, subst, ℕ, ◌+◌, ◌*◌, ◌<◌, ◌≤◌, arith, Bool}
+use Rattle.std.proofs.Common.{true, false, List, [], ◌∷◌, ◌++◌, length, length-append, Some, None}
+use Rattle.std.proofs.Common.{Ok, Err, append_assoc, append-nil}
+use Rattle.std.specs.Io.Iter.{u64_saturate}
 use Rattle.std.specs.List.{flat_map}
-use Rattle.captures.specs.declared.run_error.RunError.{RunError}
-use Rattle.captures.specs.declared.run_error.RunError.TheVariants.{Read, Memory, TooManyReads, BadLine}
-use Rattle.captures.specs.Calls.{Call, Reads, tells_end}
+use Rattle.captures.specs.declared.limits.TheConstants.{INPUT_ROOM, READ_COUNT_LIMIT}
+use Rattle.captures.specs.declared.translation.refusal.Refusal.TheVariants.{InLine}
 use Rattle.captures.specs.Spelling.{TimedFrame, file_header, record_of, capture_of}
-use Rattle.captures.specs.Texts.{Hands, IsBegunLine, TakesLines, known_text, coming, AreWritten, IsWritten, WritesCapture, GivesText}
-use Rattle.captures.specs.Writes.{Written, Stops}
-use Rattle.captures.proofs.Going.{Going, IsWriteFault, going_start, may_read, going_read, going_write, going_ends, going_fails, going_stops, goes_nothing}
-use Rattle.captures.proofs.TextLemmas.{hands_start, hands_more, known_is, ended_rest, records-append}
+use Rattle.captures.specs.Texts.{Hands, IsBegunLine, TakesLines, with_last_line_end, with_line_ends}
+use Rattle.captures.specs.Texts.{lines_to_capture}
+use Rattle.captures.specs.Translations.{Begins, Translates, Finishes}
+use Rattle.captures.proofs.TextLemmas.{hands_start, hands_more, closed_is, coming, ended_rest}
+use Rattle.captures.proofs.TextLemmas.{records-append}
 
-module _ {D : Type 0} (transition : D → Call → D → Type 0) where
-  -- so many lines are written, and what is left of so many reads begins one
-  pub record Writing (count reads : ℕ) (old new : D) (rest : List ℕ) : Type 0 where
-    pub came : List ℕ
-    pub text : List ℕ
-    pub frames : List TimedFrame
-    pub going : Going AreWritten IsWritten transition came text false reads old new
-    pub hands : Hands came count frames rest
-    pub begun : IsBegunLine rest
-    pub spelled : text ≡ capture_of frames
+ended_count : (lines : List (List ℕ)) → length lines ≤ length (with_line_ends lines)
+ended_count [] = omega arith
+ended_count (line ∷ lines) =
+    let more = ended_count lines in
+    let size = length-append line (10 ∷ with_line_ends lines) in
+    omega arith
 
-  no_lines : Hands [] 0 [] []
-  no_lines = hands_start []
+-- a line has a byte at least
+hands_count : (bytes rest : List ℕ) (n : ℕ) (fs : List TimedFrame)
+    → Hands bytes n fs rest → n ≤ length bytes
+hands_count bytes rest n fs p =
+    let few = ended_count p.lines in
+    let number = p.number in
+    let size = ap length p.parts in
+    let both = length-append (with_line_ends p.lines) rest in
+    omega arith
 
-  -- the file header is written
-  pub writing_start : (old new : D) → Written transition old file_header new → Writing 0 0 old new []
-  writing_start old new written = record {
-    came = [];
-    text = file_header;
-    frames = [];
-    going = going_write AreWritten IsWritten transition [] [] false 0 old old new (going_start AreWritten IsWritten transition old) file_header written;
-    hands = no_lines;
-    begun = (tt, omega arith);
-    spelled = refl;
-  }
+-- the frames of so many lines are written, and a line is begun
+abbrev pub Writes : ℕ → (held read written : List ℕ) → Type 0
+Writes count held read written = (frames : List TimedFrame) × Hands read count frames held
+    × IsBegunLine held × (written ≡ capture_of frames)
 
-  -- what is written before a write that is a fault
-  in_part : (e : RunError) → IsWriteFault e → (told : Bool) (read written missing : List ℕ) (count : ℕ) (frames : List TimedFrame) (rest : List ℕ)
-      → Hands (known_text told read) count frames rest → written ++ missing ≡ capture_of frames → IsWritten (Err e) told read written
-  in_part e (inl is) told read written missing count frames rest hands all = rw is (missing, count, frames, rest, hands, all)
-  in_part e (inr is) told read written missing count frames rest hands all = rw is (missing, count, frames, rest, hands, all)
+pub writes_start : Begins lines_to_capture (Writes 0) file_header
+writes_start = record {
+  room = refl;
+  starved = (refl, refl);
+  full = (0, [], [], hands_start [], refl);
+  due = (0, [], [], hands_start [], (tt, omega arith), refl);
+  shows = ([], hands_start [], (tt, omega arith), refl);
+}
 
-  pub header_stops : (limit : ℕ) (old new : D) (e : RunError) → Stops transition e old file_header new → WritesCapture transition limit old new (Err e)
-  header_stops limit old new e stops =
-      going_stops AreWritten IsWritten transition limit [] [] false 0 old old new (going_start AreWritten IsWritten transition old) (omega arith) file_header e
-      (λ front missing whole fault. in_part e fault false [] front missing 0 [] [] no_lines (sym whole)) stops
+module _ (count n : ℕ) (held more bytes rest read written text : List ℕ) (bad : Bool)
+    (writes : Writes count held read written) (parts : bytes ≡ held ++ more)
+    (t : TakesLines bytes n rest text bad) where
+  lines : Hands (read ++ more) (count + n) (writes.0 ++ t.frames) rest
+  lines = hands_more read more held rest count n writes.0 t.frames writes.1
+      (subst (λ l. Hands l n t.frames rest) parts t.hands)
 
-  due : (count reads : ℕ) (old new : D) (rest : List ℕ) (w : Writing count reads old new rest) → AreWritten w.came w.text
-  due count reads old new rest w = (count, w.frames, rest, w.hands, w.begun, w.spelled)
+  whole : written ++ text ≡ capture_of (writes.0 ++ t.frames)
+  whole =
+      ap (λ l. l ++ text) writes.3 ∙ ap (λ l. capture_of writes.0 ++ l) t.spelled
+      ∙ append_assoc file_header (flat_map record_of writes.0) (flat_map record_of t.frames)
+      ∙ ap (λ l. file_header ++ l) (sym (records-append writes.0 t.frames))
 
-  end_piece : (piece : List ℕ) → tells_end (Reads (Some piece)) ≡ true → piece ≡ []
-  end_piece [] told = refl
-  end_piece (b ∷ piece) told = absurd (cc)
+-- the lines are counted
+counted : (count n count' : ℕ) (read : List ℕ) → count + n ≤ length read
+    → length read ≤ INPUT_ROOM * READ_COUNT_LIMIT
+    → count' ≡ u64_saturate (count + n) → count' ≡ count + n
+counted count n count' read few fits is = omega arith
 
-  module _ (count reads : ℕ) (old mid later new : D) (rest text rest' written : List ℕ) (told : Bool) (w : Writing count reads old mid rest) (g : GivesText transition mid rest text told later) where
-    read : List ℕ
-    read = w.came ++ g.piece
+module _ (count n count' : ℕ) (held piece bytes rest read written text : List ℕ)
+    (writes : Writes count held read written) (parts : bytes ≡ held ++ piece)
+    (fits : length (read ++ piece) ≤ INPUT_ROOM * READ_COUNT_LIMIT)
+    (is : count' ≡ u64_saturate (count + n)) where
+  -- a piece is read,
+  pub writes_more : TakesLines bytes n rest text false
+      → Translates lines_to_capture (Writes count') rest (read ++ piece) (written ++ text) None
+  writes_more t =
+      let frames = writes.0 ++ t.frames in
+      let hands = lines count n held piece bytes rest read written text false writes parts t in
+      let same = counted count n count' (read ++ piece)
+      (hands_count (read ++ piece) rest (count + n) frames hands) fits is in
+      let all = whole count n held piece bytes rest read written text false writes parts t in
+      record {
+        full = (count + n, frames, rest, hands, all);
+        follows = (
+          (count + n, frames, rest, hands, t.left, all),
+          (
+            frames,
+            subst (λ k. Hands (read ++ piece) k frames rest)
+                (sym same) hands,
+            t.left,
+            all,
+          ),
+        );
+      }
 
-    asked : Going AreWritten IsWritten transition (w.came ++ g.piece) w.text told (reads + 1) old later
-    asked =
-        subst (λ b. Going AreWritten IsWritten transition (w.came ++ g.piece) w.text b (reads + 1) old later) g.end
-        (going_read AreWritten IsWritten transition w.came w.text reads old mid later w.going (due count reads old mid rest w) g.piece g.call g.size)
+  -- in which a line hands no frame in
+  pub writes_bad : (shown : List ℕ → List ℕ → List ℕ → Type 0) (number : ℕ)
+      → number ≡ u64_saturate (count' + 1) → TakesLines bytes n rest text true
+      → Translates lines_to_capture shown rest (read ++ piece) (written ++ text) (Some (InLine
+      number))
+  writes_bad shown number next t =
+      let frames = writes.0 ++ t.frames in
+      let hands = lines count n held piece bytes rest read written text true writes parts t in
+      let few = hands_count (read ++ piece) rest (count + n) frames hands in
+      let same = counted count n count' (read ++ piece) few fits is in
+      let all = whole count n held piece bytes rest read written text true writes parts t in
+      record {
+        full = (count + n, frames, rest, hands, all);
+        follows = (count + n, frames, rest, hands, t.left, omega arith, all);
+      }
 
-    known : known_text told (w.came ++ g.piece) ≡ w.came ++ coming told rest g.piece
-    known = known_is told w.came g.piece rest count w.frames w.hands w.begun.0 (λ is. end_piece g.piece (g.end ∙ is))
+-- the end is told, and no line is begun,
+pub writes_nothing_more : (count : ℕ) (read written : List ℕ) → Writes count [] read written
+    → Finishes lines_to_capture read written (Ok tt)
+writes_nothing_more count read written writes =
+    let same : with_last_line_end read ≡ read = closed_is read [] count writes.0 writes.1 tt
+    ∙ append-nil read in
+    let hands = subst (λ l. Hands l count writes.0 []) (sym same) writes.1 in
+    record {
+      full = (count, writes.0, [], hands, writes.3);
+      whole = (writes.0, (count, hands), writes.3);
+    }
 
-    module _ (n : ℕ) (bad : Bool) (t : TakesLines text n rest' written bad) where
-      all : List TimedFrame
-      all = w.frames ++ t.frames
+-- or one is, which is ended
+ends_some : (held : List ℕ) → 0 < length held → coming true held [] ≡ 10 ∷ []
+ends_some [] some = absurd (omega arith)
+ends_some (b ∷ held) some = refl
 
-      lines : Hands (known_text told (w.came ++ g.piece)) (count + n) (w.frames ++ t.frames) rest'
-      lines =
-          subst (λ l. Hands l (count + n) (w.frames ++ t.frames) rest') (sym known)
-          (hands_more w.came (coming told rest g.piece) rest rest' count n w.frames t.frames w.hands (subst (λ l. Hands l n t.frames rest') g.parts t.hands))
+module _ (count n count' : ℕ) (held bytes rest read written text : List ℕ)
+    (writes : Writes count held read written) (some : 0 < length held)
+    (parts : bytes ≡ held ++ 10 ∷ []) where
+  all_known : with_last_line_end read ≡ read ++ 10 ∷ []
+  all_known = closed_is read held count writes.0 writes.1 writes.2.0
+      ∙ ap (λ l. read ++ l) (ends_some held some)
 
-      whole : w.text ++ written ≡ capture_of (w.frames ++ t.frames)
-      whole =
-          ap (λ l. l ++ written) w.spelled ∙ ap (λ l. capture_of w.frames ++ l) t.spelled ∙ append_assoc file_header (flat_map record_of w.frames) (flat_map record_of t.frames)
-          ∙ ap (λ l. file_header ++ l) (sym (records-append w.frames t.frames))
+  pub writes_last : TakesLines bytes n rest text false
+      → Finishes lines_to_capture read (written ++ text) (Ok tt)
+  writes_last t =
+      let frames = writes.0 ++ t.frames in
+      let hands = subst (λ l. Hands l (count + n) frames rest) (sym all_known)
+      (lines count n held (10 ∷ []) bytes rest read written text false writes parts t) in
+      let all = whole count n held (10 ∷ []) bytes rest read written text false writes parts t in
+      let none = ended_rest held [] bytes rest n t.frames
+      (parts ∙ ap (λ l. held ++ l) (sym (ends_some held some))) t.hands t.left.0 in
+      record {
+        full = (count + n, frames, rest, hands, all);
+        whole = (
+          frames,
+          (
+            count + n,
+            subst (λ r. Hands (with_last_line_end read) (count + n) frames
+                r) none hands,
+          ),
+          all,
+        );
+      }
 
-      done : Written transition later written new → Going AreWritten IsWritten transition (w.came ++ g.piece) (w.text ++ written) told (reads + 1) old new
-      done writes = going_write AreWritten IsWritten transition (w.came ++ g.piece) w.text told (reads + 1) old later new asked written writes
-
-      -- a write stops before the frames of the lines are written
-      pub writing_stops : (limit : ℕ) → reads < limit → (e : RunError) → Stops transition e later written new → WritesCapture transition limit old new (Err e)
-      writing_stops limit fits e stops =
-          going_stops AreWritten IsWritten transition limit (w.came ++ g.piece) w.text told (reads + 1) old later new asked (omega arith) written e
-          (λ front missing parts fault.
-          in_part e fault told (w.came ++ g.piece) (w.text ++ front) missing (count + n) (w.frames ++ t.frames) rest' lines
-          (append_assoc w.text front missing ∙ ap (λ l. w.text ++ l) (sym parts) ∙ whole)) stops
-
-    -- a line hands no frame in
-    pub writing_bad : (limit n : ℕ) → reads < limit → TakesLines text n rest' written true → Written transition later written new
-        → WritesCapture transition limit old new (Err (BadLine (count + n + 1)))
-    writing_bad limit n fits t writes =
-        let end = done n true t writes in
-        going_ends AreWritten IsWritten transition limit (w.came ++ g.piece) (w.text ++ written) told (reads + 1) old new end (Err (BadLine (count + n + 1))) (omega arith)
-        end.faults (count + n, w.frames ++ t.frames, rest', lines n true t, t.left, refl, whole n true t)
-
-  -- all lines are written, and more may come
-  pub writing_more : (count reads : ℕ) (old mid later new : D) (rest text rest' written : List ℕ) (w : Writing count reads old mid rest) (g : GivesText transition mid rest text false later)
-      (n : ℕ) → TakesLines text n rest' written false → Written transition later written new → Writing (count + n) (reads + 1) old new rest'
-  writing_more count reads old mid later new rest text rest' written w g n t writes = record {
-    came = w.came ++ g.piece;
-    text = w.text ++ written;
-    frames = w.frames ++ t.frames;
-    going = done count reads old mid later new rest text rest' written false w g n false t writes;
-    hands = lines count reads old mid later new rest text rest' written false w g n false t;
-    begun = t.left;
-    spelled = whole count reads old mid later new rest text rest' written false w g n false t;
-  }
-
-  -- all lines are written, and no more come
-  pub writing_end : (limit count reads : ℕ) (old mid later new : D) (rest text rest' written : List ℕ) (w : Writing count reads old mid rest) (g : GivesText transition mid rest text true later)
-      (n : ℕ) → reads < limit → TakesLines text n rest' written false → Written transition later written new → WritesCapture transition limit old new (Ok tt)
-  writing_end limit count reads old mid later new rest text rest' written w g n fits t writes =
-      let end = done count reads old mid later new rest text rest' written true w g n false t writes in
-      let none = ended_rest rest g.piece text rest' n t.frames g.parts t.hands t.left.0 in
-      going_ends AreWritten IsWritten transition limit (w.came ++ g.piece) (w.text ++ written) true (reads + 1) old new end (Ok tt) (omega arith) (end.faults, end.tells) (
-        w.frames ++ t.frames,
-        (count + n, subst (λ r. Hands (known_text true (w.came ++ g.piece)) (count + n) (w.frames ++ t.frames) r) none (lines count reads old mid later new rest text rest' written true w g n false t)),
-        whole count reads old mid later new rest text rest' written true w g n false t,
-      )
-
-  -- a read fails
-  pub writing_fails : (limit count reads : ℕ) (old mid new : D) (rest : List ℕ) → Writing count reads old mid rest → transition mid (Reads None) new → reads < limit
-      → WritesCapture transition limit old new (Err Read)
-  writing_fails limit count reads old mid new rest w call fits =
-      let g = w.going in
-      let some = g.reads in
-      let told = due count reads old mid rest w in
-      going_fails AreWritten IsWritten transition limit w.came w.text false reads old mid new g (Reads None) call
-      (may_read AreWritten IsWritten transition w.came w.text reads old mid g told, omega arith) Read refl (omega arith) told
-
-  -- as many reads as may be are made
-  pub writing_all : (limit count : ℕ) (old new : D) (rest : List ℕ) → Writing count limit old new rest → WritesCapture transition limit old new (Err TooManyReads)
-  writing_all limit count old new rest w =
-      let g = w.going in
-      going_ends AreWritten IsWritten transition limit w.came w.text false limit old new g (Err TooManyReads) (omega arith) (g.faults, g.tells, g.reads) (due count limit old new rest w)
-
-pub some_tells : (piece : List ℕ) → 0 < length piece → tells_end (Reads (Some piece)) ≡ false
-some_tells [] some = absurd (omega arith)
-some_tells (b ∷ piece) some = refl
-
--- nothing is called
-pub writes_nothing : {D : Type 0} (transition : D → Call → D → Type 0) (limit : ℕ) (old : D) → WritesCapture transition limit old old (Err Memory)
-writes_nothing transition limit old = goes_nothing AreWritten IsWritten transition limit old (refl, refl)
+  pub writes_last_bad : length read ≤ INPUT_ROOM * READ_COUNT_LIMIT
+      → count' ≡ u64_saturate (count + n) → (number : ℕ) → number ≡ u64_saturate (count' + 1)
+      → TakesLines bytes n rest text true
+      → Finishes lines_to_capture read (written ++ text) (Err (InLine number))
+  writes_last_bad fits is number next t =
+      let frames = writes.0 ++ t.frames in
+      let known = lines count n held (10 ∷ []) bytes rest read written text true writes parts t in
+      let few = hands_count (read ++ 10 ∷ []) rest (count + n) frames known in
+      let size = length-append read (10 ∷ []) in
+      let hands = subst (λ l. Hands l (count + n) frames rest) (sym all_known) known in
+      let all = whole count n held (10 ∷ []) bytes rest read written text true writes parts t in
+      record {
+        full = (count + n, frames, rest, hands, all);
+        whole = (count + n, frames, rest, hands, t.left, omega arith, all);
+      }

@@ -1,4 +1,5 @@
--- Lines that `run` wrote are lines of which a capture is written, and what is written is a capture of the same frames.
+-- Lines that `run` wrote are lines of which a capture is written, and what is written is a capture
+-- of the same frames.
 use Rattle.std.specs.Prelude.{ℕ, ◌^◌, ◌<◌, ◌≤◌, List, length, map}
 use Rattle.std.specs.List.{AllByRecursion}
 use Rattle.hex.specs.Hex.{IsBytes}
@@ -8,7 +9,8 @@ use Rattle.captures.specs.Spelling.{TimedFrame, capture_of}
 use Rattle.captures.specs.Texts.{IsText}
 use Rattle.captures.specs.declared.limits.TheConstants.{FRAME_LIMIT}
 
--- a packet that has a line: its frame is bytes, one at least and no more than a line can hold, and its channel a number of 32 bits
+-- a packet that has a line: its frame is bytes, one at least and no more than a line can hold, and
+-- its channel a number of 32 bits
 pub record HasLine (packet : Packet) : Type 0 where
   pub some : 1 ≤ length packet.frame
   pub short : length packet.frame ≤ FRAME_LIMIT
@@ -22,12 +24,15 @@ at_no_time packet = record { seconds = 0; microseconds = 0; frame = packet.frame
 abbrev pub on_one_channel : Packet → Packet
 on_one_channel packet = record { channel = 0; frame = packet.frame }
 
--- the lines of some packets are taken as their frames, and the capture of these has the same packets
+-- the lines of some packets are taken as their frames, and the capture of these has the same
+-- packets
 abbrev pub LinesComeBack : Type 0
 LinesComeBack =
     (packets : List Packet) → AllByRecursion HasLine packets
-    → IsText (lines_of packets) (map at_no_time packets) × IsCapture (capture_of (map at_no_time packets)) (map on_one_channel packets)
+    → IsText (lines_of packets) (map at_no_time packets)
+    × IsCapture (capture_of (map at_no_time packets)) (map on_one_channel packets)
 
 -- each packet of a capture has a line
 abbrev pub CapturedPacketsHaveLines : Type 0
-CapturedPacketsHaveLines = (bytes : List ℕ) (packets : List Packet) → IsBytes bytes → IsCapture bytes packets → AllByRecursion HasLine packets
+CapturedPacketsHaveLines = (bytes : List ℕ) (packets : List Packet) → IsBytes bytes
+    → IsCapture bytes packets → AllByRecursion HasLine packets

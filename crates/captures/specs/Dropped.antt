@@ -1,13 +1,14 @@
--- What a run no longer holds of the bytes that it has read: a front of a long block, which is skipped.
+-- What a run no longer holds of the bytes that it has read: a front of a long block, which is
+-- skipped.
 use Rattle.std.specs.Prelude.{◌≡◌, ℕ, ◌+◌, ◌%◌, ◌≤◌, List, [], ◌++◌, length, Option, Some, None}
 use Rattle.captures.specs.Numbers.{word}
 use Rattle.captures.specs.Pcapng.{IsSkipped}
 use Rattle.captures.specs.Units.{Takes}
 use Rattle.captures.specs.declared.capture_error.CaptureError.{CaptureError}
-use Rattle.captures.specs.declared.long_block.LongBlock.{LongBlock}
-use Rattle.captures.specs.declared.section.Section.{Section}
-use Rattle.captures.specs.declared.state.State.{State}
-use Rattle.captures.specs.declared.state.State.TheVariants.{Pcapng}
+use Rattle.captures.specs.declared.pcapng.long_block.LongBlock.{LongBlock}
+use Rattle.captures.specs.declared.pcapng.section.Section.{Section}
+use Rattle.captures.specs.declared.translation.state.State.{State}
+use Rattle.captures.specs.declared.translation.state.State.TheVariants.{Pcapng}
 
 -- a front of such a block in a section, which ends before its second length
 pub record IsFrontOf (block : LongBlock) (section : Section) (dropped : List ℕ) : Type 0 where
@@ -18,13 +19,17 @@ pub record IsFrontOf (block : LongBlock) (section : Section) (dropped : List ℕ
   pub told : word section.order dropped 4 ≡ block.len
   pub left : length dropped + block.left + 4 ≡ block.len
 
--- behind the whole units of a capture, which is known to be this, such bytes are dropped: none, or a front of a long block
+-- behind the whole units of a capture, which is known to be this, such bytes are dropped: none, or
+-- a front of a long block
 abbrev pub IsDropped : State → Option LongBlock → List ℕ → Type 0
 IsDropped state None dropped = dropped ≡ []
-IsDropped state (Some block) dropped = (section : Section) × (state ≡ Pcapng section) × IsFrontOf block section dropped
+IsDropped state (Some block) dropped = (section : Section) × (state ≡ Pcapng section)
+    × IsFrontOf block section dropped
 
--- all whole units of the bytes are taken, their lines are this text, and of what is left some bytes are dropped and the rest is held
-pub record Leaves (state : State) (bytes : List ℕ) (after : State) (begun : Option LongBlock) (rest text : List ℕ) (refusal : Option CaptureError) : Type 0 where
+-- all whole units of the bytes are taken, their lines are this text, and of what is left some bytes
+-- are dropped and the rest is held
+pub record Leaves (state : State) (bytes : List ℕ) (after : State) (begun : Option LongBlock)
+    (rest text : List ℕ) (refusal : Option CaptureError) : Type 0 where
   pub dropped : List ℕ
   pub is_dropped : IsDropped after begun dropped
   pub takes : Takes state bytes after (dropped ++ rest) text refusal

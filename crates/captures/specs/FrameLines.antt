@@ -1,13 +1,16 @@
--- The lines that hand frames in, of which a capture is written: `frame CHANNEL HEX`, and behind the digits may stand the
--- time, `SECONDS MICROSECONDS`. A space parts the words. Where no time stands it is 0.
-use Rattle.std.specs.Prelude.{ℕ, ◌+◌, ◌==◌, ◌&&◌, nat_eq, nat_le, nat_lt, Bool, if◌then◌else◌, List, length, take, drop, position, codes, Option, Some, None, Result, Ok, Err}
+-- The lines that hand frames in, of which a capture is written: `frame CHANNEL HEX`, and behind the
+-- digits may stand the time, `SECONDS MICROSECONDS`. A space parts the words. Where no time stands
+-- it is 0.
+use Rattle.std.specs.Prelude.{ℕ, ◌+◌, ◌==◌, ◌&&◌, nat_eq, nat_le, nat_lt, Bool, if◌then◌else◌, List}
+use Rattle.std.specs.Prelude.{length, take, drop, position, codes, Option, Some, None, Result, Ok}
+use Rattle.std.specs.Prelude.{Err}
 use Rattle.std.specs.Char.{is_ascii_digit}
 use Rattle.std.specs.List.{starts_with, list_all}
 use Rattle.std.specs.Str.Parse.{digits_value}
 use Rattle.hex.specs.Hex.{decode_of}
 use Rattle.hex.specs.declared.error.FromHexError.{FromHexError}
 use Rattle.captures.specs.Spelling.{TimedFrame}
-use Rattle.captures.specs.declared.frame_line.Time.{Time}
+use Rattle.captures.specs.declared.text.frame_line.Time.{Time}
 use Rattle.captures.specs.declared.limits.TheConstants.{FRAME_LIMIT}
 
 abbrev pub is_space : ℕ → Bool
@@ -16,7 +19,8 @@ is_space byte = byte == 32
 -- one to ten decimal digits, of a number that fits 32 bits
 abbrev pub is_number : List ℕ → Bool
 is_number digits =
-    nat_le 1 (length digits) && nat_le (length digits) 10 && list_all is_ascii_digit digits && nat_le (digits_value 10 digits) 4294967295
+    nat_le 1 (length digits) && nat_le (length digits) 10 && list_all is_ascii_digit digits
+    && nat_le (digits_value 10 digits) 4294967295
 
 abbrev pub number_of : List ℕ → Option ℕ
 number_of digits = if is_number digits then Some (digits_value 10 digits) else None
@@ -24,13 +28,15 @@ number_of digits = if is_number digits then Some (digits_value 10 digits) else N
 -- less than a million microseconds belong to a second
 abbrev pub time_with : Option ℕ → Option ℕ → Option Time
 time_with (Some seconds) (Some microseconds) =
-    if nat_lt microseconds 1000000 then Some (record { seconds = seconds; microseconds = microseconds }) else None
+    if nat_lt microseconds 1000000
+    then Some (record { seconds = seconds; microseconds = microseconds }) else None
 time_with (Some seconds) None = None
 time_with None microseconds = None
 
 -- a time's two numbers, with the first space here
 abbrev pub time_at : Option ℕ → List ℕ → Option Time
-time_at (Some space) text = time_with (number_of (take space text)) (number_of (drop (space + 1) text))
+time_at (Some space) text = time_with (number_of (take space text))
+    (number_of (drop (space + 1) text))
 time_at None text = None
 
 abbrev pub time_of : List ℕ → Option Time
@@ -40,7 +46,8 @@ time_of text = time_at (position is_space text) text
 abbrev pub frame_at : Option Time → Result (List ℕ) FromHexError → Option TimedFrame
 frame_at (Some time) (Ok frame) =
     if nat_le 1 (length frame) && nat_le (length frame) FRAME_LIMIT
-    then Some (record { seconds = time.seconds; microseconds = time.microseconds; frame = frame }) else None
+    then Some (record { seconds = time.seconds; microseconds = time.microseconds; frame = frame })
+    else None
 frame_at (Some time) (Err e) = None
 frame_at None digits = None
 
@@ -49,7 +56,8 @@ no_time = record { seconds = 0; microseconds = 0 }
 
 -- hex digits, and behind the first space, if there is one, the time
 abbrev pub frame_before : Option ℕ → List ℕ → Option TimedFrame
-frame_before (Some space) text = frame_at (time_of (drop (space + 1) text)) (decode_of (take space text))
+frame_before (Some space) text = frame_at (time_of (drop (space + 1) text))
+    (decode_of (take space text))
 frame_before None text = frame_at (Some no_time) (decode_of text)
 
 abbrev pub frame_behind : List ℕ → Option TimedFrame
@@ -62,7 +70,8 @@ frame_with None frame = None
 
 -- a channel before the first space, and the frame behind it
 abbrev pub frame_on : Option ℕ → List ℕ → Option TimedFrame
-frame_on (Some space) text = frame_with (number_of (take space text)) (frame_behind (drop (space + 1) text))
+frame_on (Some space) text = frame_with (number_of (take space text))
+    (frame_behind (drop (space + 1) text))
 frame_on None text = None
 
 abbrev pub frame_in : List ℕ → Option TimedFrame

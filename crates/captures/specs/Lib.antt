@@ -1,9 +1,7 @@
-pub mod Calls
 pub mod ComeBack
-pub mod Courses
 pub mod Dropped
+pub mod Endings
 pub mod FrameLines
-pub mod Known
 pub mod Lines
 pub mod Numbers
 pub mod Pcap
@@ -11,5 +9,5 @@ pub mod Pcapng
 pub mod Runs
 pub mod Spelling
 pub mod Texts
+pub mod Translations
 pub mod Units
-pub mod Writes

@@ -15,7 +15,8 @@ packets_of channel (byte ∷ bytes) = record { channel = channel; frame = byte �
 
 -- the line that hands a packet's frame in
 abbrev pub line_of : Packet → List ℕ
-line_of packet = codes "frame " ++ decimal packet.channel ++ codes " " ++ encode_lower packet.frame ++ 10 ∷ []
+line_of packet = codes "frame " ++ decimal packet.channel ++ codes " "
+    ++ encode_lower packet.frame ++ 10 ∷ []
 
 -- the lines of some packets, in their order
 abbrev pub lines_of : List Packet → List ℕ

@@ -12,4 +12,6 @@ half Little bytes p = slice_index bytes p + 256 * slice_index bytes (p + 1)
 -- the number that the four bytes at a place spell
 abbrev pub word : ByteOrder → List ℕ → ℕ → ℕ
 word Big bytes p = num bytes p 4
-word Little bytes p = slice_index bytes p + 256 * (slice_index bytes (p + 1) + 256 * (slice_index bytes (p + 2) + 256 * slice_index bytes (p + 3)))
+word Little bytes p = slice_index bytes p + 256 *
+    (slice_index bytes (p + 1) + 256 *
+    (slice_index bytes (p + 2) + 256 * slice_index bytes (p + 3)))

@@ -1,5 +1,5 @@
--- Classic capture files (draft-ietf-opsawg-pcap, sections 4 and 5): a file header of 24 bytes, and packet
--- records in a row. Numbers are in the byte order of the host that wrote the file.
+-- Classic capture files (draft-ietf-opsawg-pcap, sections 4 and 5): a file header of 24 bytes, and
+-- packet records in a row. Numbers are in the byte order of the host that wrote the file.
 use Rattle.std.specs.Prelude.{◌≡◌, ℕ, ◌%◌, ◌==◌, ◌||◌, Bool, IsTrue, List, ◌++◌, length}
 use Rattle.captures.specs.Numbers.{half, word}
 use Rattle.captures.specs.declared.byte_order.ByteOrder.{ByteOrder}
@@ -15,11 +15,13 @@ pub record IsFileHeader (order : ByteOrder) (header : List ℕ) : Type 0 where
   pub major : half order header 4 ≡ 2
   pub minor : half order header 6 ≡ 4
 
--- the lower 16 bits of the last number; above them a file may tell the length of frame check sequences
+-- the lower 16 bits of the last number; above them a file may tell the length of frame check
+-- sequences
 abbrev pub link_type : ByteOrder → List ℕ → ℕ
 link_type order header = word order header 20 % 65536
 
--- a packet record: a head of 16 bytes (the time, the number of bytes that follow, and the packet's own length), and these bytes
+-- a packet record: a head of 16 bytes (the time, the number of bytes that follow, and the packet's
+-- own length), and these bytes
 pub record IsPacketRecord (order : ByteOrder) (bytes frame : List ℕ) : Type 0 where
   pub head : List ℕ
   pub parts : bytes ≡ head ++ frame

@@ -1,14 +1,18 @@
--- Pcapng files (draft-ietf-opsawg-pcapng): blocks in a row. Each begins with its kind and its length, ends with its
--- length, and has whole words of 4 bytes. Numbers are in the byte order of the section, which its header tells.
-use Rattle.std.specs.Prelude.{◌≡◌, ◌≢◌, ◌⊎◌, ℕ, ◌+◌, ◌-◌, ◌%◌, ◌^◌, ◌<◌, ◌≤◌, ◌==◌, min, if◌then◌else◌, List, [], length, take, drop}
+-- Pcapng files (draft-ietf-opsawg-pcapng): blocks in a row. Each begins with its kind and its
+-- length, ends with its length, and has whole words of 4 bytes. Numbers are in the byte order of
+-- the section, which its header tells.
+use Rattle.std.specs.Prelude.{◌≡◌, ◌≢◌, ◌⊎◌, ℕ, ◌+◌, ◌-◌, ◌%◌, ◌^◌, ◌<◌, ◌≤◌, ◌==◌, min}
+use Rattle.std.specs.Prelude.{if◌then◌else◌, List, [], length, take, drop}
 use Rattle.captures.specs.Numbers.{half, word}
 use Rattle.captures.specs.declared.byte_order.ByteOrder.{ByteOrder}
 use Rattle.captures.specs.declared.byte_order.ByteOrder.TheVariants.{Big}
 use Rattle.captures.specs.declared.capture_error.CaptureError.{CaptureError}
-use Rattle.captures.specs.declared.capture_error.CaptureError.TheVariants.{NotCapture, LinkType, FrameTooLong, CutOff, BlockTooLong, BadBlock}
+use Rattle.captures.specs.declared.capture_error.CaptureError.TheVariants.{NotCapture, LinkType}
+use Rattle.captures.specs.declared.capture_error.CaptureError.TheVariants.{FrameTooLong, CutOff}
+use Rattle.captures.specs.declared.capture_error.CaptureError.TheVariants.{BlockTooLong, BadBlock}
 use Rattle.captures.specs.declared.limits.TheConstants.{FRAME_LIMIT, BLOCK_LIMIT}
-use Rattle.captures.specs.declared.section.Section.{Section}
-use Rattle.captures.specs.declared.section.TheConstants.{ETHERNET}
+use Rattle.captures.specs.declared.pcapng.section.Section.{Section}
+use Rattle.captures.specs.declared.pcapng.section.TheConstants.{ETHERNET}
 
 -- the kind of a section header is the same in both byte orders
 abbrev pub section_header : ℕ
@@ -26,10 +30,12 @@ enhanced_packet = 6
 abbrev pub byte_order_magic : ℕ
 byte_order_magic = 0x1a2b3c4d
 
--- the byte order of the block at the front of the bytes, in a section of this order: a section header tells its own
+-- the byte order of the block at the front of the bytes, in a section of this order: a section
+-- header tells its own
 abbrev pub HasOrder : ByteOrder → List ℕ → ByteOrder → Type 0
 HasOrder order bytes order' =
-    ((word Big bytes 0 ≢ section_header) × (order' ≡ order)) ⊎ ((word Big bytes 0 ≡ section_header) × (word order' bytes 8 ≡ byte_order_magic))
+    ((word Big bytes 0 ≢ section_header) × (order' ≡ order))
+    ⊎ ((word Big bytes 0 ≡ section_header) × (word order' bytes 8 ≡ byte_order_magic))
 
 -- a block, whole
 pub record IsBlock (order : ByteOrder) (block : List ℕ) : Type 0 where
@@ -38,19 +44,22 @@ pub record IsBlock (order : ByteOrder) (block : List ℕ) : Type 0 where
   pub front : word order block 4 ≡ length block
   pub back : word order block (length block - 4) ≡ length block
 
--- what a block says in a section: a section begins, its first interface having this number; an interface is described,
--- with its link type and snap length; a frame was captured on an interface; or nothing that is read here
+-- what a block says in a section: a section begins, its first interface having this number; an
+-- interface is described, with its link type and snap length; a frame was captured on an interface;
+-- or nothing that is read here
 pub data Content : Type 0 where
   Opens : ℕ → Content
   Describes : (link_type : ℕ) → (snap_len : ℕ) → Content
   Holds : (channel : ℕ) → (frame : List ℕ) → Content
   Nothing : Content
 
--- the bytes of a packet that a simple packet block holds, where this is the snap length of the first interface, 0 for no limit
+-- the bytes of a packet that a simple packet block holds, where this is the snap length of the
+-- first interface, 0 for no limit
 abbrev pub captured_len : ℕ → ℕ → ℕ
 captured_len snap_len original = if snap_len == 0 then original else min snap_len original
 
-pub record IsEnhancedPacket (section : Section) (order : ByteOrder) (block : List ℕ) (channel : ℕ) (frame : List ℕ) : Type 0 where
+pub record IsEnhancedPacket (section : Section) (order : ByteOrder) (block : List ℕ) (channel : ℕ)
+    (frame : List ℕ) : Type 0 where
   pub kind : word order block 0 ≡ enhanced_packet
   pub size : 32 + length frame ≤ length block
   pub interface : word order block 8 < section.interfaces
@@ -59,7 +68,8 @@ pub record IsEnhancedPacket (section : Section) (order : ByteOrder) (block : Lis
   pub captured : word order block 20 ≡ length frame
   pub bytes : frame ≡ take (length frame) (drop 28 block)
 
-pub record IsSimplePacket (section : Section) (order : ByteOrder) (block : List ℕ) (channel : ℕ) (frame : List ℕ) : Type 0 where
+pub record IsSimplePacket (section : Section) (order : ByteOrder) (block : List ℕ) (channel : ℕ)
+    (frame : List ℕ) : Type 0 where
   pub kind : word order block 0 ≡ simple_packet
   pub size : 16 + length frame ≤ length block
   pub interface : 0 < section.interfaces
@@ -73,11 +83,13 @@ IsOther order block =
     (word order block 0 ≢ section_header) × (word order block 0 ≢ interface_description)
     × (word order block 0 ≢ enhanced_packet) × (word order block 0 ≢ simple_packet)
 
--- a block that is skipped: another one than those that are read here, and a section header is one in either byte order
+-- a block that is skipped: another one than those that are read here, and a section header is one
+-- in either byte order
 abbrev pub IsSkipped : ByteOrder → List ℕ → Type 0
 IsSkipped order block = (word Big block 0 ≢ section_header) × IsOther order block
 
--- a run takes a block of this length: one that is skipped may have any, and those that are read have so many bytes at most
+-- a run takes a block of this length: one that is skipped may have any, and those that are read
+-- have so many bytes at most
 abbrev pub IsTaken : ByteOrder → List ℕ → ℕ → Type 0
 IsTaken order block len = (len ≤ BLOCK_LIMIT) ⊎ IsSkipped order block
 
@@ -86,24 +98,32 @@ Says section order block (Opens first) =
     (word order block 0 ≡ section_header) × (28 ≤ length block) × (half order block 12 ≡ 1)
     × (section.first + section.interfaces ≡ first) × (first < 2 ^ 32)
 Says section order block (Describes link_type snap_len) =
-    (word order block 0 ≡ interface_description) × (20 ≤ length block) × (half order block 8 ≡ link_type)
+    (word order block 0 ≡ interface_description) × (20 ≤ length block)
+    × (half order block 8 ≡ link_type)
     × (word order block 12 ≡ snap_len) × (section.interfaces + 1 < 2 ^ 32)
-Says section order block (Holds channel frame) = IsEnhancedPacket section order block channel frame ⊎ IsSimplePacket section order block channel frame
+Says section order block (Holds channel frame) = IsEnhancedPacket section order block channel frame
+    ⊎ IsSimplePacket section order block channel frame
 Says section order block Nothing = IsOther order block
 
--- the section, and the packet, after a block that says this: links are Ethernet, and a line can hold the frame
+-- the section, and the packet, after a block that says this: links are Ethernet, and a line can
+-- hold the frame
 abbrev pub Becomes : Section → ByteOrder → Content → Section → ℕ → List ℕ → Type 0
 Becomes section order (Opens first) after channel frame =
     (after ≡ record { order = order; first = first; interfaces = 0; snap_len = 0 }) × (frame ≡ [])
 Becomes section order (Describes link_type snap_len) after channel frame =
     (link_type ≡ ETHERNET)
-    × (after ≡ record section { interfaces = section.interfaces + 1; snap_len = (if section.interfaces == 0 then snap_len else section.snap_len) })
+    × (after ≡ record section {
+      interfaces = section.interfaces + 1;
+      snap_len = (if section.interfaces == 0 then snap_len else section.snap_len);
+    })
     × (frame ≡ [])
-Becomes section order (Holds number bytes) after channel frame = (after ≡ section) × (channel ≡ number) × (frame ≡ bytes) × (length bytes ≤ FRAME_LIMIT)
+Becomes section order (Holds number bytes) after channel frame = (after ≡ section)
+    × (channel ≡ number) × (frame ≡ bytes) × (length bytes ≤ FRAME_LIMIT)
 Becomes section order Nothing after channel frame = (after ≡ section) × (frame ≡ [])
 
 -- a block that says something, and what comes of it
-pub record Reads (section : Section) (order : ByteOrder) (block : List ℕ) (after : Section) (channel : ℕ) (frame : List ℕ) : Type 0 where
+pub record Reads (section : Section) (order : ByteOrder) (block : List ℕ) (after : Section)
+    (channel : ℕ) (frame : List ℕ) : Type 0 where
   pub content : Content
   pub says : Says section order block content
   pub becomes : Becomes section order content after channel frame
@@ -111,9 +131,12 @@ pub record Reads (section : Section) (order : ByteOrder) (block : List ℕ) (aft
 -- why a whole block is refused
 abbrev pub RefusesBlock : Section → ByteOrder → List ℕ → CaptureError → Type 0
 RefusesBlock section order block NotCapture = ⊥
-RefusesBlock section order block (LinkType number) = (snap_len : ℕ) × Says section order block (Describes number snap_len) × (number ≢ ETHERNET)
+RefusesBlock section order block (LinkType number) = (snap_len : ℕ)
+    × Says section order block (Describes number snap_len) × (number ≢ ETHERNET)
 RefusesBlock section order block (FrameTooLong captured) =
-    (channel : ℕ) × (frame : List ℕ) × Says section order block (Holds channel frame) × (captured ≡ length frame) × (FRAME_LIMIT < captured)
+    (channel : ℕ) × (frame : List ℕ) × Says section order block (Holds channel frame)
+    × (captured ≡ length frame) × (FRAME_LIMIT < captured)
 RefusesBlock section order block CutOff = ⊥
 RefusesBlock section order block (BlockTooLong len) = ⊥
-RefusesBlock section order block BadBlock = (content : Content) → Says section order block content → ⊥
+RefusesBlock section order block BadBlock = (content : Content)
+    → Says section order block content → ⊥

@@ -1,11 +1,14 @@
 -- A text of lines that hand frames in. Byte 0a ends a line, and is no part of it.
-use Rattle.std.specs.Prelude.{◌≡◌, ◌⊎◌, ℕ, ◌+◌, ◌<◌, ◌≤◌, ◌==◌, Bool, true, false, if◌then◌else◌, List, [], ◌∷◌, ◌++◌, length, Some, None, Result, Ok, Err}
+use Rattle.std.specs.Prelude.{◌≡◌, ◌⊎◌, ℕ, ◌+◌, ◌<◌, ◌≤◌, ◌==◌, Bool, true, false, if◌then◌else◌}
+use Rattle.std.specs.Prelude.{List, [], ◌∷◌, ◌++◌, length, Some, None, Result}
 use Rattle.std.specs.List.{flat_map}
+use Rattle.runs.specs.Calls.{Call}
+use Rattle.runs.specs.Runs.{Task, Goes}
 use Rattle.captures.specs.declared.limits.TheConstants.{LINE_LIMIT, INPUT_ROOM}
-use Rattle.captures.specs.declared.run_error.RunError.{RunError}
-use Rattle.captures.specs.declared.run_error.RunError.TheVariants.{Read, Write, WriteZero, Memory, TooManyReads, Capture, BadLine}
-use Rattle.captures.specs.Calls.{Call, Reads, tells_end}
-use Rattle.captures.specs.Courses.{Goes}
+use Rattle.captures.specs.declared.translation.run_error.RunError.{RunError}
+use Rattle.captures.specs.Endings.{ending_of}
+use Rattle.captures.specs.declared.translation.refusal.Refusal.{Refusal}
+use Rattle.captures.specs.declared.translation.refusal.Refusal.TheVariants.{InCapture, InLine}
 use Rattle.captures.specs.FrameLines.{frame_of}
 use Rattle.captures.specs.Spelling.{TimedFrame, record_of, capture_of}
 
@@ -18,22 +21,24 @@ HasNoNewline [] = Unit {0}
 HasNoNewline (byte ∷ bytes) = (is_newline byte ≡ false) × HasNoNewline bytes
 
 -- some lines, each ended by 0a
-abbrev pub ended : List (List ℕ) → List ℕ
-ended [] = []
-ended (line ∷ lines) = line ++ 10 ∷ ended lines
+abbrev pub with_line_ends : List (List ℕ) → List ℕ
+with_line_ends [] = []
+with_line_ends (line ∷ lines) = line ++ 10 ∷ with_line_ends lines
 
 -- lines that hand these frames in, one each
 abbrev pub HandIn : List (List ℕ) → List TimedFrame → Type 0
 HandIn [] frames = frames ≡ []
 HandIn (line ∷ lines) frames =
-    (timed : TimedFrame) × (later : List TimedFrame) × HasNoNewline line × (frame_of line ≡ Some timed) × HandIn lines later × (frames ≡ timed ∷ later)
+    (timed : TimedFrame) × (later : List TimedFrame) × HasNoNewline line
+    × (frame_of line ≡ Some timed) × HandIn lines later × (frames ≡ timed ∷ later)
 
 -- bytes begin with so many lines, which hand these frames in, and a rest follows them
-pub record Hands (bytes : List ℕ) (count : ℕ) (frames : List TimedFrame) (rest : List ℕ) : Type 0 where
+pub record Hands (bytes : List ℕ) (count : ℕ) (frames : List TimedFrame)
+    (rest : List ℕ) : Type 0 where
   pub lines : List (List ℕ)
   pub each : HandIn lines frames
   pub number : length lines ≡ count
-  pub parts : bytes ≡ ended lines ++ rest
+  pub parts : bytes ≡ with_line_ends lines ++ rest
 
 -- bytes that may become a line
 abbrev pub IsBegunLine : List ℕ → Type 0
@@ -57,7 +62,8 @@ IsLeftLine true rest = BeginsBadLine rest
 IsLeftLine false rest = IsBegunLine rest
 
 -- all lines up to a bad one are taken, and this is what is written of their frames
-pub record TakesLines (bytes : List ℕ) (count : ℕ) (rest written : List ℕ) (bad : Bool) : Type 0 where
+pub record TakesLines (bytes : List ℕ) (count : ℕ) (rest written : List ℕ)
+    (bad : Bool) : Type 0 where
   pub frames : List TimedFrame
   pub hands : Hands bytes count frames rest
   pub spelled : written ≡ flat_map record_of frames
@@ -69,58 +75,52 @@ ends_line (byte ∷ []) = byte == 10
 ends_line (byte ∷ next ∷ bytes) = ends_line (next ∷ bytes)
 
 -- the lines that bytes are where no more come: a last one that no 0a ends is a line all the same
-abbrev pub closed : List ℕ → List ℕ
-closed bytes = if ends_line bytes then bytes else bytes ++ 10 ∷ []
+abbrev pub with_last_line_end : List ℕ → List ℕ
+with_last_line_end bytes = if ends_line bytes then bytes else bytes ++ 10 ∷ []
 
 -- what is known of a text: these bytes, and whether no more come
 abbrev pub known_text : Bool → List ℕ → List ℕ
-known_text true bytes = closed bytes
+known_text true bytes = with_last_line_end bytes
 known_text false bytes = bytes
 
 -- the bytes are a text whose lines hand these frames in, one each
 abbrev pub IsText : List ℕ → List TimedFrame → Type 0
-IsText bytes frames = (count : ℕ) × Hands (closed bytes) count frames []
+IsText bytes frames = (count : ℕ) × Hands (with_last_line_end bytes) count frames []
 
 -- all frames of the whole lines in bytes are written, after the file header, and a line is begun
 abbrev pub AreWritten : List ℕ → List ℕ → Type 0
 AreWritten bytes written =
-    (count : ℕ) × (frames : List TimedFrame) × (rest : List ℕ) × Hands bytes count frames rest × IsBegunLine rest × (written ≡ capture_of frames)
-
--- a front of what the frames of some first lines come to is written
-abbrev pub AreWrittenInPart : List ℕ → List ℕ → Type 0
-AreWrittenInPart bytes written =
-    (missing : List ℕ) × (count : ℕ) × (frames : List TimedFrame) × (rest : List ℕ) × Hands bytes count frames rest × (written ++ missing ≡ capture_of frames)
+    (count : ℕ) × (frames : List TimedFrame) × (rest : List ℕ) × Hands bytes count frames rest
+    × IsBegunLine rest × (written ≡ capture_of frames)
 
 -- the frames of all lines before the one with this number are written, and that one hands none in
 abbrev pub AreWrittenBefore : ℕ → List ℕ → List ℕ → Type 0
 AreWrittenBefore number bytes written =
-    (count : ℕ) × (frames : List TimedFrame) × (rest : List ℕ) × Hands bytes count frames rest × BeginsBadLine rest × (number ≡ count + 1) × (written ≡ capture_of frames)
+    (count : ℕ) × (frames : List TimedFrame) × (rest : List ℕ) × Hands bytes count frames rest
+    × BeginsBadLine rest × (number ≡ count + 1) × (written ≡ capture_of frames)
 
--- what a run from lines to a capture has written when it ends, by the bytes read and whether their end was told
-abbrev pub IsWritten : Result Unit RunError → Bool → List ℕ → List ℕ → Type 0
-IsWritten (Ok done) told read written = (frames : List TimedFrame) × IsText read frames × (written ≡ capture_of frames)
-IsWritten (Err Read) told read written = AreWritten read written
-IsWritten (Err Write) told read written = AreWrittenInPart (known_text told read) written
-IsWritten (Err WriteZero) told read written = AreWrittenInPart (known_text told read) written
-IsWritten (Err Memory) told read written = (read ≡ []) × (written ≡ [])
-IsWritten (Err TooManyReads) told read written = AreWritten read written
-IsWritten (Err (Capture error)) told read written = ⊥
-IsWritten (Err (BadLine number)) told read written = AreWrittenBefore number (known_text told read) written
+-- what is written where the text is refused
+abbrev pub IsRefusedText : Refusal → Bool → List ℕ → List ℕ → Type 0
+IsRefusedText (InCapture error) told read written = ⊥
+IsRefusedText (InLine number) told read written =
+    AreWrittenBefore number (known_text told read) written
 
--- a run of at most so many reads from lines to a capture took a device from old to new, and ended by this result
-abbrev pub WritesCapture : {D : Type 0} → (D → Call → D → Type 0) → ℕ → D → D → Result Unit RunError → Type 0
-WritesCapture transition limit old new result = Goes AreWritten IsWritten transition limit old new result
+-- the capture of the frames that lines hand in, those of all whole lines before the next read
+abbrev pub lines_to_capture : Task Refusal
+lines_to_capture = record {
+  room = INPUT_ROOM;
+  due = AreWritten;
+  full = λ told read text. (count : ℕ) × (frames : List TimedFrame) × (rest : List ℕ)
+      × Hands (known_text told read) count frames rest × (text ≡ capture_of frames);
+  whole = λ read written. (frames : List TimedFrame) × IsText read frames
+      × (written ≡ capture_of frames);
+  starved = λ told read written. (read ≡ []) × (written ≡ []);
+  refused = IsRefusedText;
+}
 
--- what comes behind a begun line: what a read gave, or at the end the 0a that a begun line lacks
-abbrev pub coming : Bool → (begun piece : List ℕ) → List ℕ
-coming false begun piece = piece
-coming true [] piece = []
-coming true (byte ∷ begun) piece = 10 ∷ []
-
--- a read gave what comes behind a begun line, both of which are this text, and told the end or not
-pub record GivesText {D : Type 0} (transition : D → Call → D → Type 0) (old : D) (begun text : List ℕ) (told : Bool) (new : D) : Type 0 where
-  pub piece : List ℕ
-  pub call : transition old (Reads (Some piece)) new
-  pub size : length piece ≤ INPUT_ROOM
-  pub end : tells_end (Reads (Some piece)) ≡ told
-  pub parts : text ≡ begun ++ coming told begun piece
+-- a run of at most so many reads from lines to a capture took a device from old to new, and ended
+-- by this result
+abbrev pub WritesCapture : {D : Type 0} → (D → Call → D → Type 0) → ℕ → D → D
+    → Result Unit RunError → Type 0
+WritesCapture transition limit old new result =
+    Goes lines_to_capture transition limit old new (ending_of result)

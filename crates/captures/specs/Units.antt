@@ -1,18 +1,22 @@
 -- A capture as units in a row: a file header and packet records, or blocks.
-use Rattle.std.specs.Prelude.{◌≡◌, ◌≢◌, ◌⊎◌, ℕ, ◌-◌, ◌%◌, ◌<◌, ◌≤◌, List, [], ◌∷◌, ◌++◌, length, Option, Some, None}
+use Rattle.std.specs.Prelude.{◌≡◌, ◌≢◌, ◌⊎◌, ℕ, ◌-◌, ◌%◌, ◌<◌, ◌≤◌, List, [], ◌∷◌, ◌++◌, length}
+use Rattle.std.specs.Prelude.{Option, Some, None}
 use Rattle.captures.specs.Numbers.{word}
 use Rattle.captures.specs.Lines.{Packet, packets_of, lines_of}
 use Rattle.captures.specs.Pcap.{IsFileHeader, IsPacketRecord, link_type}
 use Rattle.captures.specs.declared.byte_order.ByteOrder.{ByteOrder}
 use Rattle.captures.specs.declared.byte_order.ByteOrder.TheVariants.{Big}
 use Rattle.captures.specs.declared.capture_error.CaptureError.{CaptureError}
-use Rattle.captures.specs.declared.capture_error.CaptureError.TheVariants.{NotCapture, LinkType, FrameTooLong, CutOff, BlockTooLong, BadBlock}
+use Rattle.captures.specs.declared.capture_error.CaptureError.TheVariants.{NotCapture, LinkType}
+use Rattle.captures.specs.declared.capture_error.CaptureError.TheVariants.{FrameTooLong, CutOff}
+use Rattle.captures.specs.declared.capture_error.CaptureError.TheVariants.{BlockTooLong, BadBlock}
 use Rattle.captures.specs.declared.limits.TheConstants.{FRAME_LIMIT, FIRST_UNIT_LEN}
-use Rattle.captures.specs.declared.state.State.{State}
-use Rattle.captures.specs.declared.section.Section.{Section}
-use Rattle.captures.specs.declared.section.TheConstants.{ETHERNET}
-use Rattle.captures.specs.declared.state.State.TheVariants.{Start, Classic, Pcapng}
-use Rattle.captures.specs.Pcapng.{HasOrder, IsBlock, IsTaken, Reads, RefusesBlock, section_header, byte_order_magic}
+use Rattle.captures.specs.declared.translation.state.State.{State}
+use Rattle.captures.specs.declared.pcapng.section.Section.{Section}
+use Rattle.captures.specs.declared.pcapng.section.TheConstants.{ETHERNET}
+use Rattle.captures.specs.declared.translation.state.State.TheVariants.{Start, Classic, Pcapng}
+use Rattle.captures.specs.Pcapng.{HasOrder, IsBlock, IsTaken, Reads, RefusesBlock, section_header}
+use Rattle.captures.specs.Pcapng.{byte_order_magic}
 
 -- a file header of Ethernet frames, after which packet records follow
 pub record OpensFile (unit : List ℕ) (after : State) : Type 0 where
@@ -25,8 +29,10 @@ pub record OpensFile (unit : List ℕ) (after : State) : Type 0 where
 abbrev pub no_section : Section
 no_section = record { order = Big; first = 0; interfaces = 0; snap_len = 0 }
 
--- a block of a section, whole and of a length that is taken, after which the section has come to this
-pub record IsBlockUnit (section : Section) (unit : List ℕ) (after : State) (channel : ℕ) (frame : List ℕ) : Type 0 where
+-- a block of a section, whole and of a length that is taken, after which the section has come to
+-- this
+pub record IsBlockUnit (section : Section) (unit : List ℕ) (after : State) (channel : ℕ)
+    (frame : List ℕ) : Type 0 where
   pub order : ByteOrder
   pub has_order : HasOrder section.order unit order
   pub block : IsBlock order unit
@@ -39,9 +45,11 @@ pub record IsBlockUnit (section : Section) (unit : List ℕ) (after : State) (ch
 -- and the packet in it, whose frame is empty where there is none
 abbrev pub IsUnit : State → List ℕ → State → ℕ → List ℕ → Type 0
 IsUnit Start unit after channel frame =
-    (OpensFile unit after × (frame ≡ [])) ⊎ ((word Big unit 0 ≡ section_header) × IsBlockUnit no_section unit after channel frame)
+    (OpensFile unit after × (frame ≡ []))
+    ⊎ ((word Big unit 0 ≡ section_header) × IsBlockUnit no_section unit after channel frame)
 IsUnit (Classic order) unit after channel frame =
-    IsPacketRecord order unit frame × (length frame ≤ FRAME_LIMIT) × (after ≡ Classic order) × (channel ≡ 0)
+    IsPacketRecord order unit frame × (length frame ≤ FRAME_LIMIT)
+    × (after ≡ Classic order) × (channel ≡ 0)
 IsUnit (Pcapng section) unit after channel frame = IsBlockUnit section unit after channel frame
 
 -- units in a row, and all packets in them
@@ -49,18 +57,20 @@ abbrev pub Row : State → List (List ℕ) → List Packet → State → Type 0
 Row state [] packets after = (packets ≡ []) × (after ≡ state)
 Row state (unit ∷ units) packets after =
     (mid : State) × (channel : ℕ) × (frame : List ℕ) × (later : List Packet)
-    × IsUnit state unit mid channel frame × Row mid units later after × (packets ≡ packets_of channel frame ++ later)
+    × IsUnit state unit mid channel frame × Row mid units later after
+    × (packets ≡ packets_of channel frame ++ later)
 
 -- some byte lists as one
-abbrev pub joined : List (List ℕ) → List ℕ
-joined [] = []
-joined (unit ∷ units) = unit ++ joined units
+abbrev pub in_a_row : List (List ℕ) → List ℕ
+in_a_row [] = []
+in_a_row (unit ∷ units) = unit ++ in_a_row units
 
 -- bytes begin with units in a row that hold these packets, and a rest follows them
-pub record Passes (state : State) (bytes : List ℕ) (packets : List Packet) (after : State) (rest : List ℕ) : Type 0 where
+pub record Passes (state : State) (bytes : List ℕ) (packets : List Packet) (after : State)
+    (rest : List ℕ) : Type 0 where
   pub units : List (List ℕ)
   pub row : Row state units packets after
-  pub parts : bytes ≡ joined units ++ rest
+  pub parts : bytes ≡ in_a_row units ++ rest
 
 -- the head of a packet record that a line can hold, with fewer bytes after it than it tells
 pub record IsShortRecord (order : ByteOrder) (bytes : List ℕ) : Type 0 where
@@ -91,18 +101,21 @@ pub record HasOtherBack (order : ByteOrder) (bytes : List ℕ) : Type 0 where
 
 -- bytes that may become a unit and are too few for one
 abbrev pub IsBegun : State → List ℕ → Type 0
-IsBegun Start bytes = (length bytes < FIRST_UNIT_LEN) ⊎ ((word Big bytes 0 ≡ section_header) × IsShortBlock no_section bytes)
+IsBegun Start bytes = (length bytes < FIRST_UNIT_LEN)
+    ⊎ ((word Big bytes 0 ≡ section_header) × IsShortBlock no_section bytes)
 IsBegun (Classic order) bytes = (length bytes < 16) ⊎ IsShortRecord order bytes
 IsBegun (Pcapng section) bytes = (length bytes < 12) ⊎ IsShortBlock section bytes
 
 -- the bytes begin with the kind and the byte order magic of a section header
 abbrev pub BeginsSection : List ℕ → Type 0
-BeginsSection bytes = (word Big bytes 0 ≡ section_header) × ((order : ByteOrder) × (word order bytes 8 ≡ byte_order_magic))
+BeginsSection bytes = (word Big bytes 0 ≡ section_header)
+    × ((order : ByteOrder) × (word order bytes 8 ≡ byte_order_magic))
 
 -- no front of the bytes is a file header, and they don't begin a section
 abbrev pub IsNoCapture : List ℕ → Type 0
 IsNoCapture bytes =
-    ((order : ByteOrder) (header rest : List ℕ) → bytes ≡ header ++ rest → IsFileHeader order header → ⊥)
+    ((order : ByteOrder) (header rest : List ℕ) → bytes ≡ header ++ rest
+    → IsFileHeader order header → ⊥)
     × (FIRST_UNIT_LEN ≤ length bytes → BeginsSection bytes → ⊥)
 
 -- a block whose length is less than any block has, has no whole words, or is another one at its end
@@ -111,8 +124,10 @@ pub record HasBadLength (section : Section) (bytes : List ℕ) : Type 0 where
   pub has_order : HasOrder section.order bytes order
   pub bad : (word order bytes 4 < 12) ⊎ ((word order bytes 4 % 4 ≢ 0) ⊎ HasOtherBack order bytes)
 
--- the bytes begin with a whole block of a length that is taken, and that is refused for what it says
-pub record HasRefusedBlock (section : Section) (bytes : List ℕ) (error : CaptureError) : Type 0 where
+-- the bytes begin with a whole block of a length that is taken, and that is refused for what it
+-- says
+pub record HasRefusedBlock (section : Section) (bytes : List ℕ)
+    (error : CaptureError) : Type 0 where
   pub order : ByteOrder
   pub block : List ℕ
   pub rest : List ℕ
@@ -122,7 +137,8 @@ pub record HasRefusedBlock (section : Section) (bytes : List ℕ) (error : Captu
   pub is_block : IsBlock order block
   pub refused : RefusesBlock section order block error
 
--- the bytes begin with a block of so many bytes, whole words and more than a run takes of such a block
+-- the bytes begin with a block of so many bytes, whole words and more than a run takes of such a
+-- block
 pub record HasLongBlock (section : Section) (bytes : List ℕ) (len : ℕ) : Type 0 where
   pub order : ByteOrder
   pub has_order : HasOrder section.order bytes order
@@ -134,12 +150,14 @@ pub record HasLongBlock (section : Section) (bytes : List ℕ) (len : ℕ) : Typ
 abbrev pub RefusesAt : Section → List ℕ → CaptureError → Type 0
 RefusesAt section bytes NotCapture = ⊥
 RefusesAt section bytes (LinkType number) = HasRefusedBlock section bytes (LinkType number)
-RefusesAt section bytes (FrameTooLong captured) = HasRefusedBlock section bytes (FrameTooLong captured)
+RefusesAt section bytes (FrameTooLong captured) =
+    HasRefusedBlock section bytes (FrameTooLong captured)
 RefusesAt section bytes CutOff = ⊥
 RefusesAt section bytes (BlockTooLong len) = (12 ≤ length bytes) × HasLongBlock section bytes len
 RefusesAt section bytes BadBlock =
     (12 ≤ length bytes)
-    × (((order : ByteOrder) → HasOrder section.order bytes order → ⊥) ⊎ (HasBadLength section bytes ⊎ HasRefusedBlock section bytes BadBlock))
+    × (((order : ByteOrder) → HasOrder section.order bytes order → ⊥)
+    ⊎ (HasBadLength section bytes ⊎ HasRefusedBlock section bytes BadBlock))
 
 -- the bytes begin with a file header of another link type
 pub record HasLinkType (bytes : List ℕ) (number : ℕ) : Type 0 where
@@ -163,10 +181,13 @@ pub record HasLongFrame (order : ByteOrder) (bytes : List ℕ) (captured : ℕ) 
 -- why no unit is the first, where there are as many bytes as a file header has
 abbrev pub RefusesFirst : List ℕ → CaptureError → Type 0
 RefusesFirst bytes NotCapture = IsNoCapture bytes
-RefusesFirst bytes (LinkType number) = HasLinkType bytes number ⊎ (BeginsSection bytes × RefusesAt no_section bytes (LinkType number))
-RefusesFirst bytes (FrameTooLong captured) = BeginsSection bytes × RefusesAt no_section bytes (FrameTooLong captured)
+RefusesFirst bytes (LinkType number) = HasLinkType bytes number
+    ⊎ (BeginsSection bytes × RefusesAt no_section bytes (LinkType number))
+RefusesFirst bytes (FrameTooLong captured) = BeginsSection bytes
+    × RefusesAt no_section bytes (FrameTooLong captured)
 RefusesFirst bytes CutOff = ⊥
-RefusesFirst bytes (BlockTooLong len) = BeginsSection bytes × RefusesAt no_section bytes (BlockTooLong len)
+RefusesFirst bytes (BlockTooLong len) = BeginsSection bytes
+    × RefusesAt no_section bytes (BlockTooLong len)
 RefusesFirst bytes BadBlock = BeginsSection bytes × RefusesAt no_section bytes BadBlock
 
 -- why no unit can follow, whatever comes after these bytes
@@ -181,7 +202,8 @@ Refuses (Classic order) bytes BadBlock = ⊥
 Refuses (Pcapng section) bytes error = RefusesAt section bytes error
 
 -- a unit with this packet is the front of the bytes
-pub record HasUnit (state : State) (bytes : List ℕ) (after : State) (channel : ℕ) (frame rest : List ℕ) : Type 0 where
+pub record HasUnit (state : State) (bytes : List ℕ) (after : State) (channel : ℕ)
+    (frame rest : List ℕ) : Type 0 where
   pub unit : List ℕ
   pub parts : bytes ≡ unit ++ rest
   pub is_unit : IsUnit state unit after channel frame
@@ -192,7 +214,8 @@ IsLeft state rest None = IsBegun state rest
 IsLeft state rest (Some error) = Refuses state rest error
 
 -- all whole units of the bytes are taken, and their lines are this text
-pub record Takes (state : State) (bytes : List ℕ) (after : State) (rest text : List ℕ) (refusal : Option CaptureError) : Type 0 where
+pub record Takes (state : State) (bytes : List ℕ) (after : State) (rest text : List ℕ)
+    (refusal : Option CaptureError) : Type 0 where
   pub packets : List Packet
   pub passes : Passes state bytes packets after rest
   pub told : text ≡ lines_of packets

@@ -10,19 +10,20 @@ pub enum CaptureError {
     /// The frames have this link type, which isn't that of Ethernet, 1.
     #[error("link type {0} is not Ethernet")]
     LinkType(u16),
-    /// So many bytes of a packet were captured, which is more than [`FRAME_LIMIT`](crate::FRAME_LIMIT).
+    /// So many bytes of a packet were captured, which is more than
+    /// [`FRAME_LIMIT`](crate::FRAME_LIMIT).
     #[error("a packet of {0} bytes is too long for a line")]
     FrameTooLong(u32),
     /// The capture ends within a packet, or within another block.
     #[error("the capture ends within a packet")]
     CutOff,
-    /// A block of a pcapng file that is read, as a section header, an interface description or a packet,
-    /// has so many bytes, which is more than [`BLOCK_LIMIT`](crate::BLOCK_LIMIT).
+    /// A block of a pcapng file that is read, as a section header, an interface description or a
+    /// packet, has so many bytes, which is more than [`BLOCK_LIMIT`](crate::BLOCK_LIMIT).
     #[error("a block of {0} bytes is too long")]
     BlockTooLong(u32),
-    /// A block of a pcapng file isn't well made: its two lengths differ, or have no whole words of 4
-    /// bytes, or have too few for what it says; or it names an interface that was not described; or it
-    /// begins a section of another version.
+    /// A block of a pcapng file isn't well made: its two lengths differ, or have no whole words of
+    /// 4 bytes, or have too few for what it says; or it names an interface that was not described;
+    /// or it begins a section of another version.
     #[error("a block is not well made")]
     BadBlock,
 }

@@ -4,15 +4,15 @@
 /// that ends it, whatever its channel.
 pub const FRAME_LIMIT: usize = 99_991;
 
-/// The bytes of a line that hands a frame in at most, without the 0a that ends it: those of the longest
-/// frame, channel and time.
+/// The bytes of a line that hands a frame in at most, without the 0a that ends it: those of the
+/// longest frame, channel and time.
 pub const LINE_LIMIT: usize = 200_021;
 
 /// The bytes of the shortest capture there is: a file header.
 pub const FIRST_UNIT_LEN: usize = 24;
 
-/// The bytes at most of a block of a pcapng file that is read: a section header, an interface description
-/// or a packet. Any other block is skipped, whatever its length.
+/// The bytes at most of a block of a pcapng file that is read: a section header, an interface
+/// description or a packet. Any other block is skipped, whatever its length.
 pub const BLOCK_LIMIT: usize = INPUT_ROOM;
 
 /// The bytes that a run holds at most of what it has read.

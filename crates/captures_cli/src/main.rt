@@ -1,5 +1,5 @@
-//! Turns a capture file into lines for `netlines`, `captures_cli lines [FILE|-]`, and lines into a capture
-//! file, `captures_cli capture [FILE|-]`.
+//! Turns a capture file into lines for `netlines`, `captures_cli lines [FILE|-]`, and lines into a
+//! capture file, `captures_cli capture [FILE|-]`.
 #![tactic(auto)]
 
 ghost use Rattle.std.specs.Prelude.{◌≡◌, List, ℕ, OnOk, IfSome, MatchResult};
@@ -97,9 +97,11 @@ fn make<R: Read, W: Write>(
     reader: &mut R,
     writer: &mut W,
 ) -> Result<(), RunError>
-    ensures lines { mode ≡ Mode.Lines → OnOk result (IfSome (R.remaining reader.old) (λ input. (packets : List Packet)
+    ensures lines { mode ≡ Mode.Lines
+        → OnOk result (IfSome (R.remaining reader.old) (λ input. (packets : List Packet)
         × IsCapture input packets × Appends (W.contents writer.old) (W.contents writer.new) (lines_of packets))) }
-    ensures capture { mode ≡ Mode.Capture → OnOk result (IfSome (R.remaining reader.old) (λ input. (frames : List TimedFrame)
+    ensures capture { mode ≡ Mode.Capture
+        → OnOk result (IfSome (R.remaining reader.old) (λ input. (frames : List TimedFrame)
         × IsText input frames × Appends (W.contents writer.old) (W.contents writer.new) (capture_of frames))) }
 {
     match mode {
@@ -139,7 +141,8 @@ fn make_capture<R: Read, W: Write>(
 
 // Tells an error on standard error. The status tells of it where that fails too.
 fn exit_code<P: Eprint>(rt: &P, made: Result<(), RunError>) -> ExitCode
-    ensures { MatchResult made (λ _. exit_status result ≡ 0) (λ error. exit_status result ≡ status_of error) }
+    ensures { MatchResult made (λ _. exit_status result ≡ 0)
+        (λ error. exit_status result ≡ status_of error) }
 {
     match made {
         Ok(()) => ExitCode::SUCCESS,

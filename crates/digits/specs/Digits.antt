@@ -1,5 +1,6 @@
 -- What a lane's value says of a digit, and which bytes the digits stand for.
-use Rattle.std.specs.Prelude.{◌≡◌, ℕ, ◌+◌, ◌*◌, ◌<◌, nat_lt, if◌then◌else◌, List, slice_index, Some, None, Ok}
+use Rattle.std.specs.Prelude.{◌≡◌, ℕ, ◌+◌, ◌*◌, ◌<◌, nat_lt, if◌then◌else◌, List, slice_index, Some}
+use Rattle.std.specs.Prelude.{None, Ok}
 use Rattle.hex.specs.Hex.{hex_digit_value, pair_value}
 
 -- a value below 16 is that of the digit c, and any other says that c is no digit
@@ -13,4 +14,5 @@ AreDigitValues values = (i : ℕ) → i < 32 → slice_index values i < 16
 -- each of the first n bytes is that of its two digits
 abbrev pub AreDecoded : ℕ → List ℕ → List ℕ → Type 0
 AreDecoded n digits bytes = (k : ℕ) → k < n
-    → (i : ℕ) → pair_value (slice_index digits (2 * k)) (slice_index digits (2 * k + 1)) i ≡ Ok (slice_index bytes k)
+    → (i : ℕ) → pair_value (slice_index digits (2 * k)) (slice_index digits (2 * k + 1)) i
+    ≡ Ok (slice_index bytes k)

@@ -11,9 +11,9 @@ use std::simd::prelude::*;
 /// Puts the bytes of an even run of digits, of either case and of any length, into `bytes`.
 ///
 /// The errors are those of [`hex::decode_to_slice`], and come in this order: `OddLength`, then
-/// `InvalidStringLength` where `bytes` is not half as long as the digits, then `InvalidHexCharacter`
-/// for the first byte that is no digit, with its place, and what `bytes` then holds is open. A
-/// refused text is read twice: [`decode`] answers sooner, and names no error.
+/// `InvalidStringLength` where `bytes` is not half as long as the digits, then
+/// `InvalidHexCharacter` for the first byte that is no digit, with its place, and what `bytes` then
+/// holds is open. A refused text is read twice: [`decode`] answers sooner, and names no error.
 pub fn decode_to_slice(digits: &[u8], bytes: &mut [u8]) -> Result<(), FromHexError>
     ensures value { MatchResult (decode_sized digits.now (length bytes.old))
         (λ value. (result ≡ Ok tt) × (bytes.new ≡ value))
@@ -27,11 +27,12 @@ pub fn decode_to_slice(digits: &[u8], bytes: &mut [u8]) -> Result<(), FromHexErr
     }
 }
 
-/// Puts the bytes of an even run of digits, of either case and of any length, into `bytes`, and tells
-/// whether it could: whether there are twice as many digits as bytes, and no other byte among them.
+/// Puts the bytes of an even run of digits, of either case and of any length, into `bytes`, and
+/// tells whether it could: whether there are twice as many digits as bytes, and no other byte among
+/// them.
 ///
-/// Where the lengths don't fit, `bytes` stays as it was. Where a byte is no digit, what `bytes` then
-/// holds is not specified.
+/// Where the lengths don't fit, `bytes` stays as it was. Where a byte is no digit, what `bytes`
+/// then holds is not specified.
 pub fn decode(digits: &[u8], bytes: &mut [u8]) -> bool
     ensures value { MatchResult (decode_sized digits.now (length bytes.old))
         (λ value. (result ≡ true) × (bytes.new ≡ value))

@@ -2,11 +2,13 @@
 
 ghost use Rattle.std.specs.Prelude.{◌≡◌, ℕ, List, [], ◌∷◌, codes, length};
 ghost use Rattle.hex.specs.Hex.{IsBytes, decode_sized, encode_lower};
-ghost use Rattle.hex.specs.declared.error.FromHexError.TheVariants.{InvalidHexCharacter, OddLength, InvalidStringLength};
+ghost use Rattle.hex.specs.declared.error.FromHexError.TheVariants.{InvalidHexCharacter, OddLength};
+ghost use Rattle.hex.specs.declared.error.FromHexError.TheVariants.{InvalidStringLength};
 
 /// The digits of some bytes stand for those bytes.
 pub fn digits_read_back()
-    ensures { (bytes : List ℕ) → IsBytes bytes → decode_sized (encode_lower bytes) (length bytes) ≡ Ok bytes }
+    ensures { (bytes : List ℕ) → IsBytes bytes
+        → decode_sized (encode_lower bytes) (length bytes) ≡ Ok bytes }
 {}
 
 /// Some digits and their bytes, and some texts that are refused, one for each error.

@@ -1,10 +1,13 @@
 -- What a changed byte does to a text's sum.
-use Rattle.std.proofs.Common.{false, IsTrue, not, ◌&&◌, ◌==◌, ◌≢◌, ◌≡◌, ◌⊎◌, inl, inr, ℕ, ◌+◌, ◌*◌, ◌%◌, ◌<◌, List, [], ◌∷◌, ◌++◌, sym, ap, ◌∙◌, arith}
+use Rattle.std.proofs.Common.{false, IsTrue, not, ◌&&◌, ◌==◌, ◌≢◌, ◌≡◌, ◌⊎◌, inl, inr, ℕ, ◌+◌, ◌*◌}
+use Rattle.std.proofs.Common.{◌%◌, ◌<◌, List, [], ◌∷◌, ◌++◌, sym, ap, ◌∙◌, arith}
 use Rattle.std.proofs.lemmas.Bool.Decides.{nat_tests}
 use Rattle.ep_base.specs.Sum.{total, OneChangedByte}
 
 -- the total of a text less one of its bytes, and the worth of that byte
-total-byte : (front rest : List ℕ) → (others : ℕ) × (((byte : ℕ) → total (front ++ byte ∷ rest) ≡ others + 256 * byte) ⊎ ((byte : ℕ) → total (front ++ byte ∷ rest) ≡ others + byte))
+total-byte : (front rest : List ℕ) → (others : ℕ)
+    × (((byte : ℕ) → total (front ++ byte ∷ rest) ≡ others + 256 * byte)
+    ⊎ ((byte : ℕ) → total (front ++ byte ∷ rest) ≡ others + byte))
 unfolding total
 total-byte [] [] = (0, inl (λ byte. omega arith))
 total-byte [] (b ∷ rest) = (b + total rest, inl (λ byte. omega arith))
@@ -19,10 +22,12 @@ total-byte (a ∷ b ∷ front) rest =
     )
 
 -- two numbers that are a little apart aren't both divisible by 65535
-apart : (others m n : ℕ) → m < 65535 → n < 65535 → m ≢ n → (others + m) % 65535 ≡ 0 → (others + n) % 65535 ≡ 0 → ⊥
+apart : (others m n : ℕ) → m < 65535 → n < 65535 → m ≢ n → (others + m) % 65535 ≡ 0
+    → (others + n) % 65535 ≡ 0 → ⊥
 apart others m n p q other first second = other (omega arith)
 
-not_all_ones : (m n : ℕ) → (m % 65535 ≡ 0 → n % 65535 ≡ 0 → ⊥) → IsTrue (not (m == 0) && (m % 65535 == 0)) → (not (n == 0) && (n % 65535 == 0)) ≡ false
+not_all_ones : (m n : ℕ) → (m % 65535 ≡ 0 → n % 65535 ≡ 0 → ⊥)
+    → IsTrue (not (m == 0) && (m % 65535 == 0)) → (not (n == 0) && (n % 65535 == 0)) ≡ false
 not_all_ones m n never h = grind (arith, nat_tests)
 
 pub one_changed_byte : OneChangedByte
@@ -30,9 +35,12 @@ one_changed_byte front rest old new p q other h =
     let parts = total-byte front rest in
     elim parts.1 [
       | inl high ↦ not_all_ones (total (front ++ old ∷ rest)) (total (front ++ new ∷ rest))
-          (λ first second. apart parts.0 (256 * old) (256 * new) (omega arith) (omega arith) (λ same. other (omega (arith, same)))
-          (ap (λ n. n % 65535) (sym (high old)) ∙ first) (ap (λ n. n % 65535) (sym (high new)) ∙ second)) h
+          (λ first second. apart parts.0 (256 * old) (256 * new) (omega arith) (omega arith)
+          (λ same. other (omega (arith, same)))
+          (ap (λ n. n % 65535) (sym (high old)) ∙ first)
+          (ap (λ n. n % 65535) (sym (high new)) ∙ second)) h
       | inr low ↦ not_all_ones (total (front ++ old ∷ rest)) (total (front ++ new ∷ rest))
           (λ first second. apart parts.0 old new (omega arith) (omega arith) other
-          (ap (λ n. n % 65535) (sym (low old)) ∙ first) (ap (λ n. n % 65535) (sym (low new)) ∙ second)) h
+          (ap (λ n. n % 65535) (sym (low old)) ∙ first)
+          (ap (λ n. n % 65535) (sym (low new)) ∙ second)) h
     ]

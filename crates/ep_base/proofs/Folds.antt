@@ -1,5 +1,6 @@
 -- Laws of `fold`.
-use Rattle.std.proofs.Common.{not, ◌&&◌, ◌==◌, ◌≡◌, Bool, true, false, ◌^◌, ◌⊎◌, ℕ, zero, suc, ◌+◌, ◌-◌, ◌*◌, ◌/◌, ◌%◌, ◌<◌, ◌≤◌, sym, ap, ◌∙◌, refl, arith, inl, inr}
+use Rattle.std.proofs.Common.{not, ◌&&◌, ◌==◌, ◌≡◌, Bool, true, false, ◌^◌, ◌⊎◌, ℕ, zero, suc, ◌+◌}
+use Rattle.std.proofs.Common.{◌-◌, ◌*◌, ◌/◌, ◌%◌, ◌<◌, ◌≤◌, sym, ap, ◌∙◌, refl, arith, inl, inr}
 use Rattle.std.proofs.Math.Nat.{add-mul-mod_self_left}
 use Rattle.std.specs.Bool.{FalseIff}
 use Rattle.std.specs.Int.{swap_bytes, w16}
@@ -70,13 +71,17 @@ fold_around k lo zero = let e : lo + 0 + 65535 * (k * 0) ≡ lo + 0 = omega arit
 fold_around k lo (suc hi) = fold_step (lo + suc hi) (k * suc hi) (omega arith)
 
 pub fold_around_16 : (lo hi : ℕ) → fold (lo + 65536 * hi) ≡ fold (lo + hi)
-fold_around_16 lo hi = let e : lo + 65536 * hi ≡ lo + hi + 65535 * (1 * hi) = omega arith in ap fold e ∙ fold_around 1 lo hi
+fold_around_16 lo hi = let e : lo + 65536 * hi ≡ lo + hi + 65535 * (1 * hi) = omega arith in
+    ap fold e ∙ fold_around 1 lo hi
 
 pub fold_around_32 : (lo hi : ℕ) → fold (lo + 4294967296 * hi) ≡ fold (lo + hi)
-fold_around_32 lo hi = let e : lo + 4294967296 * hi ≡ lo + hi + 65535 * (65537 * hi) = omega arith in ap fold e ∙ fold_around 65537 lo hi
+fold_around_32 lo hi = let e : lo + 4294967296 * hi ≡ lo + hi + 65535 * (65537 * hi) =
+    omega arith in ap fold e ∙ fold_around 65537 lo hi
 
 pub fold_around_64 : (lo hi : ℕ) → fold (lo + 18446744073709551616 * hi) ≡ fold (lo + hi)
-fold_around_64 lo hi = let e : lo + 18446744073709551616 * hi ≡ lo + hi + 65535 * (281479271743489 * hi) = omega arith in ap fold e ∙ fold_around 281479271743489 lo hi
+fold_around_64 lo hi = let e : lo + 18446744073709551616 * hi
+    ≡ lo + hi + 65535 * (281479271743489 * hi) = omega arith in
+    ap fold e ∙ fold_around 281479271743489 lo hi
 
 -- 256 times a fold
 fold_times : (m : ℕ) → fold (256 * fold m) ≡ fold (256 * m)
@@ -92,7 +97,8 @@ fold_swap_bytes : (f : ℕ) → f ≤ 65535 → fold (256 * f) ≡ swap_bytes w1
 fold_swap_bytes f h =
     let e : 256 * f ≡ 256 * (f % 256) + 65536 * (f / 256) = omega arith in
     let t : 256 * (f % 256) + f / 256 ≡ swap_bytes w16 f = omega arith in
-    ap fold e ∙ fold_around_16 (256 * (f % 256)) (f / 256) ∙ ap fold t ∙ fold_id (swap_bytes w16 f) (omega arith)
+    ap fold e ∙ fold_around_16 (256 * (f % 256)) (f / 256) ∙ ap fold t
+    ∙ fold_id (swap_bytes w16 f) (omega arith)
 
 -- to take a total 256 times is to swap the bytes of its fold
 pub fold_of_swap_bytes : (m : ℕ) → fold (256 * m) ≡ swap_bytes w16 (fold m)
@@ -105,32 +111,38 @@ swap_bytes_twice f h =
     omega (arith, high, low)
 
 -- the wide sum less its carry out, and the carry
-pub fold_carry_64 : (a b s : ℕ) (carry : Bool) → a < 2 ^ 64 → b < 2 ^ 64 → s ≡ (a + b) % 2 ^ 64 → FalseIff carry (a + b < 2 ^ 64) → fold (s + bool_byte carry) ≡ fold (a + b)
+pub fold_carry_64 : (a b s : ℕ) (carry : Bool) → a < 2 ^ 64 → b < 2 ^ 64 → s ≡ (a + b) % 2 ^ 64
+    → FalseIff carry (a + b < 2 ^ 64) → fold (s + bool_byte carry) ≡ fold (a + b)
 fold_carry_64 a b s true p q e wraps =
     let w : a + b ≡ s + 18446744073709551616 * 1 = omega (arith, wraps) in
     sym (ap fold w ∙ fold_around_64 s 1)
 fold_carry_64 a b s false p q e fits = let w : s + 0 ≡ a + b = omega (arith, fits) in ap fold w
 
-pub fold_carry_32 : (a b s : ℕ) (carry : Bool) → a < 2 ^ 32 → b < 2 ^ 32 → s ≡ (a + b) % 2 ^ 32 → FalseIff carry (a + b < 2 ^ 32) → fold (s + bool_byte carry) ≡ fold (a + b)
+pub fold_carry_32 : (a b s : ℕ) (carry : Bool) → a < 2 ^ 32 → b < 2 ^ 32 → s ≡ (a + b) % 2 ^ 32
+    → FalseIff carry (a + b < 2 ^ 32) → fold (s + bool_byte carry) ≡ fold (a + b)
 fold_carry_32 a b s true p q e wraps =
     let w : a + b ≡ s + 4294967296 * 1 = omega (arith, wraps) in
     sym (ap fold w ∙ fold_around_32 s 1)
 fold_carry_32 a b s false p q e fits = let w : s + 0 ≡ a + b = omega (arith, fits) in ap fold w
 
-pub complement_swap_bytes : (f : ℕ) → f ≤ 65535 → 65535 - swap_bytes w16 f ≡ swap_bytes w16 (65535 - f)
+pub complement_swap_bytes : (f : ℕ) → f ≤ 65535
+    → 65535 - swap_bytes w16 f ≡ swap_bytes w16 (65535 - f)
 complement_swap_bytes f h = omega arith
 
 -- the four words of a wide number, added, and the sum's two words added twice
-pub fold_words : (n : ℕ) → fold (n / 281474976710656 + n / 4294967296 % 65536 + n / 65536 % 65536 + n % 65536) ≡ fold n
+pub fold_words : (n : ℕ)
+    → fold (n / 281474976710656 + n / 4294967296 % 65536 + n / 65536 % 65536 + n % 65536) ≡ fold n
 fold_words n =
     let w0 : ℕ = n % 65536 in
     let w1 : ℕ = n / 65536 % 65536 in
     let w2 : ℕ = n / 4294967296 % 65536 in
     let w3 : ℕ = n / 281474976710656 in
     let whole : n ≡ (w0 + 65536 * w1) + 4294967296 * (w2 + 65536 * w3) = omega arith in
-    let pairs : (w0 + 65536 * w1) + (w2 + 65536 * w3) ≡ (w0 + w2) + 65536 * (w1 + w3) = omega arith in
+    let pairs : (w0 + 65536 * w1) + (w2 + 65536 * w3)
+    ≡ (w0 + w2) + 65536 * (w1 + w3) = omega arith in
     let sum : (w0 + w2) + (w1 + w3) ≡ w3 + w2 + w1 + w0 = omega arith in
-    sym (ap fold whole ∙ fold_around_32 (w0 + 65536 * w1) (w2 + 65536 * w3) ∙ ap fold pairs ∙ fold_around_16 (w0 + w2) (w1 + w3) ∙ ap fold sum)
+    sym (ap fold whole ∙ fold_around_32 (w0 + 65536 * w1) (w2 + 65536 * w3) ∙ ap fold pairs
+    ∙ fold_around_16 (w0 + w2) (w1 + w3) ∙ ap fold sum)
 
 pub fold_once : (n : ℕ) → fold (n / 65536 + n % 65536) ≡ fold n
 fold_once n =
@@ -138,7 +150,8 @@ fold_once n =
     let sum : n % 65536 + n / 65536 ≡ n / 65536 + n % 65536 = omega arith in
     sym (ap fold whole ∙ fold_around_16 (n % 65536) (n / 65536) ∙ ap fold sum)
 
-pub fold_twice : (n : ℕ) → n ≤ 262140 → (n / 65536 + n % 65536) / 65536 + (n / 65536 + n % 65536) % 65536 ≡ fold n
+pub fold_twice : (n : ℕ) → n ≤ 262140
+    → (n / 65536 + n % 65536) / 65536 + (n / 65536 + n % 65536) % 65536 ≡ fold n
 fold_twice n h =
     let m : ℕ = n / 65536 + n % 65536 in
     sym (fold_id (m / 65536 + m % 65536) (omega arith)) ∙ fold_once m ∙ fold_once n
@@ -155,39 +168,50 @@ pub fold_plus_none : (m n : ℕ) → n ≡ 0 → fold (fold m + n) ≡ fold m
 fold_plus_none m n none = fold_add m n ∙ ap fold (let e : m + n ≡ m = omega (arith, none) in e)
 
 pub accumulator_sum_cong : (m n : ℕ) → fold m ≡ fold n → accumulator_sum m ≡ accumulator_sum n
-accumulator_sum_cong m n e = fold_of_swap_bytes m ∙ ap (swap_bytes w16) e ∙ sym (fold_of_swap_bytes n)
+accumulator_sum_cong m n e = fold_of_swap_bytes m ∙ ap (swap_bytes w16) e
+    ∙ sym (fold_of_swap_bytes n)
 
-pub accumulator_sum-add : (m n : ℕ) → accumulator_sum (m + n) ≡ fold (accumulator_sum m + accumulator_sum n)
+pub accumulator_sum-add : (m n : ℕ)
+    → accumulator_sum (m + n) ≡ fold (accumulator_sum m + accumulator_sum n)
 accumulator_sum-add m n =
     let e : 256 * (m + n) ≡ 256 * m + 256 * n = omega arith in
     ap fold e ∙ sym (fold_add (256 * m) (256 * n)) ∙ sym (fold_add_right (fold (256 * m)) (256 * n))
 
-pub accumulator_sum_carry_64 : (a b s : ℕ) (carry : Bool) → a < 2 ^ 64 → b < 2 ^ 64 → s ≡ (a + b) % 2 ^ 64 → FalseIff carry (a + b < 2 ^ 64)
+pub accumulator_sum_carry_64 : (a b s : ℕ) (carry : Bool) → a < 2 ^ 64 → b < 2 ^ 64
+    → s ≡ (a + b) % 2 ^ 64 → FalseIff carry (a + b < 2 ^ 64)
     → accumulator_sum (s + bool_byte carry) ≡ fold (accumulator_sum a + accumulator_sum b)
 accumulator_sum_carry_64 a b s carry p q e wraps =
-    accumulator_sum_cong (s + bool_byte carry) (a + b) (fold_carry_64 a b s carry p q e wraps) ∙ accumulator_sum-add a b
+    accumulator_sum_cong (s + bool_byte carry) (a + b) (fold_carry_64 a b s carry p q e wraps)
+    ∙ accumulator_sum-add a b
 
-pub accumulator_sum_carry_32 : (a b s : ℕ) (carry : Bool) → a < 2 ^ 32 → b < 2 ^ 32 → s ≡ (a + b) % 2 ^ 32 → FalseIff carry (a + b < 2 ^ 32)
+pub accumulator_sum_carry_32 : (a b s : ℕ) (carry : Bool) → a < 2 ^ 32 → b < 2 ^ 32
+    → s ≡ (a + b) % 2 ^ 32 → FalseIff carry (a + b < 2 ^ 32)
     → accumulator_sum (s + bool_byte carry) ≡ fold (accumulator_sum a + accumulator_sum b)
 accumulator_sum_carry_32 a b s carry p q e wraps =
-    accumulator_sum_cong (s + bool_byte carry) (a + b) (fold_carry_32 a b s carry p q e wraps) ∙ accumulator_sum-add a b
+    accumulator_sum_cong (s + bool_byte carry) (a + b) (fold_carry_32 a b s carry p q e wraps)
+    ∙ accumulator_sum-add a b
 
 -- a wide number as its two halves
-pub accumulator_sum_halves : (n : ℕ) → fold (accumulator_sum (n % 4294967296) + accumulator_sum (n / 4294967296)) ≡ accumulator_sum n
+pub accumulator_sum_halves : (n : ℕ)
+    → fold (accumulator_sum (n % 4294967296) + accumulator_sum (n / 4294967296)) ≡ accumulator_sum n
 accumulator_sum_halves n =
     let whole : n ≡ n % 4294967296 + 4294967296 * (n / 4294967296) = omega arith in
     sym (accumulator_sum-add (n % 4294967296) (n / 4294967296))
-    ∙ accumulator_sum_cong _ n (sym (ap fold whole ∙ fold_around_32 (n % 4294967296) (n / 4294967296)))
+    ∙ accumulator_sum_cong _ n
+    (sym (ap fold whole ∙ fold_around_32 (n % 4294967296) (n / 4294967296)))
 
 -- the complement of a number's fold is that of its sum with the bytes swapped
-pub complement_of_accumulator_sum : (n : ℕ) → 65535 - fold n ≡ swap_bytes w16 (65535 - accumulator_sum n)
+pub complement_of_accumulator_sum : (n : ℕ)
+    → 65535 - fold n ≡ swap_bytes w16 (65535 - accumulator_sum n)
 complement_of_accumulator_sum n =
     let small : fold n ≤ 65535 = fold_le n in
-    let inner : 65535 - accumulator_sum n ≡ swap_bytes w16 (65535 - fold n) = ap (λ f. 65535 - f) (fold_of_swap_bytes n) ∙ complement_swap_bytes (fold n) small in
+    let inner : 65535 - accumulator_sum n ≡ swap_bytes w16 (65535 - fold n) =
+    ap (λ f. 65535 - f) (fold_of_swap_bytes n) ∙ complement_swap_bytes (fold n) small in
     sym (ap (swap_bytes w16) inner ∙ swap_bytes_twice (65535 - fold n) (omega arith))
 
 -- the complement is 0 just where the words sum to all ones
-pub swap_bytes_complement_zero : (n answer : ℕ) → answer ≡ swap_bytes w16 (65535 - fold n) → (answer == 0) ≡ (not (n == 0) && (n % 65535 == 0))
+pub swap_bytes_complement_zero : (n answer : ℕ) → answer ≡ swap_bytes w16 (65535 - fold n)
+    → (answer == 0) ≡ (not (n == 0) && (n % 65535 == 0))
 unfolding fold
 swap_bytes_complement_zero zero answer is = grind (arith, nat_tests)
 swap_bytes_complement_zero (suc n) answer is = grind (arith, nat_tests)

@@ -1,5 +1,6 @@
 -- The sum of a message with a checksum in it.
-use Rattle.std.proofs.Common.{◌≡◌, ap, refl, ℕ, zero, suc, ◌+◌, ◌-◌, ◌%◌, ◌<◌, ◌≤◌, Bool, true, IsTrue, not, ◌&&◌, eqb, List, ◌++◌, length, arith}
+use Rattle.std.proofs.Common.{◌≡◌, ap, refl, ℕ, zero, suc, ◌+◌, ◌-◌, ◌%◌, ◌<◌, ◌≤◌, Bool, true}
+use Rattle.std.proofs.Common.{IsTrue, not, ◌&&◌, eqb, List, ◌++◌, length, arith}
 use Rattle.std.proofs.lemmas.Bool.{eq-eqb, ne_eqb}
 use Rattle.std.specs.Int.{w16, to_be_bytes}
 use Rattle.ep_base.specs.Sum.{fold, no_zero, total}
@@ -11,16 +12,19 @@ both_of : (a b : Bool) → a ≡ true → b ≡ true → IsTrue (a && b)
 both_of a b p q = rw (p, q) refl
 
 divided : (t : ℕ) → 0 < t → t % 65535 ≡ 0 → IsTrue (not (eqb t 0) && eqb (t % 65535) 0)
-divided t positive rest = both_of _ _ (ap not (ne_eqb t 0 (λ e. omega arith))) (eq-eqb (t % 65535) 0 rest)
+divided t positive rest = both_of _ _ (ap not (ne_eqb t 0 (λ e. omega arith)))
+    (eq-eqb (t % 65535) 0 rest)
 
 -- a sum and its complement
-with_complement : (rest : ℕ) → (0 < rest + (65535 - fold rest)) × ((rest + (65535 - fold rest)) % 65535 ≡ 0)
+with_complement : (rest : ℕ) → (0 < rest + (65535 - fold rest))
+    × ((rest + (65535 - fold rest)) % 65535 ≡ 0)
 unfolding fold
 with_complement zero = (omega arith, omega arith)
 with_complement (suc n) = (omega arith, omega arith)
 
 -- the same with ffff in the place of 0
-with_no_zero : (rest c : ℕ) → 0 < rest + c → (rest + c) % 65535 ≡ 0 → (0 < rest + no_zero c) × ((rest + no_zero c) % 65535 ≡ 0)
+with_no_zero : (rest c : ℕ) → 0 < rest + c → (rest + c) % 65535 ≡ 0
+    → (0 < rest + no_zero c) × ((rest + no_zero c) % 65535 ≡ 0)
 with_no_zero rest zero positive divides = (omega arith, omega arith)
 with_no_zero rest (suc n) positive divides = (positive, divides)
 
@@ -33,13 +37,24 @@ total-with_word : (before after : List ℕ) (word : ℕ) → length before % 2 �
     → total (with_word before word after) ≡ total (with_word before 0 after) + word
 unfolding total
 total-with_word before after word even small =
-    omega (arith, total-append before (to_be_bytes w16 word ++ after) even, total-append before (to_be_bytes w16 0 ++ after) even)
+    omega (
+      arith,
+      total-append before (to_be_bytes w16 word ++ after) even,
+      total-append before
+          (to_be_bytes w16 0 ++ after) even,
+    )
 
 -- a word of zeros adds nothing
-pub total-zero_word : (before after : List ℕ) → length before % 2 ≡ 0 → total (before ++ after) ≡ total (with_word before 0 after)
+pub total-zero_word : (before after : List ℕ) → length before % 2 ≡ 0
+    → total (before ++ after) ≡ total (with_word before 0 after)
 unfolding total
 total-zero_word before after even =
-    omega (arith, total-append before after even, total-append before (to_be_bytes w16 0 ++ after) even)
+    omega (
+      arith,
+      total-append before after even,
+      total-append before
+          (to_be_bytes w16 0 ++ after) even,
+    )
 
 pub checksum_sums : ChecksumSumsToAllOnes
 checksum_sums before after even =
@@ -55,5 +70,6 @@ no_zero_sums before after even =
     let begun = with_complement rest in
     let sums = with_no_zero rest (65535 - fold rest) begun.0 begun.1 in
     let c : ℕ = no_zero (65535 - fold rest) in
-    let is = total-with_word before after c even (no_zero_small (65535 - fold rest) (omega arith)) in
+    let is = total-with_word before after c even
+    (no_zero_small (65535 - fold rest) (omega arith)) in
     divided (total (with_word before c after)) (rw is sums.0) (rw is sums.1)

@@ -1,5 +1,6 @@
 -- Laws of `total`, and words that are read low byte first.
-use Rattle.std.proofs.Common.{replicate, ◌≡◌, ℕ, zero, suc, ◌+◌, ◌*◌, ◌%◌, ◌≤◌, List, [], ◌∷◌, ◌++◌, length, take, drop, sym, ap, ◌∙◌, refl, arith}
+use Rattle.std.proofs.Common.{replicate, ◌≡◌, ℕ, zero, suc, ◌+◌, ◌*◌, ◌%◌, ◌≤◌, List, [], ◌∷◌, ◌++◌}
+use Rattle.std.proofs.Common.{length, take, drop, sym, ap, ◌∙◌, refl, arith}
 use Rattle.std.specs.Int.{from_le_bytes, w16, w32, w64}
 use Rattle.std.specs.Simd.{first_chunks}
 use Rattle.std.specs.List.{sum_by}
@@ -17,7 +18,8 @@ total-append (a ∷ b ∷ xs) ys e = omega (arith, total-append xs ys (omega ari
 
 -- ---- a wide word read low byte first
 
-pub accumulator_sum_2 : (t : List ℕ) → length t ≡ 2 → accumulator_sum (from_le_bytes w16 t) ≡ fold (total t)
+pub accumulator_sum_2 : (t : List ℕ) → length t ≡ 2
+    → accumulator_sum (from_le_bytes w16 t) ≡ fold (total t)
 unfolding total
 accumulator_sum_2 (a ∷ b ∷ []) e =
     let bytes : 256 * from_le_bytes w16 (a ∷ b ∷ []) ≡ 256 * a + 65536 * b = omega arith in
@@ -26,34 +28,46 @@ accumulator_sum_2 (a ∷ b ∷ []) e =
 accumulator_sum_2 t e = absurd (omega arith)
 
 -- the four bytes of a number, low byte first, as words
-fold_four : (a b c d : ℕ) → fold (256 * a + 65536 * (b + 256 * c + 65536 * d)) ≡ fold (256 * a + b + (256 * c + d))
+fold_four : (a b c d : ℕ) → fold (256 * a + 65536 * (b + 256 * c + 65536 * d))
+    ≡ fold (256 * a + b + (256 * c + d))
 fold_four a b c d =
-    let inner : 256 * a + (b + 256 * c + 65536 * d) ≡ (256 * a + b + 256 * c) + 65536 * d = omega arith in
+    let inner : 256 * a + (b + 256 * c + 65536 * d)
+    ≡ (256 * a + b + 256 * c) + 65536 * d = omega arith in
     let words : (256 * a + b + 256 * c) + d ≡ 256 * a + b + (256 * c + d) = omega arith in
-    fold_around_16 (256 * a) (b + 256 * c + 65536 * d) ∙ ap fold inner ∙ fold_around_16 (256 * a + b + 256 * c) d ∙ ap fold words
+    fold_around_16 (256 * a) (b + 256 * c + 65536 * d) ∙ ap fold inner
+    ∙ fold_around_16 (256 * a + b + 256 * c) d ∙ ap fold words
 
-pub accumulator_sum_4 : (t : List ℕ) → length t ≡ 4 → accumulator_sum (from_le_bytes w32 t) ≡ fold (total t)
+pub accumulator_sum_4 : (t : List ℕ) → length t ≡ 4
+    → accumulator_sum (from_le_bytes w32 t) ≡ fold (total t)
 unfolding total
 accumulator_sum_4 (a ∷ b ∷ c ∷ d ∷ []) e =
-    let bytes : 256 * from_le_bytes w32 (a ∷ b ∷ c ∷ d ∷ []) ≡ 256 * a + 65536 * (b + 256 * c + 65536 * d) = omega arith in
+    let bytes : 256 * from_le_bytes w32 (a ∷ b ∷ c ∷ d ∷ [])
+    ≡ 256 * a + 65536 * (b + 256 * c + 65536 * d) = omega arith in
     let words : 256 * a + b + (256 * c + d) ≡ total (a ∷ b ∷ c ∷ d ∷ []) = omega arith in
     ap fold bytes ∙ fold_four a b c d ∙ ap fold words
 accumulator_sum_4 t e = absurd (omega arith)
 
-pub accumulator_sum_8 : (t : List ℕ) → length t ≡ 8 → accumulator_sum (from_le_bytes w64 t) ≡ fold (total t)
+pub accumulator_sum_8 : (t : List ℕ) → length t ≡ 8
+    → accumulator_sum (from_le_bytes w64 t) ≡ fold (total t)
 unfolding total
 accumulator_sum_8 (a ∷ b ∷ c ∷ d ∷ e ∷ f ∷ g ∷ h ∷ []) long =
     let low : ℕ = 256 * a + 65536 * (b + 256 * c + 65536 * d) in
     let high : ℕ = 256 * e + 65536 * (f + 256 * g + 65536 * h) in
-    let bytes : 256 * from_le_bytes w64 (a ∷ b ∷ c ∷ d ∷ e ∷ f ∷ g ∷ h ∷ []) ≡ low + 4294967296 * high = omega arith in
-    let both : low + high ≡ 256 * (a + e) + 65536 * ((b + f) + 256 * (c + g) + 65536 * (d + h)) = omega arith in
-    let words : 256 * (a + e) + (b + f) + (256 * (c + g) + (d + h)) ≡ total (a ∷ b ∷ c ∷ d ∷ e ∷ f ∷ g ∷ h ∷ []) = omega arith in
-    ap fold bytes ∙ fold_around_32 low high ∙ ap fold both ∙ fold_four (a + e) (b + f) (c + g) (d + h) ∙ ap fold words
+    let bytes : 256 * from_le_bytes w64 (a ∷ b ∷ c ∷ d ∷ e ∷ f ∷ g ∷ h ∷ [])
+    ≡ low + 4294967296 * high = omega arith in
+    let both : low + high ≡ 256 * (a + e) + 65536 * ((b + f) + 256 * (c + g) + 65536 * (d + h)) =
+    omega arith in
+    let words : 256 * (a + e) + (b + f) + (256 * (c + g) + (d + h))
+    ≡ total (a ∷ b ∷ c ∷ d ∷ e ∷ f ∷ g ∷ h ∷ []) = omega arith in
+    ap fold bytes ∙ fold_around_32 low high ∙ ap fold both
+    ∙ fold_four (a + e) (b + f) (c + g) (d + h) ∙ ap fold words
 accumulator_sum_8 t long = absurd (omega arith)
 
 -- a word that spells a text is added
-pub word_more : (sum word next : ℕ) (text : List ℕ) → next ≡ fold (sum + word) → word ≡ fold (total text) → next ≡ fold (sum + total text)
-word_more sum word next text step is = step ∙ ap (λ w. fold (sum + w)) is ∙ fold_add_right sum (total text)
+pub word_more : (sum word next : ℕ) (text : List ℕ) → next ≡ fold (sum + word)
+    → word ≡ fold (total text) → next ≡ fold (sum + total text)
+word_more sum word next text step is = step ∙ ap (λ w. fold (sum + w)) is
+    ∙ fold_add_right sum (total text)
 
 -- ---- a text cut into blocks
 
@@ -66,12 +80,22 @@ total-first_chunks n zero xs e le =
     omega (arith, ap total all)
 total-first_chunks n (suc k) xs e le =
     let cut : total (take n xs ++ drop n xs) ≡ total xs = ap total (take-append-drop n xs) in
-    let front : length (take n xs) % 2 ≡ 0 = ap (λ k. k % 2) (length-take-le n xs (omega arith)) ∙ e in
+    let front : length (take n xs) % 2 ≡ 0 =
+    ap (λ k. k % 2) (length-take-le n xs (omega arith)) ∙ e in
     let here = total-append (take n xs) (drop n xs) front in
     let more = total-first_chunks n k (drop n xs) e (omega (arith, length-drop n xs)) in
     let place : n + k * n ≡ suc k * n = omega arith in
-    let rest : drop (k * n) (drop n xs) ≡ drop (suc k * n) xs = drop-drop (k * n) n xs ∙ ap (λ i. drop i xs) place in
-    omega (arith, cut, here, more, ap total rest, sum_by-cons total (take n xs) (first_chunks n k (drop n xs)))
+    let rest : drop (k * n) (drop n xs) ≡ drop (suc k * n) xs =
+    drop-drop (k * n) n xs ∙ ap (λ i. drop i xs) place in
+    omega (
+      arith,
+      cut,
+      here,
+      more,
+      ap total rest,
+      sum_by-cons total (take n xs)
+          (first_chunks n k (drop n xs)),
+    )
 
 -- ---- a text built up piece by piece
 
@@ -93,12 +117,16 @@ pub total-whole_words : (piece : List ℕ) → total (whole_words piece) ≡ tot
 total-whole_words piece = total-zeros_after piece (length piece % 2)
 
 -- one piece more, behind a text of even length
-pub text_more : (sum next : ℕ) (text piece : List ℕ) → next ≡ fold (sum + total piece) → length text % 2 ≡ 0 → sum ≡ fold (total text)
+pub text_more : (sum next : ℕ) (text piece : List ℕ) → next ≡ fold (sum + total piece)
+    → length text % 2 ≡ 0 → sum ≡ fold (total text)
     → next ≡ fold (total (text ++ piece))
 text_more sum next text piece step even so =
-    step ∙ ap (λ s. fold (s + total piece)) so ∙ fold_add (total text) (total piece) ∙ ap fold (sym (total-append text piece even))
+    step ∙ ap (λ s. fold (s + total piece)) so ∙ fold_add (total text) (total piece)
+    ∙ ap fold (sym (total-append text piece even))
 
-pub whole_words_more : (sum next : ℕ) (text piece : List ℕ) → next ≡ fold (sum + total piece) → length text % 2 ≡ 0 → sum ≡ fold (total text)
+pub whole_words_more : (sum next : ℕ) (text piece : List ℕ) → next ≡ fold (sum + total piece)
+    → length text % 2 ≡ 0 → sum ≡ fold (total text)
     → next ≡ fold (total (text ++ whole_words piece))
 whole_words_more sum next text piece step even so =
-    text_more sum next text (whole_words piece) (step ∙ ap (λ n. fold (sum + n)) (sym (total-whole_words piece))) even so
+    text_more sum next text (whole_words piece)
+    (step ∙ ap (λ n. fold (sum + n)) (sym (total-whole_words piece))) even so

@@ -1,7 +1,29 @@
 -- The differentiated services code points that have a name (RFC 2474, 2597, 3246, 5865, 8622).
 use Rattle.std.specs.Prelude.{◌≡◌, ◌≢◌, ℕ, Result, Ok, Err}
 use Rattle.ep_base.specs.declared.net.ip_dscp_known.IpDscpKnown.{IpDscpKnown}
-use Rattle.ep_base.specs.declared.net.ip_dscp_known.IpDscpKnown.TheVariants.{ClassSelector0, ClassSelector1, ClassSelector2, ClassSelector3, ClassSelector4, ClassSelector5, ClassSelector6, ClassSelector7, AfGroup1Low, AfGroup1Medium, AfGroup1High, AfGroup2Low, AfGroup2Medium, AfGroup2High, AfGroup3Low, AfGroup3Medium, AfGroup3High, AfGroup4Low, AfGroup4Medium, AfGroup4High, ExpeditedForwarding, VoiceAdmit, LowerEffort}
+use Rattle.ep_base.specs.declared.net.ip_dscp_known.IpDscpKnown.TheVariants.{ClassSelector0}
+use Rattle.ep_base.specs.declared.net.ip_dscp_known.IpDscpKnown.TheVariants.{ClassSelector1}
+use Rattle.ep_base.specs.declared.net.ip_dscp_known.IpDscpKnown.TheVariants.{ClassSelector2}
+use Rattle.ep_base.specs.declared.net.ip_dscp_known.IpDscpKnown.TheVariants.{ClassSelector3}
+use Rattle.ep_base.specs.declared.net.ip_dscp_known.IpDscpKnown.TheVariants.{ClassSelector4}
+use Rattle.ep_base.specs.declared.net.ip_dscp_known.IpDscpKnown.TheVariants.{ClassSelector5}
+use Rattle.ep_base.specs.declared.net.ip_dscp_known.IpDscpKnown.TheVariants.{ClassSelector6}
+use Rattle.ep_base.specs.declared.net.ip_dscp_known.IpDscpKnown.TheVariants.{ClassSelector7}
+use Rattle.ep_base.specs.declared.net.ip_dscp_known.IpDscpKnown.TheVariants.{AfGroup1Low}
+use Rattle.ep_base.specs.declared.net.ip_dscp_known.IpDscpKnown.TheVariants.{AfGroup1Medium}
+use Rattle.ep_base.specs.declared.net.ip_dscp_known.IpDscpKnown.TheVariants.{AfGroup1High}
+use Rattle.ep_base.specs.declared.net.ip_dscp_known.IpDscpKnown.TheVariants.{AfGroup2Low}
+use Rattle.ep_base.specs.declared.net.ip_dscp_known.IpDscpKnown.TheVariants.{AfGroup2Medium}
+use Rattle.ep_base.specs.declared.net.ip_dscp_known.IpDscpKnown.TheVariants.{AfGroup2High}
+use Rattle.ep_base.specs.declared.net.ip_dscp_known.IpDscpKnown.TheVariants.{AfGroup3Low}
+use Rattle.ep_base.specs.declared.net.ip_dscp_known.IpDscpKnown.TheVariants.{AfGroup3Medium}
+use Rattle.ep_base.specs.declared.net.ip_dscp_known.IpDscpKnown.TheVariants.{AfGroup3High}
+use Rattle.ep_base.specs.declared.net.ip_dscp_known.IpDscpKnown.TheVariants.{AfGroup4Low}
+use Rattle.ep_base.specs.declared.net.ip_dscp_known.IpDscpKnown.TheVariants.{AfGroup4Medium}
+use Rattle.ep_base.specs.declared.net.ip_dscp_known.IpDscpKnown.TheVariants.{AfGroup4High}
+use Rattle.ep_base.specs.declared.net.ip_dscp_known.IpDscpKnown.TheVariants.{ExpeditedForwarding}
+use Rattle.ep_base.specs.declared.net.ip_dscp_known.IpDscpKnown.TheVariants.{VoiceAdmit}
+use Rattle.ep_base.specs.declared.net.ip_dscp_known.IpDscpKnown.TheVariants.{LowerEffort}
 use Rattle.ep_base.specs.declared.net.ip_dscp_unknown_value_error.IpDscpUnknownValueError.{IpDscpUnknownValueError}
 
 -- the code point of a name
@@ -37,4 +59,5 @@ IsKnown n (Err e) = (e ≡ record { value = n }) × ((known : IpDscpKnown) → c
 
 -- the code point of a name has that name and no other
 abbrev pub KnownRoundTrip : Type 0
-KnownRoundTrip = (known : IpDscpKnown) (answer : Result IpDscpKnown IpDscpUnknownValueError) → IsKnown (code_point known) answer → answer ≡ Ok known
+KnownRoundTrip = (known : IpDscpKnown) (answer : Result IpDscpKnown IpDscpUnknownValueError)
+    → IsKnown (code_point known) answer → answer ≡ Ok known

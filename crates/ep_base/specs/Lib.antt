@@ -1,10 +1,13 @@
 pub mod Bounded
 pub mod Bytes
+pub mod Fronts
 pub mod IpDscpKnown
 pub mod IpEcn
 pub mod IpNumber
+pub mod LenError
 pub mod LenSource
 pub mod MessageSum
-pub mod Moved
+pub mod Refusals
+pub mod SliceError
 pub mod Sum
 pub mod Traits

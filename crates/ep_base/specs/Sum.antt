@@ -1,5 +1,8 @@
--- The Internet checksum (RFC 1071, sections 1 and 2): a ones-complement sum of 16-bit words, and its complement.
-use Rattle.std.specs.Prelude.{◌≡◌, ◌≢◌, ◌<◌, IsPermutation, IsTrue, false, ℕ, zero, suc, ◌+◌, ◌-◌, ◌*◌, ◌%◌, ◌==◌, ◌&&◌, not, Bool, List, [], ◌∷◌, ◌++◌, length, replicate}
+-- The Internet checksum (RFC 1071, sections 1 and 2): a ones-complement sum of 16-bit words, and
+-- its complement.
+use Rattle.std.specs.Prelude.{◌≡◌, ◌≢◌, ◌<◌, IsPermutation, IsTrue, false, ℕ, zero, suc, ◌+◌, ◌-◌}
+use Rattle.std.specs.Prelude.{◌*◌, ◌%◌, ◌==◌, ◌&&◌, not, Bool, List, [], ◌∷◌, ◌++◌, length}
+use Rattle.std.specs.Prelude.{replicate}
 use Rattle.std.specs.List.{flat_map, concat}
 
 -- the sum of a text's 16-bit words, high byte first; an odd last byte is followed by a zero byte
@@ -27,7 +30,8 @@ whole_words piece = piece ++ replicate (length piece % 2) 0
 
 -- from the sum of any text of whole words to that of the text with this piece behind it
 abbrev pub AddsText : ℕ → List ℕ → ℕ → Type 0
-AddsText sum piece next = (text : List ℕ) → length text % 2 ≡ 0 → sum ≡ fold (total text) → next ≡ fold (total (text ++ piece))
+AddsText sum piece next = (text : List ℕ) → length text % 2 ≡ 0 → sum ≡ fold (total text)
+    → next ≡ fold (total (text ++ piece))
 
 -- a checksum where 0 says that there is none (RFC 768)
 abbrev pub no_zero : ℕ → ℕ
@@ -44,9 +48,11 @@ IsCutAtWords [] = Unit {0}
 IsCutAtWords (piece ∷ []) = Unit {0}
 IsCutAtWords (piece ∷ next ∷ rest) = (length piece % 2 ≡ 0) × IsCutAtWords (next ∷ rest)
 
--- wherever a text is cut at the ends of words, and in whatever order its pieces are added, the fold is that of the text
+-- wherever a text is cut at the ends of words, and in whatever order its pieces are added, the fold
+-- is that of the text
 abbrev pub FoldOfPieces : Type 0
-FoldOfPieces = (text : List ℕ) (pieces order : List (List ℕ)) → concat pieces ≡ text → IsCutAtWords pieces → IsPermutation pieces order
+FoldOfPieces = (text : List ℕ) (pieces order : List (List ℕ)) → concat pieces ≡ text
+    → IsCutAtWords pieces → IsPermutation pieces order
     → fold (total (flat_map whole_words order)) ≡ fold (total text)
 
 -- a text that sums to all ones doesn't with another value of one of its bytes

@@ -1,5 +1,6 @@
--- What `Clone`, `PartialEq` and `Ord` of a type mean: laws of the relations that its impls name.
-use Rattle.std.specs.Prelude.{◌≡◌, ℕ, Bool, IsTrue, ◌↔◌}
+-- What `Clone`, `PartialEq`, `Ord` and `Hash` of a type mean: laws of the relations that its impls
+-- name.
+use Rattle.std.specs.Prelude.{◌≡◌, ℕ, Bool, IsTrue, ◌↔◌, List}
 use Rattle.std.specs.Ordering.{nat_cmp}
 use Rattle.std.specs.declared.cmp.Ordering.{Ordering}
 
@@ -15,6 +16,19 @@ CopyNeverFails is_infallible = (value : _) → is_infallible value
 abbrev pub EqualIsSame : {T : Type 0} → (T → T → Bool) → Type 0
 EqualIsSame eq = (a b : _) → IsTrue (eq a b) ↔ (a ≡ b)
 
+-- a copy is the value and doesn't fail, and equal are the values that are the same
+abbrev pub IsPlainData : {T : Type 0} →
+    record { eq : T → T → Bool; is_clone : T → T → Type 0; is_infallible : T → Type 0 } → Type 0
+IsPlainData type = record {
+  copies : CopyIsValue type.is_clone;
+  never_fails : CopyNeverFails type.is_infallible;
+  equals : EqualIsSame type.eq;
+}
+
 -- the order is that of these numbers
 abbrev pub OrderIsOf : {T : Type 0} → (T → ℕ) → (T → T → Ordering) → Type 0
 OrderIsOf number cmp = (a b : _) → cmp a b ≡ nat_cmp (number a) (number b)
+
+-- a hasher is fed this
+abbrev pub HashIsOf : {T : Type 0} → (T → List (List ℕ)) → (T → List (List ℕ)) → Type 0
+HashIsOf feed hash_input = (value : _) → hash_input value ≡ feed value

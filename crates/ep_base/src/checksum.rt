@@ -5,7 +5,8 @@ ghost use Rattle.std.specs.Int.{swap_bytes, w16};
 ghost use Rattle.std.proofs.Common.{rules};
 ghost use Rattle.std.specs.Cmp.Rules.{comparing};
 ghost use Rattle.std.specs.List.{flat_map};
-ghost use Rattle.ep_base.specs.Sum.{AddsText, accumulator_sum, all_ones, checksum, fold, no_zero, total, whole_words};
+ghost use Rattle.ep_base.specs.Sum.{AddsText, accumulator_sum, all_ones, checksum, fold, no_zero};
+ghost use Rattle.ep_base.specs.Sum.{total, whole_words};
 
 mod message;
 pub mod u32_16bit_word;
@@ -104,8 +105,10 @@ impl Sum16BitWords {
     #[must_use]
     pub fn ones_complement(&self) -> u16
         ensures value { result ≡ swap_bytes w16 (65535 - self.now) }
-        ensures text { (text : List ℕ) → self.now ≡ fold (total text) → result ≡ swap_bytes w16 (checksum text) }
-        ensures all_ones { (text : List ℕ) → self.now ≡ fold (total text) → (result == 0) ≡ all_ones text }
+        ensures text { (text : List ℕ) → self.now ≡ fold (total text)
+            → result ≡ swap_bytes w16 (checksum text) }
+        ensures all_ones { (text : List ℕ) → self.now ≡ fold (total text)
+            → (result == 0) ≡ all_ones text }
     {
         u64_16bit_word::ones_complement(self.sum)
     }
@@ -115,7 +118,8 @@ impl Sum16BitWords {
     #[must_use]
     pub fn to_ones_complement_with_no_zero(&self) -> u16
         ensures value { result ≡ swap_bytes w16 (no_zero (65535 - self.now)) }
-        ensures text { (text : List ℕ) → self.now ≡ fold (total text) → result ≡ swap_bytes w16 (no_zero (checksum text)) }
+        ensures text { (text : List ℕ) → self.now ≡ fold (total text)
+            → result ≡ swap_bytes w16 (no_zero (checksum text)) }
     {
         u64_16bit_word::ones_complement_with_no_zero(self.sum)
     }
@@ -153,7 +157,8 @@ impl Default for Sum16BitWords {
 /// The complement of the sum of all pieces, each with a zero byte after it where its length is odd:
 /// what [`Sum16BitWords::ones_complement`] answers where they are added one by one.
 pub fn sum_pieces(pieces: &[&[u8]]) -> u16
-    ensures { result ≡ swap_bytes w16 (checksum (flat_map (λ piece. whole_words piece.now) pieces.now)) }
+    ensures { result ≡ swap_bytes w16
+        (checksum (flat_map (λ piece. whole_words piece.now) pieces.now)) }
 {
     let mut sum = Sum16BitWords::new();
     for piece in pieces {

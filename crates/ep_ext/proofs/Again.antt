@@ -1,18 +1,32 @@
 -- What is read from the bytes of an authentication header is spelled by them, reserved bytes aside.
-use Rattle.std.proofs.Common.{◌≡◌, ℕ, ◌+◌, ◌*◌, ◌/◌, ◌%◌, ◌^◌, ◌<◌, List, length, drop, get_or, arith, refl}
+use Rattle.std.proofs.Common.{◌≡◌, ℕ, ◌+◌, ◌/◌, List, length, drop, get_or, arith, refl}
 use Rattle.std.proofs.lemmas.List.{length-drop}
 use Rattle.ep_base.specs.Bytes.{IsBytes}
 use Rattle.ep_base.proofs.Cells.{drop-cells, take-drop-cells}
+use Rattle.ep_base.proofs.Numbers.{digits_of}
 use Rattle.ep_ext.specs.Auth.{IsAuth, auth_of, auth_spelling, auth_cleared}
 
-digits_of : (a b c d : ℕ) → a < 256 → b < 256 → c < 256 → d < 256 → let n = 256 * (256 * (256 * a + b) + c) + d in
-    (n / 2 ^ 24 % 256 ≡ a) × (n / 2 ^ 16 % 256 ≡ b) × (n / 256 % 256 ≡ c) × (n % 256 ≡ d)
-digits_of a b c d ha hb hc hd = (omega arith, omega arith, omega arith, omega arith)
-
-pub auth_spelled : (bytes : List ℕ) → IsAuth bytes → IsBytes bytes → auth_spelling (auth_of bytes) ≡ auth_cleared bytes
+pub auth_spelled : (bytes : List ℕ) → IsAuth bytes → IsBytes bytes
+    → auth_spelling (auth_of bytes) ≡ auth_cleared bytes
 auth_spelled bytes header fits =
-    let words : length (drop 12 bytes) / 4 + 1 ≡ get_or bytes 1 0 = omega (arith, length-drop 12 bytes, header.least, header.whole) in
-    let spi = digits_of (get_or bytes 4 0) (get_or bytes 5 0) (get_or bytes 6 0) (get_or bytes 7 0) (fits 4) (fits 5) (fits 6) (fits 7) in
-    let sequence = digits_of (get_or bytes 8 0) (get_or bytes 9 0) (get_or bytes 10 0) (get_or bytes 11 0) (fits 8) (fits 9) (fits 10) (fits 11) in
-    rw (words, spi.0, spi.1, spi.2, spi.3, sequence.0, sequence.1, sequence.2, sequence.3, take-drop-cells 2 0 bytes (omega (arith, header.least)), drop-cells 8 4 bytes (omega (arith, header.least)))
+    let words : length (drop 12 bytes) / 4 + 1 ≡ get_or bytes 1 0 =
+    omega (arith, length-drop 12 bytes, header.least, header.whole) in
+    let spi = digits_of (get_or bytes 4 0) (get_or bytes 5 0) (get_or bytes 6 0) (get_or bytes 7 0)
+    (fits 4) (fits 5) (fits 6) (fits 7) in
+    let sequence = digits_of (get_or bytes 8 0) (get_or bytes 9 0) (get_or bytes 10 0)
+    (get_or bytes 11 0) (fits 8) (fits 9) (fits 10) (fits 11) in
+    rw (
+      words,
+      spi.0,
+      spi.1,
+      spi.2,
+      spi.3,
+      sequence.0,
+      sequence.1,
+      sequence.2,
+      sequence.3,
+      take-drop-cells 2 0 bytes (omega (arith, header.least)),
+      drop-cells 8 4 bytes
+          (omega (arith, header.least)),
+    )
     refl

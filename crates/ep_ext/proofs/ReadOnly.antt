@@ -1,5 +1,6 @@
 -- What is read from a reader of known bytes.
-use Rattle.std.proofs.Common.{◌≡◌, ℕ, zero, suc, List, [], ◌++◌, length, Option, Some, Result, Ok, Err, get_or, arith, refl, sym, ap, ◌∙◌}
+use Rattle.std.proofs.Common.{◌≡◌, ℕ, zero, suc, List, [], ◌++◌, length, Option, Some, Result, Ok}
+use Rattle.std.proofs.Common.{Err, get_or, arith, refl, sym, ap, ◌∙◌}
 use Rattle.std.proofs.lemmas.Bool.{le-ltb, eq-eqb}
 use Rattle.std.proofs.lemmas.List.{length-append}
 use Rattle.std.specs.Prelude.{IfOk, IfErr, MatchResult}
@@ -12,30 +13,47 @@ use Rattle.ep_ext.specs.Reads.{HasContentFault}
 use Rattle.ep_ext.specs.ReadsExts.{IsWholeRow, IsExtsIo, ReadsRow, RefusesRow}
 use Rattle.ep_ext.specs.Value.{Piece, places, bytes_of, value_of}
 use Rattle.ep_ext.specs.declared.err.ip_auth.header_error.HeaderError.{HeaderError as AuthFault}
-use Rattle.ep_ext.specs.declared.err.ip_auth.header_slice_error.HeaderSliceError.TheVariants as auth_slice
-use Rattle.ep_ext.specs.declared.err.ipv6_exts.header_error.HeaderError.TheVariants.{HopByHopNotAtStart, IpAuth}
+use Rattle.ep_base.specs.declared.err.slice_error.SliceError.TheVariants as slice_error
+use Rattle.ep_ext.specs.declared.err.ipv6_exts.header_error.HeaderError.TheVariants.{HopByHopNotAtStart}
+use Rattle.ep_ext.specs.declared.err.ipv6_exts.header_error.HeaderError.TheVariants.{IpAuth}
 use Rattle.ep_ext.specs.declared.err.ipv6_exts.header_read_error.HeaderReadError.{HeaderReadError}
-use Rattle.ep_ext.specs.declared.err.ipv6_exts.header_read_error.HeaderReadError.TheVariants.{Io, Content}
-use Rattle.ep_ext.specs.declared.err.ipv6_exts.header_slice_error.HeaderSliceError.TheVariants as exts
+use Rattle.ep_ext.specs.declared.err.ipv6_exts.header_read_error.HeaderReadError.TheVariants.{Io}
+use Rattle.ep_ext.specs.declared.err.ipv6_exts.header_read_error.HeaderReadError.TheVariants.{Content}
 use Rattle.ep_ext.specs.declared.net.ipv6_ext_place.Ipv6ExtPlace.TheVariants.{Authentication}
 use Rattle.ep_ext.specs.declared.net.ipv6_extensions.Ipv6Extensions.{Ipv6Extensions}
 use Rattle.ep_ext.proofs.Reading.{consumed_some, not_zero, second}
-use Rattle.ep_ext.proofs.Rows.{none_some, chain_alone, end_closed, end_fault}
+use Rattle.std.proofs.lemmas.Option.{none-some}
+use Rattle.ep_ext.proofs.Rows.{chain_alone, end_closed, end_fault}
 
-whole_chain : (first : ℕ) (pieces : List Piece) (last : ℕ) (rest : List ℕ) → IsWholeRow first pieces last → Chain place_of first (bytes_of pieces ++ rest) pieces last rest
-whole_chain first pieces last rest whole = record { row = whole.row; cut = refl; ended = end_closed place_of (places pieces) last rest whole.closed }
+whole_chain : (first : ℕ) (pieces : List Piece) (last : ℕ) (rest : List ℕ)
+    → IsWholeRow first pieces last → Chain place_of first (bytes_of pieces ++ rest) pieces last rest
+whole_chain first pieces last rest whole =
+    record {
+      row = whole.row;
+      cut = refl;
+      ended = end_closed place_of (places pieces) last rest whole.closed;
+    }
 
-pub read_same : (first : ℕ) (old new : Option (List ℕ)) (answer : Ipv6Extensions × IpNumber) → ReadsRow first old new answer →
-    (pieces : List Piece) (last : ℕ) (rest : List ℕ) → IsWholeRow first pieces last → old ≡ Some (bytes_of pieces ++ rest) →
+pub read_same : (first : ℕ) (old new : Option (List ℕ)) (answer : Ipv6Extensions × IpNumber)
+    → ReadsRow first old new answer →
+    (pieces : List Piece) (last : ℕ) (rest : List ℕ) → IsWholeRow first pieces last
+    → old ≡ Some (bytes_of pieces ++ rest) →
     (answer.0 ≡ value_of pieces) × (answer.1.0 ≡ last) × (new ≡ Some rest)
 read_same first old new answer reads pieces last rest whole known =
     let given = consumed_some old new (bytes_of pieces ++ rest) (bytes_of reads.0) known reads.2 in
-    let chain : Chain place_of first (bytes_of pieces ++ rest) reads.0 answer.1.0 given.0 = record { row = reads.1.row; cut = given.1; ended = end_closed place_of (places reads.0) answer.1.0 given.0 reads.1.closed } in
-    let same = chain_alone place_of first (bytes_of pieces ++ rest) reads.0 pieces answer.1.0 last given.0 rest chain (whole_chain first pieces last rest whole) in
+    let chain : Chain place_of first (bytes_of pieces ++ rest) reads.0 answer.1.0 given.0 =
+    record {
+      row = reads.1.row;
+      cut = given.1;
+      ended = end_closed place_of (places reads.0) answer.1.0 given.0 reads.1.closed;
+    } in
+    let same = chain_alone place_of first (bytes_of pieces ++ rest) reads.0 pieces answer.1.0 last
+    given.0 rest chain (whole_chain first pieces last rest whole) in
     (reads.3 ∙ ap value_of same.0, same.1, given.2 ∙ ap Some same.2)
 
 -- the fault of 12 bytes is that of all
-fault_by : (front behind : List ℕ) (e : AuthFault) (b : ℕ) → HasContentFault front e → get_or front 1 0 ≡ b → auth_at (front ++ behind) ≡ Err (auth_slice.Content e)
+fault_by : (front behind : List ℕ) (e : AuthFault) (b : ℕ) → HasContentFault front e
+    → get_or front 1 0 ≡ b → auth_at (front ++ behind) ≡ Err (slice_error.Content e)
 fault_by front behind e zero fault is =
     let len = length-append front behind in
     rw (
@@ -43,39 +61,62 @@ fault_by front behind e zero fault is =
       le-ltb (length (front ++ behind)) 12 (omega (arith, fault.whole)),
       eq-eqb (get_or front 1 0) 0 is,
     )
-    (sym (rw (le-ltb (length front) 12 (omega (arith, fault.whole)), eq-eqb (get_or front 1 0) 0 is) refl) ∙ fault.fault)
+    (sym (rw (le-ltb (length front) 12 (omega (arith, fault.whole)), eq-eqb (get_or front 1 0) 0 is)
+    refl) ∙ fault.fault)
 fault_by front behind e (suc b) fault is = absurd (not_zero front e b fault.fault fault.whole is)
 
-module _ (first : ℕ) (pieces : List Piece) (last : ℕ) (rest : List ℕ) (whole : IsWholeRow first pieces last) where
+module _ (first : ℕ) (pieces : List Piece) (last : ℕ) (rest : List ℕ)
+    (whole : IsWholeRow first pieces last) where
   -- the headers behind which another was not read are all of them
-  pub alone : (old between : Option (List ℕ)) (ps : List Piece) (number : ℕ) → old ≡ Some (bytes_of pieces ++ rest) → Row place_of [] first ps number → Consumes old between (bytes_of ps) →
-      ((behind : List ℕ) → between ≡ Some behind → IsEnd place_of (places ps) number behind) → (ps ≡ pieces) × (number ≡ last)
+  pub alone : (old between : Option (List ℕ)) (ps : List Piece) (number : ℕ)
+      → old ≡ Some (bytes_of pieces ++ rest) → Row place_of [] first ps number
+      → Consumes old between (bytes_of ps) →
+      ((behind : List ℕ) → between ≡ Some behind → IsEnd place_of (places ps) number behind)
+      → (ps ≡ pieces) × (number ≡ last)
   alone old between ps number known row consumed ended =
-      let given = consumed_some old between (bytes_of pieces ++ rest) (bytes_of ps) known consumed in
-      let chain : Chain place_of first (bytes_of pieces ++ rest) ps number given.0 = record { row = row; cut = given.1; ended = ended given.0 given.2 } in
-      let same = chain_alone place_of first (bytes_of pieces ++ rest) ps pieces number last given.0 rest chain (whole_chain first pieces last rest whole) in
+      let given = consumed_some old between (bytes_of pieces ++ rest)
+      (bytes_of ps) known consumed in
+      let chain : Chain place_of first (bytes_of pieces ++ rest) ps number given.0 =
+      record { row = row; cut = given.1; ended = ended given.0 given.2 } in
+      let same = chain_alone place_of first
+      (bytes_of pieces ++ rest) ps pieces number last given.0 rest chain
+      (whole_chain first pieces last rest whole) in
       (same.0, same.1)
 
-  pub auth_end : (old between new : Option (List ℕ)) (ps : List Piece) (number : ℕ) (front : List ℕ) (e : AuthFault) → place_of (places ps) number ≡ Some Authentication → HasContentFault front e →
-      Consumes between new front → (behind : List ℕ) → between ≡ Some behind → IsEnd place_of (places ps) number behind
+  pub auth_end : (old between new : Option (List ℕ)) (ps : List Piece) (number : ℕ) (front : List ℕ)
+      (e : AuthFault) → place_of (places ps) number ≡ Some Authentication
+      → HasContentFault front e →
+      Consumes between new front → (behind : List ℕ) → between ≡ Some behind
+      → IsEnd place_of (places ps) number behind
   auth_end old between new ps number front e free fault consumed behind is =
       let given = consumed_some between new behind front is consumed in
-      end_fault place_of (places ps) number behind Authentication (exts.Content (IpAuth e)) free
-      (ap (front_of Authentication) given.1 ∙ ap of_auth (fault_by front given.0 e (get_or front 1 0) fault refl))
+      end_fault place_of (places ps) number behind Authentication
+      (slice_error.Content (IpAuth e)) free
+      (ap (front_of Authentication) given.1
+      ∙ ap of_auth (fault_by front given.0 e (get_or front 1 0) fault refl))
 
-  pub read_refused : (old new : Option (List ℕ)) (e : HeaderReadError) → RefusesRow first old e new → old ≡ Some (bytes_of pieces ++ rest) → IsExtsIo e
+  pub read_refused : (old new : Option (List ℕ)) (e : HeaderReadError) → RefusesRow first old e new
+      → old ≡ Some (bytes_of pieces ++ rest) → IsExtsIo e
   read_refused old new (Io e) refused known = tt
   read_refused old new (Content HopByHopNotAtStart) refused known =
       let at = refused.6 in
-      let same = alone old refused.2 refused.0 refused.1 known refused.3 refused.5 (λ behind is. end_closed place_of (places refused.0) refused.1 behind at.0) in
+      let same = alone old refused.2 refused.0 refused.1 known refused.3 refused.5
+      (λ behind is. end_closed place_of (places refused.0) refused.1 behind at.0) in
       absurd (whole.number (sym same.1 ∙ at.1))
   read_refused old new (Content (IpAuth e)) refused known =
       let at = refused.6 in
-      let same = alone old refused.2 refused.0 refused.1 known refused.3 refused.5 (auth_end old refused.2 new refused.0 refused.1 at.1.0 e at.0 at.1.1 at.1.2) in
-      let there : place_of (places refused.0) refused.1 ≡ place_of (places pieces) last = λ i. place_of (places (same.0 i)) (same.1 i) in
-      absurd (none_some Authentication (sym whole.closed ∙ sym there ∙ at.0))
+      let same = alone old refused.2 refused.0 refused.1 known refused.3 refused.5
+      (auth_end old refused.2 new refused.0 refused.1 at.1.0 e at.0 at.1.1 at.1.2) in
+      let there : place_of (places refused.0) refused.1 ≡ place_of (places pieces) last =
+      λ i. place_of (places (same.0 i)) (same.1 i) in
+      absurd (none-some Authentication (sym whole.closed ∙ sym there ∙ at.0))
 
-  pub read_all : (old new : Option (List ℕ)) (result : Result (Ipv6Extensions × IpNumber) HeaderReadError) → IfOk result (ReadsRow first old new) → IfErr result (λ e. RefusesRow first old e new) →
-      old ≡ Some (bytes_of pieces ++ rest) → MatchResult result (λ r. (r.0 ≡ value_of pieces) × (r.1.0 ≡ last) × (new ≡ Some rest)) IsExtsIo
-  read_all old new (Ok answer) reads refused known = read_same first old new answer reads pieces last rest whole known
+  pub read_all : (old new : Option (List ℕ))
+      (result : Result (Ipv6Extensions × IpNumber) HeaderReadError)
+      → IfOk result (ReadsRow first old new) → IfErr result (λ e. RefusesRow first old e new) →
+      old ≡ Some (bytes_of pieces ++ rest)
+      → MatchResult result (λ r. (r.0 ≡ value_of pieces) × (r.1.0 ≡ last)
+      × (new ≡ Some rest)) IsExtsIo
+  read_all old new (Ok answer) reads refused known =
+      read_same first old new answer reads pieces last rest whole known
   read_all old new (Err e) reads refused known = read_refused old new e refused known

@@ -1,39 +1,50 @@
 -- Refusals of a reader with a limit.
 use Rattle.std.proofs.Common.{◌≡◌, ℕ, List, Option, Some, refl, sym, subst}
 use Rattle.ep_base.specs.declared.err.layer.Layer.TheVariants.{Ipv6ExtHeader}
-use Rattle.ep_ext.specs.Limited.{Limited, started}
+use Rattle.ep_ext.specs.Limited.{Limited, at_next_layer}
 use Rattle.ep_ext.specs.Passed.{place_behind}
 use Rattle.ep_ext.specs.Place.{place_of}
 use Rattle.ep_ext.specs.Value.{places}
 use Rattle.ep_ext.specs.Raw.{raw_len}
 use Rattle.ep_ext.specs.Reads.{RefusesAuthWithin, RefusesHeader}
-use Rattle.ep_ext.specs.ReadsExts.{RefusesBytes, RefusesExtWithin, RefusesRowWithin, TakesRow, auth_exts_error, bytes_error, read_layer}
+use Rattle.ep_ext.specs.ReadsExts.{RefusesBytes, RefusesExtWithin, RefusesRowWithin, TakesRow}
+use Rattle.ep_ext.specs.ReadsExts.{auth_exts_error, bytes_error, read_layer}
 use Rattle.ep_ext.specs.declared.err.io.limited_read_error.LimitedReadError.{LimitedReadError}
 use Rattle.ep_ext.specs.declared.err.io.limited_read_error.LimitedReadError.TheVariants as bytes_fault
 use Rattle.ep_ext.specs.declared.err.ip_auth.header_limited_read_error.HeaderLimitedReadError.{HeaderLimitedReadError as AuthLimitedReadError}
 use Rattle.ep_ext.specs.declared.err.ip_auth.header_limited_read_error.HeaderLimitedReadError.TheVariants as auth_limited
 use Rattle.ep_ext.specs.declared.err.ipv6_exts.header_limited_read_error.HeaderLimitedReadError.{HeaderLimitedReadError}
 use Rattle.ep_ext.specs.declared.net.ipv6_ext_place.Ipv6ExtPlace.{Ipv6ExtPlace}
-use Rattle.ep_ext.specs.declared.net.ipv6_ext_place.Ipv6ExtPlace.TheVariants.{HopByHop, Destination, Routing, Fragment, Authentication, FinalDestination}
+use Rattle.ep_ext.specs.declared.net.ipv6_ext_place.Ipv6ExtPlace.TheVariants.{HopByHop, Destination}
+use Rattle.ep_ext.specs.declared.net.ipv6_ext_place.Ipv6ExtPlace.TheVariants.{Routing, Fragment}
+use Rattle.ep_ext.specs.declared.net.ipv6_ext_place.Ipv6ExtPlace.TheVariants.{Authentication}
+use Rattle.ep_ext.specs.declared.net.ipv6_ext_place.Ipv6ExtPlace.TheVariants.{FinalDestination}
 use Rattle.ep_ext.specs.declared.net.ipv6_extensions.Ipv6Extensions.{Ipv6Extensions}
 use Rattle.ep_ext.specs.declared.net.passed.Passed.{Passed}
 use Rattle.ep_ext.proofs.ReadWalk.{Given, given_most, given_place}
 
 module _ {T : Type 0} (remaining : T → Option (List ℕ)) (old new : Limited T) (number : ℕ) where
-  pub bytes_refused : (at : Ipv6ExtPlace) (e : LimitedReadError) (far : HeaderLimitedReadError) → far ≡ bytes_error e →
-      RefusesBytes remaining at (started old (read_layer at)) e new → RefusesExtWithin remaining (Some at) number old far new
+  pub bytes_refused : (at : Ipv6ExtPlace) (e : LimitedReadError) (far : HeaderLimitedReadError)
+      → far ≡ bytes_error e →
+      RefusesBytes remaining at (at_next_layer old (read_layer at)) e new
+      → RefusesExtWithin remaining (Some at) number old far new
   bytes_refused at (bytes_fault.Io e) far is refused = rw is (at, refl, refused)
   bytes_refused at (bytes_fault.Len e) far is refused = rw is (at, refl, refused)
 
-  pub auth_refused : (e : AuthLimitedReadError) (far : HeaderLimitedReadError) → far ≡ auth_exts_error e →
-      RefusesAuthWithin remaining (started old (read_layer Authentication)) e new → RefusesExtWithin remaining (Some Authentication) number old far new
+  pub auth_refused : (e : AuthLimitedReadError) (far : HeaderLimitedReadError)
+      → far ≡ auth_exts_error e →
+      RefusesAuthWithin remaining (at_next_layer old (read_layer Authentication)) e new
+      → RefusesExtWithin remaining (Some Authentication) number old far new
   auth_refused (auth_limited.Io e) far is refused = rw is (Authentication, refl, refused)
   auth_refused (auth_limited.Len e) far is refused = rw is (Authentication, refl, refused)
   auth_refused (auth_limited.Content e) far is refused = rw is (refl, refused)
 
 -- the refusal of a header of the raw layout is that of its place
-pub raw_bytes_refused : {T : Type 0} (remaining : T → Option (List ℕ)) (place : Ipv6ExtPlace) (old new : Limited T) (e : LimitedReadError) →
-    (place ≡ Fragment → ⊥) → (place ≡ Authentication → ⊥) → RefusesHeader remaining 8 raw_len (started old Ipv6ExtHeader) e new → RefusesBytes remaining place (started old (read_layer place)) e new
+pub raw_bytes_refused : {T : Type 0} (remaining : T → Option (List ℕ)) (place : Ipv6ExtPlace)
+    (old new : Limited T) (e : LimitedReadError) →
+    (place ≡ Fragment → ⊥) → (place ≡ Authentication → ⊥)
+    → RefusesHeader remaining 8 raw_len (at_next_layer old Ipv6ExtHeader) e new
+    → RefusesBytes remaining place (at_next_layer old (read_layer place)) e new
 raw_bytes_refused remaining HopByHop old new e fragment auth refused = refused
 raw_bytes_refused remaining Destination old new e fragment auth refused = refused
 raw_bytes_refused remaining Routing old new e fragment auth refused = refused
@@ -42,16 +53,23 @@ raw_bytes_refused remaining Authentication old new e fragment auth refused = abs
 raw_bytes_refused remaining FinalDestination old new e fragment auth refused = refused
 
 -- a row, behind which a header was refused
-pub row_refused : {T : Type 0} (remaining : T → Option (List ℕ)) (old between new : Limited T) (first : ℕ) (value : Ipv6Extensions) (passed : Passed) (number : ℕ) (place : Option Ipv6ExtPlace) (e : HeaderLimitedReadError) →
-    Given (λ pieces. TakesRow remaining old pieces between) first value passed number → place_behind passed number ≡ place →
-    RefusesExtWithin remaining place number between e new → RefusesRowWithin remaining first old e new
+pub row_refused : {T : Type 0} (remaining : T → Option (List ℕ)) (old between new : Limited T)
+    (first : ℕ) (value : Ipv6Extensions) (passed : Passed) (number : ℕ)
+    (place : Option Ipv6ExtPlace) (e : HeaderLimitedReadError) →
+    Given (λ pieces. TakesRow remaining old pieces between) first value passed number
+    → place_behind passed number ≡ place →
+    RefusesExtWithin remaining place number between e new
+    → RefusesRowWithin remaining first old e new
 row_refused remaining old between new first value passed number place e given is refused =
-    let there : place_of (places given.pieces) number ≡ place = given_place (λ pieces. TakesRow remaining old pieces between) first value passed number given place is in (
+    let there : place_of (places given.pieces) number ≡ place =
+    given_place (λ pieces. TakesRow remaining old pieces between) first value passed
+    number given place is in (
       given.pieces,
       number,
       between,
       given.row,
       given_most (λ pieces. TakesRow remaining old pieces between) first value passed number given,
       given.kept,
-      subst (λ (p : Option Ipv6ExtPlace). RefusesExtWithin remaining p number between e new) (sym there) refused,
+      subst (λ (p : Option Ipv6ExtPlace). RefusesExtWithin remaining p number between e new)
+          (sym there) refused,
     )

@@ -1,5 +1,7 @@
 -- Headers that are read in two parts.
-use Rattle.std.proofs.Common.{◌≡◌, ℕ, ◌+◌, ◌-◌, ◌*◌, ◌≤◌, List, ◌++◌, length, Bool, true, false, cond, ltb, suc, get_or, take, drop, Ok, Err, Option, Some, None, inl, inr, arith, refl, sym, ap, ◌∙◌, length-append, length-drop}
+use Rattle.std.proofs.Common.{◌≡◌, ℕ, ◌+◌, ◌-◌, ◌*◌, ◌≤◌, List, ◌++◌, length, Bool, true, false}
+use Rattle.std.proofs.Common.{cond, ltb, suc, get_or, take, drop, Ok, Err, Option, Some, None, inl}
+use Rattle.std.proofs.Common.{inr, arith, refl, sym, ap, ◌∙◌, length-append, length-drop}
 use Rattle.std.proofs.KnownBytes.{Consumes-trans}
 use Rattle.std.proofs.lemmas.Bool.{le-ltb, ne_eqb}
 use Rattle.std.proofs.lemmas.List.{take_at, drop_at, get_or_append_left, length-take-le}
@@ -10,91 +12,114 @@ use Rattle.ep_ext.specs.Raw.{IsRawExt, raw_of, raw_len}
 use Rattle.ep_ext.specs.Fragment.{IsFragment, fragment_of}
 use Rattle.ep_ext.specs.Auth.{IsAuth, auth_of, auth_len, auth_at}
 use Rattle.ep_ext.specs.Limited.{Limited, Takes}
-use Rattle.ep_ext.specs.Reads.{RefusesHeader, RefusesAuth, RefusesAuthWithin, HasContentFault, IsIo, IsAuthIo, IsAuthLimitedIo, auth_error}
-use Rattle.ep_ext.specs.Want.{too_short}
+use Rattle.ep_ext.specs.Reads.{RefusesHeader, RefusesAuth, RefusesAuthWithin, HasContentFault, IsIo}
+use Rattle.ep_ext.specs.Reads.{IsAuthIo, IsAuthLimitedIo, auth_error}
+use Rattle.ep_base.specs.LenError.{too_few_bytes}
 use Rattle.ep_base.specs.declared.err.layer.Layer.TheVariants.{IpAuthHeader}
 use Rattle.ep_ext.specs.declared.err.ip_auth.header_error.HeaderError.{HeaderError}
 use Rattle.ep_ext.specs.declared.err.ip_auth.header_limited_read_error.HeaderLimitedReadError.{HeaderLimitedReadError}
 use Rattle.ep_ext.specs.declared.err.ip_auth.header_limited_read_error.HeaderLimitedReadError.TheVariants as auth_limited
 use Rattle.ep_ext.specs.declared.err.ip_auth.header_read_error.HeaderReadError.{HeaderReadError}
 use Rattle.ep_ext.specs.declared.err.ip_auth.header_read_error.HeaderReadError.TheVariants as auth_read
-use Rattle.ep_ext.specs.declared.err.ip_auth.header_slice_error.HeaderSliceError.TheVariants as auth_slice
+use Rattle.ep_base.specs.declared.err.slice_error.SliceError.TheVariants as slice_error
 use Rattle.ep_ext.specs.declared.err.io.limited_read_error.LimitedReadError.{LimitedReadError}
 use Rattle.ep_ext.specs.declared.err.io.limited_read_error.LimitedReadError.TheVariants as limited
 use Rattle.ep_ext.proofs.Alone.{raw_read, fragment_read, auth_read}
 
 -- what stands in a buffer whose front was written, and then the part behind it
-pub joined : (least size : ℕ) (front tail before : List ℕ) → length front ≡ least → length tail ≡ size - least → least ≤ size →
+pub joined : (least size : ℕ) (front tail before : List ℕ) → length front ≡ least
+    → length tail ≡ size - least → least ≤ size →
     take size (put_mid least (size - least) (front ++ drop least before) tail) ≡ front ++ tail
 joined least size front tail before whole rest enough =
     let len = length-append front (drop least before) in
-    take-put_mid least (size - least) (front ++ drop least before) tail size (omega arith) (omega arith)
+    take-put_mid least (size - least) (front ++ drop least before) tail size
+    (omega arith) (omega arith)
     ∙ ap (λ (xs : List ℕ). xs ++ tail) (take_at front (drop least before) least whole)
 
 -- how many bytes are asked for behind the front
-pub asked : (least size : ℕ) (front before : List ℕ) → length front ≡ least → size ≤ length before → least ≤ size →
+pub asked : (least size : ℕ) (front before : List ℕ) → length front ≡ least
+    → size ≤ length before → least ≤ size →
     length (take (size - least) (drop least (front ++ drop least before))) ≡ size - least
 asked least size front before whole fits enough =
-    let behind : drop least (front ++ drop least before) ≡ drop least before = drop_at front (drop least before) least whole in
+    let behind : drop least (front ++ drop least before) ≡ drop least before =
+    drop_at front (drop least before) least whole in
     let room = length-drop least before in
     rw behind (length-take-le (size - least) (drop least before) (omega arith))
 
-pub second : (front tail : List ℕ) → 2 ≤ length front → get_or (front ++ tail) 1 0 ≡ get_or front 1 0
+pub second : (front tail : List ℕ) → 2 ≤ length front
+    → get_or (front ++ tail) 1 0 ≡ get_or front 1 0
 second front tail enough = get_or_append_left front tail 0 1 (omega arith)
 
-pub raw_joined : (front tail : List ℕ) → length front ≡ 8 → length tail ≡ raw_len front - 8 → IsRawExt (front ++ tail)
+pub raw_joined : (front tail : List ℕ) → length front ≡ 8 → length tail ≡ raw_len front - 8
+    → IsRawExt (front ++ tail)
 raw_joined front tail whole rest =
     let len = length-append front tail in
     record { least = omega arith; whole = rw (second front tail (omega arith)) (omega arith) }
 
-pub auth_joined : (front tail : List ℕ) → length front ≡ 12 → 12 ≤ auth_len front → length tail ≡ auth_len front - 12 → IsAuth (front ++ tail)
+pub auth_joined : (front tail : List ℕ) → length front ≡ 12 → 12 ≤ auth_len front
+    → length tail ≡ auth_len front - 12 → IsAuth (front ++ tail)
 auth_joined front tail whole enough rest =
     let len = length-append front tail in
     record { least = omega arith; whole = rw (second front tail (omega arith)) (omega arith) }
 
-pub raw_len_again : (front behind : List ℕ) (size : ℕ) → length front ≡ 8 → size ≡ raw_len (front ++ behind) → size ≡ raw_len front
-raw_len_again front behind size whole is = is ∙ ap (λ n. (n + 1) * 8) (second front behind (omega arith))
+pub raw_len_again : (front behind : List ℕ) (size : ℕ) → length front ≡ 8
+    → size ≡ raw_len (front ++ behind) → size ≡ raw_len front
+raw_len_again front behind size whole is =
+    is ∙ ap (λ n. (n + 1) * 8) (second front behind (omega arith))
 
-pub auth_len_again : (front behind : List ℕ) (size : ℕ) → length front ≡ 12 → size ≡ auth_len (front ++ behind) → size ≡ auth_len front
-auth_len_again front behind size whole is = is ∙ ap (λ n. (n + 2) * 4) (second front behind (omega arith))
+pub auth_len_again : (front behind : List ℕ) (size : ℕ) → length front ≡ 12
+    → size ≡ auth_len (front ++ behind) → size ≡ auth_len front
+auth_len_again front behind size whole is =
+    is ∙ ap (λ n. (n + 2) * 4) (second front behind (omega arith))
 
 -- what is read in two parts is read
-pub takes_both : {T : Type 0} (remaining : T → Option (List ℕ)) (a b c : Limited T) (xs ys : List ℕ) → Takes remaining a xs b → Takes remaining b ys c → Takes remaining a (xs ++ ys) c
+pub takes_both : {T : Type 0} (remaining : T → Option (List ℕ)) (a b c : Limited T) (xs ys : List ℕ)
+    → Takes remaining a xs b → Takes remaining b ys c → Takes remaining a (xs ++ ys) c
 takes_both {T = T} remaining a b c xs ys first more =
     let len = length-append xs ys in
-    let read : b.read_len ≡ a.read_len + length xs = ap {A = Limited T} (λ r. r.read_len) first.counted in
+    let read : b.read_len ≡ a.read_len + length xs =
+    ap {A = Limited T} (λ r. r.read_len) first.counted in
     let limit : b.max_len ≡ a.max_len = ap {A = Limited T} (λ r. r.max_len) first.counted in
     let count : b.read_len + length ys ≡ a.read_len + length (xs ++ ys) = omega arith in
     record {
       within = omega (arith, more.within);
-      consumed = Consumes-trans (remaining a.reader) (remaining b.reader) (remaining c.reader) xs ys first.consumed more.consumed;
-      counted = more.counted ∙ ap {A = Limited T} {B = Limited T} (λ r. record r { reader = c.reader; read_len = b.read_len + length ys }) first.counted ∙ ap {A = ℕ} {B = Limited T} (λ n. record a { reader = c.reader; read_len = n }) count;
+      consumed = Consumes-trans (remaining a.reader) (remaining b.reader)
+          (remaining c.reader) xs ys first.consumed more.consumed;
+      counted = more.counted ∙ ap {A = Limited T} {B = Limited T}
+          (λ r. record r { reader = c.reader; read_len = b.read_len + length ys }) first.counted
+          ∙ ap {A = ℕ} {B = Limited T} (λ n. record a { reader = c.reader; read_len = n }) count;
     }
 
 -- known bytes begin with what a reader gave
-pub consumed_some : (known new : Option (List ℕ)) (all header : List ℕ) → known ≡ Some all → Consumes known new header → (rest : List ℕ) × (all ≡ header ++ rest) × (new ≡ Some rest)
+pub consumed_some : (known new : Option (List ℕ)) (all header : List ℕ) → known ≡ Some all
+    → Consumes known new header → (rest : List ℕ) × (all ≡ header ++ rest) × (new ≡ Some rest)
 consumed_some known new all header is consumed = given new (rw is at consumed)
   where
-    given : (new : Option (List ℕ)) → Consumes (Some all) new header → (rest : List ℕ) × (all ≡ header ++ rest) × (new ≡ Some rest)
+    given : (new : Option (List ℕ)) → Consumes (Some all) new header
+        → (rest : List ℕ) × (all ≡ header ++ rest) × (new ≡ Some rest)
     given None h = absurd h
     given (Some rest) h = (rest, h, refl)
 
 -- what a reader gives is the header that is next
-pub raw_next : (known new : Option (List ℕ)) (header rest read : List ℕ) → IsRawExt header → known ≡ Some (header ++ rest) → IsRawExt read → Consumes known new read →
+pub raw_next : (known new : Option (List ℕ)) (header rest read : List ℕ) → IsRawExt header
+    → known ≡ Some (header ++ rest) → IsRawExt read → Consumes known new read →
     (raw_of read ≡ raw_of header) × (new ≡ Some rest)
 raw_next known new header rest read is_header is is_read consumed =
     let given = consumed_some known new (header ++ rest) read is consumed in
     let same = raw_read (header ++ rest) read given.0 header rest is_read given.1 is_header refl in
     (same.0, given.2 ∙ ap Some same.1)
 
-pub fragment_next : (known new : Option (List ℕ)) (header rest read : List ℕ) → IsFragment header → known ≡ Some (header ++ rest) → IsFragment read → Consumes known new read →
+pub fragment_next : (known new : Option (List ℕ)) (header rest read : List ℕ) → IsFragment header
+    → known ≡ Some (header ++ rest) → IsFragment read → Consumes known new read →
     (fragment_of read ≡ fragment_of header) × (new ≡ Some rest)
 fragment_next known new header rest read is_header is is_read consumed =
     let given = consumed_some known new (header ++ rest) read is consumed in
-    let same = fragment_read (header ++ rest) read given.0 header rest is_read given.1 is_header refl in
+    let same = fragment_read (header ++ rest) read given.0 header rest is_read
+    given.1 is_header refl in
     (same.0, given.2 ∙ ap Some same.1)
 
-pub auth_next : (known new : Option (List ℕ)) (header rest read : List ℕ) → IsAuth header → known ≡ Some (header ++ rest) → IsAuth read → Consumes known new read →
+pub auth_next : (known new : Option (List ℕ)) (header rest read : List ℕ) → IsAuth header
+    → known ≡ Some (header ++ rest) → IsAuth read → Consumes known new read →
     (auth_of read ≡ auth_of header) × (new ≡ Some rest)
 auth_next known new header rest read is_header is is_read consumed =
     let given = consumed_some known new (header ++ rest) read is consumed in
@@ -102,66 +127,109 @@ auth_next known new header rest read is_header is is_read consumed =
     (same.0, given.2 ∙ ap Some same.1)
 
 -- both begin alike
-same_second : (header rest front behind : List ℕ) → header ++ rest ≡ front ++ behind → 2 ≤ length header → 2 ≤ length front → get_or front 1 0 ≡ get_or header 1 0
+same_second : (header rest front behind : List ℕ) → header ++ rest ≡ front ++ behind
+    → 2 ≤ length header → 2 ≤ length front → get_or front 1 0 ≡ get_or header 1 0
 same_second header rest front behind same enough fits =
-    sym (second front behind fits) ∙ ap (λ (xs : List ℕ). get_or xs 1 0) (sym same) ∙ second header rest enough
+    sym (second front behind fits) ∙ ap (λ (xs : List ℕ). get_or xs 1 0) (sym same)
+    ∙ second header rest enough
 
 -- 12 bytes of a length byte that is not 0 have no fault
-pub not_zero : (front : List ℕ) (e : HeaderError) (b : ℕ) → auth_at front ≡ Err (auth_slice.Content e) → length front ≡ 12 → get_or front 1 0 ≡ suc b → ⊥
+pub not_zero : (front : List ℕ) (e : HeaderError) (b : ℕ)
+    → auth_at front ≡ Err (slice_error.Content e) → length front ≡ 12 → get_or front 1 0 ≡ suc b → ⊥
 not_zero front e b fault whole is =
-    auth_front (ltb (length front) (auth_len front)) (take (auth_len front) front) e (length front) (auth_len front)
-    (sym (rw (le-ltb (length front) 12 (omega arith), ne_eqb (get_or front 1 0) 0 (omega arith)) refl) ∙ fault)
+    auth_front (ltb (length front) (auth_len front)) (take (auth_len front) front) e
+    (length front) (auth_len front)
+    (sym (rw (le-ltb (length front) 12 (omega arith), ne_eqb (get_or front 1 0) 0 (omega arith))
+    refl) ∙ fault)
   where
-    auth_front : (b : Bool) (h : List ℕ) (e : HeaderError) (l m : ℕ) → cond b (Err (auth_slice.Len (too_short IpAuthHeader m l))) (Ok h) ≡ Err (auth_slice.Content e) → ⊥
+    auth_front : (b : Bool) (h : List ℕ) (e : HeaderError) (l m : ℕ)
+        → cond b (Err (slice_error.Len (too_few_bytes IpAuthHeader m l))) (Ok h)
+        ≡ Err (slice_error.Content e) → ⊥
     auth_front true h e l m x = cc
     auth_front false h e l m x = cc
 
-no_fault : (known new : Option (List ℕ)) (front header rest : List ℕ) (e : HeaderError) → IsAuth header → known ≡ Some (header ++ rest) → HasContentFault front e → Consumes known new front → ⊥
+no_fault : (known new : Option (List ℕ)) (front header rest : List ℕ) (e : HeaderError)
+    → IsAuth header → known ≡ Some (header ++ rest) → HasContentFault front e
+    → Consumes known new front → ⊥
 no_fault known new front header rest e is_header is fault consumed =
     let given = consumed_some known new (header ++ rest) front is consumed in
-    let same = same_second header rest front given.0 given.1 (omega (arith, is_header.least)) (omega (arith, fault.whole)) in
-    not_zero front e (get_or header 1 0 - 1) fault.fault fault.whole (omega (arith, same, is_header.least, is_header.whole))
+    let same = same_second header rest front given.0 given.1 (omega (arith, is_header.least))
+    (omega (arith, fault.whole)) in
+    not_zero front e (get_or header 1 0 - 1) fault.fault fault.whole
+    (omega (arith, same, is_header.least, is_header.whole))
 
-pub auth_refused : (known new : Option (List ℕ)) (e : HeaderReadError) (header rest : List ℕ) → IsAuth header → known ≡ Some (header ++ rest) → RefusesAuth known e new → IsAuthIo e
+pub auth_refused : (known new : Option (List ℕ)) (e : HeaderReadError) (header rest : List ℕ)
+    → IsAuth header → known ≡ Some (header ++ rest) → RefusesAuth known e new → IsAuthIo e
 auth_refused known new (auth_read.Io e) header rest is_header is refused = tt
-auth_refused known new (auth_read.Content e) header rest is_header is refused = no_fault known new refused.0 header rest e is_header is refused.1 refused.2
+auth_refused known new (auth_read.Content e) header rest is_header is refused =
+    no_fault known new refused.0 header rest e is_header is refused.1 refused.2
 
 module _ {T : Type 0} (remaining : T → Option (List ℕ)) where
   -- a header that is next and within the limit is refused only where a read failed
-  refused_next : (least : ℕ) (size : List ℕ → ℕ) (start new : Limited T) (e : LimitedReadError) (header rest : List ℕ) →
-      ((front : List ℕ) → length front ≡ least → get_or front 1 0 ≡ get_or header 1 0 → size front ≡ length header) → 2 ≤ least → least ≤ length header →
-      start.read_len ≡ 0 → length header ≤ start.max_len → remaining start.reader ≡ Some (header ++ rest) → RefusesHeader remaining least size start e new → IsIo e
-  refused_next least size start new (limited.Io e) header rest sized two enough begins fits known refused = tt
-  refused_next least size start new (limited.Len e) header rest sized two enough begins fits known (inl refused) = absurd (omega (arith, refused.0))
-  refused_next least size start new (limited.Len e) header rest sized two enough begins fits known (inr refused) =
-      let given = consumed_some (remaining start.reader) (remaining refused.1.reader) (header ++ rest) refused.0 known refused.3.consumed in
-      let same = same_second header rest refused.0 given.0 given.1 (omega arith) (omega (arith, refused.2)) in
-      let read : refused.1.read_len ≡ start.read_len + length refused.0 = ap {A = Limited T} (λ r. r.read_len) refused.3.counted in
-      let limit : refused.1.max_len ≡ start.max_len = ap {A = Limited T} (λ r. r.max_len) refused.3.counted in
+  refused_next : (least : ℕ) (size : List ℕ → ℕ) (start new : Limited T) (e : LimitedReadError)
+      (header rest : List ℕ) →
+      ((front : List ℕ) → length front ≡ least → get_or front 1 0 ≡ get_or header 1 0
+      → size front ≡ length header) → 2 ≤ least → least ≤ length header →
+      start.read_len ≡ 0 → length header ≤ start.max_len
+      → remaining start.reader ≡ Some (header ++ rest)
+      → RefusesHeader remaining least size start e new → IsIo e
+  refused_next least size start new (limited.Io e) header rest sized two enough begins
+      fits known refused = tt
+  refused_next least size start new (limited.Len e) header rest sized two enough begins fits known
+      (inl refused) = absurd (omega (arith, refused.0))
+  refused_next least size start new (limited.Len e) header rest sized two enough begins fits known
+      (inr refused) =
+      let given = consumed_some (remaining start.reader) (remaining refused.1.reader)
+      (header ++ rest) refused.0 known refused.3.consumed in
+      let same = same_second header rest refused.0 given.0 given.1 (omega arith)
+      (omega (arith, refused.2)) in
+      let read : refused.1.read_len ≡ start.read_len + length refused.0 =
+      ap {A = Limited T} (λ r. r.read_len) refused.3.counted in
+      let limit : refused.1.max_len ≡ start.max_len =
+      ap {A = Limited T} (λ r. r.max_len) refused.3.counted in
       absurd (omega (arith, sized refused.0 refused.2 same, refused.2, refused.4.0))
 
-  pub raw_refused : (start new : Limited T) (e : LimitedReadError) (header rest : List ℕ) → IsRawExt header →
-      start.read_len ≡ 0 → length header ≤ start.max_len → remaining start.reader ≡ Some (header ++ rest) → RefusesHeader remaining 8 raw_len start e new → IsIo e
+  pub raw_refused : (start new : Limited T) (e : LimitedReadError) (header rest : List ℕ)
+      → IsRawExt header →
+      start.read_len ≡ 0 → length header ≤ start.max_len
+      → remaining start.reader ≡ Some (header ++ rest)
+      → RefusesHeader remaining 8 raw_len start e new → IsIo e
   raw_refused start new e header rest is_header begins fits known refused =
-      refused_next 8 raw_len start new e header rest (λ front whole same. ap (λ n. (n + 1) * 8) same ∙ sym is_header.whole) (omega arith) is_header.least begins fits known refused
+      refused_next 8 raw_len start new e header rest
+      (λ front whole same. ap (λ n. (n + 1) * 8) same ∙ sym is_header.whole)
+      (omega arith) is_header.least begins fits known refused
 
   auth_read_error_io : (e : LimitedReadError) → IsIo e → IsAuthLimitedIo (auth_error e)
   auth_read_error_io (limited.Io e) h = tt
   auth_read_error_io (limited.Len e) h = h
 
-  pub auth_within : (start new : Limited T) (e : LimitedReadError) → RefusesHeader remaining 12 auth_len start e new → RefusesAuthWithin remaining start (auth_error e) new
+  pub auth_within : (start new : Limited T) (e : LimitedReadError)
+      → RefusesHeader remaining 12 auth_len start e new
+      → RefusesAuthWithin remaining start (auth_error e) new
   auth_within start new (limited.Io e) h = h
   auth_within start new (limited.Len e) h = h
 
-  auth_long : (start new : Limited T) (e : LimitedReadError) (header rest : List ℕ) → IsAuth header →
-      start.read_len ≡ 0 → length header ≤ start.max_len → remaining start.reader ≡ Some (header ++ rest) → RefusesHeader remaining 12 auth_len start e new → IsIo e
+  auth_long : (start new : Limited T) (e : LimitedReadError) (header rest : List ℕ)
+      → IsAuth header →
+      start.read_len ≡ 0 → length header ≤ start.max_len
+      → remaining start.reader ≡ Some (header ++ rest)
+      → RefusesHeader remaining 12 auth_len start e new → IsIo e
   auth_long start new e header rest is_header begins fits known refused =
-      refused_next 12 auth_len start new e header rest (λ front whole same. ap (λ n. (n + 2) * 4) same ∙ sym is_header.whole) (omega arith) is_header.least begins fits known refused
+      refused_next 12 auth_len start new e header rest
+      (λ front whole same. ap (λ n. (n + 2) * 4) same ∙ sym is_header.whole)
+      (omega arith) is_header.least begins fits known refused
 
-  pub auth_refused_within : (start new : Limited T) (e : HeaderLimitedReadError) (header rest : List ℕ) → IsAuth header →
-      start.read_len ≡ 0 → length header ≤ start.max_len → remaining start.reader ≡ Some (header ++ rest) → RefusesAuthWithin remaining start e new → IsAuthLimitedIo e
-  auth_refused_within start new (auth_limited.Io e) header rest is_header begins fits known refused = tt
-  auth_refused_within start new (auth_limited.Len e) header rest is_header begins fits known refused =
+  pub auth_refused_within : (start new : Limited T) (e : HeaderLimitedReadError)
+      (header rest : List ℕ) → IsAuth header →
+      start.read_len ≡ 0 → length header ≤ start.max_len
+      → remaining start.reader ≡ Some (header ++ rest)
+      → RefusesAuthWithin remaining start e new → IsAuthLimitedIo e
+  auth_refused_within start new (auth_limited.Io e) header rest is_header begins
+      fits known refused = tt
+  auth_refused_within start new (auth_limited.Len e) header rest is_header
+      begins fits known refused =
       auth_long start new (limited.Len e) header rest is_header begins fits known refused
-  auth_refused_within start new (auth_limited.Content e) header rest is_header begins fits known refused =
-      no_fault (remaining start.reader) (remaining new.reader) refused.0 header rest e is_header known refused.1 refused.2.consumed
+  auth_refused_within start new (auth_limited.Content e) header rest is_header
+      begins fits known refused =
+      no_fault (remaining start.reader) (remaining new.reader) refused.0 header rest e is_header
+      known refused.1 refused.2.consumed

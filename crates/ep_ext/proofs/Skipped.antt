@@ -1,5 +1,6 @@
 -- Headers in a row, as the walk that skips them sees them.
-use Rattle.std.proofs.Common.{◌≡◌, ℕ, true, false, eqb, List, [], ◌∷◌, ◌++◌, Some, Result, Ok, Err, Bor, IsOkAnd, length, arith, refl, sym, ap, ◌∙◌, subst, ⊎_elim}
+use Rattle.std.proofs.Common.{◌≡◌, ℕ, true, false, eqb, List, [], ◌∷◌, ◌++◌, Some, Result, Ok, Err}
+use Rattle.std.proofs.Common.{Bor, IsOkAnd, length, arith, refl, sym, ap, ◌∙◌, subst, ⊎_elim}
 use Rattle.std.specs.Prelude.{IsTrue}
 use Rattle.std.specs.List.{concat}
 use Rattle.std.proofs.lemmas.Bool.{eqb-true}
@@ -10,9 +11,12 @@ use Rattle.ep_ext.specs.Place.{Order, KeepsNumbers, number_of, is_passed, once, 
 use Rattle.ep_ext.specs.Value.{Piece, bytes_of}
 use Rattle.ep_ext.specs.Chain.{IsPiece, Row, Chain}
 use Rattle.ep_ext.specs.declared.net.ipv6_ext_place.Ipv6ExtPlace.{Ipv6ExtPlace}
-use Rattle.ep_ext.specs.declared.net.ipv6_ext_place.Ipv6ExtPlace.TheVariants.{HopByHop, Destination, Routing, Fragment, Authentication, FinalDestination}
-use Rattle.ep_ext.proofs.Fronts.{ok_same, ok_err}
-use Rattle.ep_ext.proofs.Rows.{some_same, none_some}
+use Rattle.ep_ext.specs.declared.net.ipv6_ext_place.Ipv6ExtPlace.TheVariants.{HopByHop, Destination}
+use Rattle.ep_ext.specs.declared.net.ipv6_ext_place.Ipv6ExtPlace.TheVariants.{Routing, Fragment}
+use Rattle.ep_ext.specs.declared.net.ipv6_ext_place.Ipv6ExtPlace.TheVariants.{Authentication}
+use Rattle.ep_ext.specs.declared.net.ipv6_ext_place.Ipv6ExtPlace.TheVariants.{FinalDestination}
+use Rattle.ep_base.proofs.Fronts.{ok_same, ok_err}
+use Rattle.std.proofs.lemmas.Option.{none-some, same_Some}
 use Rattle.ep_ext.proofs.Values.{one_of, once_open}
 
 abbrev headers_of : List Piece → List (List ℕ)
@@ -31,15 +35,19 @@ skipped Fragment = refl
 skipped Authentication = refl
 skipped FinalDestination = refl
 
-whole : (place : Ipv6ExtPlace) (header : List ℕ) → IsPiece place header → IsWhole (number_of place) header
+whole : (place : Ipv6ExtPlace) (header : List ℕ) → IsPiece place header
+    → IsWhole (number_of place) header
 whole HopByHop header piece = record { begun = omega (arith, piece.least); whole = piece.whole }
 whole Destination header piece = record { begun = omega (arith, piece.least); whole = piece.whole }
 whole Routing header piece = record { begun = omega (arith, piece.least); whole = piece.whole }
 whole Fragment header piece = record { begun = omega (arith, piece.whole); whole = piece.whole }
-whole Authentication header piece = record { begun = omega (arith, piece.least); whole = piece.whole }
-whole FinalDestination header piece = record { begun = omega (arith, piece.least); whole = piece.whole }
+whole Authentication header piece =
+    record { begun = omega (arith, piece.least); whole = piece.whole }
+whole FinalDestination header piece =
+    record { begun = omega (arith, piece.least); whole = piece.whole }
 
-row_skips : (order : Order) (passed : List Ipv6ExtPlace) (number : ℕ) (pieces : List Piece) (last : ℕ) → KeepsNumbers order →
+row_skips : (order : Order) (passed : List Ipv6ExtPlace) (number : ℕ) (pieces : List Piece)
+    (last : ℕ) → KeepsNumbers order →
     Row order passed number pieces last → Skips number (headers_of pieces) last
 row_skips order passed number [] last keeps row = row
 row_skips order passed number (piece ∷ pieces) last keeps row =
@@ -49,17 +57,22 @@ row_skips order passed number (piece ∷ pieces) last keeps row =
       row_skips order (passed ++ piece.0 ∷ []) _ pieces last keeps row.2,
     )
 
-given : (last : ℕ) (rest : List ℕ) (answer : Result (IpNumber × Bor (List ℕ)) LenError) → Gives (Ok (last, rest)) answer →
+given : (last : ℕ) (rest : List ℕ) (answer : Result (IpNumber × Bor (List ℕ)) LenError)
+    → Gives (Ok (last, rest)) answer →
     IsOkAnd answer (λ r. (r.0.0 ≡ last) × (r.1.now ≡ rest))
 given last rest (Ok r) gives =
-    let same : ◌≡◌ {A = ℕ × List ℕ} (last, rest) (r.0.0, r.1.now) = ok_same (last, rest) (r.0.0, r.1.now) gives in
+    let same : ◌≡◌ {A = ℕ × List ℕ} (last, rest) (r.0.0, r.1.now) =
+    ok_same (last, rest) (r.0.0, r.1.now) gives in
     (sym (ap (λ (x : ℕ × List ℕ). x.0) same), sym (ap (λ (x : ℕ × List ℕ). x.1) same))
 given last rest (Err e) gives = absurd (ok_err (last, rest) e gives)
 
 -- the walk gives the number and the rest of a chain
-pub chain_skips : (first : ℕ) (bytes : List ℕ) (answer : Result (IpNumber × Bor (List ℕ)) LenError) →
-    ((headers : List (List ℕ)) (last : ℕ) (rest : List ℕ) → Walk first bytes headers last rest → Gives (outcome (length (concat headers)) last rest) answer) →
-    (order : Order) (pieces : List Piece) (last : ℕ) (rest : List ℕ) → KeepsNumbers order → Chain order first bytes pieces last rest → is_skipped last ≡ false →
+pub chain_skips : (first : ℕ) (bytes : List ℕ) (answer : Result (IpNumber × Bor (List ℕ)) LenError)
+    →
+    ((headers : List (List ℕ)) (last : ℕ) (rest : List ℕ) → Walk first bytes headers last rest
+    → Gives (outcome (length (concat headers)) last rest) answer) →
+    (order : Order) (pieces : List Piece) (last : ℕ) (rest : List ℕ) → KeepsNumbers order
+    → Chain order first bytes pieces last rest → is_skipped last ≡ false →
     IsOkAnd answer (λ r. (r.0.0 ≡ last) × (r.1.now ≡ rest))
 chain_skips first bytes answer only order pieces last rest keeps chain behind =
     let walk : Walk first bytes (headers_of pieces) last rest = record {
@@ -72,12 +85,15 @@ chain_skips first bytes answer only order pieces last rest keeps chain behind =
     true_false : true ≡ false → ⊥
     true_false e = cc
 
-number_from : (passed : List Ipv6ExtPlace) (number : ℕ) (p place : Ipv6ExtPlace) → eqb number (number_of p) ≡ true → once passed p ≡ Some place → number_of place ≡ number
-number_from passed number p place is e = sym (ap number_of (once_open passed p place e).1) ∙ sym (eqb-true number (number_of p) is)
+number_from : (passed : List Ipv6ExtPlace) (number : ℕ) (p place : Ipv6ExtPlace)
+    → eqb number (number_of p) ≡ true → once passed p ≡ Some place → number_of place ≡ number
+number_from passed number p place is e = sym (ap number_of (once_open passed p place e).1)
+    ∙ sym (eqb-true number (number_of p) is)
 
-front_number : (passed : List Ipv6ExtPlace) (place : Ipv6ExtPlace) → in_front passed ≡ Some place → number_of place ≡ 0
-front_number [] place e = sym (ap number_of (some_same HopByHop place e))
-front_number (p ∷ passed) place e = absurd (none_some place e)
+front_number : (passed : List Ipv6ExtPlace) (place : Ipv6ExtPlace)
+    → in_front passed ≡ Some place → number_of place ≡ 0
+front_number [] place e = sym (ap number_of (same_Some HopByHop place e))
+front_number (p ∷ passed) place e = absurd (none-some place e)
 
 pub place_numbers : KeepsNumbers place_of
 place_numbers passed number place e =
@@ -88,8 +104,9 @@ place_numbers passed number place e =
     (λ d. ⊎_elim (λ options. ⊎_elim
     (λ final. number_from passed number FinalDestination place options.0 final.1)
     (λ before. number_from passed number Destination place options.0 before.1)
-    (one_of (is_passed passed Routing) (once passed FinalDestination) (once passed Destination) (Some place) options.1))
-    (λ other. absurd (none_some place other.1))
+    (one_of (is_passed passed Routing) (once passed FinalDestination) (once passed Destination)
+    (Some place) options.1))
+    (λ other. absurd (none-some place other.1))
     (one_of (eqb number 60) _ _ (Some place) d.1))
     (one_of (eqb number 51) _ _ (Some place) c.1))
     (one_of (eqb number 44) _ _ (Some place) b.1))

@@ -1,55 +1,76 @@
 -- What is read of known bytes within a limit.
-use Rattle.std.proofs.Common.{◌≡◌, ℕ, ◌+◌, ◌-◌, ◌≤◌, List, [], ◌∷◌, ◌++◌, length, Option, Some, None, Result, Ok, Err, get_or, arith, refl, sym, ap, ◌∙◌, subst}
+use Rattle.std.proofs.Common.{◌≡◌, ℕ, ◌+◌, ◌-◌, ◌≤◌, List, [], ◌∷◌, ◌++◌, length, Option, Some}
+use Rattle.std.proofs.Common.{None, Result, Ok, Err, get_or, arith, refl, sym, ap, ◌∙◌, subst}
 use Rattle.std.proofs.KnownBytes.{Consumes-trans}
 use Rattle.std.proofs.lemmas.List.{append_assoc, append-nil, length-append}
 use Rattle.std.specs.Io.KnownBytes.{Consumes}
 use Rattle.std.specs.Prelude.{IfOk, IfErr, MatchResult}
 use Rattle.ep_base.specs.declared.net.ip_number.IpNumber.{IpNumber}
 use Rattle.ep_ext.specs.Chain.{IsPiece, Row}
-use Rattle.ep_ext.specs.Limited.{Limited, started}
+use Rattle.ep_ext.specs.Limited.{Limited, at_next_layer}
 use Rattle.ep_ext.specs.Place.{place_of}
-use Rattle.ep_ext.specs.ReadsExts.{IsWholeRow, IsExtsLimitedIo, ReadsRowWithin, RefusesBytes, RefusesRowWithin, TakesRow, read_layer}
+use Rattle.ep_ext.specs.ReadsExts.{IsWholeRow, IsExtsLimitedIo, ReadsRowWithin, RefusesBytes}
+use Rattle.ep_ext.specs.ReadsExts.{RefusesRowWithin, TakesRow, read_layer}
 use Rattle.ep_ext.specs.Value.{Piece, places, bytes_of, value_of}
 use Rattle.ep_ext.specs.declared.err.io.limited_read_error.LimitedReadError.TheVariants as bytes_fault
 use Rattle.ep_ext.specs.declared.err.ip_auth.header_limited_read_error.HeaderLimitedReadError.TheVariants as auth_limited
-use Rattle.ep_ext.specs.declared.err.ipv6_exts.header_error.HeaderError.TheVariants.{HopByHopNotAtStart, IpAuth}
+use Rattle.ep_ext.specs.declared.err.ipv6_exts.header_error.HeaderError.TheVariants.{HopByHopNotAtStart}
+use Rattle.ep_ext.specs.declared.err.ipv6_exts.header_error.HeaderError.TheVariants.{IpAuth}
 use Rattle.ep_ext.specs.declared.err.ipv6_exts.header_limited_read_error.HeaderLimitedReadError.{HeaderLimitedReadError}
-use Rattle.ep_ext.specs.declared.err.ipv6_exts.header_limited_read_error.HeaderLimitedReadError.TheVariants.{Io, Len, Content}
+use Rattle.ep_ext.specs.declared.err.ipv6_exts.header_limited_read_error.HeaderLimitedReadError.TheVariants.{Io}
+use Rattle.ep_ext.specs.declared.err.ipv6_exts.header_limited_read_error.HeaderLimitedReadError.TheVariants.{Len}
+use Rattle.ep_ext.specs.declared.err.ipv6_exts.header_limited_read_error.HeaderLimitedReadError.TheVariants.{Content}
 use Rattle.ep_base.specs.declared.err.len_error.LenError.{LenError}
 use Rattle.ep_ext.specs.declared.net.ipv6_ext_place.Ipv6ExtPlace.{Ipv6ExtPlace}
-use Rattle.ep_ext.specs.declared.net.ipv6_ext_place.Ipv6ExtPlace.TheVariants.{HopByHop, Destination, Routing, Fragment, Authentication, FinalDestination}
+use Rattle.ep_ext.specs.declared.net.ipv6_ext_place.Ipv6ExtPlace.TheVariants.{HopByHop, Destination}
+use Rattle.ep_ext.specs.declared.net.ipv6_ext_place.Ipv6ExtPlace.TheVariants.{Routing, Fragment}
+use Rattle.ep_ext.specs.declared.net.ipv6_ext_place.Ipv6ExtPlace.TheVariants.{Authentication}
+use Rattle.ep_ext.specs.declared.net.ipv6_ext_place.Ipv6ExtPlace.TheVariants.{FinalDestination}
 use Rattle.ep_ext.specs.declared.net.ipv6_extensions.Ipv6Extensions.{Ipv6Extensions}
 use Rattle.ep_ext.proofs.Fronts.{same_front, same_rest}
 use Rattle.ep_ext.proofs.Reading.{consumed_some, raw_refused, auth_refused_within}
 use Rattle.ep_ext.proofs.ReadOnly.{alone, auth_end, read_same}
 use Rattle.ep_ext.proofs.ReadWalk.{consumes_none}
-use Rattle.ep_ext.proofs.Rows.{none_some, some_same, end_closed}
+use Rattle.std.proofs.lemmas.Option.{none-some, same_Some}
+use Rattle.ep_ext.proofs.Rows.{end_closed}
 
 -- headers that were taken were consumed, and the limit went down by them
-pub taken : {T : Type 0} (remaining : T → Option (List ℕ)) (old new : Limited T) (pieces : List Piece) → TakesRow remaining old pieces new →
-    Consumes (remaining old.reader) (remaining new.reader) (bytes_of pieces) × ((new.max_len - new.read_len) + length (bytes_of pieces) ≡ old.max_len - old.read_len)
+pub taken : {T : Type 0} (remaining : T → Option (List ℕ)) (old new : Limited T)
+    (pieces : List Piece) → TakesRow remaining old pieces new →
+    Consumes (remaining old.reader) (remaining new.reader) (bytes_of pieces)
+    × ((new.max_len - new.read_len) + length (bytes_of pieces) ≡ old.max_len - old.read_len)
 taken {T = T} remaining old new [] row =
-    subst (λ (r : Limited T). Consumes (remaining old.reader) (remaining r.reader) [] × ((r.max_len - r.read_len) + 0 ≡ old.max_len - old.read_len)) (sym row) (consumes_none (remaining old.reader), omega arith)
+    subst (λ (r : Limited T). Consumes (remaining old.reader) (remaining r.reader) []
+    × ((r.max_len - r.read_len) + 0 ≡ old.max_len - old.read_len)) (sym row)
+    (consumes_none (remaining old.reader), omega arith)
 taken {T = T} remaining old new (piece ∷ pieces) row =
     let between = row.0 in
     let behind = taken remaining between new pieces row.2 in
-    let limit : between.max_len ≡ old.max_len - old.read_len = ap {A = Limited T} (λ r. r.max_len) row.1.counted in
-    let read : between.read_len ≡ 0 + length piece.1 = ap {A = Limited T} (λ r. r.read_len) row.1.counted in (
-      Consumes-trans (remaining old.reader) (remaining between.reader) (remaining new.reader) piece.1 (bytes_of pieces) row.1.consumed behind.0,
+    let limit : between.max_len ≡ old.max_len - old.read_len =
+    ap {A = Limited T} (λ r. r.max_len) row.1.counted in
+    let read : between.read_len ≡ 0 + length piece.1 =
+    ap {A = Limited T} (λ r. r.read_len) row.1.counted in (
+      Consumes-trans (remaining old.reader) (remaining between.reader)
+          (remaining new.reader) piece.1 (bytes_of pieces) row.1.consumed behind.0,
       omega (arith, limit, read, row.1.within, behind.1, length-append piece.1 (bytes_of pieces)),
     )
 
--- of two rows over the same bytes, where one has a place for its next header and the other has none,
--- the other goes on behind the one
-next_there : (passed : List Ipv6ExtPlace) (number : ℕ) (ps qs : List Piece) (m n : ℕ) (r s : List ℕ) (p : Ipv6ExtPlace) →
-    Row place_of passed number ps m → Row place_of passed number qs n → bytes_of ps ++ r ≡ bytes_of qs ++ s →
+-- of two rows over the same bytes, where one has a place for its next header and the other has
+-- none, the other goes on behind the one
+next_there : (passed : List Ipv6ExtPlace) (number : ℕ) (ps qs : List Piece) (m n : ℕ)
+    (r s : List ℕ) (p : Ipv6ExtPlace) →
+    Row place_of passed number ps m → Row place_of passed number qs n
+    → bytes_of ps ++ r ≡ bytes_of qs ++ s →
     place_of (passed ++ places ps) m ≡ Some p → place_of (passed ++ places qs) n ≡ None →
-    (header : List ℕ) × (behind : List ℕ) × IsPiece p header × (r ≡ header ++ behind) × (length (bytes_of ps) + length header ≤ length (bytes_of qs))
+    (header : List ℕ) × (behind : List ℕ) × IsPiece p header × (r ≡ header ++ behind)
+    × (length (bytes_of ps) + length header ≤ length (bytes_of qs))
 next_there passed number [] [] m n r s p row other e free closed =
-    absurd (none_some p (sym closed ∙ ap (place_of (passed ++ [])) (sym other ∙ row) ∙ free))
+    absurd (none-some p (sym closed ∙ ap (place_of (passed ++ [])) (sym other ∙ row) ∙ free))
 next_there passed number [] (q ∷ qs) m n r s p row other e free closed =
-    let free_here : place_of passed number ≡ Some p = ap (place_of passed) row ∙ ap (λ (xs : List Ipv6ExtPlace). place_of xs m) (sym (append-nil passed)) ∙ free in
-    let place : q.0 ≡ p = some_same q.0 p (sym other.0 ∙ free_here) in (
+    let free_here : place_of passed number ≡ Some p =
+    ap (place_of passed) row ∙ ap (λ (xs : List Ipv6ExtPlace). place_of xs m)
+    (sym (append-nil passed)) ∙ free in
+    let place : q.0 ≡ p = same_Some q.0 p (sym other.0 ∙ free_here) in (
       q.1,
       bytes_of qs ++ s,
       subst (λ (x : Ipv6ExtPlace). IsPiece x q.1) place other.1,
@@ -57,55 +78,111 @@ next_there passed number [] (q ∷ qs) m n r s p row other e free closed =
       omega (arith, length-append q.1 (bytes_of qs)),
     )
 next_there passed number (x ∷ xs) [] m n r s p row other e free closed =
-    absurd (none_some x.0 (sym closed ∙ ap (λ (ys : List Ipv6ExtPlace). place_of ys n) (append-nil passed) ∙ ap (place_of passed) (sym other) ∙ row.0))
+    absurd (none-some x.0 (sym closed ∙ ap (λ (ys : List Ipv6ExtPlace). place_of ys n)
+    (append-nil passed) ∙ ap (place_of passed) (sym other) ∙ row.0))
 next_there passed number (x ∷ xs) (q ∷ qs) m n r s p row other e free closed =
-    let place : q.0 ≡ x.0 = some_same q.0 x.0 (sym other.0 ∙ row.0) in
-    let both : x.1 ++ (bytes_of xs ++ r) ≡ q.1 ++ (bytes_of qs ++ s) = sym (append_assoc x.1 (bytes_of xs) r) ∙ e ∙ append_assoc q.1 (bytes_of qs) s in
-    let header : x.1 ≡ q.1 = same_front x.0 x.1 q.1 _ _ row.1 (subst (λ (y : Ipv6ExtPlace). IsPiece y q.1) place other.1) both in
+    let place : q.0 ≡ x.0 = same_Some q.0 x.0 (sym other.0 ∙ row.0) in
+    let both : x.1 ++ (bytes_of xs ++ r) ≡ q.1 ++ (bytes_of qs ++ s) =
+    sym (append_assoc x.1 (bytes_of xs) r) ∙ e ∙ append_assoc q.1 (bytes_of qs) s in
+    let header : x.1 ≡ q.1 = same_front x.0 x.1 q.1 _ _ row.1
+    (subst (λ (y : Ipv6ExtPlace). IsPiece y q.1) place other.1) both in
     let behind : bytes_of xs ++ r ≡ bytes_of qs ++ s = same_rest x.1 q.1 _ _ header both in
     let piece : q ≡ x = λ i. (place i, sym header i) in
-    let others : Row place_of (passed ++ x.0 ∷ []) (get_or x.1 0 0) qs n = subst (λ (y : Piece). Row place_of (passed ++ y.0 ∷ []) (get_or y.1 0 0) qs n) piece other.2 in
-    let free_there : place_of ((passed ++ x.0 ∷ []) ++ places xs) m ≡ Some p = ap (λ (ys : List Ipv6ExtPlace). place_of ys m) (append_assoc passed (x.0 ∷ []) (places xs)) ∙ free in
+    let others : Row place_of (passed ++ x.0 ∷ []) (get_or x.1 0 0) qs n =
+    subst (λ (y : Piece). Row place_of (passed ++ y.0 ∷ []) (get_or y.1 0 0) qs n)
+    piece other.2 in
+    let free_there : place_of ((passed ++ x.0 ∷ []) ++ places xs) m ≡ Some p =
+    ap (λ (ys : List Ipv6ExtPlace). place_of ys m)
+    (append_assoc passed (x.0 ∷ []) (places xs)) ∙ free in
     let closed_there : place_of ((passed ++ x.0 ∷ []) ++ places qs) n ≡ None =
-    ap (λ (ys : List Ipv6ExtPlace). place_of ys n) (append_assoc passed (x.0 ∷ []) (places qs) ∙ ap (λ (y : Ipv6ExtPlace). passed ++ y ∷ places qs) (sym place)) ∙ closed in
-    let there = next_there (passed ++ x.0 ∷ []) (get_or x.1 0 0) xs qs m n r s p row.2 others behind free_there closed_there in
-    (there.0, there.1, there.2, there.3, omega (arith, there.4, ap length header, length-append x.1 (bytes_of xs), length-append q.1 (bytes_of qs)))
+    ap (λ (ys : List Ipv6ExtPlace). place_of ys n)
+    (append_assoc passed (x.0 ∷ []) (places qs)
+    ∙ ap (λ (y : Ipv6ExtPlace). passed ++ y ∷ places qs) (sym place)) ∙ closed in
+    let there = next_there (passed ++ x.0 ∷ [])
+    (get_or x.1 0 0) xs qs m n r s p row.2 others behind free_there closed_there in (
+      there.0,
+      there.1,
+      there.2,
+      there.3,
+      omega (
+        arith,
+        there.4,
+        ap length header,
+        length-append x.1
+            (bytes_of xs),
+        length-append q.1 (bytes_of qs),
+      ),
+    )
 
 module _ {T : Type 0} (remaining : T → Option (List ℕ)) where
   -- a header that is next, and within the limit, isn't refused for its length
-  not_long : (at : Ipv6ExtPlace) (start new : Limited T) (e : LenError) (header behind : List ℕ) → IsPiece at header → start.read_len ≡ 0 → length header ≤ start.max_len →
-      remaining start.reader ≡ Some (header ++ behind) → RefusesBytes remaining at start (bytes_fault.Len e) new → ⊥
-  not_long HopByHop start new e header behind piece begins fits known refused = raw_refused remaining start new (bytes_fault.Len e) header behind piece begins fits known refused
-  not_long Destination start new e header behind piece begins fits known refused = raw_refused remaining start new (bytes_fault.Len e) header behind piece begins fits known refused
-  not_long Routing start new e header behind piece begins fits known refused = raw_refused remaining start new (bytes_fault.Len e) header behind piece begins fits known refused
-  not_long Fragment start new e header behind piece begins fits known refused = omega (arith, refused.0, piece.whole)
-  not_long Authentication start new e header behind piece begins fits known refused = auth_refused_within remaining start new (auth_limited.Len e) header behind piece begins fits known refused
-  not_long FinalDestination start new e header behind piece begins fits known refused = raw_refused remaining start new (bytes_fault.Len e) header behind piece begins fits known refused
+  not_long : (at : Ipv6ExtPlace) (start new : Limited T) (e : LenError) (header behind : List ℕ)
+      → IsPiece at header → start.read_len ≡ 0 → length header ≤ start.max_len →
+      remaining start.reader ≡ Some (header ++ behind)
+      → RefusesBytes remaining at start (bytes_fault.Len e) new → ⊥
+  not_long HopByHop start new e header behind piece begins fits known refused =
+      raw_refused remaining start new (bytes_fault.Len e) header behind piece
+      begins fits known refused
+  not_long Destination start new e header behind piece begins fits known refused =
+      raw_refused remaining start new (bytes_fault.Len e) header behind piece
+      begins fits known refused
+  not_long Routing start new e header behind piece begins fits known refused =
+      raw_refused remaining start new (bytes_fault.Len e) header behind piece
+      begins fits known refused
+  not_long Fragment start new e header behind piece begins fits known refused =
+      omega (arith, refused.0, piece.whole)
+  not_long Authentication start new e header behind piece begins fits known refused =
+      auth_refused_within remaining start new
+      (auth_limited.Len e) header behind piece begins fits known refused
+  not_long FinalDestination start new e header behind piece begins fits known refused =
+      raw_refused remaining start new (bytes_fault.Len e) header behind piece
+      begins fits known refused
 
-  module _ (first : ℕ) (pieces : List Piece) (last : ℕ) (rest : List ℕ) (whole : IsWholeRow first pieces last) where
-    refused_within : (old new : Limited T) (e : HeaderLimitedReadError) → RefusesRowWithin remaining first old e new → remaining old.reader ≡ Some (bytes_of pieces ++ rest) →
+  module _ (first : ℕ) (pieces : List Piece) (last : ℕ) (rest : List ℕ)
+      (whole : IsWholeRow first pieces last) where
+    refused_within : (old new : Limited T) (e : HeaderLimitedReadError)
+        → RefusesRowWithin remaining first old e new
+        → remaining old.reader ≡ Some (bytes_of pieces ++ rest) →
         length (bytes_of pieces) ≤ old.max_len - old.read_len → IsExtsLimitedIo e
     refused_within old new (Io e) refused known fits = tt
     refused_within old new (Len e) refused known fits =
         let between = refused.2 in
         let facts = taken remaining old between refused.0 refused.5 in
-        let given = consumed_some (remaining old.reader) (remaining between.reader) (bytes_of pieces ++ rest) (bytes_of refused.0) known facts.0 in
-        let there = next_there [] first refused.0 pieces refused.1 last given.0 rest refused.6.0 refused.3 whole.row (sym given.1) refused.6.1 whole.closed in
-        not_long refused.6.0 (started between (read_layer refused.6.0)) new e there.0 there.1 there.2 refl (omega (arith, facts.1, there.4, fits)) (given.2 ∙ ap Some there.3) refused.6.2
+        let given = consumed_some (remaining old.reader) (remaining between.reader)
+        (bytes_of pieces ++ rest) (bytes_of refused.0) known facts.0 in
+        let there = next_there [] first refused.0 pieces refused.1 last given.0 rest refused.6.0
+        refused.3 whole.row (sym given.1) refused.6.1 whole.closed in
+        not_long refused.6.0 (at_next_layer between (read_layer refused.6.0)) new e there.0 there.1
+        there.2 refl (omega (arith, facts.1, there.4, fits))
+        (given.2 ∙ ap Some there.3) refused.6.2
     refused_within old new (Content HopByHopNotAtStart) refused known fits =
         let facts = taken remaining old refused.2 refused.0 refused.5 in
-        let same = alone first pieces last rest whole (remaining old.reader) (remaining refused.2.reader) refused.0 refused.1 known refused.3 facts.0 (λ behind is. end_closed place_of (places refused.0) refused.1 behind refused.6.0) in
+        let same = alone first pieces last rest whole (remaining old.reader)
+        (remaining refused.2.reader) refused.0 refused.1 known refused.3 facts.0
+        (λ behind is. end_closed place_of (places refused.0) refused.1 behind refused.6.0) in
         absurd (whole.number (sym same.1 ∙ refused.6.1))
     refused_within old new (Content (IpAuth e)) refused known fits =
         let facts = taken remaining old refused.2 refused.0 refused.5 in
-        let same = alone first pieces last rest whole (remaining old.reader) (remaining refused.2.reader) refused.0 refused.1 known refused.3 facts.0
-        (auth_end first pieces last rest whole (remaining old.reader) (remaining refused.2.reader) (remaining new.reader) refused.0 refused.1 refused.6.1.0 e refused.6.0 refused.6.1.1 refused.6.1.2.consumed) in
-        let there : place_of (places refused.0) refused.1 ≡ place_of (places pieces) last = λ i. place_of (places (same.0 i)) (same.1 i) in
-        absurd (none_some Authentication (sym whole.closed ∙ sym there ∙ refused.6.0))
+        let same = alone first pieces last rest whole (remaining old.reader)
+        (remaining refused.2.reader) refused.0 refused.1 known refused.3 facts.0
+        (auth_end first pieces last rest whole (remaining old.reader) (remaining refused.2.reader)
+        (remaining new.reader) refused.0 refused.1 refused.6.1.0 e refused.6.0 refused.6.1.1
+        refused.6.1.2.consumed) in
+        let there : place_of (places refused.0) refused.1 ≡ place_of (places pieces) last =
+        λ i. place_of (places (same.0 i)) (same.1 i) in
+        absurd (none-some Authentication (sym whole.closed ∙ sym there ∙ refused.6.0))
 
-    pub read_within : (old new : Limited T) (result : Result (Ipv6Extensions × IpNumber) HeaderLimitedReadError) → IfOk result (ReadsRowWithin remaining first old new) → IfErr result (λ e. RefusesRowWithin remaining first old e new) →
-        remaining old.reader ≡ Some (bytes_of pieces ++ rest) → length (bytes_of pieces) ≤ old.max_len - old.read_len →
-        MatchResult result (λ r. (r.0 ≡ value_of pieces) × (r.1.0 ≡ last) × (remaining new.reader ≡ Some rest)) IsExtsLimitedIo
+    pub read_within : (old new : Limited T)
+        (result : Result (Ipv6Extensions × IpNumber) HeaderLimitedReadError)
+        → IfOk result (ReadsRowWithin remaining first old new)
+        → IfErr result (λ e. RefusesRowWithin remaining first old e new) →
+        remaining old.reader ≡ Some (bytes_of pieces ++ rest)
+        → length (bytes_of pieces) ≤ old.max_len - old.read_len →
+        MatchResult result (λ r. (r.0 ≡ value_of pieces) × (r.1.0 ≡ last)
+        × (remaining new.reader ≡ Some rest)) IsExtsLimitedIo
     read_within old new (Ok answer) reads refused known fits =
-        read_same first (remaining old.reader) (remaining new.reader) answer (reads.0, reads.1, (taken remaining old new reads.0 reads.2).0, reads.3) pieces last rest whole known
-    read_within old new (Err e) reads refused known fits = refused_within old new e refused known fits
+        read_same first (remaining old.reader) (remaining new.reader) answer
+        (reads.0, reads.1, (taken remaining old new reads.0 reads.2).0, reads.3)
+        pieces last rest whole known
+    read_within old new (Err e) reads refused known fits =
+        refused_within old new e refused known fits

@@ -1,34 +1,47 @@
 -- The headers that a walk over a slice has found, as the code keeps them.
-use Rattle.std.specs.Prelude.{◌≡◌, ℕ, List, Option, Some}
+use Rattle.std.specs.Prelude.{◌≡◌, ℕ, if◌then◌else◌, List, Option, Some}
 use Rattle.std.specs.Borrow.{Bor}
 use Rattle.ep_base.specs.declared.net.ip_number.IpNumber.{IpNumber}
 use Rattle.ep_ext.specs.Chain.{Fault, fault_of}
-use Rattle.ep_ext.specs.Place.{place_of}
+use Rattle.ep_ext.specs.Place.{is_same, place_of}
 use Rattle.ep_ext.specs.Value.{Piece, piece_at}
 use Rattle.ep_ext.specs.declared.net.borrowed_extensions.BorrowedExtensions.{BorrowedExtensions}
 use Rattle.ep_ext.specs.declared.net.ipv6_ext_place.Ipv6ExtPlace.{Ipv6ExtPlace}
-use Rattle.ep_ext.specs.declared.net.ipv6_ext_place.Ipv6ExtPlace.TheVariants.{HopByHop, Destination, Routing, Fragment, Authentication, FinalDestination}
+use Rattle.ep_ext.specs.declared.net.ipv6_ext_place.Ipv6ExtPlace.TheVariants.{HopByHop, Destination}
+use Rattle.ep_ext.specs.declared.net.ipv6_ext_place.Ipv6ExtPlace.TheVariants.{Routing, Fragment}
+use Rattle.ep_ext.specs.declared.net.ipv6_ext_place.Ipv6ExtPlace.TheVariants.{Authentication}
+use Rattle.ep_ext.specs.declared.net.ipv6_ext_place.Ipv6ExtPlace.TheVariants.{FinalDestination}
 
--- each of the pieces stands at its place
-pub record Holds (headers : BorrowedExtensions) (pieces : List Piece) : Type 0 where
-  pub hop_by_hop : headers.hop_by_hop_options ≡ piece_at pieces HopByHop
-  pub destination : headers.destination_options ≡ piece_at pieces Destination
-  pub routing : headers.routing ≡ piece_at pieces Routing
-  pub fragment : headers.fragment ≡ piece_at pieces Fragment
-  pub authentication : headers.auth ≡ piece_at pieces Authentication
-  pub final_destination : headers.final_destination_options ≡ piece_at pieces FinalDestination
+-- each of the pieces at its place
+abbrev pub headers_of : List Piece → BorrowedExtensions
+headers_of pieces = record {
+  hop_by_hop_options = piece_at pieces HopByHop;
+  destination_options = piece_at pieces Destination;
+  routing = piece_at pieces Routing;
+  fragment = piece_at pieces Fragment;
+  auth = piece_at pieces Authentication;
+  final_destination_options = piece_at pieces FinalDestination;
+}
+
+abbrev pub Holds : BorrowedExtensions → List Piece → Type 0
+Holds headers pieces = headers ≡ headers_of pieces
 
 -- these with this header at this place
-abbrev pub hold : BorrowedExtensions → Ipv6ExtPlace → List ℕ → BorrowedExtensions
-hold headers HopByHop header = record headers { hop_by_hop_options = Some header }
-hold headers Destination header = record headers { destination_options = Some header }
-hold headers Routing header = record headers { routing = Some header }
-hold headers Fragment header = record headers { fragment = Some header }
-hold headers Authentication header = record headers { auth = Some header }
-hold headers FinalDestination header = record headers { final_destination_options = Some header }
+abbrev pub with_slice_at : BorrowedExtensions → Ipv6ExtPlace → List ℕ → BorrowedExtensions
+with_slice_at headers place header = record {
+  hop_by_hop_options = if is_same place HopByHop then Some header else headers.hop_by_hop_options;
+  destination_options = if is_same place Destination then Some header
+      else headers.destination_options;
+  routing = if is_same place Routing then Some header else headers.routing;
+  fragment = if is_same place Fragment then Some header else headers.fragment;
+  auth = if is_same place Authentication then Some header else headers.auth;
+  final_destination_options = if is_same place FinalDestination then Some header
+      else headers.final_destination_options;
+}
 
 -- the walk over these pieces has found them and stopped
-pub record Finds (pieces : List Piece) (last : ℕ) (rest : List ℕ) (headers : BorrowedExtensions) (answer : IpNumber × Bor (List ℕ) × Option Fault) : Type 0 where
+pub record Finds (pieces : List Piece) (last : ℕ) (rest : List ℕ) (headers : BorrowedExtensions)
+    (answer : IpNumber × Bor (List ℕ) × Option Fault) : Type 0 where
   pub held : Holds headers pieces
   pub number : answer.0.0 ≡ last
   pub left : answer.1.now ≡ rest

@@ -1,15 +1,18 @@
--- The extension headers of an IPv4 packet: an authentication header where the number is 51, and else
--- none (RFC 4302, section 3.1.1).
-use Rattle.std.specs.Prelude.{◌≡◌, ◌≢◌, ℕ, ◌==◌, if◌then◌else◌, List, [], ◌++◌, unwrap_or, is_some, ◌&&◌, not, Option, Some, None, Result, Ok, Err}
+-- The extension headers of an IPv4 packet: an authentication header where the number is 51, and
+-- else none (RFC 4302, section 3.1.1).
+use Rattle.std.specs.Prelude.{◌≡◌, ◌≢◌, ℕ, ◌==◌, if◌then◌else◌, List, [], ◌++◌, unwrap_or, is_some}
+use Rattle.std.specs.Prelude.{◌&&◌, not, Option, Some, None, Result, Ok, Err}
 use Rattle.std.specs.Option.{option_map}
 use Rattle.ep_base.specs.Bytes.{num}
 use Rattle.ep_base.specs.declared.net.ip_number.IpNumber.{IpNumber}
 use Rattle.ep_ext.specs.Auth.{IsAuth, auth_at, auth_of, auth_spelling}
-use Rattle.ep_ext.specs.declared.err.ip_auth.header_slice_error.HeaderSliceError.{HeaderSliceError}
+use Rattle.ep_base.specs.declared.err.slice_error.SliceError.{SliceError}
+use Rattle.ep_ext.specs.declared.err.ip_auth.header_error.HeaderError.{HeaderError}
 use Rattle.ep_ext.specs.declared.err.ipv4_exts.exts_walk_error.ExtsWalkError.{ExtsWalkError}
 use Rattle.ep_ext.specs.declared.err.ipv4_exts.exts_walk_error.ExtsWalkError.TheVariants.{ExtNotReferenced}
 use Rattle.ep_ext.specs.declared.err.ipv4_exts.header_write_error.HeaderWriteError.{HeaderWriteError}
-use Rattle.ep_ext.specs.declared.err.ipv4_exts.header_write_error.HeaderWriteError.TheVariants.{Memory, Content}
+use Rattle.ep_ext.specs.declared.err.ipv4_exts.header_write_error.HeaderWriteError.TheVariants.{Memory}
+use Rattle.ep_ext.specs.declared.err.ipv4_exts.header_write_error.HeaderWriteError.TheVariants.{Content}
 use Rattle.ep_ext.specs.declared.net.ip_auth_header.IpAuthHeader.{IpAuthHeader}
 use Rattle.ep_ext.specs.declared.net.ipv4_extensions.Ipv4Extensions.{Ipv4Extensions}
 
@@ -32,16 +35,18 @@ abbrev pub number_behind : ℕ → Option (List ℕ) → ℕ
 number_behind number None = number
 number_behind number (Some auth) = num auth 0 1
 
-abbrev pub some_auth : Result (List ℕ) HeaderSliceError → Result (Option (List ℕ)) HeaderSliceError
+abbrev pub some_auth : Result (List ℕ) (SliceError HeaderError)
+    → Result (Option (List ℕ)) (SliceError HeaderError)
 some_auth (Ok auth) = Ok (Some auth)
 some_auth (Err e) = Err e
 
 -- the authentication header of this number at the front of the bytes, if it names one, or the fault
-abbrev pub auth_behind : ℕ → List ℕ → Result (Option (List ℕ)) HeaderSliceError
+abbrev pub auth_behind : ℕ → List ℕ → Result (Option (List ℕ)) (SliceError HeaderError)
 auth_behind number bytes = if number == auth_number then some_auth (auth_at bytes) else Ok None
 
 -- the bytes are the extension headers behind a number, and a rest
-pub record Ipv4Chain (number : ℕ) (bytes : List ℕ) (auth : Option (List ℕ)) (rest : List ℕ) : Type 0 where
+pub record Ipv4Chain (number : ℕ) (bytes : List ℕ) (auth : Option (List ℕ))
+    (rest : List ℕ) : Type 0 where
   pub named : IsAuthBehind number auth
   pub cut : bytes ≡ auth_bytes auth ++ rest
 
@@ -56,7 +61,8 @@ ipv4_exts_spelling value = unwrap_or (option_map auth_spelling value.auth) []
 -- a header that the first number doesn't name
 abbrev pub ipv4_walk_fault : Ipv4Extensions → ℕ → Option ExtsWalkError
 ipv4_walk_fault value first =
-    if is_some value.auth && not (first == auth_number) then Some (ExtNotReferenced (record { 0 = auth_number })) else None
+    if is_some value.auth && not (first == auth_number)
+    then Some (ExtNotReferenced (record { 0 = auth_number })) else None
 
 -- the number behind the value where it is named, and else the fault
 abbrev pub NamesBehind : Ipv4Extensions → ℕ → Result IpNumber ExtsWalkError → Type 0
@@ -66,14 +72,17 @@ NamesBehind value first (Ok number) =
 NamesBehind value first (Err e) = ipv4_walk_fault value first ≡ Some e
 
 -- the bytes are appended where the value is named, and else the buffer keeps its bytes
-abbrev pub AppendsNamed : Ipv4Extensions → ℕ → List ℕ → List ℕ → Result Unit HeaderWriteError → Type 0
+abbrev pub AppendsNamed : Ipv4Extensions → ℕ → List ℕ → List ℕ
+    → Result Unit HeaderWriteError → Type 0
 AppendsNamed value first old new (Ok u) =
     (new ≡ old ++ ipv4_exts_spelling value) × (ipv4_walk_fault value first ≡ None)
 AppendsNamed value first old new (Err Memory) = (new ≡ old) × (ipv4_walk_fault value first ≡ None)
-AppendsNamed value first old new (Err (Content e)) = (new ≡ old) × (ipv4_walk_fault value first ≡ Some e)
+AppendsNamed value first old new (Err (Content e)) = (new ≡ old)
+    × (ipv4_walk_fault value first ≡ Some e)
 
 -- the value whose header names this number
 abbrev pub ipv4_with_link : Ipv4Extensions → ℕ → Ipv4Extensions
 ipv4_with_link value last = record {
-  auth = option_map {T = IpAuthHeader} (λ h. record h { next_header = record { 0 = last } }) value.auth;
+  auth = option_map {T = IpAuthHeader}
+      (λ h. record h { next_header = record { 0 = last } }) value.auth;
 }

@@ -10,7 +10,7 @@ use Rattle.ep_ext.specs.declared.err.ip_auth.header_limited_read_error.HeaderLim
 use Rattle.ep_ext.specs.declared.err.ip_auth.header_limited_read_error.HeaderLimitedReadError.TheVariants as auth_limited
 use Rattle.ep_ext.specs.declared.err.ip_auth.header_read_error.HeaderReadError.{HeaderReadError}
 use Rattle.ep_ext.specs.declared.err.ip_auth.header_read_error.HeaderReadError.TheVariants as auth_read
-use Rattle.ep_ext.specs.declared.err.ip_auth.header_slice_error.HeaderSliceError.TheVariants as auth_slice
+use Rattle.ep_base.specs.declared.err.slice_error.SliceError.TheVariants as slice_error
 
 -- a read failed
 abbrev pub IsIo : LimitedReadError → Type 0
@@ -28,10 +28,12 @@ IsAuthLimitedIo (auth_limited.Content e) = ⊥
 
 -- a header was not read whole: of its first bytes, so many, or of the bytes that it has by them
 -- behind those, a read failed, or they go beyond the limit
-abbrev pub RefusesHeader : {T : Type 0} → (T → Option (List ℕ)) → ℕ → (List ℕ → ℕ) → Limited T → LimitedReadError → Limited T → Type 0
+abbrev pub RefusesHeader : {T : Type 0} → (T → Option (List ℕ)) → ℕ → (List ℕ → ℕ) → Limited T
+    → LimitedReadError → Limited T → Type 0
 RefusesHeader {T = T} remaining least size start e new =
     Refuses start least e new
-    ⊎ ((front : List ℕ) × (middle : Limited T) × (length front ≡ least) × Takes remaining start front middle × Refuses middle (size front - least) e new)
+    ⊎ ((front : List ℕ) × (middle : Limited T) × (length front ≡ least)
+    × Takes remaining start front middle × Refuses middle (size front - least) e new)
 
 -- the same error, of an authentication header
 abbrev pub auth_error : LimitedReadError → HeaderLimitedReadError
@@ -41,14 +43,19 @@ auth_error (limited.Len e) = auth_limited.Len e
 -- 12 bytes of which no header can be made
 pub record HasContentFault (front : List ℕ) (e : HeaderError) : Type 0 where
   pub whole : length front ≡ 12
-  pub fault : auth_at front ≡ Err (auth_slice.Content e)
+  pub fault : auth_at front ≡ Err (slice_error.Content e)
 
 -- a read failed, or what was read is no header
 abbrev pub RefusesAuth : Option (List ℕ) → HeaderReadError → Option (List ℕ) → Type 0
 RefusesAuth old (auth_read.Io e) new = ⊤
-RefusesAuth old (auth_read.Content e) new = (front : List ℕ) × HasContentFault front e × Consumes old new front
+RefusesAuth old (auth_read.Content e) new = (front : List ℕ) × HasContentFault front e
+    × Consumes old new front
 
-abbrev pub RefusesAuthWithin : {T : Type 0} → (T → Option (List ℕ)) → Limited T → HeaderLimitedReadError → Limited T → Type 0
-RefusesAuthWithin remaining start (auth_limited.Io e) new = RefusesHeader remaining 12 auth_len start (limited.Io e) new
-RefusesAuthWithin remaining start (auth_limited.Len e) new = RefusesHeader remaining 12 auth_len start (limited.Len e) new
-RefusesAuthWithin remaining start (auth_limited.Content e) new = (front : List ℕ) × HasContentFault front e × Takes remaining start front new
+abbrev pub RefusesAuthWithin : {T : Type 0} → (T → Option (List ℕ)) → Limited T
+    → HeaderLimitedReadError → Limited T → Type 0
+RefusesAuthWithin remaining start (auth_limited.Io e) new =
+    RefusesHeader remaining 12 auth_len start (limited.Io e) new
+RefusesAuthWithin remaining start (auth_limited.Len e) new =
+    RefusesHeader remaining 12 auth_len start (limited.Len e) new
+RefusesAuthWithin remaining start (auth_limited.Content e) new = (front : List ℕ)
+    × HasContentFault front e × Takes remaining start front new

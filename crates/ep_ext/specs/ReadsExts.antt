@@ -2,26 +2,32 @@
 use Rattle.std.specs.Prelude.{◌≡◌, ◌≢◌, ℕ, ◌≤◌, List, [], ◌∷◌, length, IsSome, Option, Some, None}
 use Rattle.std.specs.Io.KnownBytes.{Consumes}
 use Rattle.ep_base.specs.declared.err.layer.Layer.{Layer}
-use Rattle.ep_base.specs.declared.err.layer.Layer.TheVariants.{Ipv6ExtHeader, Ipv6FragHeader, IpAuthHeader}
+use Rattle.ep_base.specs.declared.err.layer.Layer.TheVariants.{Ipv6ExtHeader, Ipv6FragHeader}
+use Rattle.ep_base.specs.declared.err.layer.Layer.TheVariants.{IpAuthHeader}
 use Rattle.ep_base.specs.declared.net.ip_number.IpNumber.{IpNumber}
 use Rattle.ep_ext.specs.Chain.{Row}
 use Rattle.ep_ext.specs.Place.{place_of}
 use Rattle.ep_ext.specs.Auth.{auth_len}
-use Rattle.ep_ext.specs.Limited.{Limited, started, Takes, Refuses}
+use Rattle.ep_ext.specs.Limited.{Limited, at_next_layer, Takes, Refuses}
 use Rattle.ep_ext.specs.Raw.{raw_len}
 use Rattle.ep_ext.specs.Reads.{HasContentFault, RefusesHeader}
 use Rattle.ep_ext.specs.Value.{Piece, places, bytes_of, value_of}
 use Rattle.ep_ext.specs.declared.err.ip_auth.header_limited_read_error.HeaderLimitedReadError.{HeaderLimitedReadError as AuthLimitedReadError}
 use Rattle.ep_ext.specs.declared.err.ip_auth.header_limited_read_error.HeaderLimitedReadError.TheVariants as auth_limited
-use Rattle.ep_ext.specs.declared.err.ipv6_exts.header_error.HeaderError.TheVariants.{HopByHopNotAtStart, IpAuth}
+use Rattle.ep_ext.specs.declared.err.ipv6_exts.header_error.HeaderError.TheVariants.{HopByHopNotAtStart}
+use Rattle.ep_ext.specs.declared.err.ipv6_exts.header_error.HeaderError.TheVariants.{IpAuth}
 use Rattle.ep_ext.specs.declared.err.io.limited_read_error.LimitedReadError.{LimitedReadError}
 use Rattle.ep_ext.specs.declared.err.io.limited_read_error.LimitedReadError.TheVariants as bytes_fault
 use Rattle.ep_ext.specs.declared.err.ipv6_exts.header_limited_read_error.HeaderLimitedReadError.{HeaderLimitedReadError}
 use Rattle.ep_ext.specs.declared.err.ipv6_exts.header_limited_read_error.HeaderLimitedReadError.TheVariants as limited
 use Rattle.ep_ext.specs.declared.err.ipv6_exts.header_read_error.HeaderReadError.{HeaderReadError}
-use Rattle.ep_ext.specs.declared.err.ipv6_exts.header_read_error.HeaderReadError.TheVariants.{Io, Content}
+use Rattle.ep_ext.specs.declared.err.ipv6_exts.header_read_error.HeaderReadError.TheVariants.{Io}
+use Rattle.ep_ext.specs.declared.err.ipv6_exts.header_read_error.HeaderReadError.TheVariants.{Content}
 use Rattle.ep_ext.specs.declared.net.ipv6_ext_place.Ipv6ExtPlace.{Ipv6ExtPlace}
-use Rattle.ep_ext.specs.declared.net.ipv6_ext_place.Ipv6ExtPlace.TheVariants.{HopByHop, Destination, Routing, Fragment, Authentication, FinalDestination}
+use Rattle.ep_ext.specs.declared.net.ipv6_ext_place.Ipv6ExtPlace.TheVariants.{HopByHop, Destination}
+use Rattle.ep_ext.specs.declared.net.ipv6_ext_place.Ipv6ExtPlace.TheVariants.{Routing, Fragment}
+use Rattle.ep_ext.specs.declared.net.ipv6_ext_place.Ipv6ExtPlace.TheVariants.{Authentication}
+use Rattle.ep_ext.specs.declared.net.ipv6_ext_place.Ipv6ExtPlace.TheVariants.{FinalDestination}
 use Rattle.ep_ext.specs.declared.net.ipv6_extensions.Ipv6Extensions.{Ipv6Extensions}
 
 -- headers in a row, no more than six, of which the value holds each at its place, and a number that
@@ -39,16 +45,20 @@ ReadsRow first old new answer = (pieces : List Piece) × IsWholeRow first pieces
 
 -- the header of this place was not read: a read failed, or what was read is no authentication
 -- header; or hop-by-hop options are not in first place, and nothing was read
-abbrev pub RefusesExt : Option Ipv6ExtPlace → ℕ → Option (List ℕ) → HeaderReadError → Option (List ℕ) → Type 0
+abbrev pub RefusesExt : Option Ipv6ExtPlace → ℕ → Option (List ℕ) → HeaderReadError
+    → Option (List ℕ) → Type 0
 RefusesExt place number old (Io e) new = IsSome place
-RefusesExt place number old (Content HopByHopNotAtStart) new = (place ≡ None) × (number ≡ 0) × (new ≡ old)
+RefusesExt place number old (Content HopByHopNotAtStart) new = (place ≡ None)
+    × (number ≡ 0) × (new ≡ old)
 RefusesExt place number old (Content (IpAuth e)) new =
-    (place ≡ Some Authentication) × ((front : List ℕ) × HasContentFault front e × Consumes old new front)
+    (place ≡ Some Authentication)
+    × ((front : List ℕ) × HasContentFault front e × Consumes old new front)
 
 -- the reader gave headers in a row, and the next was not read
 abbrev pub RefusesRow : ℕ → Option (List ℕ) → HeaderReadError → Option (List ℕ) → Type 0
 RefusesRow first old e new = (pieces : List Piece) × (number : ℕ) × (between : Option (List ℕ))
-    × Row place_of [] first pieces number × (length pieces ≤ 6) × Consumes old between (bytes_of pieces)
+    × Row place_of [] first pieces number × (length pieces ≤ 6)
+    × Consumes old between (bytes_of pieces)
     × RefusesExt (place_of (places pieces) number) number between e new
 
 abbrev pub IsExtsIo : HeaderReadError → Type 0
@@ -65,17 +75,22 @@ read_layer Authentication = IpAuthHeader
 read_layer FinalDestination = Ipv6ExtHeader
 
 -- a reader gave these headers within its limit, each as a layer
-abbrev pub TakesRow : {T : Type 0} → (T → Option (List ℕ)) → Limited T → List Piece → Limited T → Type 0
+abbrev pub TakesRow : {T : Type 0} → (T → Option (List ℕ)) → Limited T
+    → List Piece → Limited T → Type 0
 TakesRow remaining old [] new = new ≡ old
 TakesRow {T = T} remaining old (piece ∷ pieces) new = (between : Limited T)
-    × Takes remaining (started old (read_layer piece.0)) piece.1 between × TakesRow remaining between pieces new
+    × Takes remaining (at_next_layer old (read_layer piece.0)) piece.1 between
+    × TakesRow remaining between pieces new
 
-abbrev pub ReadsRowWithin : {T : Type 0} → (T → Option (List ℕ)) → ℕ → Limited T → Limited T → Ipv6Extensions × IpNumber → Type 0
-ReadsRowWithin remaining first old new answer = (pieces : List Piece) × IsWholeRow first pieces answer.1.0
+abbrev pub ReadsRowWithin : {T : Type 0} → (T → Option (List ℕ)) → ℕ → Limited T → Limited T
+    → Ipv6Extensions × IpNumber → Type 0
+ReadsRowWithin remaining first old new answer = (pieces : List Piece)
+    × IsWholeRow first pieces answer.1.0
     × TakesRow remaining old pieces new × (answer.0 ≡ value_of pieces)
 
 -- the bytes of the header of this place were not read: a read failed, or they go beyond the limit
-abbrev pub RefusesBytes : {T : Type 0} → (T → Option (List ℕ)) → Ipv6ExtPlace → Limited T → LimitedReadError → Limited T → Type 0
+abbrev pub RefusesBytes : {T : Type 0} → (T → Option (List ℕ)) → Ipv6ExtPlace → Limited T
+    → LimitedReadError → Limited T → Type 0
 RefusesBytes remaining HopByHop start e new = RefusesHeader remaining 8 raw_len start e new
 RefusesBytes remaining Destination start e new = RefusesHeader remaining 8 raw_len start e new
 RefusesBytes remaining Routing start e new = RefusesHeader remaining 8 raw_len start e new
@@ -85,19 +100,28 @@ RefusesBytes remaining FinalDestination start e new = RefusesHeader remaining 8 
 
 -- the header of this place was not read: its bytes were not, or they are no authentication header;
 -- or hop-by-hop options are not in first place, and nothing was read
-abbrev pub RefusesExtWithin : {T : Type 0} → (T → Option (List ℕ)) → Option Ipv6ExtPlace → ℕ → Limited T → HeaderLimitedReadError → Limited T → Type 0
+abbrev pub RefusesExtWithin : {T : Type 0} → (T → Option (List ℕ)) → Option Ipv6ExtPlace → ℕ
+    → Limited T → HeaderLimitedReadError → Limited T → Type 0
 RefusesExtWithin remaining place number old (limited.Io e) new =
-    (at : Ipv6ExtPlace) × (place ≡ Some at) × RefusesBytes remaining at (started old (read_layer at)) (bytes_fault.Io e) new
+    (at : Ipv6ExtPlace) × (place ≡ Some at)
+    × RefusesBytes remaining at (at_next_layer old (read_layer at)) (bytes_fault.Io e) new
 RefusesExtWithin remaining place number old (limited.Len e) new =
-    (at : Ipv6ExtPlace) × (place ≡ Some at) × RefusesBytes remaining at (started old (read_layer at)) (bytes_fault.Len e) new
-RefusesExtWithin remaining place number old (limited.Content HopByHopNotAtStart) new = (place ≡ None) × (number ≡ 0) × (new ≡ old)
+    (at : Ipv6ExtPlace) × (place ≡ Some at)
+    × RefusesBytes remaining at (at_next_layer old (read_layer at)) (bytes_fault.Len e) new
+RefusesExtWithin remaining place number old (limited.Content HopByHopNotAtStart) new =
+    (place ≡ None) × (number ≡ 0) × (new ≡ old)
 RefusesExtWithin remaining place number old (limited.Content (IpAuth e)) new =
-    (place ≡ Some Authentication) × ((front : List ℕ) × HasContentFault front e × Takes remaining (started old IpAuthHeader) front new)
+    (place ≡ Some Authentication)
+    × ((front : List ℕ) × HasContentFault front e
+    × Takes remaining (at_next_layer old IpAuthHeader) front new)
 
 -- the reader gave headers in a row within its limit, and the next was not read
-abbrev pub RefusesRowWithin : {T : Type 0} → (T → Option (List ℕ)) → ℕ → Limited T → HeaderLimitedReadError → Limited T → Type 0
-RefusesRowWithin {T = T} remaining first old e new = (pieces : List Piece) × (number : ℕ) × (between : Limited T)
-    × Row place_of [] first pieces number × (length pieces ≤ 6) × TakesRow remaining old pieces between
+abbrev pub RefusesRowWithin : {T : Type 0} → (T → Option (List ℕ)) → ℕ → Limited T
+    → HeaderLimitedReadError → Limited T → Type 0
+RefusesRowWithin {T = T} remaining first old e new = (pieces : List Piece) × (number : ℕ)
+    × (between : Limited T)
+    × Row place_of [] first pieces number × (length pieces ≤ 6)
+    × TakesRow remaining old pieces between
     × RefusesExtWithin remaining (place_of (places pieces) number) number between e new
 
 abbrev pub IsExtsLimitedIo : HeaderLimitedReadError → Type 0

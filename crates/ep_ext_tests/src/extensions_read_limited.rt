@@ -21,7 +21,8 @@ enum Refusal {
     Content(HeaderError),
 }
 
-// A chain from a reader with this limit: the headers, the number and how many bytes are left behind.
+// A chain from a reader with this limit: the headers, the number and how many bytes are left
+// behind.
 fn read_within(
     inner: PieceReader,
     limit: usize,
@@ -98,8 +99,8 @@ fn a_chain_at_its_limit(rt: HostRuntime) {
     assert!(rt; why_refused(reader_of(&bytes, 100), 72, 0).is_none());
     assert!(rt; why_refused(reader_of(&bytes, 100), 73, 0).is_none());
     // The limit, the length that is asked for and the one that is there, the layer and its place:
-    // hop-by-hop options stand at 40, the routing header of 16 bytes at 56, the fragment header at 72,
-    // the authentication header of 24 bytes at 80, the last header at 104.
+    // hop-by-hop options stand at 40, the routing header of 16 bytes at 56, the fragment header at
+    // 72, the authentication header of 24 bytes at 80, the last header at 104.
     for (limit, required_len, len, layer, place) in [
         (0usize, 8usize, 0usize, Layer::Ipv6ExtHeader, 40usize),
         (31, 16, 15, Layer::Ipv6ExtHeader, 56),

@@ -10,9 +10,9 @@ use ep_ext::{Ipv6Extensions, Ipv6RawExtHeader, laws};
 use ep_ip::Ipv6Header;
 use std::test::*;
 
-/// A header of each place by RFC 8200, section 4, and RFC 4302, section 2, and two bytes: hop-by-hop
-/// options, destination options, a routing header of 16 bytes, a fragment header, an authentication
-/// header of 24 bytes and final destination options.
+/// A header of each place by RFC 8200, section 4, and RFC 4302, section 2, and two bytes:
+/// hop-by-hop options, destination options, a routing header of 16 bytes, a fragment header, an
+/// authentication header of 24 bytes and final destination options.
 pub const CHAIN: [u8; 74] = [
     60, 0, 1, 4, 0, 0, 0, 0, // at 0
     43, 0, 1, 4, 0, 0, 0, 0, // at 8
@@ -36,8 +36,8 @@ pub fn want(required_len: usize, len: usize, layer: Layer, layer_start_offset: u
     }
 }
 
-// The header in which a front of so many bytes ends: its number, the layer beside the fault, and the
-// want of bytes.
+// The header in which a front of so many bytes ends: its number, the layer beside the fault, and
+// the want of bytes.
 fn cut_at(len: usize) -> (IpNumber, Layer, LenError) {
     if len < 8 {
         let error = want(8, len, Layer::Ipv6ExtHeader, 0);
@@ -160,7 +160,8 @@ fn a_second_fragment_header_ends_the_chain(rt: HostRuntime) {
     assert!(rt; headers.header_len() == 8);
 }
 
-// Whether the headers from this number on end behind so many bytes, at the same kind of header again.
+// Whether the headers from this number on end behind so many bytes, at the same kind of header
+// again.
 fn ends_again_at(first: u8, bytes: &[u8], again: u8, len: usize) -> bool {
     match Ipv6Extensions::from_slice(IpNumber(first), bytes) {
         Ok((headers, number, rest)) => {

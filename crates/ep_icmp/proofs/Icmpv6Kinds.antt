@@ -1,128 +1,121 @@
 -- The kind that the table of ICMPv6 kinds gives a type and a code.
-use Rattle.std.proofs.Common.{◌≡◌, ◌≢◌, ℕ, List, slice_range, refl, ap, sym}
-use Rattle.std.proofs.lemmas.Bool.{ne_eqb}
+use Rattle.std.proofs.Common.{◌≡◌, ◌∙◌, ℕ, ◌≤◌, List, false, arith, slice_range, refl, ap}
+use Rattle.std.proofs.lemmas.Bool.Decides.{nat_tests}
 use Rattle.ep_base.specs.Bytes.{num}
 use Rattle.ep_icmp.specs.Fields.{echo_in}
-use Rattle.ep_icmp.specs.Icmpv6.{kind_at, problem_code, time_exceeded_code, unreachable_code}
+use Rattle.ep_icmp.specs.Icmpv6.{has_numbers, is_listed, kind_at, kinds, layout_of, problem_code}
+use Rattle.ep_icmp.specs.Icmpv6.{time_exceeded_code, unreachable_code}
+use Rattle.ep_icmp.proofs.Again.{none_passes}
 use Rattle.ep_icmp.specs.declared.transport.icmpv6.dest_unreachable_code.DestUnreachableCode.{DestUnreachableCode}
-use Rattle.ep_icmp.specs.declared.transport.icmpv6.dest_unreachable_code.DestUnreachableCode.TheVariants.{NoRoute, Prohibited, BeyondScope, Address, Port, SourceAddressFailedPolicy, RejectRoute}
+use Rattle.ep_icmp.specs.declared.transport.icmpv6.dest_unreachable_code.DestUnreachableCode.TheVariants.{NoRoute}
+use Rattle.ep_icmp.specs.declared.transport.icmpv6.dest_unreachable_code.DestUnreachableCode.TheVariants.{Prohibited}
+use Rattle.ep_icmp.specs.declared.transport.icmpv6.dest_unreachable_code.DestUnreachableCode.TheVariants.{BeyondScope}
+use Rattle.ep_icmp.specs.declared.transport.icmpv6.dest_unreachable_code.DestUnreachableCode.TheVariants.{Address}
+use Rattle.ep_icmp.specs.declared.transport.icmpv6.dest_unreachable_code.DestUnreachableCode.TheVariants.{Port}
+use Rattle.ep_icmp.specs.declared.transport.icmpv6.dest_unreachable_code.DestUnreachableCode.TheVariants.{SourceAddressFailedPolicy}
+use Rattle.ep_icmp.specs.declared.transport.icmpv6.dest_unreachable_code.DestUnreachableCode.TheVariants.{RejectRoute}
 use Rattle.ep_icmp.specs.declared.transport.icmpv6.parameter_problem_code.ParameterProblemCode.{ParameterProblemCode}
-use Rattle.ep_icmp.specs.declared.transport.icmpv6.parameter_problem_code.ParameterProblemCode.TheVariants.{ErroneousHeaderField, UnrecognizedNextHeader, UnrecognizedIpv6Option, Ipv6FirstFragmentIncompleteHeaderChain, SrUpperLayerHeaderError, UnrecognizedNextHeaderByIntermediateNode, ExtensionHeaderTooBig, ExtensionHeaderChainTooLong, TooManyExtensionHeaders, TooManyOptionsInExtensionHeader, OptionTooBig}
+use Rattle.ep_icmp.specs.declared.transport.icmpv6.parameter_problem_code.ParameterProblemCode.TheVariants.{ErroneousHeaderField}
+use Rattle.ep_icmp.specs.declared.transport.icmpv6.parameter_problem_code.ParameterProblemCode.TheVariants.{UnrecognizedNextHeader}
+use Rattle.ep_icmp.specs.declared.transport.icmpv6.parameter_problem_code.ParameterProblemCode.TheVariants.{UnrecognizedIpv6Option}
+use Rattle.ep_icmp.specs.declared.transport.icmpv6.parameter_problem_code.ParameterProblemCode.TheVariants.{Ipv6FirstFragmentIncompleteHeaderChain}
+use Rattle.ep_icmp.specs.declared.transport.icmpv6.parameter_problem_code.ParameterProblemCode.TheVariants.{SrUpperLayerHeaderError}
+use Rattle.ep_icmp.specs.declared.transport.icmpv6.parameter_problem_code.ParameterProblemCode.TheVariants.{UnrecognizedNextHeaderByIntermediateNode}
+use Rattle.ep_icmp.specs.declared.transport.icmpv6.parameter_problem_code.ParameterProblemCode.TheVariants.{ExtensionHeaderTooBig}
+use Rattle.ep_icmp.specs.declared.transport.icmpv6.parameter_problem_code.ParameterProblemCode.TheVariants.{ExtensionHeaderChainTooLong}
+use Rattle.ep_icmp.specs.declared.transport.icmpv6.parameter_problem_code.ParameterProblemCode.TheVariants.{TooManyExtensionHeaders}
+use Rattle.ep_icmp.specs.declared.transport.icmpv6.parameter_problem_code.ParameterProblemCode.TheVariants.{TooManyOptionsInExtensionHeader}
+use Rattle.ep_icmp.specs.declared.transport.icmpv6.parameter_problem_code.ParameterProblemCode.TheVariants.{OptionTooBig}
 use Rattle.ep_icmp.specs.declared.transport.icmpv6.time_exceeded_code.TimeExceededCode.{TimeExceededCode}
-use Rattle.ep_icmp.specs.declared.transport.icmpv6.time_exceeded_code.TimeExceededCode.TheVariants.{HopLimitExceeded, FragmentReassemblyTimeExceeded}
+use Rattle.ep_icmp.specs.declared.transport.icmpv6.time_exceeded_code.TimeExceededCode.TheVariants.{HopLimitExceeded}
+use Rattle.ep_icmp.specs.declared.transport.icmpv6.time_exceeded_code.TimeExceededCode.TheVariants.{FragmentReassemblyTimeExceeded}
 use Rattle.ep_icmp.specs.declared.transport.icmpv6_type.Icmpv6Type.{Icmpv6Type}
-use Rattle.ep_icmp.specs.declared.transport.icmpv6_type.Icmpv6Type.TheVariants.{Unknown, DestinationUnreachable, PacketTooBig, TimeExceeded, ParameterProblem, EchoRequest, EchoReply}
+use Rattle.ep_icmp.specs.declared.transport.icmpv6_type.Icmpv6Type.TheVariants.{Unknown}
+use Rattle.ep_icmp.specs.declared.transport.icmpv6_type.Icmpv6Type.TheVariants.{DestinationUnreachable}
+use Rattle.ep_icmp.specs.declared.transport.icmpv6_type.Icmpv6Type.TheVariants.{PacketTooBig}
+use Rattle.ep_icmp.specs.declared.transport.icmpv6_type.Icmpv6Type.TheVariants.{TimeExceeded}
+use Rattle.ep_icmp.specs.declared.transport.icmpv6_type.Icmpv6Type.TheVariants.{ParameterProblem}
+use Rattle.ep_icmp.specs.declared.transport.icmpv6_type.Icmpv6Type.TheVariants.{EchoRequest}
+use Rattle.ep_icmp.specs.declared.transport.icmpv6_type.Icmpv6Type.TheVariants.{EchoReply}
 
--- what a type and a code give, where they are these numbers
-at : (t u c d : ℕ) (m : List ℕ) (kind : Icmpv6Type) → t ≡ u → c ≡ d → kind_at u d m ≡ kind → kind_at t c m ≡ kind
-at t u c d m kind p q e = rw (p, q) e
-
-pub unreachable_at : (m : List ℕ) (t c : ℕ) (code : DestUnreachableCode) → t ≡ 1 → unreachable_code code ≡ c → kind_at t c m ≡ DestinationUnreachable code
+-- the kinds of the types that have several codes
+unreachable_at : (m : List ℕ) (code : DestUnreachableCode)
+    → DestinationUnreachable code ≡ kind_at 1 (unreachable_code code) m
 unfolding kind_at
-unreachable_at m t c NoRoute p q = at t 1 c 0 m _ p (sym q) refl
-unreachable_at m t c Prohibited p q = at t 1 c 1 m _ p (sym q) refl
-unreachable_at m t c BeyondScope p q = at t 1 c 2 m _ p (sym q) refl
-unreachable_at m t c Address p q = at t 1 c 3 m _ p (sym q) refl
-unreachable_at m t c Port p q = at t 1 c 4 m _ p (sym q) refl
-unreachable_at m t c SourceAddressFailedPolicy p q = at t 1 c 5 m _ p (sym q) refl
-unreachable_at m t c RejectRoute p q = at t 1 c 6 m _ p (sym q) refl
+unreachable_at m NoRoute = refl
+unreachable_at m Prohibited = refl
+unreachable_at m BeyondScope = refl
+unreachable_at m Address = refl
+unreachable_at m Port = refl
+unreachable_at m SourceAddressFailedPolicy = refl
+unreachable_at m RejectRoute = refl
 
-pub no_unreachable_at : (m : List ℕ) (t c : ℕ) → t ≡ 1 → ((code : DestUnreachableCode) → unreachable_code code ≢ c) → kind_at t c m ≡ Unknown t c (slice_range m 4 8)
+time_exceeded_at : (m : List ℕ) (code : TimeExceededCode)
+    → TimeExceeded code ≡ kind_at 3 (time_exceeded_code code) m
 unfolding kind_at
-no_unreachable_at m t c p none = rw (
-  p,
-  ne_eqb 0 c (none NoRoute),
-  ne_eqb 1 c (none Prohibited),
-  ne_eqb 2 c (none BeyondScope),
-  ne_eqb 3 c (none Address),
-  ne_eqb 4 c (none Port),
-  ne_eqb 5 c (none SourceAddressFailedPolicy),
-  ne_eqb 6 c (none RejectRoute),
-) refl
+time_exceeded_at m HopLimitExceeded = refl
+time_exceeded_at m FragmentReassemblyTimeExceeded = refl
 
-pub time_exceeded_at : (m : List ℕ) (t c : ℕ) (code : TimeExceededCode) → t ≡ 3 → time_exceeded_code code ≡ c → kind_at t c m ≡ TimeExceeded code
+problem_at : (m : List ℕ) (code : ParameterProblemCode)
+    → ParameterProblem (record { code = code; pointer = num m 4 4 })
+    ≡ kind_at 4 (problem_code code) m
 unfolding kind_at
-time_exceeded_at m t c HopLimitExceeded p q = at t 3 c 0 m _ p (sym q) refl
-time_exceeded_at m t c FragmentReassemblyTimeExceeded p q = at t 3 c 1 m _ p (sym q) refl
+problem_at m ErroneousHeaderField = refl
+problem_at m UnrecognizedNextHeader = refl
+problem_at m UnrecognizedIpv6Option = refl
+problem_at m Ipv6FirstFragmentIncompleteHeaderChain = refl
+problem_at m SrUpperLayerHeaderError = refl
+problem_at m UnrecognizedNextHeaderByIntermediateNode = refl
+problem_at m ExtensionHeaderTooBig = refl
+problem_at m ExtensionHeaderChainTooLong = refl
+problem_at m TooManyExtensionHeaders = refl
+problem_at m TooManyOptionsInExtensionHeader = refl
+problem_at m OptionTooBig = refl
 
-pub no_time_exceeded_at : (m : List ℕ) (t c : ℕ) → t ≡ 3 → ((code : TimeExceededCode) → time_exceeded_code code ≢ c) → kind_at t c m ≡ Unknown t c (slice_range m 4 8)
+-- the fields of a kind stand in the bytes, and an `Unknown` isn't listed
+abbrev pub StandsIn : List ℕ → Icmpv6Type → Type 0
+StandsIn m (PacketTooBig mtu) = mtu ≡ num m 4 4
+StandsIn m (ParameterProblem header) = header.pointer ≡ num m 4 4
+StandsIn m (EchoRequest echo) = echo ≡ echo_in m 4
+StandsIn m (EchoReply echo) = echo ≡ echo_in m 4
+StandsIn m (Unknown t c bytes5to8) = (is_listed t c ≡ false) × (bytes5to8 ≡ slice_range m 4 8)
+StandsIn m _ = Unit {0}
+
+-- a type and code that the table doesn't name
+pub unknown_at : (m : List ℕ) (t c : ℕ) → is_listed t c ≡ false
+    → Unknown t c (slice_range m 4 8) ≡ kind_at t c m
+unfolding kind_at is_listed
+unknown_at m t c none = rw (none_passes (has_numbers t c) (kinds m) none) refl
+
+numbers_at : (m : List ℕ) (kind : Icmpv6Type) → StandsIn m kind
+    → kind ≡ kind_at (layout_of kind).type_u8 (layout_of kind).code_u8 m
 unfolding kind_at
-no_time_exceeded_at m t c p none =
-    rw (p, ne_eqb 0 c (none HopLimitExceeded), ne_eqb 1 c (none FragmentReassemblyTimeExceeded)) refl
+numbers_at m (DestinationUnreachable code) e = unreachable_at m code
+numbers_at m (PacketTooBig mtu) e = ap (λ (n : ℕ). PacketTooBig n) e
+numbers_at m (TimeExceeded code) e = time_exceeded_at m code
+numbers_at m (ParameterProblem header) e =
+    ap (λ (n : ℕ). ParameterProblem (record { code = header.code; pointer = n })) e
+    ∙ problem_at m header.code
+numbers_at m (EchoRequest echo) e = ap EchoRequest e
+numbers_at m (EchoReply echo) e = ap EchoReply e
+numbers_at m (Unknown t c bytes5to8) e = ap (λ (bytes : List ℕ). Unknown t c bytes) e.1
+    ∙ unknown_at m t c e.0
 
-pub problem_at : (m : List ℕ) (t c pointer : ℕ) (code : ParameterProblemCode) → t ≡ 4 → problem_code code ≡ c → pointer ≡ num m 4 4
-    → kind_at t c m ≡ ParameterProblem (record { code = code; pointer = pointer })
-unfolding kind_at
-problem_at m t c pointer ErroneousHeaderField p q e = at t 4 c 0 m _ p (sym q) (ap (λ (n : ℕ). ParameterProblem (record { code = ErroneousHeaderField; pointer = n })) (sym e))
-problem_at m t c pointer UnrecognizedNextHeader p q e = at t 4 c 1 m _ p (sym q) (ap (λ (n : ℕ). ParameterProblem (record { code = UnrecognizedNextHeader; pointer = n })) (sym e))
-problem_at m t c pointer UnrecognizedIpv6Option p q e = at t 4 c 2 m _ p (sym q) (ap (λ (n : ℕ). ParameterProblem (record { code = UnrecognizedIpv6Option; pointer = n })) (sym e))
-problem_at m t c pointer Ipv6FirstFragmentIncompleteHeaderChain p q e = at t 4 c 3 m _ p (sym q) (ap (λ (n : ℕ). ParameterProblem (record { code = Ipv6FirstFragmentIncompleteHeaderChain; pointer = n })) (sym e))
-problem_at m t c pointer SrUpperLayerHeaderError p q e = at t 4 c 4 m _ p (sym q) (ap (λ (n : ℕ). ParameterProblem (record { code = SrUpperLayerHeaderError; pointer = n })) (sym e))
-problem_at m t c pointer UnrecognizedNextHeaderByIntermediateNode p q e = at t 4 c 5 m _ p (sym q) (ap (λ (n : ℕ). ParameterProblem (record { code = UnrecognizedNextHeaderByIntermediateNode; pointer = n })) (sym e))
-problem_at m t c pointer ExtensionHeaderTooBig p q e = at t 4 c 6 m _ p (sym q) (ap (λ (n : ℕ). ParameterProblem (record { code = ExtensionHeaderTooBig; pointer = n })) (sym e))
-problem_at m t c pointer ExtensionHeaderChainTooLong p q e = at t 4 c 7 m _ p (sym q) (ap (λ (n : ℕ). ParameterProblem (record { code = ExtensionHeaderChainTooLong; pointer = n })) (sym e))
-problem_at m t c pointer TooManyExtensionHeaders p q e = at t 4 c 8 m _ p (sym q) (ap (λ (n : ℕ). ParameterProblem (record { code = TooManyExtensionHeaders; pointer = n })) (sym e))
-problem_at m t c pointer TooManyOptionsInExtensionHeader p q e = at t 4 c 9 m _ p (sym q) (ap (λ (n : ℕ). ParameterProblem (record { code = TooManyOptionsInExtensionHeader; pointer = n })) (sym e))
-problem_at m t c pointer OptionTooBig p q e = at t 4 c 10 m _ p (sym q) (ap (λ (n : ℕ). ParameterProblem (record { code = OptionTooBig; pointer = n })) (sym e))
+-- the kind with this type and code, whose fields stand in the bytes
+pub kind_is : (m : List ℕ) (t c : ℕ) (kind : Icmpv6Type) → (layout_of kind).type_u8 ≡ t
+    → (layout_of kind).code_u8 ≡ c
+    → StandsIn m kind → kind ≡ kind_at t c m
+kind_is m t c kind p q e = rw (← p, ← q) (numbers_at m kind e)
 
-pub no_problem_at : (m : List ℕ) (t c : ℕ) → t ≡ 4 → ((code : ParameterProblemCode) → problem_code code ≢ c) → kind_at t c m ≡ Unknown t c (slice_range m 4 8)
-unfolding kind_at
-no_problem_at m t c p none = rw (
-  p,
-  ne_eqb 0 c (none ErroneousHeaderField),
-  ne_eqb 1 c (none UnrecognizedNextHeader),
-  ne_eqb 2 c (none UnrecognizedIpv6Option),
-  ne_eqb 3 c (none Ipv6FirstFragmentIncompleteHeaderChain),
-  ne_eqb 4 c (none SrUpperLayerHeaderError),
-  ne_eqb 5 c (none UnrecognizedNextHeaderByIntermediateNode),
-  ne_eqb 6 c (none ExtensionHeaderTooBig),
-  ne_eqb 7 c (none ExtensionHeaderChainTooLong),
-  ne_eqb 8 c (none TooManyExtensionHeaders),
-  ne_eqb 9 c (none TooManyOptionsInExtensionHeader),
-  ne_eqb 10 c (none OptionTooBig),
-) refl
+-- codes behind the last of a type that has several
+pub no_unreachable : (t c : ℕ) → t ≡ 1 → 7 ≤ c → is_listed t c ≡ false
+unfolding is_listed
+no_unreachable t c p h = grind (arith, nat_tests)
 
--- the types of which one code is listed
-pub packet_too_big_at : (m : List ℕ) (t c : ℕ) → t ≡ 2 → c ≡ 0 → kind_at t c m ≡ PacketTooBig (num m 4 4)
-unfolding kind_at
-packet_too_big_at m t c p q = at t 2 c 0 m _ p q refl
+pub no_time_exceeded : (t c : ℕ) → t ≡ 3 → 2 ≤ c → is_listed t c ≡ false
+unfolding is_listed
+no_time_exceeded t c p h = grind (arith, nat_tests)
 
-pub no_packet_too_big_at : (m : List ℕ) (t c : ℕ) → t ≡ 2 → 0 ≢ c → kind_at t c m ≡ Unknown t c (slice_range m 4 8)
-unfolding kind_at
-no_packet_too_big_at m t c p other = rw (p, ne_eqb 0 c other) refl
-
-pub echo_request_at : (m : List ℕ) (t c : ℕ) → t ≡ 128 → c ≡ 0 → kind_at t c m ≡ EchoRequest (echo_in m 4)
-unfolding kind_at
-echo_request_at m t c p q = at t 128 c 0 m _ p q refl
-
-pub no_echo_request_at : (m : List ℕ) (t c : ℕ) → t ≡ 128 → 0 ≢ c → kind_at t c m ≡ Unknown t c (slice_range m 4 8)
-unfolding kind_at
-no_echo_request_at m t c p other = rw (p, ne_eqb 0 c other) refl
-
-pub echo_reply_at : (m : List ℕ) (t c : ℕ) → t ≡ 129 → c ≡ 0 → kind_at t c m ≡ EchoReply (echo_in m 4)
-unfolding kind_at
-echo_reply_at m t c p q = at t 129 c 0 m _ p q refl
-
-pub no_echo_reply_at : (m : List ℕ) (t c : ℕ) → t ≡ 129 → 0 ≢ c → kind_at t c m ≡ Unknown t c (slice_range m 4 8)
-unfolding kind_at
-no_echo_reply_at m t c p other = rw (p, ne_eqb 0 c other) refl
-
--- no code of another type is listed
-pub record IsOtherType (t : ℕ) : Type 0 where
-  pub unreachable : 1 ≢ t
-  pub packet_too_big : 2 ≢ t
-  pub time_exceeded : 3 ≢ t
-  pub problem : 4 ≢ t
-  pub echo_request : 128 ≢ t
-  pub echo_reply : 129 ≢ t
-
-pub other_at : (m : List ℕ) (t c : ℕ) → IsOtherType t → kind_at t c m ≡ Unknown t c (slice_range m 4 8)
-unfolding kind_at
-other_at m t c is = rw (
-  ne_eqb 1 t is.unreachable,
-  ne_eqb 2 t is.packet_too_big,
-  ne_eqb 3 t is.time_exceeded,
-  ne_eqb 4 t is.problem,
-  ne_eqb 128 t is.echo_request,
-  ne_eqb 129 t is.echo_reply,
-) refl
+pub no_problem : (t c : ℕ) → t ≡ 4 → 11 ≤ c → is_listed t c ≡ false
+unfolding is_listed
+no_problem t c p h = grind (arith, nat_tests)

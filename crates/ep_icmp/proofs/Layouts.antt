@@ -2,21 +2,32 @@
 use Rattle.std.proofs.Common.{◌≡◌, ◌∙◌, ap, sym, ℕ, ◌+◌, List, [], ◌++◌, length, take, drop, arith}
 use Rattle.std.proofs.lemmas.List.{append-nil, drop_at, length-append, take-append-drop}
 use Rattle.ep_base.proofs.Cells.{cells, take-drop-cells}
-use Rattle.ep_icmp.specs.Layout.{Fields, all, written}
+use Rattle.ep_icmp.specs.Layout.{Fields, used_bytes, bytes_of_fields}
 
-pub written-all : (bytes : List ℕ) → written (all bytes) ≡ bytes
-written-all bytes = append-nil bytes
+pub bytes_of_fields-used_bytes : (bytes : List ℕ) → bytes_of_fields (used_bytes bytes) ≡ bytes
+bytes_of_fields-used_bytes bytes = append-nil bytes
 
-pub four_cells : (bytes : List ℕ) → length bytes ≡ 4 → cells 4 0 bytes ≡ take 4 (written (all bytes))
+pub four_cells : (bytes : List ℕ) → length bytes ≡ 4
+    → cells 4 0 bytes ≡ take 4 (bytes_of_fields (used_bytes bytes))
 four_cells bytes four =
-    sym (ap (take 4) (written-all bytes) ∙ take-drop-cells 4 0 bytes (omega (arith, four)))
+    sym (ap (take 4) (bytes_of_fields-used_bytes bytes) ∙ take-drop-cells 4 0 bytes (omega (
+      arith,
+      four,
+    )))
 
 -- fields of four bytes, where nothing stands behind them
-pub written_four : (fields : Fields) → drop 4 (written fields) ≡ [] → written fields ≡ take 4 (written fields)
+pub written_four : (fields : Fields) → drop 4 (bytes_of_fields fields) ≡ []
+    → bytes_of_fields fields ≡ take 4 (bytes_of_fields fields)
 written_four fields none =
-    sym (take-append-drop 4 (written fields)) ∙ ap (λ (xs : List ℕ). take 4 (written fields) ++ xs) none ∙ append-nil (take 4 (written fields))
+    sym (take-append-drop 4 (bytes_of_fields fields))
+    ∙ ap (λ (xs : List ℕ). take 4 (bytes_of_fields fields) ++ xs) none
+    ∙ append-nil (take 4 (bytes_of_fields fields))
 
 -- a front of n bytes and what stands behind it
-pub front_of : (n : ℕ) (slice front rest : List ℕ) → slice ≡ front ++ rest → length front ≡ n → (length slice ≡ n + length rest) × (drop n slice ≡ rest)
-front_of n slice front rest place len =
-    (ap length place ∙ length-append front rest ∙ ap (λ k. k + length rest) len, ap (drop n) place ∙ drop_at front rest n len)
+pub front_of : (n : ℕ) (slice front rest : List ℕ) → slice ≡ front ++ rest → length front ≡ n
+    → (length slice ≡ n + length rest) × (drop n slice ≡ rest)
+front_of n slice front rest place len = (
+  ap length place ∙ length-append front rest ∙ ap (λ k. k + length rest) len,
+  ap (drop n) place
+      ∙ drop_at front rest n len,
+)

@@ -1,5 +1,6 @@
 -- Tests that passed, and answers that are `Ok`.
-use Rattle.std.proofs.Common.{◌≡◌, sym, ℕ, ◌==◌, Bool, true, false, not, IsTrue, ◌&&◌, ◌||◌, Result, Ok, Err, IsOk, IfOk, IsOkAnd, refl}
+use Rattle.std.proofs.Common.{◌≡◌, sym, ℕ, ◌==◌, Bool, true, false, not, IsTrue, ◌&&◌, ◌||◌, Result}
+use Rattle.std.proofs.Common.{Ok, Err, IsOk, IfOk, IsOkAnd, refl}
 use Rattle.std.proofs.lemmas.Bool.{eqb-true}
 
 pub and_both : (a b : Bool) → (a && b) ≡ true → (a ≡ true) × (b ≡ true)
@@ -19,7 +20,8 @@ pub neither : (a b : Bool) → (a || b) ≡ false → (a ≡ false) × (b ≡ fa
 neither true b e = cc
 neither false b e = (refl, e)
 
-pub ok_and : {A E : Type 0} (r : Result A E) (P Q : A → Type 0) → IsOk r → IfOk r Q → ((a : A) → Q a → P a) → IsOkAnd r P
+pub ok_and : {A E : Type 0} (r : Result A E) (P Q : A → Type 0) → IsOk r → IfOk r Q
+    → ((a : A) → Q a → P a) → IsOkAnd r P
 ok_and (Ok a) P Q ok found step = step a found
 ok_and (Err e) P Q ok found step = cc
 

@@ -1,18 +1,22 @@
 -- Messages as texts with their checksum as a word in them.
-use Rattle.std.proofs.Common.{◌≡◌, ◌∙◌, sym, ℕ, ◌%◌, List, [], ◌∷◌, ◌++◌, length, length-append, append_assoc, arith}
+use Rattle.std.proofs.Common.{◌≡◌, ◌∙◌, sym, ℕ, ◌%◌, List, [], ◌∷◌, ◌++◌, length, length-append}
+use Rattle.std.proofs.Common.{append_assoc, arith}
 use Rattle.std.specs.Int.{w16, to_be_bytes}
 use Rattle.ep_base.specs.MessageSum.{with_word}
 use Rattle.ep_icmp.specs.Icmpv6.{pseudo}
-use Rattle.ep_icmp.specs.Layout.{Layout, spelled, written}
+use Rattle.ep_icmp.specs.Layout.{Layout, bytes_of_layout, bytes_of_fields}
 
 -- a pseudo header, a header and a payload, as a text with the checksum as a word in it
 pub joined : (l : Layout) (front payload : List ℕ) (c : ℕ)
-    → front ++ spelled l c ++ payload ≡ with_word (front ++ (l.type_u8 ∷ l.code_u8 ∷ [])) c (written l.fields ++ payload)
+    → front ++ bytes_of_layout l c ++ payload ≡ with_word (front ++ (l.type_u8 ∷ l.code_u8 ∷ [])) c
+    (bytes_of_fields l.fields ++ payload)
 joined l front payload c =
-    append_assoc front (spelled l c) payload
-    ∙ sym (append_assoc front (l.type_u8 ∷ l.code_u8 ∷ []) (to_be_bytes w16 c ++ (written l.fields ++ payload)))
+    append_assoc front (bytes_of_layout l c) payload
+    ∙ sym (append_assoc front (l.type_u8 ∷ l.code_u8 ∷ [])
+    (to_be_bytes w16 c ++ (bytes_of_fields l.fields ++ payload)))
 
 -- a pseudo header, a type and a code are whole words
-pub even_pseudo : (source destination : List ℕ) (len type_u8 code_u8 : ℕ) → length source ≡ 16 → length destination ≡ 16
+pub even_pseudo : (source destination : List ℕ) (len type_u8 code_u8 : ℕ) → length source ≡ 16
+    → length destination ≡ 16
     → length (pseudo source destination len ++ (type_u8 ∷ code_u8 ∷ [])) % 2 ≡ 0
 even_pseudo source destination len type_u8 code_u8 s d = omega (arith, length-append {A = ℕ}, s, d)

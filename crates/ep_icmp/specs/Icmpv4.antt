@@ -1,23 +1,54 @@
 -- ICMPv4 messages (RFC 792): the table of their kinds, and the header that bytes spell.
-use Rattle.std.specs.Prelude.{◌≡◌, ℕ, ◌^◌, ◌<◌, ◌≤◌, ◌==◌, ◌&&◌, ◌||◌, not, Bool, IsTrue, Option, Some, None, unwrap_or, List, [], ◌∷◌, ◌++◌, find, length, slice_range, drop}
+use Rattle.std.specs.Prelude.{◌≡◌, ℕ, ◌^◌, ◌<◌, ◌≤◌, ◌==◌, ◌&&◌, ◌||◌, not, Bool, IsTrue, Option}
+use Rattle.std.specs.Prelude.{Some, None, unwrap_or, List, [], ◌∷◌, ◌++◌, find, length, slice_range}
+use Rattle.std.specs.Prelude.{drop}
 use Rattle.std.specs.Int.{w16, to_be_bytes}
 use Rattle.std.specs.List.{list_any}
 use Rattle.ep_base.specs.Bytes.{num}
 use Rattle.ep_base.specs.Sum.{checksum}
-use Rattle.ep_icmp.specs.Fields.{EchoFits, TimestampFits, echo_bytes, echo_in, timestamp_bytes, timestamp_in}
-use Rattle.ep_icmp.specs.Layout.{Layout, Fields, all, layout, nothing, spelled}
+use Rattle.ep_icmp.specs.Fields.{EchoFits, TimestampFits, echo_bytes, echo_in, timestamp_bytes}
+use Rattle.ep_icmp.specs.Fields.{timestamp_in}
+use Rattle.ep_icmp.specs.Layout.{Layout, Fields, used_bytes, layout, nothing, bytes_of_layout}
 use Rattle.ep_icmp.specs.declared.transport.icmpv4.dest_unreachable_header.DestUnreachableHeader.{DestUnreachableHeader}
-use Rattle.ep_icmp.specs.declared.transport.icmpv4.dest_unreachable_header.DestUnreachableHeader.TheVariants.{Network, Host, Protocol, Port, FragmentationNeeded, SourceRouteFailed, NetworkUnknown, HostUnknown, Isolated, NetworkProhibited, HostProhibited, TosNetwork, TosHost, FilterProhibited, HostPrecedenceViolation, PrecedenceCutoff}
+use Rattle.ep_icmp.specs.declared.transport.icmpv4.dest_unreachable_header.DestUnreachableHeader.TheVariants.{Network}
+use Rattle.ep_icmp.specs.declared.transport.icmpv4.dest_unreachable_header.DestUnreachableHeader.TheVariants.{Host}
+use Rattle.ep_icmp.specs.declared.transport.icmpv4.dest_unreachable_header.DestUnreachableHeader.TheVariants.{Protocol}
+use Rattle.ep_icmp.specs.declared.transport.icmpv4.dest_unreachable_header.DestUnreachableHeader.TheVariants.{Port}
+use Rattle.ep_icmp.specs.declared.transport.icmpv4.dest_unreachable_header.DestUnreachableHeader.TheVariants.{FragmentationNeeded}
+use Rattle.ep_icmp.specs.declared.transport.icmpv4.dest_unreachable_header.DestUnreachableHeader.TheVariants.{SourceRouteFailed}
+use Rattle.ep_icmp.specs.declared.transport.icmpv4.dest_unreachable_header.DestUnreachableHeader.TheVariants.{NetworkUnknown}
+use Rattle.ep_icmp.specs.declared.transport.icmpv4.dest_unreachable_header.DestUnreachableHeader.TheVariants.{HostUnknown}
+use Rattle.ep_icmp.specs.declared.transport.icmpv4.dest_unreachable_header.DestUnreachableHeader.TheVariants.{Isolated}
+use Rattle.ep_icmp.specs.declared.transport.icmpv4.dest_unreachable_header.DestUnreachableHeader.TheVariants.{NetworkProhibited}
+use Rattle.ep_icmp.specs.declared.transport.icmpv4.dest_unreachable_header.DestUnreachableHeader.TheVariants.{HostProhibited}
+use Rattle.ep_icmp.specs.declared.transport.icmpv4.dest_unreachable_header.DestUnreachableHeader.TheVariants.{TosNetwork}
+use Rattle.ep_icmp.specs.declared.transport.icmpv4.dest_unreachable_header.DestUnreachableHeader.TheVariants.{TosHost}
+use Rattle.ep_icmp.specs.declared.transport.icmpv4.dest_unreachable_header.DestUnreachableHeader.TheVariants.{FilterProhibited}
+use Rattle.ep_icmp.specs.declared.transport.icmpv4.dest_unreachable_header.DestUnreachableHeader.TheVariants.{HostPrecedenceViolation}
+use Rattle.ep_icmp.specs.declared.transport.icmpv4.dest_unreachable_header.DestUnreachableHeader.TheVariants.{PrecedenceCutoff}
 use Rattle.ep_icmp.specs.declared.transport.icmpv4.parameter_problem_header.ParameterProblemHeader.{ParameterProblemHeader}
-use Rattle.ep_icmp.specs.declared.transport.icmpv4.parameter_problem_header.ParameterProblemHeader.TheVariants.{PointerIndicatesError, MissingRequiredOption, BadLength}
+use Rattle.ep_icmp.specs.declared.transport.icmpv4.parameter_problem_header.ParameterProblemHeader.TheVariants.{PointerIndicatesError}
+use Rattle.ep_icmp.specs.declared.transport.icmpv4.parameter_problem_header.ParameterProblemHeader.TheVariants.{MissingRequiredOption}
+use Rattle.ep_icmp.specs.declared.transport.icmpv4.parameter_problem_header.ParameterProblemHeader.TheVariants.{BadLength}
 use Rattle.ep_icmp.specs.declared.transport.icmpv4.redirect_code.RedirectCode.{RedirectCode}
-use Rattle.ep_icmp.specs.declared.transport.icmpv4.redirect_code.RedirectCode.TheVariants.{RedirectForNetwork, RedirectForHost, RedirectForTypeOfServiceAndNetwork, RedirectForTypeOfServiceAndHost}
+use Rattle.ep_icmp.specs.declared.transport.icmpv4.redirect_code.RedirectCode.TheVariants.{RedirectForNetwork}
+use Rattle.ep_icmp.specs.declared.transport.icmpv4.redirect_code.RedirectCode.TheVariants.{RedirectForHost}
+use Rattle.ep_icmp.specs.declared.transport.icmpv4.redirect_code.RedirectCode.TheVariants.{RedirectForTypeOfServiceAndNetwork}
+use Rattle.ep_icmp.specs.declared.transport.icmpv4.redirect_code.RedirectCode.TheVariants.{RedirectForTypeOfServiceAndHost}
 use Rattle.ep_icmp.specs.declared.transport.icmpv4.time_exceeded_code.TimeExceededCode.{TimeExceededCode}
-use Rattle.ep_icmp.specs.declared.transport.icmpv4.time_exceeded_code.TimeExceededCode.TheVariants.{TtlExceededInTransit, FragmentReassemblyTimeExceeded}
+use Rattle.ep_icmp.specs.declared.transport.icmpv4.time_exceeded_code.TimeExceededCode.TheVariants.{TtlExceededInTransit}
+use Rattle.ep_icmp.specs.declared.transport.icmpv4.time_exceeded_code.TimeExceededCode.TheVariants.{FragmentReassemblyTimeExceeded}
 use Rattle.ep_icmp.specs.declared.transport.icmpv4.timestamp_message.TimestampMessage.{TimestampMessage}
 use Rattle.ep_icmp.specs.declared.transport.icmpv4_header.Icmpv4Header.{Icmpv4Header}
 use Rattle.ep_icmp.specs.declared.transport.icmpv4_type.Icmpv4Type.{Icmpv4Type}
-use Rattle.ep_icmp.specs.declared.transport.icmpv4_type.Icmpv4Type.TheVariants.{Unknown, EchoReply, DestinationUnreachable, Redirect, EchoRequest, TimeExceeded, ParameterProblem, TimestampRequest, TimestampReply}
+use Rattle.ep_icmp.specs.declared.transport.icmpv4_type.Icmpv4Type.TheVariants.{Unknown, EchoReply}
+use Rattle.ep_icmp.specs.declared.transport.icmpv4_type.Icmpv4Type.TheVariants.{DestinationUnreachable}
+use Rattle.ep_icmp.specs.declared.transport.icmpv4_type.Icmpv4Type.TheVariants.{Redirect}
+use Rattle.ep_icmp.specs.declared.transport.icmpv4_type.Icmpv4Type.TheVariants.{EchoRequest}
+use Rattle.ep_icmp.specs.declared.transport.icmpv4_type.Icmpv4Type.TheVariants.{TimeExceeded}
+use Rattle.ep_icmp.specs.declared.transport.icmpv4_type.Icmpv4Type.TheVariants.{ParameterProblem}
+use Rattle.ep_icmp.specs.declared.transport.icmpv4_type.Icmpv4Type.TheVariants.{TimestampRequest}
+use Rattle.ep_icmp.specs.declared.transport.icmpv4_type.Icmpv4Type.TheVariants.{TimestampReply}
 
 -- the codes of type 3 (RFC 792; RFC 1122, section 3.2.2.1; RFC 1812, section 5.2.7.1)
 abbrev pub unreachable_code : DestUnreachableHeader → ℕ
@@ -40,7 +71,8 @@ unreachable_code PrecedenceCutoff = 15
 
 -- code 4 has the length in bytes 7 and 8 (RFC 1191, section 4)
 abbrev pub unreachable_fields : DestUnreachableHeader → Fields
-unreachable_fields (FragmentationNeeded next_hop_mtu) = record { before = 2; field = to_be_bytes w16 next_hop_mtu; behind = 0 }
+unreachable_fields (FragmentationNeeded next_hop_mtu) =
+    record { before = 2; field = to_be_bytes w16 next_hop_mtu; behind = 0 }
 unreachable_fields _ = nothing
 
 -- the codes of type 5
@@ -63,20 +95,23 @@ problem_code BadLength = 2
 
 -- code 0 has the place of the fault in byte 5
 abbrev pub problem_fields : ParameterProblemHeader → Fields
-problem_fields (PointerIndicatesError pointer) = record { before = 0; field = pointer ∷ []; behind = 3 }
+problem_fields (PointerIndicatesError pointer) =
+    record { before = 0; field = pointer ∷ []; behind = 3 }
 problem_fields _ = nothing
 
 -- the table: each kind's type, code and bytes from byte 5 on
 abbrev pub layout_of : Icmpv4Type → Layout
-layout_of (EchoReply echo) = layout 0 0 (all (echo_bytes echo))
-layout_of (DestinationUnreachable header) = layout 3 (unreachable_code header) (unreachable_fields header)
-layout_of (Redirect header) = layout 5 (redirect_code header.code) (all header.gateway_internet_address)
-layout_of (EchoRequest echo) = layout 8 0 (all (echo_bytes echo))
+layout_of (EchoReply echo) = layout 0 0 (used_bytes (echo_bytes echo))
+layout_of (DestinationUnreachable header) =
+    layout 3 (unreachable_code header) (unreachable_fields header)
+layout_of (Redirect header) = layout 5 (redirect_code header.code)
+    (used_bytes header.gateway_internet_address)
+layout_of (EchoRequest echo) = layout 8 0 (used_bytes (echo_bytes echo))
 layout_of (TimeExceeded code) = layout 11 (time_exceeded_code code) nothing
 layout_of (ParameterProblem header) = layout 12 (problem_code header) (problem_fields header)
-layout_of (TimestampRequest message) = layout 13 0 (all (timestamp_bytes message))
-layout_of (TimestampReply message) = layout 14 0 (all (timestamp_bytes message))
-layout_of (Unknown type_u8 code_u8 bytes5to8) = layout type_u8 code_u8 (all bytes5to8)
+layout_of (TimestampRequest message) = layout 13 0 (used_bytes (timestamp_bytes message))
+layout_of (TimestampReply message) = layout 14 0 (used_bytes (timestamp_bytes message))
+layout_of (Unknown type_u8 code_u8 bytes5to8) = layout type_u8 code_u8 (used_bytes bytes5to8)
 
 -- the length of a kind's header
 abbrev pub header_len : Icmpv4Type → ℕ
@@ -120,10 +155,17 @@ kinds bytes =
     ∷ DestinationUnreachable FilterProhibited
     ∷ DestinationUnreachable HostPrecedenceViolation
     ∷ DestinationUnreachable PrecedenceCutoff
-    ∷ Redirect (record { code = RedirectForNetwork; gateway_internet_address = slice_range bytes 4 8 })
+    ∷ Redirect (record
+    { code = RedirectForNetwork; gateway_internet_address = slice_range bytes 4 8 })
     ∷ Redirect (record { code = RedirectForHost; gateway_internet_address = slice_range bytes 4 8 })
-    ∷ Redirect (record { code = RedirectForTypeOfServiceAndNetwork; gateway_internet_address = slice_range bytes 4 8 })
-    ∷ Redirect (record { code = RedirectForTypeOfServiceAndHost; gateway_internet_address = slice_range bytes 4 8 })
+    ∷ Redirect (record {
+      code = RedirectForTypeOfServiceAndNetwork;
+      gateway_internet_address = slice_range bytes 4 8;
+    })
+    ∷ Redirect (record {
+      code = RedirectForTypeOfServiceAndHost;
+      gateway_internet_address = slice_range bytes 4 8;
+    })
     ∷ EchoRequest (echo_in bytes 4)
     ∷ TimeExceeded TtlExceededInTransit
     ∷ TimeExceeded FragmentReassemblyTimeExceeded
@@ -136,7 +178,8 @@ kinds bytes =
 
 -- a kind has this type and code
 abbrev pub has_numbers : ℕ → ℕ → Icmpv4Type → Bool
-has_numbers type_u8 code_u8 kind = (layout_of kind).type_u8 == type_u8 && ((layout_of kind).code_u8 == code_u8)
+has_numbers type_u8 code_u8 kind = (layout_of kind).type_u8 == type_u8
+    && ((layout_of kind).code_u8 == code_u8)
 
 -- the table names a kind with this type and code
 unfoldable pub is_listed : ℕ → ℕ → Bool
@@ -146,7 +189,8 @@ is_listed type_u8 code_u8 = list_any (has_numbers type_u8 code_u8) (kinds [])
 -- isn't listed is `Unknown` with its four bytes
 unfoldable pub kind_at : ℕ → ℕ → List ℕ → Icmpv4Type
 kind_at type_u8 code_u8 bytes =
-    unwrap_or (find (has_numbers type_u8 code_u8) (kinds bytes)) (Unknown type_u8 code_u8 (slice_range bytes 4 8))
+    unwrap_or (find (has_numbers type_u8 code_u8) (kinds bytes))
+    (Unknown type_u8 code_u8 (slice_range bytes 4 8))
 
 abbrev pub type_of : List ℕ → Icmpv4Type
 type_of bytes = kind_at (num bytes 0 1) (num bytes 1 1) bytes
@@ -167,24 +211,26 @@ HasPointer (PointerIndicatesError pointer) n = pointer ≡ n
 HasPointer _ n = Unit {0}
 
 -- the header that bytes spell
-abbrev pub header_of : List ℕ → Icmpv4Header
-header_of bytes = record { icmp_type = type_of bytes; checksum = num bytes 2 2 }
+abbrev pub icmpv4_header_of : List ℕ → Icmpv4Header
+icmpv4_header_of bytes = record { icmp_type = type_of bytes; checksum = num bytes 2 2 }
 
 -- the bytes of a header
 abbrev pub spelling : Icmpv4Header → List ℕ
-spelling h = spelled (layout_of h.icmp_type) h.checksum
+spelling h = bytes_of_layout (layout_of h.icmp_type) h.checksum
 
 -- the checksum of the message of this kind with this payload: over the header with its checksum as
 -- 0, and the payload (RFC 792; there is no pseudo header)
 abbrev pub right_checksum : Icmpv4Type → List ℕ → ℕ
-right_checksum kind payload = checksum (spelled (layout_of kind) 0 ++ payload)
+right_checksum kind payload = checksum (bytes_of_layout (layout_of kind) 0 ++ payload)
 
 -- the type and code are those of a timestamp request, and those of its reply
 abbrev pub is_timestamp_request : List ℕ → Bool
-is_timestamp_request bytes = has_numbers (num bytes 0 1) (num bytes 1 1) (TimestampRequest (timestamp_in bytes 4))
+is_timestamp_request bytes = has_numbers (num bytes 0 1) (num bytes 1 1)
+    (TimestampRequest (timestamp_in bytes 4))
 
 abbrev pub is_timestamp_reply : List ℕ → Bool
-is_timestamp_reply bytes = has_numbers (num bytes 0 1) (num bytes 1 1) (TimestampReply (timestamp_in bytes 4))
+is_timestamp_reply bytes = has_numbers (num bytes 0 1) (num bytes 1 1)
+    (TimestampReply (timestamp_in bytes 4))
 
 abbrev pub is_timestamp : List ℕ → Bool
 is_timestamp bytes = is_timestamp_request bytes || is_timestamp_reply bytes
@@ -222,12 +268,16 @@ pub record Fits (kind : Icmpv4Type) : Type 0 where
 -- a message is read: its header's fields, and what stands behind the header
 pub record IsRead (bytes : List ℕ) (h : Icmpv4Header) (rest : List ℕ) : Type 0 where
   pub message : ReadableIcmpv4 bytes
-  pub fields : h ≡ header_of bytes
+  pub fields : h ≡ icmpv4_header_of bytes
   pub behind : rest ≡ drop (header_len h.icmp_type) bytes
 
 -- the header of this kind with the checksum that belongs to this payload
-abbrev pub checked : Icmpv4Type → List ℕ → Icmpv4Header
-checked kind payload = record { icmp_type = kind; checksum = right_checksum kind payload }
+abbrev pub icmpv4_with_checksum : Icmpv4Type → List ℕ → Icmpv4Header
+icmpv4_with_checksum kind payload = record {
+  icmp_type = kind;
+  checksum = right_checksum kind
+      payload;
+}
 
 pub record HeaderFits (h : Icmpv4Header) : Type 0 where
   pub kind : Fits h.icmp_type

@@ -1,21 +1,45 @@
 -- ICMPv6 messages (RFC 4443): the table of their kinds, and the header that bytes spell.
-use Rattle.std.specs.Prelude.{◌≡◌, ℕ, ◌+◌, ◌^◌, ◌<◌, ◌≤◌, ◌==◌, ◌&&◌, not, Bool, IsTrue, unwrap_or, List, [], ◌∷◌, ◌++◌, find, length, slice_range, drop}
+use Rattle.std.specs.Prelude.{◌≡◌, ℕ, ◌+◌, ◌^◌, ◌<◌, ◌≤◌, ◌==◌, ◌&&◌, not, Bool, IsTrue, unwrap_or}
+use Rattle.std.specs.Prelude.{List, [], ◌∷◌, ◌++◌, find, length, slice_range, drop}
 use Rattle.std.specs.Int.{w32, to_be_bytes}
 use Rattle.std.specs.List.{list_any}
 use Rattle.ep_base.specs.Bytes.{num}
 use Rattle.ep_base.specs.Sum.{checksum}
 use Rattle.ep_ip.specs.Pseudo.{pseudo_v6}
 use Rattle.ep_icmp.specs.Fields.{EchoFits, echo_bytes, echo_in}
-use Rattle.ep_icmp.specs.Layout.{Layout, all, layout, nothing, spelled}
+use Rattle.ep_icmp.specs.Layout.{Layout, used_bytes, layout, nothing, bytes_of_layout}
 use Rattle.ep_icmp.specs.declared.transport.icmpv6.dest_unreachable_code.DestUnreachableCode.{DestUnreachableCode}
-use Rattle.ep_icmp.specs.declared.transport.icmpv6.dest_unreachable_code.DestUnreachableCode.TheVariants.{NoRoute, Prohibited, BeyondScope, Address, Port, SourceAddressFailedPolicy, RejectRoute}
+use Rattle.ep_icmp.specs.declared.transport.icmpv6.dest_unreachable_code.DestUnreachableCode.TheVariants.{NoRoute}
+use Rattle.ep_icmp.specs.declared.transport.icmpv6.dest_unreachable_code.DestUnreachableCode.TheVariants.{Prohibited}
+use Rattle.ep_icmp.specs.declared.transport.icmpv6.dest_unreachable_code.DestUnreachableCode.TheVariants.{BeyondScope}
+use Rattle.ep_icmp.specs.declared.transport.icmpv6.dest_unreachable_code.DestUnreachableCode.TheVariants.{Address}
+use Rattle.ep_icmp.specs.declared.transport.icmpv6.dest_unreachable_code.DestUnreachableCode.TheVariants.{Port}
+use Rattle.ep_icmp.specs.declared.transport.icmpv6.dest_unreachable_code.DestUnreachableCode.TheVariants.{SourceAddressFailedPolicy}
+use Rattle.ep_icmp.specs.declared.transport.icmpv6.dest_unreachable_code.DestUnreachableCode.TheVariants.{RejectRoute}
 use Rattle.ep_icmp.specs.declared.transport.icmpv6.parameter_problem_code.ParameterProblemCode.{ParameterProblemCode}
-use Rattle.ep_icmp.specs.declared.transport.icmpv6.parameter_problem_code.ParameterProblemCode.TheVariants.{ErroneousHeaderField, UnrecognizedNextHeader, UnrecognizedIpv6Option, Ipv6FirstFragmentIncompleteHeaderChain, SrUpperLayerHeaderError, UnrecognizedNextHeaderByIntermediateNode, ExtensionHeaderTooBig, ExtensionHeaderChainTooLong, TooManyExtensionHeaders, TooManyOptionsInExtensionHeader, OptionTooBig}
+use Rattle.ep_icmp.specs.declared.transport.icmpv6.parameter_problem_code.ParameterProblemCode.TheVariants.{ErroneousHeaderField}
+use Rattle.ep_icmp.specs.declared.transport.icmpv6.parameter_problem_code.ParameterProblemCode.TheVariants.{UnrecognizedNextHeader}
+use Rattle.ep_icmp.specs.declared.transport.icmpv6.parameter_problem_code.ParameterProblemCode.TheVariants.{UnrecognizedIpv6Option}
+use Rattle.ep_icmp.specs.declared.transport.icmpv6.parameter_problem_code.ParameterProblemCode.TheVariants.{Ipv6FirstFragmentIncompleteHeaderChain}
+use Rattle.ep_icmp.specs.declared.transport.icmpv6.parameter_problem_code.ParameterProblemCode.TheVariants.{SrUpperLayerHeaderError}
+use Rattle.ep_icmp.specs.declared.transport.icmpv6.parameter_problem_code.ParameterProblemCode.TheVariants.{UnrecognizedNextHeaderByIntermediateNode}
+use Rattle.ep_icmp.specs.declared.transport.icmpv6.parameter_problem_code.ParameterProblemCode.TheVariants.{ExtensionHeaderTooBig}
+use Rattle.ep_icmp.specs.declared.transport.icmpv6.parameter_problem_code.ParameterProblemCode.TheVariants.{ExtensionHeaderChainTooLong}
+use Rattle.ep_icmp.specs.declared.transport.icmpv6.parameter_problem_code.ParameterProblemCode.TheVariants.{TooManyExtensionHeaders}
+use Rattle.ep_icmp.specs.declared.transport.icmpv6.parameter_problem_code.ParameterProblemCode.TheVariants.{TooManyOptionsInExtensionHeader}
+use Rattle.ep_icmp.specs.declared.transport.icmpv6.parameter_problem_code.ParameterProblemCode.TheVariants.{OptionTooBig}
 use Rattle.ep_icmp.specs.declared.transport.icmpv6.time_exceeded_code.TimeExceededCode.{TimeExceededCode}
-use Rattle.ep_icmp.specs.declared.transport.icmpv6.time_exceeded_code.TimeExceededCode.TheVariants.{HopLimitExceeded, FragmentReassemblyTimeExceeded}
+use Rattle.ep_icmp.specs.declared.transport.icmpv6.time_exceeded_code.TimeExceededCode.TheVariants.{HopLimitExceeded}
+use Rattle.ep_icmp.specs.declared.transport.icmpv6.time_exceeded_code.TimeExceededCode.TheVariants.{FragmentReassemblyTimeExceeded}
 use Rattle.ep_icmp.specs.declared.transport.icmpv6_header.Icmpv6Header.{Icmpv6Header}
 use Rattle.ep_icmp.specs.declared.transport.icmpv6_type.Icmpv6Type.{Icmpv6Type}
-use Rattle.ep_icmp.specs.declared.transport.icmpv6_type.Icmpv6Type.TheVariants.{Unknown, DestinationUnreachable, PacketTooBig, TimeExceeded, ParameterProblem, EchoRequest, EchoReply}
+use Rattle.ep_icmp.specs.declared.transport.icmpv6_type.Icmpv6Type.TheVariants.{Unknown}
+use Rattle.ep_icmp.specs.declared.transport.icmpv6_type.Icmpv6Type.TheVariants.{DestinationUnreachable}
+use Rattle.ep_icmp.specs.declared.transport.icmpv6_type.Icmpv6Type.TheVariants.{PacketTooBig}
+use Rattle.ep_icmp.specs.declared.transport.icmpv6_type.Icmpv6Type.TheVariants.{TimeExceeded}
+use Rattle.ep_icmp.specs.declared.transport.icmpv6_type.Icmpv6Type.TheVariants.{ParameterProblem}
+use Rattle.ep_icmp.specs.declared.transport.icmpv6_type.Icmpv6Type.TheVariants.{EchoRequest}
+use Rattle.ep_icmp.specs.declared.transport.icmpv6_type.Icmpv6Type.TheVariants.{EchoReply}
 
 -- the codes of type 1 (RFC 4443, section 3.1)
 abbrev pub unreachable_code : DestUnreachableCode → ℕ
@@ -50,12 +74,13 @@ problem_code OptionTooBig = 10
 -- the table: each kind's type, code and bytes 5 to 8
 abbrev pub layout_of : Icmpv6Type → Layout
 layout_of (DestinationUnreachable code) = layout 1 (unreachable_code code) nothing
-layout_of (PacketTooBig mtu) = layout 2 0 (all (to_be_bytes w32 mtu))
+layout_of (PacketTooBig mtu) = layout 2 0 (used_bytes (to_be_bytes w32 mtu))
 layout_of (TimeExceeded code) = layout 3 (time_exceeded_code code) nothing
-layout_of (ParameterProblem header) = layout 4 (problem_code header.code) (all (to_be_bytes w32 header.pointer))
-layout_of (EchoRequest echo) = layout 128 0 (all (echo_bytes echo))
-layout_of (EchoReply echo) = layout 129 0 (all (echo_bytes echo))
-layout_of (Unknown type_u8 code_u8 bytes5to8) = layout type_u8 code_u8 (all bytes5to8)
+layout_of (ParameterProblem header) =
+    layout 4 (problem_code header.code) (used_bytes (to_be_bytes w32 header.pointer))
+layout_of (EchoRequest echo) = layout 128 0 (used_bytes (echo_bytes echo))
+layout_of (EchoReply echo) = layout 129 0 (used_bytes (echo_bytes echo))
+layout_of (Unknown type_u8 code_u8 bytes5to8) = layout type_u8 code_u8 (used_bytes bytes5to8)
 
 -- the kinds that the table names, each with the fields that stand in a header's bytes
 abbrev pub kinds : List ℕ → List Icmpv6Type
@@ -73,9 +98,11 @@ kinds bytes =
     ∷ ParameterProblem (record { code = ErroneousHeaderField; pointer = num bytes 4 4 })
     ∷ ParameterProblem (record { code = UnrecognizedNextHeader; pointer = num bytes 4 4 })
     ∷ ParameterProblem (record { code = UnrecognizedIpv6Option; pointer = num bytes 4 4 })
-    ∷ ParameterProblem (record { code = Ipv6FirstFragmentIncompleteHeaderChain; pointer = num bytes 4 4 })
+    ∷ ParameterProblem
+    (record { code = Ipv6FirstFragmentIncompleteHeaderChain; pointer = num bytes 4 4 })
     ∷ ParameterProblem (record { code = SrUpperLayerHeaderError; pointer = num bytes 4 4 })
-    ∷ ParameterProblem (record { code = UnrecognizedNextHeaderByIntermediateNode; pointer = num bytes 4 4 })
+    ∷ ParameterProblem
+    (record { code = UnrecognizedNextHeaderByIntermediateNode; pointer = num bytes 4 4 })
     ∷ ParameterProblem (record { code = ExtensionHeaderTooBig; pointer = num bytes 4 4 })
     ∷ ParameterProblem (record { code = ExtensionHeaderChainTooLong; pointer = num bytes 4 4 })
     ∷ ParameterProblem (record { code = TooManyExtensionHeaders; pointer = num bytes 4 4 })
@@ -87,7 +114,8 @@ kinds bytes =
 
 -- a kind has this type and code
 abbrev pub has_numbers : ℕ → ℕ → Icmpv6Type → Bool
-has_numbers type_u8 code_u8 kind = (layout_of kind).type_u8 == type_u8 && ((layout_of kind).code_u8 == code_u8)
+has_numbers type_u8 code_u8 kind = (layout_of kind).type_u8 == type_u8
+    && ((layout_of kind).code_u8 == code_u8)
 
 -- the table names a kind with this type and code
 unfoldable pub is_listed : ℕ → ℕ → Bool
@@ -97,7 +125,8 @@ is_listed type_u8 code_u8 = list_any (has_numbers type_u8 code_u8) (kinds [])
 -- isn't listed is `Unknown` with its four bytes
 unfoldable pub kind_at : ℕ → ℕ → List ℕ → Icmpv6Type
 kind_at type_u8 code_u8 bytes =
-    unwrap_or (find (has_numbers type_u8 code_u8) (kinds bytes)) (Unknown type_u8 code_u8 (slice_range bytes 4 8))
+    unwrap_or (find (has_numbers type_u8 code_u8) (kinds bytes))
+    (Unknown type_u8 code_u8 (slice_range bytes 4 8))
 
 abbrev pub type_of : List ℕ → Icmpv6Type
 type_of bytes = kind_at (num bytes 0 1) (num bytes 1 1) bytes
@@ -108,12 +137,12 @@ IsSpelledOut (Unknown type_u8 code_u8 bytes5to8) = IsTrue (not (is_listed type_u
 IsSpelledOut _ = Unit {0}
 
 -- the header that bytes spell
-abbrev pub header_of : List ℕ → Icmpv6Header
-header_of bytes = record { icmp_type = type_of bytes; checksum = num bytes 2 2 }
+abbrev pub icmpv6_header_of : List ℕ → Icmpv6Header
+icmpv6_header_of bytes = record { icmp_type = type_of bytes; checksum = num bytes 2 2 }
 
 -- the bytes of a header
 abbrev pub spelling : Icmpv6Header → List ℕ
-spelling h = spelled (layout_of h.icmp_type) h.checksum
+spelling h = bytes_of_layout (layout_of h.icmp_type) h.checksum
 
 -- the pseudo header of a message of this length: next header 58 (RFC 4443, section 2.3)
 abbrev pub pseudo : List ℕ → List ℕ → ℕ → List ℕ
@@ -123,11 +152,13 @@ pseudo source destination len = pseudo_v6 source destination 58 len
 -- header, the header with its checksum as 0, and the payload (RFC 4443, section 2.3)
 abbrev pub right_checksum : List ℕ → List ℕ → Icmpv6Type → List ℕ → ℕ
 right_checksum source destination kind payload =
-    checksum (pseudo source destination (8 + length payload) ++ spelled (layout_of kind) 0 ++ payload)
+    checksum (pseudo source destination (8 + length payload)
+    ++ bytes_of_layout (layout_of kind) 0 ++ payload)
 
 -- the header of this kind with the checksum that belongs to these addresses and this payload
-abbrev pub checked : List ℕ → List ℕ → Icmpv6Type → List ℕ → Icmpv6Header
-checked source destination kind payload = record { icmp_type = kind; checksum = right_checksum source destination kind payload }
+abbrev pub icmpv6_with_checksum : List ℕ → List ℕ → Icmpv6Type → List ℕ → Icmpv6Header
+icmpv6_with_checksum source destination kind payload =
+    record { icmp_type = kind; checksum = right_checksum source destination kind payload }
 
 -- bytes that are a message: at least 8
 pub record ReadableIcmpv6 (bytes : List ℕ) : Type 0 where
@@ -136,7 +167,7 @@ pub record ReadableIcmpv6 (bytes : List ℕ) : Type 0 where
 -- a message is read: its header's fields, and what stands behind the header
 pub record IsRead (bytes : List ℕ) (h : Icmpv6Header) (rest : List ℕ) : Type 0 where
   pub message : ReadableIcmpv6 bytes
-  pub fields : h ≡ header_of bytes
+  pub fields : h ≡ icmpv6_header_of bytes
   pub behind : rest ≡ drop 8 bytes
 
 -- the ranges of the fields

@@ -2,9 +2,6 @@
 -- checksum of 2 bytes, high byte first, and behind them what the type and code say.
 use Rattle.std.specs.Prelude.{ℕ, ◌+◌, List, [], ◌∷◌, ◌++◌, length, replicate, slice_range, take}
 use Rattle.std.specs.Int.{w16, to_be_bytes}
-use Rattle.ep_base.specs.declared.err.layer.Layer.{Layer}
-use Rattle.ep_base.specs.declared.err.len_error.LenError.{LenError}
-use Rattle.ep_base.specs.declared.len_source.LenSource.TheVariants.{Slice}
 
 -- what stands from byte 5 on: a field, with unused bytes in front of it and behind it
 pub record Fields : Type 0 where
@@ -17,8 +14,8 @@ abbrev pub nothing : Fields
 nothing = record { before = 4; field = []; behind = 0 }
 
 -- these bytes, and none unused
-abbrev pub all : List ℕ → Fields
-all bytes = record { before = 0; field = bytes; behind = 0 }
+abbrev pub used_bytes : List ℕ → Fields
+used_bytes bytes = record { before = 0; field = bytes; behind = 0 }
 
 -- a line of a table of kinds
 pub record Layout : Type 0 where
@@ -30,24 +27,22 @@ abbrev pub layout : ℕ → ℕ → Fields → Layout
 layout type_u8 code_u8 fields = record { type_u8 = type_u8; code_u8 = code_u8; fields = fields }
 
 -- the bytes of the fields, unused ones as 0
-abbrev pub written : Fields → List ℕ
-written fields = replicate fields.before 0 ++ fields.field ++ replicate fields.behind 0
+abbrev pub bytes_of_fields : Fields → List ℕ
+bytes_of_fields fields = replicate fields.before 0 ++ fields.field ++ replicate fields.behind 0
 
 -- the first eight bytes of the header, with this checksum
 abbrev pub front : Layout → ℕ → List ℕ
-front l checksum = l.type_u8 ∷ l.code_u8 ∷ to_be_bytes w16 checksum ++ take 4 (written l.fields)
+front l checksum = l.type_u8 ∷ l.code_u8 ∷ to_be_bytes w16 checksum ++ take 4 (bytes_of_fields
+    l.fields)
 
 -- the header with this checksum
-abbrev pub spelled : Layout → ℕ → List ℕ
-spelled l checksum = l.type_u8 ∷ l.code_u8 ∷ to_be_bytes w16 checksum ++ written l.fields
+abbrev pub bytes_of_layout : Layout → ℕ → List ℕ
+bytes_of_layout l checksum = l.type_u8 ∷ l.code_u8 ∷ to_be_bytes w16 checksum ++ bytes_of_fields
+    l.fields
 
 -- the bytes of a header of this layout, unused ones as 0
-abbrev pub cleared : Layout → List ℕ → List ℕ
-cleared l bytes =
+abbrev pub with_unused_bytes_zero : Layout → List ℕ → List ℕ
+with_unused_bytes_zero l bytes =
     take 4 bytes ++ (replicate l.fields.before 0
     ++ slice_range bytes (4 + l.fields.before) (4 + l.fields.before + length l.fields.field)
     ++ replicate l.fields.behind 0)
-
--- a layer wants so many bytes, and others are there
-abbrev pub want_of_bytes : ℕ → ℕ → Layer → LenError
-want_of_bytes required_len len layer = record { required_len = required_len; len = len; len_source = Slice; layer = layer; layer_start_offset = 0 }

@@ -12,4 +12,5 @@ greatest_payload = 2 ^ 32 - 1 - 8
 -- `Ok` of the answer for a payload of up to that length, and else an error that names both
 abbrev pub IsWithin : {A : Type 0} → A → ℕ → Result A (ValueTooBigError ℕ) → Type 0
 IsWithin answer len (Ok a) = (len ≤ greatest_payload) × (a ≡ answer)
-IsWithin answer len (Err e) = (greatest_payload < len) × (e ≡ too_big Icmpv6PayloadLength greatest_payload len)
+IsWithin answer len (Err e) = (greatest_payload < len)
+    × (e ≡ too_big Icmpv6PayloadLength greatest_payload len)

@@ -9,7 +9,6 @@ pub mod icmpv6;
 mod icmpv6_header;
 mod icmpv6_slice;
 mod icmpv6_type;
-mod len_errors;
 
 pub use icmp_echo_header::IcmpEchoHeader;
 pub use icmpv4_header::Icmpv4Header;

@@ -89,7 +89,8 @@ fn is_taken_from_eight_bytes_on(rt: &impl Abort, bytes: &[u8; 12]) {
     }
 }
 
-// Every type with each code that has a variant, and one above them: each kind but the timestamp messages.
+// Every type with each code that has a variant, and one above them: each kind but the timestamp
+// messages.
 #[test]
 fn every_front_of_every_other_kind(rt: HostRuntime) {
     let mut bytes = [0xa1; 12];

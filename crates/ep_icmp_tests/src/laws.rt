@@ -10,9 +10,7 @@ fn each_law_is_called(rt: HostRuntime) {
     icmpv6::header_is_written_back();
     icmpv4::checksums_sum_to_all_ones();
     icmpv6::checksums_sum_to_all_ones();
-    traits::copies_are_values();
-    traits::copies_never_fail();
-    traits::equals_are_same();
+    traits::types_are_plain_data();
 }
 
 #[test]

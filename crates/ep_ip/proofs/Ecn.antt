@@ -2,7 +2,8 @@
 use Rattle.std.proofs.Common.{◌≡◌, ℕ, zero, suc, ◌<◌, arith, refl}
 use Rattle.ep_base.specs.IpEcn.{ecn_of, ecn_number}
 use Rattle.ep_base.specs.declared.net.ip_ecn.IpEcn.{IpEcn}
-use Rattle.ep_base.specs.declared.net.ip_ecn.IpEcn.TheVariants.{NotEct, Ect1, Ect0, CongestionExperienced}
+use Rattle.ep_base.specs.declared.net.ip_ecn.IpEcn.TheVariants.{NotEct, Ect1, Ect0}
+use Rattle.ep_base.specs.declared.net.ip_ecn.IpEcn.TheVariants.{CongestionExperienced}
 
 pub ecn_of-number : (e : IpEcn) → ecn_of (ecn_number e) ≡ e
 ecn_of-number NotEct = refl

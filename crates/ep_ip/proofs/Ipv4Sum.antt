@@ -1,5 +1,6 @@
 -- The sum of a header's words, and the checksum in it.
-use Rattle.std.proofs.Common.{◌≡◌, ℕ, suc, ◌+◌, ◌-◌, ◌%◌, ◌^◌, ◌<◌, Bool, true, false, IsTrue, not, ◌&&◌, eqb, ◌⊎◌, inl, inr, arith, ap, ◌↔◌, ⊎_elim}
+use Rattle.std.proofs.Common.{◌≡◌, ℕ, suc, ◌+◌, ◌-◌, ◌%◌, ◌^◌, ◌<◌, Bool, true, false, IsTrue, not}
+use Rattle.std.proofs.Common.{◌&&◌, eqb, ◌⊎◌, inl, inr, arith, ap, ◌↔◌, ⊎_elim}
 use Rattle.std.proofs.lemmas.Bool.{eq-eqb, eqb-true, ne_eqb, cases_lt}
 use Rattle.ep_base.specs.Sum.{total, fold, all_ones}
 use Rattle.ep_ip.specs.Ipv4.{spelling}
@@ -34,25 +35,31 @@ not_zero n h = ap not (ne_eqb n 0 (λ e. omega arith))
 complement_found : (n c : ℕ) → c < 2 ^ 16 → (suc n + c) % 65535 ≡ 0 →
     (c ≡ 65535 - (1 + n % 65535)) ⊎ ((65535 - (1 + n % 65535) ≡ 0) × (c ≡ 65535))
 complement_found n c fits e =
-    ⊎_elim (λ small. inl (omega arith)) (λ large. inr (omega arith, omega arith)) (cases_lt (c + n % 65535) 65535)
+    ⊎_elim (λ small. inl (omega arith)) (λ large. inr (omega arith, omega arith))
+    (cases_lt (c + n % 65535) 65535)
 
 complement_sums : (n c : ℕ) →
-    (c ≡ 65535 - (1 + n % 65535)) ⊎ ((65535 - (1 + n % 65535) ≡ 0) × (c ≡ 65535)) → (suc n + c) % 65535 ≡ 0
+    (c ≡ 65535 - (1 + n % 65535)) ⊎ ((65535 - (1 + n % 65535) ≡ 0) × (c ≡ 65535))
+    → (suc n + c) % 65535 ≡ 0
 complement_sums n c = ⊎_elim (λ e. omega arith) (λ e. omega (arith, e.0, e.1))
 
 -- a text's sum without the checksum, and with it
 all_ones_where : (t m n c : ℕ) → t ≡ suc n + c → m ≡ suc n → c < 2 ^ 16 →
-    IsTrue (not (eqb t 0) && eqb (t % 65535) 0) ↔ ((c ≡ 65535 - fold m) ⊎ ((65535 - fold m ≡ 0) × (c ≡ 65535)))
+    IsTrue (not (eqb t 0) && eqb (t % 65535) 0)
+    ↔ ((c ≡ 65535 - fold m) ⊎ ((65535 - fold m ≡ 0) × (c ≡ 65535)))
 unfolding fold
 all_ones_where t m n c sum rest fits = rw (sum, rest) (
   (λ h. complement_found n c fits (eqb-true ((suc n + c) % 65535) 0 (second_of _ _ h))),
-  (λ h. both_of _ _ (not_zero (suc n + c) (omega arith)) (eq-eqb ((suc n + c) % 65535) 0 (complement_sums n c h))),
+  (λ h. both_of _ _ (not_zero (suc n + c) (omega arith))
+      (eq-eqb ((suc n + c) % 65535) 0 (complement_sums n c h))),
 )
 
-pub all_ones-spelling : (h : Ipv4Header) → h.header_checksum < 2 ^ 16 → IsTrue (all_ones (spelling h)) ↔ HasRightChecksum h
+pub all_ones-spelling : (h : Ipv4Header) → h.header_checksum < 2 ^ 16
+    → IsTrue (all_ones (spelling h)) ↔ HasRightChecksum h
 all_ones-spelling h fits =
     let without = spelling_not_zero (record h { header_checksum = 0 }) in
-    all_ones_where (total (spelling h)) (total (spelling (record h { header_checksum = 0 }))) without.0 h.header_checksum
+    all_ones_where (total (spelling h)) (total (spelling (record h { header_checksum = 0 })))
+    without.0 h.header_checksum
     (rw (← without.1) (total-spelling h fits)) without.1 fits
 
 below_all : (m n : ℕ) → m ≡ suc n → 65535 - fold m < 65535

@@ -1,5 +1,6 @@
 -- The bits of an IPv6 header that share bytes, as quotients and remainders.
-use Rattle.std.proofs.Common.{◌≡◌, ℕ, ◌+◌, ◌*◌, ◌/◌, ◌%◌, ◌^◌, ◌<◌, ◌≤◌, bit_and, bit_or, arith, ap, ◌∙◌}
+use Rattle.std.proofs.Common.{◌≡◌, ℕ, ◌+◌, ◌*◌, ◌/◌, ◌%◌, ◌^◌, ◌<◌, ◌≤◌, bit_and, bit_or, arith, ap}
+use Rattle.std.proofs.Common.{◌∙◌}
 use Rattle.std.proofs.lemmas.Nat.{and_mask, or_shifted}
 use Rattle.ep_base.specs.IpEcn.{ecn_of, ecn_number}
 use Rattle.ep_base.specs.declared.net.ip_ecn.IpEcn.{IpEcn}
@@ -23,12 +24,14 @@ or-shared_byte dscp n most small =
     rw high (or_shifted dscp 2 n small ∙ omega arith)
 
 -- what a code point and a notification make up has both
-pub dscp_in-or : (dscp : ℕ) (ecn : IpEcn) → dscp ≤ 63 → dscp_in (bit_or (dscp * 4 % 256) (ecn_number ecn)) ≡ dscp
+pub dscp_in-or : (dscp : ℕ) (ecn : IpEcn) → dscp ≤ 63
+    → dscp_in (bit_or (dscp * 4 % 256) (ecn_number ecn)) ≡ dscp
 dscp_in-or dscp ecn most =
     let small = ecn_number_below ecn in
     rw (or-shared_byte dscp (ecn_number ecn) most small) (omega arith)
 
-pub ecn_in-or : (dscp : ℕ) (ecn : IpEcn) → dscp ≤ 63 → ecn_in (bit_or (dscp * 4 % 256) (ecn_number ecn)) ≡ ecn
+pub ecn_in-or : (dscp : ℕ) (ecn : IpEcn) → dscp ≤ 63
+    → ecn_in (bit_or (dscp * 4 % 256) (ecn_number ecn)) ≡ ecn
 ecn_in-or dscp ecn most =
     let small = ecn_number_below ecn in
     let low : (4 * dscp + ecn_number ecn) % 4 ≡ ecn_number ecn = omega arith in
@@ -36,11 +39,14 @@ ecn_in-or dscp ecn most =
 
 -- version, traffic class and flow label, each at its place
 pub or-first_word : (class label : ℕ) → class < 2 ^ 8 → label < 2 ^ 20 →
-    bit_or (bit_or (6 * 2 ^ 28) (class * 2 ^ 20 % 2 ^ 32)) label ≡ 6 * 2 ^ 28 + class * 2 ^ 20 + label
+    bit_or (bit_or (6 * 2 ^ 28) (class * 2 ^ 20 % 2 ^ 32)) label
+    ≡ 6 * 2 ^ 28 + class * 2 ^ 20 + label
 or-first_word class label h k =
     let fits : class * 2 ^ 20 % 2 ^ 32 ≡ class * 2 ^ 20 = omega arith in
     let above : 6 * 2 ^ 28 + class * 2 ^ 20 ≡ (6 * 2 ^ 8 + class) * 2 ^ 20 = omega arith in
-    rw (fits, or_shifted 6 28 (class * 2 ^ 20) (omega arith), above) (or_shifted (6 * 2 ^ 8 + class) 20 label k)
+    rw (fits, or_shifted 6 28 (class * 2 ^ 20) (omega arith), above)
+    (or_shifted (6 * 2 ^ 8 + class) 20 label k)
 
-pub two_parts : (traffic_class : ℕ) → 4 * dscp_in traffic_class + ecn_number (ecn_in traffic_class) ≡ traffic_class
+pub two_parts : (traffic_class : ℕ)
+    → 4 * dscp_in traffic_class + ecn_number (ecn_in traffic_class) ≡ traffic_class
 two_parts traffic_class = rw (number-ecn_of (traffic_class % 4) (omega arith)) (omega arith)

@@ -1,11 +1,16 @@
 -- The walk over IPv6 extension headers: headers in a row against the function that finds them.
-use Rattle.std.proofs.Common.{◌≡◌, ℕ, zero, suc, ◌+◌, ◌*◌, ◌/◌, ◌<◌, ◌≤◌, ◌-◌, Bool, true, false, cond, eqb, ltb, List, [], ◌∷◌, ◌++◌, length, take, drop, get_or, arith, refl, sym, ap, ◌∙◌, subst, IsTrue, ◌&&◌, leb, Result, Bor}
+use Rattle.std.proofs.Common.{◌≡◌, ℕ, zero, suc, ◌+◌, ◌*◌, ◌/◌, ◌<◌, ◌≤◌, ◌-◌, Bool, true, false}
+use Rattle.std.proofs.Common.{cond, eqb, ltb, List, [], ◌∷◌, ◌++◌, length, take, drop, get_or}
+use Rattle.std.proofs.Common.{arith, refl, sym, ap, ◌∙◌, subst, IsTrue, ◌&&◌, leb, Result, Bor}
 use Rattle.std.proofs.lemmas.Bool.{le-ltb, lt-leb, le-leb}
-use Rattle.std.proofs.lemmas.List.{get_or-take, length-take-le, take-append-drop, take_at, take_rest, drop_at, get_or_append_left, length-append, append_assoc, append-nil}
+use Rattle.std.proofs.lemmas.List.{get_or-take, length-take-le, take-append-drop, take_at}
+use Rattle.std.proofs.lemmas.List.{take_rest, drop_at, get_or_append_left, length-append}
+use Rattle.std.proofs.lemmas.List.{append_assoc, append-nil}
 use Rattle.std.specs.List.{concat}
 use Rattle.ep_base.specs.declared.err.len_error.LenError.{LenError}
 use Rattle.ep_base.specs.declared.net.ip_number.IpNumber.{IpNumber}
-use Rattle.ep_ip.specs.Skip.{is_skipped, skipped_len, required_len, IsWhole, Skips, Walk, outcome, headers_within, skipped_headers, named_behind, skip, Gives, Ends}
+use Rattle.ep_ip.specs.Skip.{is_skipped, skipped_len, required_len, IsWhole, Skips, Walk, outcome}
+use Rattle.ep_ip.specs.Skip.{headers_within, skipped_headers, named_behind, skip, Gives, Ends}
 
 -- with fewer bytes than two, two are needed
 begun_of : (len n : ℕ) → cond (ltb len 2) 2 n ≤ len → (2 ≤ len) × (cond (ltb len 2) 2 n ≡ n)
@@ -15,10 +20,12 @@ begun_of (suc (suc len)) n h =
     let enough : ltb (suc (suc len)) 2 ≡ false = le-ltb (suc (suc len)) 2 (omega arith) in
     (omega arith, rw enough refl)
 
-pub required_of : (number : ℕ) (bytes : List ℕ) → required_len number bytes ≤ length bytes → (2 ≤ length bytes) × (required_len number bytes ≡ skipped_len number bytes)
+pub required_of : (number : ℕ) (bytes : List ℕ) → required_len number bytes ≤ length bytes
+    → (2 ≤ length bytes) × (required_len number bytes ≡ skipped_len number bytes)
 required_of number bytes h = begun_of (length bytes) (skipped_len number bytes) h
 
-least_eight : (fragment authentication : Bool) (n : ℕ) → 8 ≤ cond fragment 8 (cond authentication ((n + 2) * 4) ((n + 1) * 8))
+least_eight : (fragment authentication : Bool) (n : ℕ)
+    → 8 ≤ cond fragment 8 (cond authentication ((n + 2) * 4) ((n + 1) * 8))
 least_eight true a n = omega arith
 least_eight false true n = omega arith
 least_eight false false n = omega arith
@@ -28,22 +35,33 @@ pub eight_le : (number : ℕ) (bytes : List ℕ) → 8 ≤ skipped_len number by
 eight_le number bytes = least_eight (eqb number 44) (eqb number 51) (get_or bytes 1 0)
 
 -- the length is that of the second byte alone
-same_len : (number : ℕ) (a b : List ℕ) → get_or a 1 0 ≡ get_or b 1 0 → skipped_len number a ≡ skipped_len number b
-same_len number a b e = ap (λ (n : ℕ). cond (eqb number 44) 8 (cond (eqb number 51) ((n + 2) * 4) ((n + 1) * 8))) e
+same_len : (number : ℕ) (a b : List ℕ) → get_or a 1 0 ≡ get_or b 1 0
+    → skipped_len number a ≡ skipped_len number b
+same_len number a b e =
+    ap (λ (n : ℕ). cond (eqb number 44) 8 (cond (eqb number 51) ((n + 2) * 4) ((n + 1) * 8))) e
 
 -- a front that is long enough is a whole header
-pub whole_front : (number : ℕ) (bytes : List ℕ) → required_len number bytes ≤ length bytes → IsWhole number (take (skipped_len number bytes) bytes)
+pub whole_front : (number : ℕ) (bytes : List ℕ) → required_len number bytes ≤ length bytes
+    → IsWhole number (take (skipped_len number bytes) bytes)
 whole_front number bytes h =
     let required = required_of number bytes h in
     let least = eight_le number bytes in
     let fits : skipped_len number bytes ≤ length bytes = omega (arith, required.1, h) in
-    let len : length (take (skipped_len number bytes) bytes) ≡ skipped_len number bytes = length-take-le (skipped_len number bytes) bytes fits in
-    let second : get_or (take (skipped_len number bytes) bytes) 1 0 ≡ get_or bytes 1 0 = get_or-take (skipped_len number bytes) bytes 1 0 (omega arith) in
-    record { begun = omega arith; whole = len ∙ sym (same_len number (take (skipped_len number bytes) bytes) bytes second) }
+    let len : length (take (skipped_len number bytes) bytes) ≡ skipped_len number bytes =
+    length-take-le (skipped_len number bytes) bytes fits in
+    let second : get_or (take (skipped_len number bytes) bytes) 1 0 ≡ get_or bytes 1 0 =
+    get_or-take (skipped_len number bytes) bytes 1 0 (omega arith) in
+    record {
+      begun = omega arith;
+      whole = len ∙ sym (same_len number (take (skipped_len number bytes) bytes) bytes second);
+    }
 
 -- what a step skips, as the code names it
-pub found_header : (number n : ℕ) (bytes : List ℕ) → n ≡ required_len number bytes → n ≤ length bytes →
-    (header : List ℕ) × IsWhole number header × (bytes ≡ header ++ take (length bytes - n) (drop n bytes)) × (get_or bytes 0 0 ≡ get_or header 0 0)
+pub found_header : (number n : ℕ) (bytes : List ℕ)
+    → n ≡ required_len number bytes → n ≤ length bytes →
+    (header : List ℕ) × IsWhole number header
+    × (bytes ≡ header ++ take (length bytes - n) (drop n bytes))
+    × (get_or bytes 0 0 ≡ get_or header 0 0)
 found_header number n bytes e h =
     let required = required_of number bytes (rw (← e) h) in
     let same : n ≡ skipped_len number bytes = e ∙ required.1 in
@@ -55,130 +73,209 @@ found_header number n bytes e h =
     )
 
 -- headers in a row have eight bytes each
-pub eight_each : (number : ℕ) (headers : List (List ℕ)) (last : ℕ) → Skips number headers last → 8 * length headers ≤ length (concat headers)
+pub eight_each : (number : ℕ) (headers : List (List ℕ)) (last : ℕ) → Skips number headers last
+    → 8 * length headers ≤ length (concat headers)
 eight_each number [] last row = omega arith
 eight_each number (header ∷ headers) last row =
-    omega (arith, eight_each (get_or header 0 0) headers last row.2, eight_le number header, row.1.whole, length-append header (concat headers))
+    omega (
+      arith,
+      eight_each (get_or header 0 0) headers last row.2,
+      eight_le number
+          header,
+      row.1.whole,
+      length-append header (concat headers),
+    )
 
 -- one more header behind a row
-pub skips_more : (number : ℕ) (headers : List (List ℕ)) (m : ℕ) (header : List ℕ) → Skips number headers m → IsTrue (is_skipped m) → IsWhole m header → Skips number (headers ++ header ∷ []) (get_or header 0 0)
+pub skips_more : (number : ℕ) (headers : List (List ℕ)) (m : ℕ) (header : List ℕ)
+    → Skips number headers m → IsTrue (is_skipped m) → IsWhole m header
+    → Skips number (headers ++ header ∷ []) (get_or header 0 0)
 skips_more number [] m header row skipped whole =
-    let P : ℕ → Type 0 = λ n. IsTrue (is_skipped n) × IsWhole n header × (get_or header 0 0 ≡ get_or header 0 0) in
+    let P : ℕ → Type 0 = λ n. IsTrue (is_skipped n) × IsWhole n header
+    × (get_or header 0 0 ≡ get_or header 0 0) in
     subst P (sym row) (skipped, whole, refl)
 skips_more number (first ∷ headers) m header row skipped whole =
     (row.0, row.1, skips_more (get_or first 0 0) headers m header row.2 skipped whole)
 
-pub concat_more : (headers : List (List ℕ)) (header : List ℕ) → concat (headers ++ header ∷ []) ≡ concat headers ++ header
+pub concat_more : (headers : List (List ℕ)) (header : List ℕ)
+    → concat (headers ++ header ∷ []) ≡ concat headers ++ header
 concat_more [] header = append-nil header
-concat_more (first ∷ headers) header = ap (λ (xs : List ℕ). first ++ xs) (concat_more headers header) ∙ sym (append_assoc first (concat headers) header)
+concat_more (first ∷ headers) header =
+    ap (λ (xs : List ℕ). first ++ xs) (concat_more headers header)
+    ∙ sym (append_assoc first (concat headers) header)
 
-stopped : (skipped : Bool) (required len : ℕ) → (IsTrue skipped → len < required) → (skipped && leb required len) ≡ false
+stopped : (skipped : Bool) (required len : ℕ) → (IsTrue skipped → len < required)
+    → (skipped && leb required len) ≡ false
 stopped true required len h = lt-leb required len (h refl)
 stopped false required len h = refl
 
-headers_none : (most number : ℕ) (bytes : List ℕ) → (IsTrue (is_skipped number) → length bytes < required_len number bytes) → headers_within most number bytes ≡ []
+headers_none : (most number : ℕ) (bytes : List ℕ)
+    → (IsTrue (is_skipped number) → length bytes < required_len number bytes)
+    → headers_within most number bytes ≡ []
 unfolding headers_within
 headers_none zero number bytes h = refl
 headers_none (suc most) number bytes h =
-    ap (λ (b : Bool). cond b (take (skipped_len number bytes) bytes ∷ headers_within most (get_or bytes 0 0) (drop (skipped_len number bytes) bytes)) []) (stopped (is_skipped number) (required_len number bytes) (length bytes) h)
+    ap (λ (b : Bool). cond b (take (skipped_len number bytes) bytes ∷
+    headers_within most (get_or bytes 0 0) (drop (skipped_len number bytes) bytes)) [])
+    (stopped (is_skipped number) (required_len number bytes) (length bytes) h)
 
 -- a header of its own length, whatever follows it
-len_again : (number : ℕ) (header rest : List ℕ) → IsWhole number header → skipped_len number (header ++ rest) ≡ length header
+len_again : (number : ℕ) (header rest : List ℕ) → IsWhole number header
+    → skipped_len number (header ++ rest) ≡ length header
 len_again number header rest whole =
-    same_len number (header ++ rest) header (get_or_append_left header rest 0 1 (omega (arith, whole.begun))) ∙ sym whole.whole
+    same_len number (header ++ rest) header
+    (get_or_append_left header rest 0 1 (omega (arith, whole.begun))) ∙ sym whole.whole
 
-required_again : (number : ℕ) (header rest : List ℕ) → IsWhole number header → required_len number (header ++ rest) ≤ length (header ++ rest)
+required_again : (number : ℕ) (header rest : List ℕ) → IsWhole number header
+    → required_len number (header ++ rest) ≤ length (header ++ rest)
 required_again number header rest whole =
     let len = length-append header rest in
-    let enough : ltb (length (header ++ rest)) 2 ≡ false = le-ltb (length (header ++ rest)) 2 (omega (arith, whole.begun)) in
+    let enough : ltb (length (header ++ rest)) 2 ≡ false =
+    le-ltb (length (header ++ rest)) 2 (omega (arith, whole.begun)) in
     rw (enough, len_again number header rest whole) (omega arith)
 
 both : (a b : Bool) → a ≡ true → b ≡ true → (a && b) ≡ true
 both a b e f = rw (e, f) refl
 
-headers_one : (most number : ℕ) (header rest : List ℕ) → IsTrue (is_skipped number) → IsWhole number header → headers_within (suc most) number (header ++ rest) ≡ header ∷ headers_within most (get_or header 0 0) rest
+headers_one : (most number : ℕ) (header rest : List ℕ) → IsTrue (is_skipped number)
+    → IsWhole number header → headers_within (suc most) number (header ++ rest) ≡ header ∷
+    headers_within most (get_or header 0 0) rest
 unfolding headers_within
 headers_one most number header rest skipped whole =
     let bytes : List ℕ = header ++ rest in
-    let test = both (is_skipped number) (leb (required_len number bytes) (length bytes)) skipped (le-leb (required_len number bytes) (length bytes) (required_again number header rest whole)) in
+    let test = both (is_skipped number) (leb (required_len number bytes) (length bytes)) skipped
+    (le-leb (required_len number bytes) (length bytes)
+    (required_again number header rest whole)) in
     let len : skipped_len number bytes ≡ length header = len_again number header rest whole in
-    let front : take (skipped_len number bytes) bytes ≡ header = take_at header rest (skipped_len number bytes) (sym len) in
-    let behind : drop (skipped_len number bytes) bytes ≡ rest = drop_at header rest (skipped_len number bytes) (sym len) in
-    let first : get_or bytes 0 0 ≡ get_or header 0 0 = get_or_append_left header rest 0 0 (omega (arith, whole.begun)) in
-    ap (λ (b : Bool). cond b (take (skipped_len number bytes) bytes ∷ headers_within most (get_or bytes 0 0) (drop (skipped_len number bytes) bytes)) []) test
-    ∙ ap (λ (xs : List ℕ). xs ∷ headers_within most (get_or bytes 0 0) (drop (skipped_len number bytes) bytes)) front
+    let front : take (skipped_len number bytes) bytes ≡ header =
+    take_at header rest (skipped_len number bytes) (sym len) in
+    let behind : drop (skipped_len number bytes) bytes ≡ rest =
+    drop_at header rest (skipped_len number bytes) (sym len) in
+    let first : get_or bytes 0 0 ≡ get_or header 0 0 =
+    get_or_append_left header rest 0 0 (omega (arith, whole.begun)) in
+    ap (λ (b : Bool). cond b (take (skipped_len number bytes) bytes ∷
+    headers_within most (get_or bytes 0 0) (drop (skipped_len number bytes) bytes)) []) test
+    ∙ ap (λ (xs : List ℕ). xs ∷ headers_within most (get_or bytes 0 0)
+    (drop (skipped_len number bytes) bytes)) front
     ∙ ap (λ (xs : List ℕ). header ∷ headers_within most (get_or bytes 0 0) xs) behind
     ∙ ap (λ (n : ℕ). header ∷ headers_within most n rest) first
 
 -- the function finds the headers in a row
-found_headers : (most number : ℕ) (headers : List (List ℕ)) (last : ℕ) (rest : List ℕ) → length headers ≤ most → Skips number headers last → (IsTrue (is_skipped last) → length rest < required_len last rest) → headers_within most number (concat headers ++ rest) ≡ headers
+found_headers : (most number : ℕ) (headers : List (List ℕ)) (last : ℕ) (rest : List ℕ)
+    → length headers ≤ most → Skips number headers last
+    → (IsTrue (is_skipped last) → length rest < required_len last rest)
+    → headers_within most number (concat headers ++ rest) ≡ headers
 found_headers most number [] last rest h row ended =
-    headers_none most number rest (let P : ℕ → Type 0 = λ n. IsTrue (is_skipped n) → length rest < required_len n rest in subst P (sym row) ended)
+    headers_none most number rest (let P : ℕ → Type 0 = λ n. IsTrue (is_skipped n)
+    → length rest < required_len n rest in subst P (sym row) ended)
 found_headers zero number (header ∷ headers) last rest h row ended = absurd (omega arith)
 found_headers (suc most) number (header ∷ headers) last rest h row ended =
     ap (headers_within (suc most) number) (append_assoc header (concat headers) rest)
     ∙ headers_one most number header (concat headers ++ rest) row.0 row.1
-    ∙ ap (λ (xs : List (List ℕ)). header ∷ xs) (found_headers most (get_or header 0 0) headers last rest (omega arith) row.2 ended)
+    ∙ ap (λ (xs : List (List ℕ)). header ∷ xs)
+    (found_headers most (get_or header 0 0) headers last rest (omega arith) row.2 ended)
 
-named_last : (number : ℕ) (headers : List (List ℕ)) (last : ℕ) → Skips number headers last → named_behind number headers ≡ last
+named_last : (number : ℕ) (headers : List (List ℕ)) (last : ℕ) → Skips number headers last
+    → named_behind number headers ≡ last
 unfolding named_behind
 named_last number [] last row = row
 named_last number (header ∷ headers) last row = named_last (get_or header 0 0) headers last row.2
 
 -- a walk over headers in a row is the one that the function finds
-pub walk_headers : (number : ℕ) (bytes : List ℕ) (headers : List (List ℕ)) (last : ℕ) (rest : List ℕ) → Walk number bytes headers last rest → skipped_headers number bytes ≡ headers
+pub walk_headers : (number : ℕ) (bytes : List ℕ) (headers : List (List ℕ)) (last : ℕ)
+    (rest : List ℕ) → Walk number bytes headers last rest → skipped_headers number bytes ≡ headers
 walk_headers number bytes headers last rest walk =
-    let enough : length headers ≤ length bytes = omega (arith, eight_each number headers last walk.named, ap length walk.cut, length-append (concat headers) rest) in
-    ap (headers_within (length bytes) number) walk.cut ∙ found_headers (length bytes) number headers last rest enough walk.named walk.ended
+    let enough : length headers ≤ length bytes =
+    omega (
+      arith,
+      eight_each number headers last walk.named,
+      ap length walk.cut,
+      length-append
+          (concat headers) rest,
+    ) in
+    ap (headers_within (length bytes) number) walk.cut
+    ∙ found_headers (length bytes) number headers last rest enough walk.named walk.ended
 
-pub walk_skips : (number : ℕ) (bytes : List ℕ) (headers : List (List ℕ)) (last : ℕ) (rest : List ℕ) → Walk number bytes headers last rest → skip number bytes ≡ outcome (length (concat headers)) last rest
+pub walk_skips : (number : ℕ) (bytes : List ℕ) (headers : List (List ℕ)) (last : ℕ) (rest : List ℕ)
+    → Walk number bytes headers last rest
+    → skip number bytes ≡ outcome (length (concat headers)) last rest
 walk_skips number bytes headers last rest walk =
-    let behind : drop (length (concat headers)) bytes ≡ rest = ap (drop (length (concat headers))) walk.cut ∙ drop_at (concat headers) rest (length (concat headers)) refl in
-    ap (λ (hs : List (List ℕ)). outcome (length (concat hs)) (named_behind number hs) (drop (length (concat hs)) bytes)) (walk_headers number bytes headers last rest walk)
-    ∙ ap (λ (n : ℕ). outcome (length (concat headers)) n (drop (length (concat headers)) bytes)) (named_last number headers last walk.named)
+    let behind : drop (length (concat headers)) bytes ≡ rest =
+    ap (drop (length (concat headers))) walk.cut
+    ∙ drop_at (concat headers) rest (length (concat headers)) refl in
+    ap (λ (hs : List (List ℕ)). outcome (length (concat hs)) (named_behind number hs)
+    (drop (length (concat hs)) bytes)) (walk_headers number bytes headers last rest walk)
+    ∙ ap (λ (n : ℕ). outcome (length (concat headers)) n (drop (length (concat headers)) bytes))
+    (named_last number headers last walk.named)
     ∙ ap (outcome (length (concat headers)) last) behind
 
 -- the turns behind headers in a row
-pub turns_le : (number : ℕ) (bytes : List ℕ) (headers : List (List ℕ)) (last : ℕ) (rest : List ℕ) (turns : ℕ) → Skips number headers last → bytes ≡ concat headers ++ rest → turns ≡ length headers + 1 → 8 * turns ≤ length bytes + 8
+pub turns_le : (number : ℕ) (bytes : List ℕ) (headers : List (List ℕ)) (last : ℕ) (rest : List ℕ)
+    (turns : ℕ) → Skips number headers last → bytes ≡ concat headers ++ rest
+    → turns ≡ length headers + 1 → 8 * turns ≤ length bytes + 8
 turns_le number bytes headers last rest turns row cut counted =
-    omega (arith, eight_each number headers last row, ap length cut, length-append (concat headers) rest)
+    omega (
+      arith,
+      eight_each number headers last row,
+      ap length cut,
+      length-append
+          (concat headers) rest,
+    )
 
-pub turns_bound : (number : ℕ) (bytes : List ℕ) (headers : List (List ℕ)) (last : ℕ) (rest : List ℕ) (turns : ℕ) → Skips number headers last → bytes ≡ concat headers ++ rest → turns ≡ length headers + 1 → turns ≤ length bytes / 8 + 1
+pub turns_bound : (number : ℕ) (bytes : List ℕ) (headers : List (List ℕ)) (last : ℕ) (rest : List ℕ)
+    (turns : ℕ) → Skips number headers last → bytes ≡ concat headers ++ rest
+    → turns ≡ length headers + 1 → turns ≤ length bytes / 8 + 1
 turns_bound number bytes headers last rest turns row cut counted =
     let most = turns_le number bytes headers last rest turns row cut counted in omega arith
 
 -- one header further
-pub walk_on : (number : ℕ) (bytes : List ℕ) (headers : List (List ℕ)) (m : ℕ) (rest : List ℕ) (turns : ℕ) (header behind : List ℕ) (next : ℕ) →
+pub walk_on : (number : ℕ) (bytes : List ℕ) (headers : List (List ℕ)) (m : ℕ) (rest : List ℕ)
+    (turns : ℕ) (header behind : List ℕ) (next : ℕ) →
     Skips number headers m → bytes ≡ concat headers ++ rest → turns ≡ length headers + 1 →
     IsTrue (is_skipped m) → IsWhole m header → rest ≡ header ++ behind → next ≡ get_or header 0 0 →
-    Skips number (headers ++ header ∷ []) next × (bytes ≡ concat (headers ++ header ∷ []) ++ behind) × (turns + 1 ≡ length (headers ++ header ∷ []) + 1)
-walk_on number bytes headers m rest turns header behind next row cut counted skipped whole rest_is next_is = (
-  subst (Skips number (headers ++ header ∷ [])) (sym next_is) (skips_more number headers m header row skipped whole),
-  cut ∙ ap (λ (xs : List ℕ). concat headers ++ xs) rest_is ∙ sym (append_assoc (concat headers) header behind) ∙ ap (λ (xs : List ℕ). xs ++ behind) (sym (concat_more headers header)),
-  omega (arith, length-append headers (header ∷ [])),
-)
+    Skips number (headers ++ header ∷ []) next × (bytes ≡ concat (headers ++ header ∷ []) ++ behind)
+    × (turns + 1 ≡ length (headers ++ header ∷ []) + 1)
+walk_on number bytes headers m rest turns header behind next row cut counted skipped
+    whole rest_is next_is = (
+      subst (Skips number (headers ++ header ∷ [])) (sym next_is)
+          (skips_more number headers m header row skipped whole),
+      cut ∙ ap (λ (xs : List ℕ). concat headers ++ xs) rest_is
+          ∙ sym (append_assoc (concat headers) header behind)
+          ∙ ap (λ (xs : List ℕ). xs ++ behind) (sym (concat_more headers header)),
+      omega (arith, length-append headers (header ∷ [])),
+    )
 
 -- the same answer for every way to see the bytes as headers in a row and a rest
-pub gives_same : (number : ℕ) (bytes : List ℕ) (headers others : List (List ℕ)) (last other_last : ℕ) (rest other_rest : List ℕ) (answer : Result (IpNumber × Bor (List ℕ)) LenError) →
+pub gives_same : (number : ℕ) (bytes : List ℕ) (headers others : List (List ℕ))
+    (last other_last : ℕ) (rest other_rest : List ℕ)
+    (answer : Result (IpNumber × Bor (List ℕ)) LenError) →
     Walk number bytes headers last rest → Walk number bytes others other_last other_rest →
-    Gives (outcome (length (concat headers)) last rest) answer → Gives (outcome (length (concat others)) other_last other_rest) answer
+    Gives (outcome (length (concat headers)) last rest) answer
+    → Gives (outcome (length (concat others)) other_last other_rest) answer
 gives_same number bytes headers others last other_last rest other_rest answer walk other gives =
     subst (λ (wanted : Result (ℕ × List ℕ) LenError). Gives wanted answer)
-    (sym (walk_skips number bytes headers last rest walk) ∙ walk_skips number bytes others other_last other_rest other)
+    (sym (walk_skips number bytes headers last rest walk)
+    ∙ walk_skips number bytes others other_last other_rest other)
     gives
 
-pub ends_same : (number : ℕ) (bytes : List ℕ) (headers others : List (List ℕ)) (last other_last : ℕ) (rest other_rest : List ℕ) (answer : Result (IpNumber × Bor (List ℕ)) LenError) (turns : ℕ) →
+pub ends_same : (number : ℕ) (bytes : List ℕ) (headers others : List (List ℕ)) (last other_last : ℕ)
+    (rest other_rest : List ℕ) (answer : Result (IpNumber × Bor (List ℕ)) LenError) (turns : ℕ) →
     Walk number bytes headers last rest → Walk number bytes others other_last other_rest →
     Ends headers last rest answer turns → Ends others other_last other_rest answer turns
 ends_same number bytes headers others last other_last rest other_rest answer turns walk other ends =
-    let same = sym (walk_headers number bytes headers last rest walk) ∙ walk_headers number bytes others other_last other_rest other in
+    let same = sym (walk_headers number bytes headers last rest walk)
+    ∙ walk_headers number bytes others other_last other_rest other in
     record {
-      gives = gives_same number bytes headers others last other_last rest other_rest answer walk other ends.gives;
+      gives = gives_same number bytes headers others last other_last rest other_rest
+          answer walk other ends.gives;
       counted = ends.counted ∙ ap (λ (hs : List (List ℕ)). length hs + 1) same;
     }
 
 -- the answer is the function's
-pub gives_skip : (number : ℕ) (bytes : List ℕ) (headers : List (List ℕ)) (last : ℕ) (rest : List ℕ) (answer : Result (IpNumber × Bor (List ℕ)) LenError) →
-    Walk number bytes headers last rest → Gives (outcome (length (concat headers)) last rest) answer → Gives (skip number bytes) answer
+pub gives_skip : (number : ℕ) (bytes : List ℕ) (headers : List (List ℕ)) (last : ℕ) (rest : List ℕ)
+    (answer : Result (IpNumber × Bor (List ℕ)) LenError) →
+    Walk number bytes headers last rest → Gives (outcome (length (concat headers)) last rest) answer
+    → Gives (skip number bytes) answer
 gives_skip number bytes headers last rest answer walk gives =
-    subst (λ (wanted : Result (ℕ × List ℕ) LenError). Gives wanted answer) (sym (walk_skips number bytes headers last rest walk)) gives
+    subst (λ (wanted : Result (ℕ × List ℕ) LenError). Gives wanted answer)
+    (sym (walk_skips number bytes headers last rest walk)) gives

@@ -1,7 +1,10 @@
 -- The IPv4 header (RFC 791, section 3.1): its bytes, and each field by its place in them.
-use Rattle.std.specs.Prelude.{◌≡◌, ◌<◌, ℕ, ◌+◌, ◌*◌, ◌/◌, ◌%◌, ◌^◌, ◌≤◌, Bool, true, false, ◌==◌, ◌||◌, nat_lt, if◌then◌else◌, List, [], ◌∷◌, ◌++◌, replicate, length, slice_range, slice_index, slice_set, drop}
+use Rattle.std.specs.Prelude.{◌≡◌, ◌<◌, ℕ, ◌+◌, ◌*◌, ◌/◌, ◌%◌, ◌^◌, ◌≤◌, Bool, true, false, ◌==◌}
+use Rattle.std.specs.Prelude.{◌||◌, nat_lt, if◌then◌else◌, List, [], ◌∷◌, ◌++◌, replicate, length}
+use Rattle.std.specs.Prelude.{slice_range, slice_index, slice_set, drop}
 use Rattle.std.specs.Int.{bit_at, w16, to_be_bytes}
 use Rattle.ep_base.specs.Bytes.{num}
+use Rattle.ep_base.specs.Fronts.{IsReadAs}
 use Rattle.ep_base.specs.IpEcn.{ecn_number}
 use Rattle.ep_base.specs.IpEcn.{ecn_of as ecn_value}
 use Rattle.ep_base.specs.declared.net.ip_ecn.IpEcn.{IpEcn}
@@ -67,8 +70,8 @@ abbrev pub options_of : List ℕ → List ℕ
 options_of bytes = drop 20 bytes
 
 -- the fields that these bytes spell
-abbrev pub header_of : List ℕ → Ipv4Header
-header_of bytes = record {
+abbrev pub ipv4_header_of : List ℕ → Ipv4Header
+ipv4_header_of bytes = record {
   dscp = dscp_of bytes;
   ecn = ecn_of bytes;
   total_len = total_len_of bytes;
@@ -111,13 +114,15 @@ header_len h = 20 + length h.options
 
 -- the two flags and the offset, below the reserved bit, which is 0
 abbrev pub flags_and_offset : Ipv4Header → ℕ
-flags_and_offset h = (if h.dont_fragment then 2 ^ 14 else 0) + (if h.more_fragments then 2 ^ 13 else 0) + h.fragment_offset
+flags_and_offset h = (if h.dont_fragment then 2 ^ 14 else 0) +
+    (if h.more_fragments then 2 ^ 13 else 0) + h.fragment_offset
 
 -- the bytes of a header
 abbrev pub spelling : Ipv4Header → List ℕ
 spelling h =
     (4 * 16 + ihl h) ∷ (4 * h.dscp + ecn_number h.ecn)
-    ∷ (to_be_bytes w16 h.total_len ++ to_be_bytes w16 h.identification ++ to_be_bytes w16 (flags_and_offset h)
+    ∷ (to_be_bytes w16 h.total_len ++ to_be_bytes w16 h.identification
+    ++ to_be_bytes w16 (flags_and_offset h)
     ++ h.time_to_live ∷ h.protocol.0 ∷ to_be_bytes w16 h.header_checksum
     ++ h.source ++ h.destination ++ h.options)
 
@@ -127,12 +132,8 @@ with_reserved_bit_zero bytes = slice_set bytes 6 (slice_index bytes 6 % 2 ^ 7)
 
 -- in front of the rest stood a header, with these fields; written again it is the same, but for
 -- the reserved bit
-pub record IsRead (bytes : List ℕ) (h : Ipv4Header) (rest : List ℕ) : Type 0 where
-  pub front : List ℕ
-  pub header : IsIpv4Header front
-  pub place : bytes ≡ front ++ rest
-  pub fields : h ≡ header_of front
-  pub again : spelling h ≡ with_reserved_bit_zero front
+abbrev pub IsRead : List ℕ → Ipv4Header → List ℕ → Type 0
+IsRead = IsReadAs IsIpv4Header ipv4_header_of spelling with_reserved_bit_zero
 
 -- the ranges of the fields
 pub record Fits (h : Ipv4Header) : Type 0 where

@@ -11,4 +11,5 @@ right_checksum h = checksum (spelling (record h { header_checksum = 0 }))
 
 -- the field holds it, or ffff, the other zero of a ones-complement sum, in the place of 0
 abbrev pub HasRightChecksum : Ipv4Header → Type 0
-HasRightChecksum h = (h.header_checksum ≡ right_checksum h) ⊎ ((right_checksum h ≡ 0) × (h.header_checksum ≡ 65535))
+HasRightChecksum h = (h.header_checksum ≡ right_checksum h)
+    ⊎ ((right_checksum h ≡ 0) × (h.header_checksum ≡ 65535))

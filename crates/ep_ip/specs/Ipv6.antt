@@ -1,9 +1,11 @@
 -- The IPv6 header (RFC 8200, section 3): its bytes, and each field by its place in them. The
--- traffic class is the differentiated services code point, 6 bits (RFC 2474, section 3), and explicit
--- congestion notification, 2 bits (RFC 3168, section 5).
-use Rattle.std.specs.Prelude.{◌≡◌, ℕ, ◌+◌, ◌*◌, ◌/◌, ◌%◌, ◌^◌, ◌<◌, List, [], ◌∷◌, ◌++◌, length, slice_range}
+-- traffic class is the differentiated services code point, 6 bits (RFC 2474, section 3), and
+-- explicit congestion notification, 2 bits (RFC 3168, section 5).
+use Rattle.std.specs.Prelude.{◌≡◌, ℕ, ◌+◌, ◌*◌, ◌/◌, ◌%◌, ◌^◌, ◌<◌, List, [], ◌∷◌, ◌++◌, length}
+use Rattle.std.specs.Prelude.{slice_range}
 use Rattle.std.specs.Int.{w16, w32, to_be_bytes}
 use Rattle.ep_base.specs.Bytes.{num}
+use Rattle.ep_base.specs.Fronts.{IsReadAs}
 use Rattle.ep_base.specs.IpEcn.{ecn_of}
 use Rattle.ep_base.specs.declared.net.ip_ecn.IpEcn.{IpEcn}
 use Rattle.ep_ip.specs.declared.net.ipv6_header.Ipv6Header.{Ipv6Header}
@@ -41,8 +43,8 @@ pub record IsIpv6Header (bytes : List ℕ) : Type 0 where
   pub whole : length bytes ≡ 40
 
 -- the header that these bytes spell
-abbrev pub header_of : List ℕ → Ipv6Header
-header_of bytes = record {
+abbrev pub ipv6_header_of : List ℕ → Ipv6Header
+ipv6_header_of bytes = record {
   traffic_class = traffic_class_of bytes;
   flow_label = flow_label_of bytes;
   payload_length = payload_length_of bytes;
@@ -55,16 +57,13 @@ header_of bytes = record {
 -- the bytes of a header
 abbrev pub spelling : Ipv6Header → List ℕ
 spelling h =
-    to_be_bytes w32 (6 * 2 ^ 28 + h.traffic_class * 2 ^ 20 + h.flow_label) ++ to_be_bytes w16 h.payload_length
+    to_be_bytes w32 (6 * 2 ^ 28 + h.traffic_class * 2 ^ 20 + h.flow_label)
+    ++ to_be_bytes w16 h.payload_length
     ++ h.next_header.0 ∷ h.hop_limit ∷ [] ++ h.source ++ h.destination
 
 -- the header h is read at the front of the bytes, and rest stands behind it
-pub record IsRead (bytes : List ℕ) (h : Ipv6Header) (rest : List ℕ) : Type 0 where
-  pub front : List ℕ
-  pub header : IsIpv6Header front
-  pub place : bytes ≡ front ++ rest
-  pub fields : h ≡ header_of front
-  pub again : spelling h ≡ front
+abbrev pub IsRead : List ℕ → Ipv6Header → List ℕ → Type 0
+IsRead = IsReadAs IsIpv6Header ipv6_header_of spelling (λ front. front)
 
 -- the differentiated services code point and explicit congestion notification in a traffic class
 abbrev pub dscp_in : ℕ → ℕ

@@ -12,4 +12,5 @@ pseudo_v4 source destination number len = source ++ destination ++ 0 ∷ number 
 -- over IPv6: two addresses of 16 bytes, the length modulo 2 to the 32 in 4 bytes, high byte first,
 -- three zero bytes, and the number
 abbrev pub pseudo_v6 : List ℕ → List ℕ → ℕ → ℕ → List ℕ
-pseudo_v6 source destination number len = source ++ destination ++ to_be_bytes w32 len ++ 0 ∷ 0 ∷ 0 ∷ number ∷ []
+pseudo_v6 source destination number len = source ++ destination ++ to_be_bytes w32 len
+    ++ 0 ∷ 0 ∷ 0 ∷ number ∷ []

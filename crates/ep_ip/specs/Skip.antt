@@ -1,12 +1,14 @@
 -- The walk over IPv6 extension headers (RFC 8200, section 4; RFC 6564, section 4; for the
 -- authentication header RFC 4302, section 2.2).
-use Rattle.std.specs.Prelude.{◌≡◌, ℕ, zero, suc, ◌+◌, ◌*◌, ◌<◌, ◌≤◌, Bool, IsTrue, ◌==◌, ◌&&◌, nat_lt, nat_le, if◌then◌else◌, List, [], ◌∷◌, ◌++◌, length, take, drop, Result, Ok, Err}
+use Rattle.std.specs.Prelude.{◌≡◌, ℕ, zero, suc, ◌+◌, ◌*◌, ◌<◌, ◌≤◌, Bool, IsTrue, ◌==◌, ◌&&◌}
+use Rattle.std.specs.Prelude.{nat_lt, nat_le, if◌then◌else◌, List, [], ◌∷◌, ◌++◌, length, take}
+use Rattle.std.specs.Prelude.{drop, Result, Ok, Err}
 use Rattle.std.specs.List.{list_any, concat}
 use Rattle.std.specs.Borrow.{Bor}
 use Rattle.ep_base.specs.Bytes.{num}
+use Rattle.ep_base.specs.LenError.{too_few_bytes}
 use Rattle.ep_base.specs.declared.err.layer.Layer.TheVariants.{Ipv6ExtHeader}
 use Rattle.ep_base.specs.declared.err.len_error.LenError.{LenError}
-use Rattle.ep_base.specs.declared.len_source.LenSource.TheVariants.{Slice}
 use Rattle.ep_base.specs.declared.net.ip_number.IpNumber.{IpNumber}
 
 -- the numbers of the headers that are skipped: hop-by-hop options, routing, fragment,
@@ -23,7 +25,8 @@ is_skipped number = list_any (λ n. number == n) skipped_numbers
 -- every other header words of 8 without the first
 abbrev pub skipped_len : ℕ → List ℕ → ℕ
 skipped_len number bytes =
-    if number == 44 then 8 else (if number == 51 then (num bytes 1 1 + 2) * 4 else (num bytes 1 1 + 1) * 8)
+    if number == 44 then 8 else (if number == 51 then (num bytes 1 1 + 2) * 4
+    else (num bytes 1 1 + 1) * 8)
 
 -- how many bytes are needed: two, to know the length, and then the header's length
 abbrev pub required_len : ℕ → List ℕ → ℕ
@@ -38,35 +41,35 @@ pub record IsWhole (number : ℕ) (header : List ℕ) : Type 0 where
 -- one names the last number
 abbrev pub Skips : ℕ → List (List ℕ) → ℕ → Type 0
 Skips number [] last = number ≡ last
-Skips number (header ∷ headers) last = IsTrue (is_skipped number) × IsWhole number header × Skips (num header 0 1) headers last
+Skips number (header ∷ headers) last = IsTrue (is_skipped number) × IsWhole number header
+    × Skips (num header 0 1) headers last
 
 -- the bytes are headers in a row and a rest, and the rest begins with no whole header that is
 -- skipped
-pub record Walk (number : ℕ) (bytes : List ℕ) (headers : List (List ℕ)) (last : ℕ) (rest : List ℕ) : Type 0 where
+pub record Walk (number : ℕ) (bytes : List ℕ) (headers : List (List ℕ)) (last : ℕ)
+    (rest : List ℕ) : Type 0 where
   pub named : Skips number headers last
   pub cut : bytes ≡ concat headers ++ rest
   pub ended : IsTrue (is_skipped last) → length rest < required_len last rest
 
 -- the header of this number at this offset is not whole
 abbrev pub not_whole : ℕ → ℕ → List ℕ → LenError
-not_whole offset number bytes = record {
-  required_len = required_len number bytes;
-  len = length bytes;
-  len_source = Slice;
-  layer = Ipv6ExtHeader;
-  layer_start_offset = offset;
-}
+not_whole offset number bytes =
+    record (too_few_bytes Ipv6ExtHeader (required_len number bytes) (length bytes))
+    { layer_start_offset = offset }
 
 -- what the walk gives at its end, behind so many bytes
 abbrev pub outcome : ℕ → ℕ → List ℕ → Result (ℕ × List ℕ) LenError
-outcome offset last rest = if is_skipped last then Err (not_whole offset last rest) else Ok (last, rest)
+outcome offset last rest = if is_skipped last then Err (not_whole offset last rest)
+    else Ok (last, rest)
 
 -- the headers in a row at the front of the bytes, at most so many
 unfoldable pub headers_within : ℕ → ℕ → List ℕ → List (List ℕ)
 headers_within zero number bytes = []
 headers_within (suc most) number bytes =
     if is_skipped number && nat_le (required_len number bytes) (length bytes)
-    then take (skipped_len number bytes) bytes ∷ headers_within most (num bytes 0 1) (drop (skipped_len number bytes) bytes)
+    then take (skipped_len number bytes) bytes ∷
+    headers_within most (num bytes 0 1) (drop (skipped_len number bytes) bytes)
     else []
 
 -- all of them: none is empty, so that they are no more than the bytes
@@ -93,6 +96,7 @@ Gives wanted (Err e) = wanted ≡ Err e
 
 -- what is answered behind these headers, after one turn for each of them and one for the number at
 -- which the walk ends
-pub record Ends (headers : List (List ℕ)) (last : ℕ) (rest : List ℕ) (answer : Result (IpNumber × Bor (List ℕ)) LenError) (turns : ℕ) : Type 0 where
+pub record Ends (headers : List (List ℕ)) (last : ℕ) (rest : List ℕ)
+    (answer : Result (IpNumber × Bor (List ℕ)) LenError) (turns : ℕ) : Type 0 where
   pub gives : Gives (outcome (length (concat headers)) last rest) answer
   pub counted : turns ≡ length headers + 1

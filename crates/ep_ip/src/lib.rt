@@ -1,5 +1,5 @@
-//! IP base headers, each seen as its bytes by position, and read and written both ways; and the walk
-//! over IPv6 extension headers.
+//! IP base headers, each seen as its bytes by position, and read and written both ways; and the
+//! walk over IPv6 extension headers.
 #![tactic(auto)]
 
 pub mod checksum;

@@ -248,7 +248,8 @@ const BYTES_WITHOUT_OPTIONS: [u8; 20] = [
     0x45, 0, 0, 28, 0, 0, 0x40, 0, 64, 17, 0x26, 0xcf, 10, 0, 0, 1, 10, 0, 0, 2,
 ];
 
-// The header behind a byte that is there, with the checksum that is computed, and once more with its own.
+// The header behind a byte that is there, with the checksum that is computed, and once more with
+// its own.
 fn written_twice(alloc: Global, header: &Ipv4Header) -> Result<Vec<u8>, AllocError> {
     let mut buffer = Vec::new(alloc);
     buffer.push(9)?;

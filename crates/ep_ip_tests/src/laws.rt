@@ -16,7 +16,5 @@ fn laws_are_called(rt: HostRuntime) {
     examples::walks();
     examples::fields_without_the_reserved_bit();
     examples::walk_over_two_headers();
-    traits::copies_are_values();
-    traits::copies_never_fail();
-    traits::equals_are_same();
+    traits::types_are_plain_data();
 }

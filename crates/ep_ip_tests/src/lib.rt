@@ -1,5 +1,5 @@
-//! Tests of `ep_ip` over its public calls. They stand in a crate of their own, so that they are proved beside it
-//! and not with each of its functions once more.
+//! Tests of `ep_ip` over its public calls. They stand in a crate of their own, so that they are
+//! proved beside it and not with each of its functions once more.
 #![tactic(auto)]
 
 #[cfg(test)]

@@ -1,34 +1,43 @@
 -- What is found at the front of bytes stands there.
-use Rattle.std.proofs.Common.{◌≡◌, ◌∙◌, sym, ap, subst, refl, ℕ, zero, suc, ◌+◌, ◌-◌, ◌≤◌, ◌<◌, ◌/◌, ◌==◌, Bool, true, false, List, [], ◌∷◌, ◌++◌, length, take, drop, get_or, Option, Some, None, Result, Ok, Err, arith, append_assoc, append-nil, length-append, take-append-drop}
+use Rattle.std.proofs.Common.{◌≡◌, ◌∙◌, sym, ap, subst, refl, ℕ, zero, suc, ◌-◌, ◌≤◌, ◌<◌, ◌/◌}
+use Rattle.std.proofs.Common.{◌==◌, Bool, true, false, List, [], ◌∷◌, ◌++◌, length, take, drop}
+use Rattle.std.proofs.Common.{get_or, Option, Some, None, Result, Ok, Err, arith, append_assoc}
+use Rattle.std.proofs.Common.{append-nil, length-append, take-append-drop}
 use Rattle.std.specs.Prelude.{nat_lt, not, if◌then◌else◌}
 use Rattle.std.proofs.lemmas.Bool.{ltb-false, eqb-true}
+use Rattle.std.proofs.lemmas.Option.{none-some, same_Some}
 use Rattle.std.proofs.lemmas.List.{drop_at, get_or-take, length-drop, length-take-le}
+use Rattle.ep_base.proofs.Fronts.{ok_same}
 use Rattle.ep_base.specs.Bytes.{num}
 use Rattle.ep_ext.specs.Chain.{Fault, IsPiece, Row, fault_at, fault_in, front_of, layer_of}
-use Rattle.ep_ext.specs.Follow.{has_place}
 use Rattle.ep_ext.specs.Place.{Order}
 use Rattle.ep_ext.specs.Value.{Piece, bytes_of, places}
 use Rattle.ep_base.specs.declared.err.layer.Layer.{Layer}
-use Rattle.ep_ext.specs.declared.err.ipv6_exts.header_slice_error.HeaderSliceError.{HeaderSliceError}
+use Rattle.ep_base.specs.declared.err.slice_error.SliceError.{SliceError as HeaderSliceError}
+use Rattle.ep_ext.specs.declared.err.ipv6_exts.header_error.HeaderError.{HeaderError}
 use Rattle.ep_ext.specs.declared.net.ipv6_ext_place.Ipv6ExtPlace.{Ipv6ExtPlace}
-use Rattle.ep_ext.specs.declared.net.ipv6_ext_place.Ipv6ExtPlace.TheVariants.{HopByHop, Destination, Routing, Fragment, Authentication, FinalDestination}
+use Rattle.ep_ext.specs.declared.net.ipv6_ext_place.Ipv6ExtPlace.TheVariants.{HopByHop, Destination}
+use Rattle.ep_ext.specs.declared.net.ipv6_ext_place.Ipv6ExtPlace.TheVariants.{Routing, Fragment}
+use Rattle.ep_ext.specs.declared.net.ipv6_ext_place.Ipv6ExtPlace.TheVariants.{Authentication}
+use Rattle.ep_ext.specs.declared.net.ipv6_ext_place.Ipv6ExtPlace.TheVariants.{FinalDestination}
 use Rattle.ep_ip.specs.Ipv6.{IsIpv6Header, next_header_of, version_of}
-use Rattle.ep_ip.specs.Ipv6Fault.{header_at, too_short}
-use Rattle.ep_ip.specs.declared.err.ipv6.header_error.HeaderError.TheVariants.{UnexpectedVersion}
-use Rattle.ep_ip.specs.declared.err.ipv6.header_slice_error.HeaderSliceError.{HeaderSliceError as HeaderFault}
-use Rattle.ep_ip.specs.declared.err.ipv6.header_slice_error.HeaderSliceError.TheVariants.{Content}
+use Rattle.ep_ip.specs.Ipv6Fault.{header_at}
+use Rattle.ep_ip.specs.declared.err.ipv6.header_error.HeaderError.{HeaderError as HeaderFault}
 use Rattle.ep_ipslice.specs.Ipv6Exts.{view_order}
-use Rattle.ep_ipslice.specs.Ipv6Fault.{not_whole, of_exts_fault, of_header_fault}
-use Rattle.ep_ipslice.specs.Ipv6Packet.{body_of, extensions_of, fault_behind, ipv6_packet_at, number_behind, packet_behind, packet_of, packet_unless, packet_with, rest_behind}
+use Rattle.ep_ipslice.specs.Ipv6Fault.{not_whole}
+use Rattle.ep_ipslice.specs.Ipv6Packet.{body_of, extensions_of, fault_behind, ipv6_packet_at}
+use Rattle.ep_ipslice.specs.Ipv6Packet.{number_behind, packet_behind, packet_of, packet_unless}
+use Rattle.ep_ipslice.specs.Ipv6Packet.{rest_behind}
 use Rattle.ep_ipslice.specs.Ipv6Walk.{front_piece, piece_then, pieces_within, whole_piece}
-use Rattle.ep_ipslice.specs.Packet.{Ipv6Packet, IsIpv6Packet, body_len, body_source}
+use Rattle.ep_ipslice.specs.Packet.{Ipv6Packet, IsIpv6Packet, body_len}
 use Rattle.ep_ipslice.specs.declared.err.ipv6.slice_error.SliceError.{SliceError}
 use Rattle.ep_ipslice.specs.declared.err.ipv6.slice_error.SliceError.TheVariants.{Len}
 use Rattle.ep_ipslice.proofs.Fronts.{front_begins}
 use Rattle.ep_ipslice.proofs.Ipv6Parts.{closed_all, not_misplaced}
 
 -- these headers in a row begin the bytes, and no other follows them
-record IsWalk (order : Order) (passed : List Ipv6ExtPlace) (number : ℕ) (bytes : List ℕ) (pieces : List Piece) : Type 0 where
+record IsWalk (order : Order) (passed : List Ipv6ExtPlace) (number : ℕ) (bytes : List ℕ)
+    (pieces : List Piece) : Type 0 where
   rest : List ℕ
   row : Row order passed number pieces (number_behind number pieces)
   cut : bytes ≡ bytes_of pieces ++ rest
@@ -49,106 +58,159 @@ record IsFront (place : Option Ipv6ExtPlace) (bytes : List ℕ) (piece : Piece) 
   behind : List ℕ
   cut : bytes ≡ piece.1 ++ behind
 
-some_same : (p q : Piece) → Some p ≡ Some q → p ≡ q
-some_same p q is = cc
-
-none_found : (piece : Piece) → ◌≡◌ {A = Option Piece} None (Some piece) → ⊥
-none_found piece is = cc
-
-front_at : (place : Ipv6ExtPlace) (bytes : List ℕ) (r : Result (List ℕ) HeaderSliceError) (piece : Piece) → front_of place bytes ≡ r → whole_piece place r ≡ Some piece → IsFront (Some place) bytes piece
+front_at : (place : Ipv6ExtPlace) (bytes : List ℕ)
+    (r : Result (List ℕ) (HeaderSliceError HeaderError)) (piece : Piece) → front_of place bytes ≡ r
+    → whole_piece place r ≡ Some piece → IsFront (Some place) bytes piece
 front_at place bytes (Ok header) piece at is =
     let begins = front_begins place bytes header at in
-    subst (IsFront (Some place) bytes) (some_same (place, header) piece is) (record { named = refl; is = begins.0; behind = begins.1.0; cut = begins.1.1 })
-front_at place bytes (Err e) piece at is = absurd (none_found piece is)
+    subst (IsFront (Some place) bytes) (same_Some (place, header) piece is)
+    (record { named = refl; is = begins.0; behind = begins.1.0; cut = begins.1.1 })
+front_at place bytes (Err e) piece at is = absurd (none-some piece is)
 
-front_is : (place : Option Ipv6ExtPlace) (bytes : List ℕ) (piece : Piece) → front_piece place bytes ≡ Some piece → IsFront place bytes piece
-front_is None bytes piece is = absurd (none_found piece is)
+front_is : (place : Option Ipv6ExtPlace) (bytes : List ℕ) (piece : Piece)
+    → front_piece place bytes ≡ Some piece → IsFront place bytes piece
+front_is None bytes piece is = absurd (none-some piece is)
 front_is (Some place) bytes piece is = front_at place bytes (front_of place bytes) piece refl is
 
 -- no bytes begin with a piece
-none_begins : (place : Option Ipv6ExtPlace) (bytes : List ℕ) (o : Option Piece) → front_piece place bytes ≡ o → length bytes ≤ 0 → o ≡ None
+none_begins : (place : Option Ipv6ExtPlace) (bytes : List ℕ) (o : Option Piece)
+    → front_piece place bytes ≡ o → length bytes ≤ 0 → o ≡ None
 none_begins place bytes None at none = refl
 none_begins place bytes (Some piece) at none =
     let front = front_is place bytes piece at in
-    absurd (omega (arith, none, piece_len piece.0 piece.1 front.is, ap length front.cut, length-append piece.1 front.behind))
+    absurd (omega (
+      arith,
+      none,
+      piece_len piece.0 piece.1 front.is,
+      ap length
+          front.cut,
+      length-append piece.1 front.behind,
+    ))
 
-walk_ends : (order : Order) (passed : List Ipv6ExtPlace) (number : ℕ) (bytes : List ℕ) → front_piece (order passed number) bytes ≡ None → IsWalk order passed number bytes []
+walk_ends : (order : Order) (passed : List Ipv6ExtPlace) (number : ℕ) (bytes : List ℕ)
+    → front_piece (order passed number) bytes ≡ None → IsWalk order passed number bytes []
 walk_ends order passed number bytes none = record {
   rest = bytes;
   row = refl;
   cut = refl;
-  ended = ap (λ (ps : List Ipv6ExtPlace). front_piece (order ps number) bytes) (append-nil passed) ∙ none;
+  ended = ap (λ (ps : List Ipv6ExtPlace). front_piece (order ps number) bytes)
+      (append-nil passed) ∙ none;
 }
 
-walk_more : (order : Order) (passed : List Ipv6ExtPlace) (number : ℕ) (bytes : List ℕ) (piece : Piece) (pieces : List Piece) (front : IsFront (order passed number) bytes piece) →
-    IsWalk order (passed ++ piece.0 ∷ []) (num piece.1 0 1) front.behind pieces → IsWalk order passed number bytes (piece ∷ pieces)
+walk_more : (order : Order) (passed : List Ipv6ExtPlace) (number : ℕ) (bytes : List ℕ)
+    (piece : Piece) (pieces : List Piece) (front : IsFront (order passed number) bytes piece) →
+    IsWalk order (passed ++ piece.0 ∷ []) (num piece.1 0 1) front.behind pieces
+    → IsWalk order passed number bytes (piece ∷ pieces)
 walk_more order passed number bytes piece pieces front walk = record {
   rest = walk.rest;
   row = (front.named, front.is, walk.row);
-  cut = front.cut ∙ ap (λ (xs : List ℕ). piece.1 ++ xs) walk.cut ∙ sym (append_assoc piece.1 (bytes_of pieces) walk.rest);
-  ended = ap (λ (ps : List Ipv6ExtPlace). front_piece (order ps (number_behind (num piece.1 0 1) pieces)) walk.rest) (sym (append_assoc passed (piece.0 ∷ []) (places pieces))) ∙ walk.ended;
+  cut = front.cut ∙ ap (λ (xs : List ℕ). piece.1 ++ xs) walk.cut
+      ∙ sym (append_assoc piece.1 (bytes_of pieces) walk.rest);
+  ended = ap (λ (ps : List Ipv6ExtPlace). front_piece
+      (order ps (number_behind (num piece.1 0 1) pieces)) walk.rest)
+      (sym (append_assoc passed (piece.0 ∷ []) (places pieces))) ∙ walk.ended;
 }
 
 walk_then : (order : Order) (passed : List Ipv6ExtPlace) (number : ℕ) (bytes : List ℕ) (most : ℕ) →
-    ((ps : List Ipv6ExtPlace) (n : ℕ) (xs : List ℕ) → length xs ≤ most → IsWalk order ps n xs (pieces_within most order ps n xs)) → length bytes ≤ suc most →
+    ((ps : List Ipv6ExtPlace) (n : ℕ) (xs : List ℕ) → length xs ≤ most
+    → IsWalk order ps n xs (pieces_within most order ps n xs)) → length bytes ≤ suc most →
     (o : Option Piece) → front_piece (order passed number) bytes ≡ o →
-    IsWalk order passed number bytes (piece_then o (λ (piece : Piece). pieces_within most order (passed ++ piece.0 ∷ []) (num piece.1 0 1) (drop (length piece.1) bytes)))
-walk_then order passed number bytes most further fits None at = walk_ends order passed number bytes at
+    IsWalk order passed number bytes
+    (piece_then o (λ (piece : Piece). pieces_within most order (passed ++ piece.0 ∷ [])
+    (num piece.1 0 1) (drop (length piece.1) bytes)))
+walk_then order passed number bytes most further fits None at =
+    walk_ends order passed number bytes at
 walk_then order passed number bytes most further fits (Some piece) at =
     let front = front_is (order passed number) bytes piece at in
     let ps : List Ipv6ExtPlace = passed ++ piece.0 ∷ [] in
     let n : ℕ = num piece.1 0 1 in
-    let left : drop (length piece.1) bytes ≡ front.behind = ap (drop (length piece.1)) front.cut ∙ drop_at piece.1 front.behind (length piece.1) refl in
-    let less : length front.behind ≤ most = omega (arith, fits, piece_len piece.0 piece.1 front.is, ap length front.cut, length-append piece.1 front.behind) in
-    walk_more order passed number bytes piece (pieces_within most order ps n (drop (length piece.1) bytes)) front
-    (subst (λ (xs : List ℕ). IsWalk order ps n front.behind (pieces_within most order ps n xs)) (sym left) (further ps n front.behind less))
+    let left : drop (length piece.1) bytes ≡ front.behind =
+    ap (drop (length piece.1)) front.cut ∙ drop_at piece.1 front.behind (length piece.1) refl in
+    let less : length front.behind ≤ most =
+    omega (
+      arith,
+      fits,
+      piece_len piece.0 piece.1 front.is,
+      ap length front.cut,
+      length-append
+          piece.1 front.behind,
+    ) in
+    walk_more order passed number bytes piece
+    (pieces_within most order ps n (drop (length piece.1) bytes)) front
+    (subst (λ (xs : List ℕ). IsWalk order ps n front.behind (pieces_within most order ps n xs))
+    (sym left) (further ps n front.behind less))
 
-walk : (most : ℕ) (order : Order) (passed : List Ipv6ExtPlace) (number : ℕ) (bytes : List ℕ) → length bytes ≤ most → IsWalk order passed number bytes (pieces_within most order passed number bytes)
+walk : (most : ℕ) (order : Order) (passed : List Ipv6ExtPlace) (number : ℕ) (bytes : List ℕ)
+    → length bytes ≤ most → IsWalk order passed number bytes
+    (pieces_within most order passed number bytes)
 unfolding pieces_within
-walk zero order passed number bytes fits = walk_ends order passed number bytes (none_begins (order passed number) bytes (front_piece (order passed number) bytes) refl fits)
-walk (suc most) order passed number bytes fits = walk_then order passed number bytes most (walk most order) fits (front_piece (order passed number) bytes) refl
+walk zero order passed number bytes fits =
+    walk_ends order passed number bytes
+    (none_begins (order passed number) bytes (front_piece (order passed number) bytes) refl fits)
+walk (suc most) order passed number bytes fits =
+    walk_then order passed number bytes most (walk most order) fits
+    (front_piece (order passed number) bytes) refl
 
 -- headers that end at no fault end at a number that names none
-whole_found : (layer : Layer) (place : Ipv6ExtPlace) (r : Result (List ℕ) HeaderSliceError) (offset : ℕ) → whole_piece place r ≡ None → fault_in layer offset r ≡ None → ⊥
+whole_found : (layer : Layer) (place : Ipv6ExtPlace)
+    (r : Result (List ℕ) (HeaderSliceError HeaderError)) (offset : ℕ) → whole_piece place r ≡ None
+    → fault_in layer offset r ≡ None → ⊥
 whole_found layer place (Ok header) offset none fault = cc
 whole_found layer place (Err e) offset none fault = cc
 
-none_open : (place : Option Ipv6ExtPlace) (last : ℕ) (rest : List ℕ) (offset : ℕ) → front_piece place rest ≡ None → fault_at offset place last rest ≡ None → (place ≡ None) × ((last == 0) ≡ false)
+none_open : (place : Option Ipv6ExtPlace) (last : ℕ) (rest : List ℕ) (offset : ℕ)
+    → front_piece place rest ≡ None → fault_at offset place last rest ≡ None
+    → (place ≡ None) × ((last == 0) ≡ false)
 none_open None last rest offset none fault = (refl, not_misplaced (last == 0) _ fault)
-none_open (Some place) last rest offset none fault = absurd (whole_found (layer_of place) place (front_of place rest) offset none fault)
-
-ok_same : {A E : Type 0} (x y : A) → ◌≡◌ {A = Result A E} (Ok x) (Ok y) → x ≡ y
-ok_same x y is = cc
+none_open (Some place) last rest offset none fault =
+    absurd (whole_found (layer_of place) place (front_of place rest) offset none fault)
 
 -- the header at the front of bytes
-header_cases : (short six : Bool) (bytes header : List ℕ) → nat_lt (length bytes) 40 ≡ short → (version_of bytes == 6) ≡ six →
-    (if short then Err (too_short bytes) else (if not six then Err (Content (UnexpectedVersion (version_of bytes))) else Ok (take 40 bytes))) ≡ Ok header →
+header_cases : (short six : Bool) (bytes header : List ℕ) (e f : HeaderSliceError HeaderFault)
+    → nat_lt (length bytes) 40 ≡ short → (version_of bytes == 6) ≡ six →
+    (if short then Err e else (if not six then Err f else Ok (take 40 bytes))) ≡ Ok header →
     IsIpv6Header header × (bytes ≡ header ++ drop 40 bytes)
-header_cases true six bytes header fits version is = cc
-header_cases false false bytes header fits version is = cc
-header_cases false true bytes header fits version is =
-    let same : take 40 bytes ≡ header = ok_same {E = HeaderFault} (take 40 bytes) header is in
-    let first : get_or (take 40 bytes) 0 0 ≡ get_or bytes 0 0 = get_or-take 40 bytes 0 0 (omega arith) in (
-      subst IsIpv6Header same (record { version = ap (λ (n : ℕ). n / 16) first ∙ eqb-true (version_of bytes) 6 version; whole = length-take-le 40 bytes (ltb-false (length bytes) 40 fits) }),
+header_cases true six bytes header e f fits version is = cc
+header_cases false false bytes header e f fits version is = cc
+header_cases false true bytes header e f fits version is =
+    let same : take 40 bytes ≡ header =
+    ok_same {E = HeaderSliceError HeaderFault} (take 40 bytes) header is in
+    let first : get_or (take 40 bytes) 0 0 ≡ get_or bytes 0 0 =
+    get_or-take 40 bytes 0 0 (omega arith) in (
+      subst IsIpv6Header same
+          (record {
+            version = ap (λ (n : ℕ). n / 16) first ∙ eqb-true (version_of bytes) 6 version;
+            whole = length-take-le 40 bytes (ltb-false (length bytes) 40 fits);
+          }),
       sym (take-append-drop 40 bytes) ∙ ap (λ (xs : List ℕ). xs ++ drop 40 bytes) same,
     )
 
-header_found : (bytes header : List ℕ) → header_at bytes ≡ Ok header → IsIpv6Header header × (bytes ≡ header ++ drop 40 bytes)
-header_found bytes header is = header_cases (nat_lt (length bytes) 40) (version_of bytes == 6) bytes header refl refl is
+header_found : (bytes header : List ℕ) → header_at bytes ≡ Ok header
+    → IsIpv6Header header × (bytes ≡ header ++ drop 40 bytes)
+header_found bytes header is = header_cases (nat_lt (length bytes) 40)
+    (version_of bytes == 6) bytes header _ _ refl refl is
 
 short_cases : (short : Bool) (bytes header : List ℕ) (pieces : List Piece) (packet : Ipv6Packet) →
-    (if short then Err (Len (not_whole header (length bytes))) else packet_unless bytes header pieces (fault_behind bytes header pieces)) ≡ Ok packet →
-    (short ≡ false) × (packet_unless bytes header pieces (fault_behind bytes header pieces) ≡ Ok packet)
+    (if short then Err (Len (not_whole header (length bytes)))
+    else packet_unless bytes header pieces (fault_behind bytes header pieces)) ≡ Ok packet →
+    (short ≡ false)
+    × (packet_unless bytes header pieces (fault_behind bytes header pieces) ≡ Ok packet)
 short_cases true bytes header pieces packet is = cc
 short_cases false bytes header pieces packet is = (refl, is)
 
-unless_cases : (bytes header : List ℕ) (pieces : List Piece) (o : Option Fault) (packet : Ipv6Packet) → packet_unless bytes header pieces o ≡ Ok packet → (o ≡ None) × (packet_of bytes header pieces ≡ packet)
-unless_cases bytes header pieces None packet is = (refl, ok_same {E = SliceError} (packet_of bytes header pieces) packet is)
+unless_cases : (bytes header : List ℕ) (pieces : List Piece) (o : Option Fault)
+    (packet : Ipv6Packet) → packet_unless bytes header pieces o ≡ Ok packet
+    → (o ≡ None) × (packet_of bytes header pieces ≡ packet)
+unless_cases bytes header pieces None packet is =
+    (refl, ok_same {E = SliceError} (packet_of bytes header pieces) packet is)
 unless_cases bytes header pieces (Some fault) packet is = cc
 
 -- the packet of a header and of what is found behind it
-packet_stands : (bytes header : List ℕ) → IsIpv6Header header → bytes ≡ header ++ drop 40 bytes → nat_lt (length bytes - 40) (body_len header (length bytes - 40)) ≡ false →
-    fault_behind bytes header (extensions_of (next_header_of header) (body_of bytes header)) ≡ None → IsIpv6Packet bytes (packet_of bytes header (extensions_of (next_header_of header) (body_of bytes header)))
+packet_stands : (bytes header : List ℕ) → IsIpv6Header header → bytes ≡ header ++ drop 40 bytes
+    → nat_lt (length bytes - 40) (body_len header (length bytes - 40)) ≡ false →
+    fault_behind bytes header (extensions_of (next_header_of header) (body_of bytes header)) ≡ None
+    → IsIpv6Packet bytes
+    (packet_of bytes header (extensions_of (next_header_of header) (body_of bytes header)))
 packet_stands bytes header whole begins fits none =
     let first : ℕ = next_header_of header in
     let behind : List ℕ = drop 40 bytes in
@@ -159,33 +221,48 @@ packet_stands bytes header whole begins fits none =
     let last : ℕ = number_behind first pieces in
     let padding : List ℕ = drop size behind in
     let found = walk (length body) view_order [] first body (omega arith) in
-    let left : found.rest ≡ rest_behind bytes header pieces = sym (drop_at exts found.rest (length exts) refl) ∙ ap (drop (length exts)) (sym found.cut) in
-    let closed = none_open (view_order (places pieces) last) last found.rest (length exts) found.ended (ap (fault_at (length exts) (view_order (places pieces) last) last) left ∙ none) in
-    let parts : body ≡ exts ++ rest_behind bytes header pieces = found.cut ∙ ap (λ (xs : List ℕ). exts ++ xs) left in
-    let enough : size ≤ length behind = omega (arith, ltb-false (length bytes - 40) size fits, length-drop 40 bytes) in
+    let left : found.rest ≡ rest_behind bytes header pieces =
+    sym (drop_at exts found.rest (length exts) refl)
+    ∙ ap (drop (length exts)) (sym found.cut) in
+    let closed = none_open (view_order (places pieces) last) last found.rest
+    (length exts) found.ended
+    (ap (fault_at (length exts) (view_order (places pieces) last) last) left ∙ none) in
+    let parts : body ≡ exts ++ rest_behind bytes header pieces =
+    found.cut ∙ ap (λ (xs : List ℕ). exts ++ xs) left in
+    let enough : size ≤ length behind =
+    omega (arith, ltb-false (length bytes - 40) size fits, length-drop 40 bytes) in
     record {
       pieces = pieces;
       last = last;
       padding = padding;
-      cut = begins ∙ ap (λ (xs : List ℕ). header ++ xs) (sym (take-append-drop size behind)) ∙ ap (λ (xs : List ℕ). header ++ (xs ++ padding)) parts
-          ∙ sym (append_assoc header (exts ++ rest_behind bytes header pieces) padding) ∙ ap (λ (xs : List ℕ). xs ++ padding) (sym (append_assoc header exts (rest_behind bytes header pieces)));
+      cut = begins ∙ ap (λ (xs : List ℕ). header ++ xs) (sym (take-append-drop size behind))
+          ∙ ap (λ (xs : List ℕ). header ++ (xs ++ padding)) parts
+          ∙ sym (append_assoc header (exts ++ rest_behind bytes header pieces) padding)
+          ∙ ap (λ (xs : List ℕ). xs ++ padding)
+          (sym (append_assoc header exts (rest_behind bytes header pieces)));
       header = whole;
       row = found.row;
-      ended = closed_all (last == 0) false (last == 43) (last == 44) (last == 51) (last == 60) _ closed.1 closed.0;
-      size = sym (length-append exts (rest_behind bytes header pieces)) ∙ ap length (sym parts) ∙ length-take-le size behind enough;
+      ended = closed_all (last == 0) false (last == 43) (last == 44) (last == 51)
+          (last == 60) _ closed.1 closed.0;
+      size = sym (length-append exts (rest_behind bytes header pieces)) ∙ ap length (sym parts)
+          ∙ length-take-le size behind enough;
       exts = refl;
       fields = refl;
     }
 
-found_behind : (bytes : List ℕ) (r : Result (List ℕ) HeaderFault) (packet : Ipv6Packet) → header_at bytes ≡ r → packet_behind bytes r ≡ Ok packet → IsIpv6Packet bytes packet
+found_behind : (bytes : List ℕ) (r : Result (List ℕ) (HeaderSliceError HeaderFault))
+    (packet : Ipv6Packet) → header_at bytes ≡ r → packet_behind bytes r ≡ Ok packet
+    → IsIpv6Packet bytes packet
 found_behind bytes (Err e) packet at is = cc
 found_behind bytes (Ok header) packet at is =
     let pieces : List Piece = extensions_of (next_header_of header) (body_of bytes header) in
     let begins = header_found bytes header at in
-    let fits = short_cases (nat_lt (length bytes - 40) (body_len header (length bytes - 40))) bytes header pieces packet is in
+    let fits = short_cases (nat_lt (length bytes - 40) (body_len header (length bytes - 40))) bytes
+    header pieces packet is in
     let ended = unless_cases bytes header pieces (fault_behind bytes header pieces) packet fits.1 in
     subst (IsIpv6Packet bytes) ended.1 (packet_stands bytes header begins.0 begins.1 fits.0 ended.0)
 
 -- the packet that is found at the front of bytes stands there
-pub packet_found : (bytes : List ℕ) (packet : Ipv6Packet) → ipv6_packet_at bytes ≡ Ok packet → IsIpv6Packet bytes packet
+pub packet_found : (bytes : List ℕ) (packet : Ipv6Packet) → ipv6_packet_at bytes ≡ Ok packet
+    → IsIpv6Packet bytes packet
 packet_found bytes packet is = found_behind bytes (header_at bytes) packet refl is

@@ -1,5 +1,6 @@
 -- An IP packet is of one version.
-use Rattle.std.proofs.Common.{◌≡◌, ℕ, ◌<◌, ◌/◌, List, ◌++◌, length, get_or, Result, Ok, ap, ◌∙◌, append_assoc, arith}
+use Rattle.std.proofs.Common.{◌≡◌, ℕ, ◌<◌, ◌/◌, List, ◌++◌, length, get_or, Result, Ok, ap, ◌∙◌}
+use Rattle.std.proofs.Common.{append_assoc, arith}
 use Rattle.std.proofs.lemmas.List.{get_or_append_left}
 use Rattle.ep_ip.specs.Ipv4 as v4
 use Rattle.ep_ext.specs.Ipv4Exts.{auth_bytes}
@@ -12,20 +13,27 @@ use Rattle.ep_ipslice.specs.declared.net.ip_slice.IpSlice.{IpSlice}
 use Rattle.ep_ipslice.specs.declared.net.ip_slice.IpSlice.TheVariants.{Ipv4, Ipv6}
 use Rattle.ep_ipslice.proofs.Ipv6Parts.{packet_parts}
 
-first_byte : (bytes header rest : List ℕ) → bytes ≡ header ++ rest → 0 < length header → get_or bytes 0 0 ≡ get_or header 0 0
-first_byte bytes header rest parts some = ap (λ (xs : List ℕ). get_or xs 0 0) parts ∙ get_or_append_left header rest 0 0 some
+first_byte : (bytes header rest : List ℕ) → bytes ≡ header ++ rest → 0 < length header
+    → get_or bytes 0 0 ≡ get_or header 0 0
+first_byte bytes header rest parts some = ap (λ (xs : List ℕ). get_or xs 0 0) parts
+    ∙ get_or_append_left header rest 0 0 some
 
-v4_version : (bytes : List ℕ) (packet : Ipv4Packet) → IsIpv4Packet bytes packet → v4.version_of bytes ≡ 4
+v4_version : (bytes : List ℕ) (packet : Ipv4Packet) → IsIpv4Packet bytes packet
+    → v4.version_of bytes ≡ 4
 v4_version bytes packet is =
     let rest : List ℕ = auth_bytes packet.auth ++ packet.payload ++ is.padding in
     let parts : bytes ≡ packet.header ++ rest =
-    is.cut ∙ ap (λ (xs : List ℕ). xs ++ is.padding) (append_assoc packet.header (auth_bytes packet.auth) packet.payload)
+    is.cut ∙ ap (λ (xs : List ℕ). xs ++ is.padding)
+    (append_assoc packet.header (auth_bytes packet.auth) packet.payload)
     ∙ append_assoc packet.header (auth_bytes packet.auth ++ packet.payload) is.padding in
-    ap (λ (n : ℕ). n / 16) (first_byte bytes packet.header rest parts (omega (arith, is.header.whole, is.header.minimum))) ∙ is.header.version
+    ap (λ (n : ℕ). n / 16) (first_byte bytes packet.header rest parts
+    (omega (arith, is.header.whole, is.header.minimum))) ∙ is.header.version
 
-v6_version : (bytes : List ℕ) (packet : Ipv6Packet) → IsIpv6Packet bytes packet → v4.version_of bytes ≡ 6
+v6_version : (bytes : List ℕ) (packet : Ipv6Packet) → IsIpv6Packet bytes packet
+    → v4.version_of bytes ≡ 6
 v6_version bytes packet is =
-    ap (λ (n : ℕ). n / 16) (first_byte bytes packet.header _ (packet_parts bytes packet is) (omega (arith, is.header.whole))) ∙ is.header.version
+    ap (λ (n : ℕ). n / 16) (first_byte bytes packet.header _ (packet_parts bytes packet is)
+    (omega (arith, is.header.whole))) ∙ is.header.version
 
 pub four_six : (n : ℕ) → n ≡ 4 → n ≡ 6 → ⊥
 four_six n four six = omega (arith, four, six)
@@ -40,13 +48,19 @@ abbrev pub IsAnswer : IpSlice → IpSlice → Type 0
 IsAnswer x y = ◌≡◌ {A = Result IpSlice SliceError} (Ok x) (Ok y)
 
 pub ipv4_only : (bytes : List ℕ) (found : Ipv4Packet) → v4.version_of bytes ≡ 4 →
-    ((packet : Ipv4Packet) → IsIpv4Packet bytes packet → ◌≡◌ {A = Result Ipv4Packet Ipv4Fault} (Ok found) (Ok packet)) →
+    ((packet : Ipv4Packet) → IsIpv4Packet bytes packet
+    → ◌≡◌ {A = Result Ipv4Packet Ipv4Fault} (Ok found) (Ok packet)) →
     (packet : IpSlice) → IsIpPacket bytes packet → IsAnswer (Ipv4 found) packet
-ipv4_only bytes found four only (Ipv4 packet) is = ap (λ (p : Ipv4Packet). Ok (Ipv4 p)) (ipv4_ok found packet (only packet is))
-ipv4_only bytes found four only (Ipv6 packet) is = absurd (four_six (v4.version_of bytes) four (v6_version bytes packet is))
+ipv4_only bytes found four only (Ipv4 packet) is =
+    ap (λ (p : Ipv4Packet). Ok (Ipv4 p)) (ipv4_ok found packet (only packet is))
+ipv4_only bytes found four only (Ipv6 packet) is =
+    absurd (four_six (v4.version_of bytes) four (v6_version bytes packet is))
 
 pub ipv6_only : (bytes : List ℕ) (found : Ipv6Packet) → v4.version_of bytes ≡ 6 →
-    ((packet : Ipv6Packet) → IsIpv6Packet bytes packet → ◌≡◌ {A = Result Ipv6Packet Ipv6Fault} (Ok found) (Ok packet)) →
+    ((packet : Ipv6Packet) → IsIpv6Packet bytes packet
+    → ◌≡◌ {A = Result Ipv6Packet Ipv6Fault} (Ok found) (Ok packet)) →
     (packet : IpSlice) → IsIpPacket bytes packet → IsAnswer (Ipv6 found) packet
-ipv6_only bytes found six only (Ipv4 packet) is = absurd (four_six (v4.version_of bytes) (v4_version bytes packet is) six)
-ipv6_only bytes found six only (Ipv6 packet) is = ap (λ (p : Ipv6Packet). Ok (Ipv6 p)) (ipv6_ok found packet (only packet is))
+ipv6_only bytes found six only (Ipv4 packet) is =
+    absurd (four_six (v4.version_of bytes) (v4_version bytes packet is) six)
+ipv6_only bytes found six only (Ipv6 packet) is =
+    ap (λ (p : Ipv6Packet). Ok (Ipv6 p)) (ipv6_ok found packet (only packet is))

@@ -1,8 +1,13 @@
 -- Payloads that are compared as the same list are the same.
-use Rattle.std.proofs.Common.{◌≡◌, ℕ, zero, suc, Bool, true, false, List, [], ◌∷◌, IsTrue, ◌↔◌, nat_eq, refl, sym, ap, ◌∙◌}
+use Rattle.std.proofs.Common.{◌≡◌, ℕ, zero, suc, Bool, true, false, List, [], ◌∷◌, IsTrue, ◌↔◌}
+use Rattle.std.proofs.Common.{nat_eq, refl, sym, ap, ◌∙◌}
 use Rattle.std.specs.Cmp.Lexicographic.{pointwise, bytes_decides}
 use Rattle.ep_base.specs.declared.len_source.LenSource.{LenSource}
-use Rattle.ep_base.specs.declared.len_source.LenSource.TheVariants.{Slice, MacsecShortLength, Ipv4HeaderTotalLen, Ipv6HeaderPayloadLen, UdpHeaderLen, TcpHeaderLen, ArpAddrLengths}
+use Rattle.ep_base.specs.declared.len_source.LenSource.TheVariants.{Slice, MacsecShortLength}
+use Rattle.ep_base.specs.declared.len_source.LenSource.TheVariants.{Ipv4HeaderTotalLen}
+use Rattle.ep_base.specs.declared.len_source.LenSource.TheVariants.{Ipv6HeaderPayloadLen}
+use Rattle.ep_base.specs.declared.len_source.LenSource.TheVariants.{UdpHeaderLen, TcpHeaderLen}
+use Rattle.ep_base.specs.declared.len_source.LenSource.TheVariants.{ArpAddrLengths}
 use Rattle.ep_base.specs.LenSource.{source_place}
 use Rattle.ep_ipslice.specs.Compared.{bool_place, ordered_as}
 use Rattle.ep_ipslice.specs.Packet.{IpPayload}
@@ -36,20 +41,35 @@ bool_again true = refl
 bool_again false = refl
 
 blank : IpPayload
-blank = record { ip_number = record { 0 = 0 }; fragmented = false; len_source = Slice; payload = [] }
+blank = record
+    { ip_number = record { 0 = 0 }; fragmented = false; len_source = Slice; payload = [] }
 
 payload_at : List ℕ → IpPayload
 payload_at [] = blank
 payload_at (n ∷ []) = blank
 payload_at (n ∷ (part ∷ [])) = blank
-payload_at (n ∷ (part ∷ (source ∷ bytes))) = record { ip_number = record { 0 = n }; fragmented = bool_at part; len_source = source_at source; payload = bytes }
+payload_at (n ∷ (part ∷ (source ∷ bytes))) =
+    record {
+      ip_number = record { 0 = n };
+      fragmented = bool_at part;
+      len_source = source_at source;
+      payload = bytes;
+    }
 
 payload_again : (p : IpPayload) → payload_at (ordered_as p) ≡ p
 unfolding payload_at
-payload_again p = λ i. record { ip_number = p.ip_number; fragmented = bool_again p.fragmented i; len_source = source_again p.len_source i; payload = p.payload }
+payload_again p =
+    λ i. record {
+      ip_number = p.ip_number;
+      fragmented = bool_again p.fragmented i;
+      len_source = source_again p.len_source i;
+      payload = p.payload;
+    }
 
-pub payload_same : (a b : IpPayload) → IsTrue (pointwise nat_eq (ordered_as a) (ordered_as b)) ↔ (a ≡ b)
+pub payload_same : (a b : IpPayload) → IsTrue (pointwise nat_eq (ordered_as a) (ordered_as b))
+    ↔ (a ≡ b)
 payload_same a b = (
-  (λ h. sym (payload_again a) ∙ ap payload_at ((bytes_decides (ordered_as a) (ordered_as b)).0 h) ∙ payload_again b),
+  (λ h. sym (payload_again a) ∙ ap payload_at ((bytes_decides (ordered_as a) (ordered_as b)).0 h)
+      ∙ payload_again b),
   (λ e. (bytes_decides (ordered_as a) (ordered_as b)).1 (ap ordered_as e)),
 )

@@ -1,5 +1,6 @@
 -- Views that are compared as the same are the same.
-use Rattle.std.proofs.Common.{◌≡◌, ℕ, zero, suc, ◌+◌, Bool, true, false, ◌&&◌, List, [], ◌∷◌, Option, Some, None, IsTrue, ◌↔◌, nat_eq, refl, sym, ap, ◌∙◌, arith}
+use Rattle.std.proofs.Common.{◌≡◌, ℕ, zero, suc, ◌+◌, Bool, true, false, ◌&&◌, List, [], ◌∷◌}
+use Rattle.std.proofs.Common.{Option, Some, None, IsTrue, ◌↔◌, nat_eq, refl, sym, ap, ◌∙◌, arith}
 use Rattle.std.specs.Cmp.Lexicographic.{pointwise, bytes_decides}
 use Rattle.std.specs.Cmp.Derive.{both_true}
 use Rattle.ep_base.specs.declared.net.ip_number.IpNumber.{IpNumber}
@@ -25,15 +26,23 @@ no_exts = record { first_header = None; fragmented = false; slice = [] }
 exts_at : List ℕ → Ipv6Exts
 exts_at [] = no_exts
 exts_at (number ∷ []) = no_exts
-exts_at (number ∷ (part ∷ bytes)) = record { first_header = number_at number; fragmented = bool_at part; slice = bytes }
+exts_at (number ∷ (part ∷ bytes)) =
+    record { first_header = number_at number; fragmented = bool_at part; slice = bytes }
 
 exts_again : (exts : Ipv6Exts) → exts_at (compared_as exts) ≡ exts
 unfolding exts_at
-exts_again exts = λ i. record { first_header = number_again exts.first_header i; fragmented = bool_again exts.fragmented i; slice = exts.slice }
+exts_again exts =
+    λ i. record {
+      first_header = number_again exts.first_header i;
+      fragmented = bool_again exts.fragmented i;
+      slice = exts.slice;
+    }
 
-pub exts_same : (a b : Ipv6Exts) → IsTrue (pointwise nat_eq (compared_as a) (compared_as b)) ↔ (a ≡ b)
+pub exts_same : (a b : Ipv6Exts) → IsTrue (pointwise nat_eq (compared_as a) (compared_as b))
+    ↔ (a ≡ b)
 exts_same a b = (
-  (λ h. sym (exts_again a) ∙ ap exts_at ((bytes_decides (compared_as a) (compared_as b)).0 h) ∙ exts_again b),
+  (λ h. sym (exts_again a) ∙ ap exts_at ((bytes_decides (compared_as a) (compared_as b)).0 h)
+      ∙ exts_again b),
   (λ e. (bytes_decides (compared_as a) (compared_as b)).1 (ap compared_as e)),
 )
 
@@ -55,20 +64,29 @@ three true true z h = (refl, refl, h)
 three true false z h = cc
 three false y z h = cc
 
-pub ipv4_same : (a b : Ipv4Packet) → IsTrue (pointwise nat_eq a.header b.header && pointwise nat_eq (auth_code a.auth) (auth_code b.auth) && pointwise nat_eq a.payload b.payload) ↔ (a ≡ b)
+pub ipv4_same : (a b : Ipv4Packet)
+    → IsTrue (pointwise nat_eq a.header b.header
+    && pointwise nat_eq (auth_code a.auth) (auth_code b.auth)
+    && pointwise nat_eq a.payload b.payload) ↔ (a ≡ b)
 ipv4_same a b = (
   (λ h.
       let all = three _ _ _ h in
       let header : a.header ≡ b.header = (bytes_decides a.header b.header).0 all.0 in
-      let auth : a.auth ≡ b.auth = auth_same a.auth b.auth ((bytes_decides (auth_code a.auth) (auth_code b.auth)).0 all.1) in
+      let auth : a.auth ≡ b.auth = auth_same a.auth b.auth
+      ((bytes_decides (auth_code a.auth) (auth_code b.auth)).0 all.1) in
       let payload : a.payload ≡ b.payload = (bytes_decides a.payload b.payload).0 all.2 in
       λ i. record { header = header i; auth = auth i; payload = payload i }),
-  (λ e. both_true (both_true ((bytes_decides a.header b.header).1 (ap (λ (p : Ipv4Packet). p.header) e))
-      ((bytes_decides (auth_code a.auth) (auth_code b.auth)).1 (ap (λ (p : Ipv4Packet). auth_code p.auth) e)))
+  (λ e. both_true
+      (both_true ((bytes_decides a.header b.header).1 (ap (λ (p : Ipv4Packet). p.header) e))
+      ((bytes_decides (auth_code a.auth) (auth_code b.auth)).1
+      (ap (λ (p : Ipv4Packet). auth_code p.auth) e)))
       ((bytes_decides a.payload b.payload).1 (ap (λ (p : Ipv4Packet). p.payload) e))),
 )
 
-pub ipv6_same : (a b : Ipv6Packet) → IsTrue (pointwise nat_eq a.header b.header && pointwise nat_eq (compared_as a.exts) (compared_as b.exts) && pointwise nat_eq (ordered_as a.payload) (ordered_as b.payload)) ↔ (a ≡ b)
+pub ipv6_same : (a b : Ipv6Packet)
+    → IsTrue (pointwise nat_eq a.header b.header
+    && pointwise nat_eq (compared_as a.exts) (compared_as b.exts)
+    && pointwise nat_eq (ordered_as a.payload) (ordered_as b.payload)) ↔ (a ≡ b)
 ipv6_same a b = (
   (λ h.
       let all = three _ _ _ h in
@@ -76,7 +94,8 @@ ipv6_same a b = (
       let exts : a.exts ≡ b.exts = (exts_same a.exts b.exts).0 all.1 in
       let payload : a.payload ≡ b.payload = (payload_same a.payload b.payload).0 all.2 in
       λ i. record { header = header i; exts = exts i; payload = payload i }),
-  (λ e. both_true (both_true ((bytes_decides a.header b.header).1 (ap (λ (p : Ipv6Packet). p.header) e))
+  (λ e. both_true
+      (both_true ((bytes_decides a.header b.header).1 (ap (λ (p : Ipv6Packet). p.header) e))
       ((exts_same a.exts b.exts).1 (ap (λ (p : Ipv6Packet). p.exts) e)))
       ((payload_same a.payload b.payload).1 (ap (λ (p : Ipv6Packet). p.payload) e))),
 )

@@ -1,20 +1,26 @@
 -- The walk of a view over extension headers in a row.
-use Rattle.std.proofs.Common.{◌≡◌, ℕ, ◌-◌, Bool, true, false, ◌||◌, List, [], ◌∷◌, ◌++◌, length, take, Option, Some, None, Err, Bor, arith, refl, sym, ap, ◌∙◌, subst, length-append, append_assoc}
+use Rattle.std.proofs.Common.{◌≡◌, ℕ, ◌-◌, Bool, true, false, ◌||◌, List, [], ◌∷◌, ◌++◌, length}
+use Rattle.std.proofs.Common.{take, Option, Some, None, Err, Bor, arith, refl, sym, ap, ◌∙◌, subst}
+use Rattle.std.proofs.Common.{length-append, append_assoc}
 use Rattle.std.proofs.lemmas.List.{take_at}
 use Rattle.std.proofs.lemmas.List.Folds.{list_any-append}
 use Rattle.ep_base.specs.Bytes.{num}
 use Rattle.ep_base.specs.declared.err.layer.Layer.{Layer}
 use Rattle.ep_base.specs.declared.net.ip_number.IpNumber.{IpNumber}
-use Rattle.ep_ext.specs.Chain.{Chain, Fault, IsEnd, IsPiece, Row, fault_at, fault_in, fault_of, front_of, layer_of}
-use Rattle.ep_ext.specs.Moved.{moved}
+use Rattle.ep_ext.specs.Chain.{Chain, Fault, IsEnd, IsPiece, Row, fault_at, fault_in, fault_of}
+use Rattle.ep_ext.specs.Chain.{front_of, layer_of}
+use Rattle.ep_base.specs.SliceError.{offset_by}
 use Rattle.ep_ext.specs.Place.{Order}
 use Rattle.ep_ext.specs.Value.{Piece, bytes_of, places}
-use Rattle.ep_ext.specs.declared.err.ipv6_exts.header_slice_error.HeaderSliceError.{HeaderSliceError}
+use Rattle.ep_base.specs.declared.err.slice_error.SliceError.{SliceError}
+use Rattle.ep_ext.specs.declared.err.ipv6_exts.header_error.HeaderError.{HeaderError}
 use Rattle.ep_ext.specs.declared.net.ipv6_ext_place.Ipv6ExtPlace.{Ipv6ExtPlace}
-use Rattle.ep_ipslice.specs.Ipv6Exts.{Ipv6Exts, IsViewOf, Stops, exts_of, is_any_fragmenting, is_begun, is_fragmenting_piece, place_behind, view_order}
+use Rattle.ep_ipslice.specs.Ipv6Exts.{Ipv6Exts, IsViewOf, Stops, exts_of, is_any_fragmenting}
+use Rattle.ep_ipslice.specs.Ipv6Exts.{is_begun, is_fragmenting_piece, place_behind, view_order}
 
 -- what the walk keeps: so far the bytes are headers in a row and the rest
-pub record Kept (first : ℕ) (bytes : List ℕ) (begun fragmented : Bool) (number : ℕ) (rest : List ℕ) : Type 0 where
+pub record Kept (first : ℕ) (bytes : List ℕ) (begun fragmented : Bool) (number : ℕ)
+    (rest : List ℕ) : Type 0 where
   pub pieces : List Piece
   pub row : Row view_order [] first pieces number
   pub cut : bytes ≡ bytes_of pieces ++ rest
@@ -24,20 +30,27 @@ pub record Kept (first : ℕ) (bytes : List ℕ) (begun fragmented : Bool) (numb
 -- laws of rows, as they are called
 abbrev pub RowGrows : Type 0
 RowGrows =
-    (order : Order) (first : ℕ) (pieces : List Piece) (last : ℕ) (place : Ipv6ExtPlace) (header : List ℕ)
-    → Row order [] first pieces last → order (places pieces) last ≡ Some place → IsPiece place header
+    (order : Order) (first : ℕ) (pieces : List Piece) (last : ℕ)
+    (place : Ipv6ExtPlace) (header : List ℕ)
+    → Row order [] first pieces last → order (places pieces) last ≡ Some place
+    → IsPiece place header
     → Row order [] first (pieces ++ (place, header) ∷ []) (num header 0 1)
 
 abbrev pub BytesGrow : Type 0
-BytesGrow = (pieces : List Piece) (place : Ipv6ExtPlace) (header : List ℕ) → bytes_of (pieces ++ (place, header) ∷ []) ≡ bytes_of pieces ++ header
+BytesGrow = (pieces : List Piece) (place : Ipv6ExtPlace) (header : List ℕ)
+    → bytes_of (pieces ++ (place, header) ∷ []) ≡ bytes_of pieces ++ header
 
 -- that something is in front is all that matters for the next place
-pub place_shown : (pieces : List Piece) (number : ℕ) → place_behind (is_begun pieces) number ≡ view_order (places pieces) number
+pub place_shown : (pieces : List Piece) (number : ℕ)
+    → place_behind (is_begun pieces) number ≡ view_order (places pieces) number
 place_shown [] number = refl
 place_shown (piece ∷ pieces) number = refl
 
-place_open : (pieces : List Piece) (begun : Bool) (number : ℕ) (place : Option Ipv6ExtPlace) → begun ≡ is_begun pieces → place_behind begun number ≡ place → view_order (places pieces) number ≡ place
-place_open pieces begun number place is behind = sym (place_shown pieces number) ∙ ap (λ (b : Bool). place_behind b number) (sym is) ∙ behind
+place_open : (pieces : List Piece) (begun : Bool) (number : ℕ) (place : Option Ipv6ExtPlace)
+    → begun ≡ is_begun pieces → place_behind begun number ≡ place
+    → view_order (places pieces) number ≡ place
+place_open pieces begun number place is behind =
+    sym (place_shown pieces number) ∙ ap (λ (b : Bool). place_behind b number) (sym is) ∙ behind
 
 begun_more : (pieces : List Piece) (piece : Piece) → true ≡ is_begun (pieces ++ piece ∷ [])
 begun_more [] piece = refl
@@ -47,83 +60,128 @@ or_false : (b : Bool) → (b || false) ≡ b
 or_false true = refl
 or_false false = refl
 
-parted_more : (pieces : List Piece) (piece : Piece) → is_any_fragmenting (pieces ++ piece ∷ []) ≡ (is_any_fragmenting pieces || is_fragmenting_piece piece)
+parted_more : (pieces : List Piece) (piece : Piece)
+    → is_any_fragmenting (pieces ++ piece ∷ [])
+    ≡ (is_any_fragmenting pieces || is_fragmenting_piece piece)
 parted_more pieces piece =
-    list_any-append is_fragmenting_piece pieces (piece ∷ []) ∙ ap (λ (b : Bool). is_any_fragmenting pieces || b) (or_false (is_fragmenting_piece piece))
+    list_any-append is_fragmenting_piece pieces (piece ∷ [])
+    ∙ ap (λ (b : Bool). is_any_fragmenting pieces || b) (or_false (is_fragmenting_piece piece))
 
-pub kept_more : RowGrows → BytesGrow → (first : ℕ) (bytes : List ℕ) (begun fragmented : Bool) (number : ℕ) (rest : List ℕ) →
+pub kept_more : RowGrows → BytesGrow
+    → (first : ℕ) (bytes : List ℕ) (begun fragmented : Bool) (number : ℕ) (rest : List ℕ) →
     (place : Ipv6ExtPlace) (header behind : List ℕ) (next : ℕ) (part : Bool) →
-    Kept first bytes begun fragmented number rest → place_behind begun number ≡ Some place → IsPiece place header →
-    rest ≡ header ++ behind → next ≡ num header 0 1 → part ≡ (fragmented || is_fragmenting_piece (place, header)) →
+    Kept first bytes begun fragmented number rest → place_behind begun number ≡ Some place
+    → IsPiece place header →
+    rest ≡ header ++ behind → next ≡ num header 0 1
+    → part ≡ (fragmented || is_fragmenting_piece (place, header)) →
     Kept first bytes true part next behind
-kept_more grows lengthens first bytes begun fragmented number rest place header behind next part kept free piece cut named parted =
-    let open_here : view_order (places kept.pieces) number ≡ Some place = place_open kept.pieces begun number (Some place) kept.started free in record {
+kept_more grows lengthens first bytes begun fragmented number rest place header behind next part
+    kept free piece cut named parted =
+    let open_here : view_order (places kept.pieces) number ≡ Some place =
+    place_open kept.pieces begun number (Some place) kept.started free in record {
       pieces = kept.pieces ++ (place, header) ∷ [];
-      row = subst (Row view_order [] first (kept.pieces ++ (place, header) ∷ [])) (sym named) (grows view_order first kept.pieces number place header kept.row open_here piece);
+      row = subst (Row view_order [] first (kept.pieces ++ (place, header) ∷ [])) (sym named)
+          (grows view_order first kept.pieces number place header kept.row open_here piece);
       cut =
-          kept.cut ∙ ap (λ (xs : List ℕ). bytes_of kept.pieces ++ xs) cut ∙ sym (append_assoc (bytes_of kept.pieces) header behind)
+          kept.cut ∙ ap (λ (xs : List ℕ). bytes_of kept.pieces ++ xs) cut
+          ∙ sym (append_assoc (bytes_of kept.pieces) header behind)
           ∙ ap (λ (xs : List ℕ). xs ++ behind) (sym (lengthens kept.pieces place header));
       started = begun_more kept.pieces (place, header);
-      parted = parted ∙ ap (λ (b : Bool). b || is_fragmenting_piece (place, header)) kept.parted ∙ sym (parted_more kept.pieces (place, header));
+      parted = parted ∙ ap (λ (b : Bool). b || is_fragmenting_piece (place, header)) kept.parted
+          ∙ sym (parted_more kept.pieces (place, header));
     }
 
 -- how many bytes the headers have
-pub passed_len : (first : ℕ) (bytes : List ℕ) (begun fragmented : Bool) (number : ℕ) (rest : List ℕ) (kept : Kept first bytes begun fragmented number rest) →
+pub passed_len : (first : ℕ) (bytes : List ℕ) (begun fragmented : Bool) (number : ℕ) (rest : List ℕ)
+    (kept : Kept first bytes begun fragmented number rest) →
     length bytes - length rest ≡ length (bytes_of kept.pieces)
-passed_len first bytes begun fragmented number rest kept = omega (arith, ap length kept.cut, length-append (bytes_of kept.pieces) rest)
+passed_len first bytes begun fragmented number rest kept =
+    omega (arith, ap length kept.cut, length-append (bytes_of kept.pieces) rest)
 
-pub passed_bytes : (first : ℕ) (bytes : List ℕ) (begun fragmented : Bool) (number : ℕ) (rest : List ℕ) (kept : Kept first bytes begun fragmented number rest) (len : ℕ) →
+pub passed_bytes : (first : ℕ) (bytes : List ℕ) (begun fragmented : Bool) (number : ℕ)
+    (rest : List ℕ) (kept : Kept first bytes begun fragmented number rest) (len : ℕ) →
     len ≡ length bytes - length rest → take len bytes ≡ bytes_of kept.pieces
 passed_bytes first bytes begun fragmented number rest kept len is =
-    ap (take len) kept.cut ∙ take_at (bytes_of kept.pieces) rest len (sym (is ∙ passed_len first bytes begun fragmented number rest kept))
+    ap (take len) kept.cut ∙ take_at (bytes_of kept.pieces) rest len
+    (sym (is ∙ passed_len first bytes begun fragmented number rest kept))
 
-pub view_of : (first : IpNumber) (bytes : List ℕ) (begun fragmented : Bool) (number : ℕ) (rest front : List ℕ) (kept : Kept first.0 bytes begun fragmented number rest) →
+pub view_of : (first : IpNumber) (bytes : List ℕ) (begun fragmented : Bool) (number : ℕ)
+    (rest front : List ℕ) (kept : Kept first.0 bytes begun fragmented number rest) →
     front ≡ bytes_of kept.pieces → IsViewOf first begun fragmented front
-view_of first bytes begun fragmented number rest front kept is = (kept.pieces, number, kept.row, is, kept.started, kept.parted)
+view_of first bytes begun fragmented number rest front kept is =
+    (kept.pieces, number, kept.row, is, kept.started, kept.parted)
 
 abbrev pub Answer : Type 0
 Answer = Ipv6Exts × IpNumber × Bor (List ℕ) × Option Fault
 
 abbrev pub Found : ℕ → List ℕ → Answer → Type 0
-Found first bytes answer = (pieces : List Piece) × (last : ℕ) × (rest : List ℕ) × Chain view_order first bytes pieces last rest × Stops first pieces last rest answer
+Found first bytes answer = (pieces : List Piece) × (last : ℕ) × (rest : List ℕ)
+    × Chain view_order first bytes pieces last rest × Stops first pieces last rest answer
 
 abbrev pub EndsClosed : Type 0
-EndsClosed = (order : Order) (passed : List Ipv6ExtPlace) (last : ℕ) (rest : List ℕ) → order passed last ≡ None → IsEnd order passed last rest
+EndsClosed = (order : Order) (passed : List Ipv6ExtPlace) (last : ℕ) (rest : List ℕ)
+    → order passed last ≡ None → IsEnd order passed last rest
 
 abbrev pub EndsAtFault : Type 0
 EndsAtFault =
-    (order : Order) (passed : List Ipv6ExtPlace) (last : ℕ) (rest : List ℕ) (place : Ipv6ExtPlace) (error : HeaderSliceError)
-    → order passed last ≡ Some place → front_of place rest ≡ Err error → IsEnd order passed last rest
+    (order : Order) (passed : List Ipv6ExtPlace) (last : ℕ) (rest : List ℕ) (place : Ipv6ExtPlace)
+    (error : SliceError HeaderError)
+    → order passed last ≡ Some place → front_of place rest ≡ Err error
+    → IsEnd order passed last rest
 
-pub found_closed : EndsClosed → (first : ℕ) (bytes : List ℕ) (begun fragmented : Bool) (number : IpNumber) (rest : Bor (List ℕ)) (view : Ipv6Exts) (fault : Option Fault) →
-    (kept : Kept first bytes begun fragmented number.0 rest.now) → place_behind begun number.0 ≡ None → view ≡ exts_of first kept.pieces → fault ≡ fault_at 0 None number.0 [] →
+pub found_closed : EndsClosed
+    → (first : ℕ) (bytes : List ℕ) (begun fragmented : Bool) (number : IpNumber)
+    (rest : Bor (List ℕ)) (view : Ipv6Exts) (fault : Option Fault) →
+    (kept : Kept first bytes begun fragmented number.0 rest.now)
+    → place_behind begun number.0 ≡ None → view ≡ exts_of first kept.pieces
+    → fault ≡ fault_at 0 None number.0 [] →
     Found first bytes (view, number, rest, fault)
 found_closed ends first bytes begun fragmented number rest view fault kept closed seen is =
-    let closed_here : view_order (places kept.pieces) number.0 ≡ None = place_open kept.pieces begun number.0 None kept.started closed in (
+    let closed_here : view_order (places kept.pieces) number.0 ≡ None =
+    place_open kept.pieces begun number.0 None kept.started closed in (
       kept.pieces,
       number.0,
       rest.now,
-      record { row = kept.row; cut = kept.cut; ended = ends view_order (places kept.pieces) number.0 rest.now closed_here },
+      record {
+        row = kept.row;
+        cut = kept.cut;
+        ended = ends view_order (places kept.pieces) number.0 rest.now closed_here;
+      },
       record {
         view = seen;
         number = refl;
         left = refl;
-        fault = is ∙ ap (λ (p : Option Ipv6ExtPlace). fault_at (length (bytes_of kept.pieces)) p number.0 rest.now) (sym closed_here);
+        fault = is ∙ ap (λ (p : Option Ipv6ExtPlace). fault_at
+            (length (bytes_of kept.pieces)) p number.0 rest.now) (sym closed_here);
       },
     )
 
-pub found_fault : EndsAtFault → (first : ℕ) (bytes : List ℕ) (begun fragmented : Bool) (number : IpNumber) (rest : Bor (List ℕ)) (view : Ipv6Exts) (place : Ipv6ExtPlace) (error far : HeaderSliceError) (offset : ℕ) (layer : Layer) →
-    (kept : Kept first bytes begun fragmented number.0 rest.now) → place_behind begun number.0 ≡ Some place → view ≡ exts_of first kept.pieces → front_of place rest.now ≡ Err error →
-    offset ≡ length bytes - length rest.now → far ≡ moved error offset → layer ≡ layer_of place →
+pub found_fault : EndsAtFault
+    → (first : ℕ) (bytes : List ℕ) (begun fragmented : Bool) (number : IpNumber)
+    (rest : Bor (List ℕ)) (view : Ipv6Exts) (place : Ipv6ExtPlace)
+    (error far : SliceError HeaderError) (offset : ℕ) (layer : Layer) →
+    (kept : Kept first bytes begun fragmented number.0 rest.now)
+    → place_behind begun number.0 ≡ Some place → view ≡ exts_of first kept.pieces
+    → front_of place rest.now ≡ Err error →
+    offset ≡ length bytes - length rest.now → far ≡ offset_by error offset → layer ≡ layer_of place
+    →
     Found first bytes (view, number, rest, Some (far, layer))
-found_fault ends first bytes begun fragmented number rest view place error far offset layer kept free seen fault offset_is far_is layer_is =
-    let open_here : view_order (places kept.pieces) number.0 ≡ Some place = place_open kept.pieces begun number.0 (Some place) kept.started free in
-    let start : offset ≡ length (bytes_of kept.pieces) = offset_is ∙ passed_len first bytes begun fragmented number.0 rest.now kept in
-    let moved_is : far ≡ moved error (length (bytes_of kept.pieces)) = far_is ∙ ap (moved error) start in (
+found_fault ends first bytes begun fragmented number rest view place error far offset layer kept
+    free seen fault offset_is far_is layer_is =
+    let open_here : view_order (places kept.pieces) number.0 ≡ Some place =
+    place_open kept.pieces begun number.0 (Some place) kept.started free in
+    let start : offset ≡ length (bytes_of kept.pieces) =
+    offset_is ∙ passed_len first bytes begun fragmented number.0 rest.now kept in
+    let moved_is : far ≡ offset_by error (length (bytes_of kept.pieces)) =
+    far_is ∙ ap (offset_by error) start in (
       kept.pieces,
       number.0,
       rest.now,
-      record { row = kept.row; cut = kept.cut; ended = ends view_order (places kept.pieces) number.0 rest.now place error open_here fault },
+      record {
+        row = kept.row;
+        cut = kept.cut;
+        ended = ends view_order (places kept.pieces) number.0 rest.now place error open_here fault;
+      },
       record {
         view = seen;
         number = refl;
@@ -131,7 +189,8 @@ found_fault ends first bytes begun fragmented number rest view place error far o
         fault =
             (λ i. Some (moved_is i, layer_is i))
             ∙ ap (fault_in (layer_of place) (length (bytes_of kept.pieces))) (sym fault)
-            ∙ ap (λ (p : Option Ipv6ExtPlace). fault_at (length (bytes_of kept.pieces)) p number.0 rest.now) (sym open_here);
+            ∙ ap (λ (p : Option Ipv6ExtPlace). fault_at
+            (length (bytes_of kept.pieces)) p number.0 rest.now) (sym open_here);
       },
     )
 
@@ -141,8 +200,10 @@ ChainAlone =
     → Chain order first bytes p m r → Chain order first bytes q n s → (p ≡ q) × (m ≡ n) × (r ≡ s)
 
 -- the answer is that of every chain
-pub stops_same : ChainAlone → (first : ℕ) (bytes : List ℕ) (p q : List Piece) (m n : ℕ) (r s : List ℕ) (answer : Answer) →
-    Chain view_order first bytes p m r → Chain view_order first bytes q n s → Stops first p m r answer → Stops first q n s answer
+pub stops_same : ChainAlone
+    → (first : ℕ) (bytes : List ℕ) (p q : List Piece) (m n : ℕ) (r s : List ℕ) (answer : Answer) →
+    Chain view_order first bytes p m r → Chain view_order first bytes q n s
+    → Stops first p m r answer → Stops first q n s answer
 stops_same alone first bytes p q m n r s answer chain other stops =
     let same = alone view_order first bytes p q m n r s chain other in record {
       view = stops.view ∙ ap (exts_of first) same.0;

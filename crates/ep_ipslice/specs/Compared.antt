@@ -30,4 +30,5 @@ ordered_as p = p.ip_number.0 ∷ bool_place p.fragmented ∷ source_place p.len_
 
 -- what a hasher is fed
 abbrev pub hashed_as : IpPayload → fed.HashWrites
-hashed_as p = fed.u8 p.ip_number.0 ++ fed.u8 (bool_place p.fragmented) ++ fed.u8 (source_place p.len_source) ++ fed.slice fed.u8 p.payload
+hashed_as p = fed.u8 p.ip_number.0 ++ fed.u8 (bool_place p.fragmented)
+    ++ fed.u8 (source_place p.len_source) ++ fed.slice fed.u8 p.payload

@@ -7,7 +7,8 @@ use Rattle.ep_ipslice.specs.Packet.{Ipv4Packet, Ipv6Packet}
 
 -- a header of 20 bytes with a total length of 34 and protocol 51
 abbrev pub example_header : List ℕ
-example_header = 0x45 ∷ 0 ∷ 0 ∷ 34 ∷ 0 ∷ 7 ∷ 0 ∷ 0 ∷ 64 ∷ 51 ∷ 0 ∷ 0 ∷ 10 ∷ 0 ∷ 0 ∷ 1 ∷ 10 ∷ 0 ∷ 0 ∷ 2 ∷ []
+example_header = 0x45 ∷ 0 ∷ 0 ∷ 34 ∷ 0 ∷ 7 ∷ 0 ∷ 0 ∷ 64 ∷ 51 ∷ 0 ∷ 0 ∷ 10 ∷ 0 ∷ 0 ∷
+    1 ∷ 10 ∷ 0 ∷ 0 ∷ 2 ∷ []
 
 -- an authentication header of 12 bytes that names UDP
 abbrev pub example_auth : List ℕ
@@ -18,16 +19,20 @@ abbrev pub example_ipv4 : List ℕ
 example_ipv4 = example_header ++ example_auth ++ 0xaa ∷ 0xbb ∷ [] ++ 0 ∷ []
 
 abbrev pub example_ipv4_packet : Ipv4Packet
-example_ipv4_packet = record { header = example_header; auth = Some example_auth; payload = 0xaa ∷ 0xbb ∷ [] }
+example_ipv4_packet =
+    record { header = example_header; auth = Some example_auth; payload = 0xaa ∷ 0xbb ∷ [] }
 
--- the header of a fragment in the middle of a message: identification 0102, offset 5, more fragments
+-- the header of a fragment in the middle of a message: identification 0102, offset 5, more
+-- fragments
 abbrev pub fragment_header : List ℕ
-fragment_header = 0x45 ∷ 0 ∷ 0 ∷ 28 ∷ 1 ∷ 2 ∷ 0x20 ∷ 5 ∷ 64 ∷ 17 ∷ 0 ∷ 0 ∷ 10 ∷ 0 ∷ 0 ∷ 1 ∷ 10 ∷ 0 ∷ 0 ∷ 2 ∷ []
+fragment_header = 0x45 ∷ 0 ∷ 0 ∷ 28 ∷ 1 ∷ 2 ∷ 0x20 ∷ 5 ∷ 64 ∷ 17 ∷ 0 ∷ 0 ∷ 10 ∷ 0 ∷ 0 ∷
+    1 ∷ 10 ∷ 0 ∷ 0 ∷ 2 ∷ []
 
 -- an IPv6 header with a payload length of 24 and next header 0, from fd00::1 to fd00::2
 abbrev pub example_ipv6_header : List ℕ
 example_ipv6_header =
-    0x60 ∷ 0 ∷ 0 ∷ 0 ∷ 0 ∷ 24 ∷ 0 ∷ 64 ∷ 0xfd ∷ 0 ∷ 0 ∷ 0 ∷ 0 ∷ 0 ∷ 0 ∷ 0 ∷ 0 ∷ 0 ∷ 0 ∷ 0 ∷ 0 ∷ 0 ∷ 0 ∷ 1
+    0x60 ∷ 0 ∷ 0 ∷ 0 ∷ 0 ∷ 24 ∷ 0 ∷ 64 ∷ 0xfd ∷ 0 ∷ 0 ∷ 0 ∷ 0 ∷ 0 ∷ 0 ∷ 0 ∷ 0 ∷
+    0 ∷ 0 ∷ 0 ∷ 0 ∷ 0 ∷ 0 ∷ 1
     ∷ 0xfd ∷ 0 ∷ 0 ∷ 0 ∷ 0 ∷ 0 ∷ 0 ∷ 0 ∷ 0 ∷ 0 ∷ 0 ∷ 0 ∷ 0 ∷ 0 ∷ 0 ∷ 2 ∷ []
 
 -- hop-by-hop options that name a fragment header: a padding of six bytes
@@ -46,7 +51,8 @@ example_ipv6_payload = 1 ∷ 2 ∷ 3 ∷ 4 ∷ 5 ∷ 6 ∷ 7 ∷ 8 ∷ []
 
 -- all of them, and one byte of padding
 abbrev pub example_ipv6 : List ℕ
-example_ipv6 = example_ipv6_header ++ example_options ++ example_fragment ++ example_ipv6_payload ++ 0 ∷ []
+example_ipv6 = example_ipv6_header ++ example_options ++ example_fragment
+    ++ example_ipv6_payload ++ 0 ∷ []
 
 abbrev pub example_ipv6_packet : Ipv6Packet
 example_ipv6_packet = record {

@@ -1,8 +1,9 @@
 -- Faults of IP headers of either version, seen from a slice that begins earlier.
 use Rattle.std.specs.Prelude.{ℕ, ⊤}
-use Rattle.ep_base.specs.Moved as len
+use Rattle.ep_base.specs.LenError as len
 use Rattle.ep_ipslice.specs.declared.err.ip.headers_slice_error.HeadersSliceError.{HeadersSliceError}
-use Rattle.ep_ipslice.specs.declared.err.ip.headers_slice_error.HeadersSliceError.TheVariants.{Len, Content}
+use Rattle.ep_ipslice.specs.declared.err.ip.headers_slice_error.HeadersSliceError.TheVariants.{Len}
+use Rattle.ep_ipslice.specs.declared.err.ip.headers_slice_error.HeadersSliceError.TheVariants.{Content}
 use Rattle.ep_ipslice.specs.declared.err.ip.slice_error.SliceError.{SliceError}
 use Rattle.ep_ipslice.specs.declared.err.ip.slice_error.SliceError.TheVariants as packet
 
@@ -12,9 +13,9 @@ CanMove (Len e) n = len.CanMove e n
 CanMove (Content e) n = ⊤
 
 -- a want of bytes is further on, and a fault of the content is the same
-abbrev pub moved : HeadersSliceError → ℕ → HeadersSliceError
-moved (Len e) n = Len (len.moved e n)
-moved (Content e) n = Content e
+abbrev pub offset_by : HeadersSliceError → ℕ → HeadersSliceError
+offset_by (Len e) n = Len (len.offset_by e n)
+offset_by (Content e) n = Content e
 
 -- a fault of a packet, as one of its headers
 abbrev pub headers_fault : SliceError → HeadersSliceError

@@ -1,11 +1,12 @@
 -- An IP packet of either version (RFC 791, section 3.1; RFC 8200, section 3).
-use Rattle.std.specs.Prelude.{◌≡◌, ◌≢◌, ◌<◌, ◌==◌, ℕ, Bool, if◌then◌else◌, List, length, Option, Some, None, Result, Ok, Err}
+use Rattle.std.specs.Prelude.{◌≡◌, ◌≢◌, ◌<◌, ◌==◌, ℕ, Bool, if◌then◌else◌, List, length, Option}
+use Rattle.std.specs.Prelude.{Some, None, Result, Ok, Err}
 use Rattle.std.specs.Net.Addr.{ipv4_octets, ipv6_segments, segments_of}
 use Rattle.std.specs.declared.net.ip_addr.IpAddr.{IpAddr}
 use Rattle.std.specs.declared.net.ip_addr.IpAddr.TheVariants.{V4, V6}
+use Rattle.ep_base.specs.LenError.{too_few_bytes}
 use Rattle.ep_base.specs.declared.err.layer.Layer.TheVariants as layer
 use Rattle.ep_base.specs.declared.err.len_error.LenError.{LenError}
-use Rattle.ep_base.specs.declared.len_source.LenSource.TheVariants.{Slice}
 use Rattle.ep_ip.specs.Ipv4 as v4
 use Rattle.ep_ip.specs.Ipv6 as v6
 use Rattle.ep_ip.specs.declared.err.ipv4.header_error.HeaderError.TheVariants as v4_header
@@ -15,8 +16,10 @@ use Rattle.ep_ext.specs.Place.{Order}
 use Rattle.ep_ipslice.specs.Ipv6Exts.{view_order}
 use Rattle.ep_ipslice.specs.Ipv6Fault.{IsFaultIn}
 use Rattle.ep_ipslice.specs.Ipv6Packet.{ipv6_packet_at}
-use Rattle.ep_ipslice.specs.Packet.{IpPayload, Ipv4Packet, Ipv6Packet, IsIpv4Packet, IsIpv6Packet, IsWholeIpv4, IsWholeIpv6, ipv4_payload}
-use Rattle.ep_ipslice.specs.declared.err.ip.header_error.HeaderError.TheVariants.{UnsupportedIpVersion, Ipv4HeaderLengthSmallerThanHeader}
+use Rattle.ep_ipslice.specs.Packet.{IpPayload, Ipv4Packet, Ipv6Packet, IsIpv4Packet, IsIpv6Packet}
+use Rattle.ep_ipslice.specs.Packet.{IsWholeIpv4, IsWholeIpv6, ipv4_payload}
+use Rattle.ep_ipslice.specs.declared.err.ip.header_error.HeaderError.TheVariants.{UnsupportedIpVersion}
+use Rattle.ep_ipslice.specs.declared.err.ip.header_error.HeaderError.TheVariants.{Ipv4HeaderLengthSmallerThanHeader}
 use Rattle.ep_ipslice.specs.declared.err.ip.headers_error.HeadersError.TheVariants as headers
 use Rattle.ep_ipslice.specs.declared.err.ip.slice_error.SliceError.{SliceError}
 use Rattle.ep_ipslice.specs.declared.err.ip.slice_error.SliceError.TheVariants.{Len, IpHeaders}
@@ -68,26 +71,33 @@ IsAddress bytes (V6 address) = ipv6_segments address ≡ segments_of bytes
 
 -- no bytes
 abbrev pub no_version : LenError
-no_version = record { required_len = 1; len = 0; len_source = Slice; layer = layer.IpHeader; layer_start_offset = 0 }
+no_version = too_few_bytes layer.IpHeader 1 0
 
 abbrev pub ipv4_fault : Ipv4Fault → SliceError
 ipv4_fault (v4_fault.Len e) = Len e
-ipv4_fault (v4_fault.Header (v4_header.UnexpectedVersion version)) = IpHeaders (headers.Ip (UnsupportedIpVersion version))
-ipv4_fault (v4_fault.Header (v4_header.HeaderLengthSmallerThanHeader ihl)) = IpHeaders (headers.Ip (Ipv4HeaderLengthSmallerThanHeader ihl))
+ipv4_fault (v4_fault.Header (v4_header.UnexpectedVersion version)) =
+    IpHeaders (headers.Ip (UnsupportedIpVersion version))
+ipv4_fault (v4_fault.Header (v4_header.HeaderLengthSmallerThanHeader ihl)) =
+    IpHeaders (headers.Ip (Ipv4HeaderLengthSmallerThanHeader ihl))
 ipv4_fault (v4_fault.Exts e) = IpHeaders (headers.Ipv4Ext e)
 
 abbrev pub ipv6_fault : Ipv6Fault → SliceError
 ipv6_fault (v6_fault.Len e) = Len e
-ipv6_fault (v6_fault.Header (v6_header.UnexpectedVersion version)) = IpHeaders (headers.Ip (UnsupportedIpVersion version))
+ipv6_fault (v6_fault.Header (v6_header.UnexpectedVersion version)) =
+    IpHeaders (headers.Ip (UnsupportedIpVersion version))
 ipv6_fault (v6_fault.Exts e) = IpHeaders (headers.Ipv6Ext e)
 
--- the first fault of the bytes, where extension headers of IPv6 stand in this order: none are there,
--- the version is neither 4 nor 6, or the first fault of that version's packet
+-- the first fault of the bytes, where extension headers of IPv6 stand in this order: none are
+-- there, the version is neither 4 nor 6, or the first fault of that version's packet
 pub data IsIpFaultIn (order : Order) (bytes : List ℕ) (e : SliceError) : Type 0 where
   NoBytes : length bytes ≡ 0 → e ≡ Len no_version → IsIpFaultIn order bytes e
-  OtherVersion : 0 < length bytes → v4.version_of bytes ≢ 4 → v4.version_of bytes ≢ 6 → e ≡ IpHeaders (headers.Ip (UnsupportedIpVersion (v4.version_of bytes))) → IsIpFaultIn order bytes e
-  OfIpv4 : (fault : Ipv4Fault) → v4.version_of bytes ≡ 4 → ipv4_packet_at bytes ≡ Err fault → e ≡ ipv4_fault fault → IsIpFaultIn order bytes e
-  OfIpv6 : (fault : Ipv6Fault) → v4.version_of bytes ≡ 6 → IsFaultIn order bytes fault → e ≡ ipv6_fault fault → IsIpFaultIn order bytes e
+  OtherVersion : 0 < length bytes → v4.version_of bytes ≢ 4 → v4.version_of bytes ≢ 6
+      → e ≡ IpHeaders (headers.Ip (UnsupportedIpVersion (v4.version_of bytes)))
+      → IsIpFaultIn order bytes e
+  OfIpv4 : (fault : Ipv4Fault) → v4.version_of bytes ≡ 4 → ipv4_packet_at bytes ≡ Err fault
+      → e ≡ ipv4_fault fault → IsIpFaultIn order bytes e
+  OfIpv6 : (fault : Ipv6Fault) → v4.version_of bytes ≡ 6 → IsFaultIn order bytes fault
+      → e ≡ ipv6_fault fault → IsIpFaultIn order bytes e
 
 -- the first fault of the bytes as views read them
 abbrev pub IsIpFault : List ℕ → SliceError → Type 0
@@ -106,4 +116,5 @@ abbrev pub ip_packet_at : List ℕ → Result IpSlice SliceError
 ip_packet_at bytes =
     if length bytes == 0 then Err (Len no_version)
     else (if v4.version_of bytes == 4 then with_ipv4 (ipv4_packet_at bytes)
-    else (if v4.version_of bytes == 6 then with_ipv6 (ipv6_packet_at bytes) else Err (IpHeaders (headers.Ip (UnsupportedIpVersion (v4.version_of bytes))))))
+    else (if v4.version_of bytes == 6 then with_ipv6 (ipv6_packet_at bytes)
+    else Err (IpHeaders (headers.Ip (UnsupportedIpVersion (v4.version_of bytes))))))

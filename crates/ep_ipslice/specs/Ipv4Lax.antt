@@ -2,12 +2,15 @@
 use Rattle.std.specs.Prelude.{◌≡◌, ℕ, List, ◌++◌, Option, Some, None, Err}
 use Rattle.ep_base.specs.declared.net.ip_number.IpNumber.{IpNumber}
 use Rattle.ep_ext.specs.Ipv4Exts.{IsAuthBehind, auth_behind, auth_bytes, number_behind}
-use Rattle.ep_ext.specs.declared.err.ip_auth.header_slice_error.HeaderSliceError.{HeaderSliceError}
+use Rattle.ep_base.specs.declared.err.slice_error.SliceError.{SliceError}
+use Rattle.ep_ext.specs.declared.err.ip_auth.header_error.HeaderError.{HeaderError}
 
 -- the header, if the number names one, with the number and the bytes behind it; or all as it was
 -- handed in, and the fault
-abbrev pub IsLaxAnswer : IpNumber → List ℕ → Option (List ℕ) → IpNumber → List ℕ → Option HeaderSliceError → Type 0
+abbrev pub IsLaxAnswer : IpNumber → List ℕ → Option (List ℕ) → IpNumber → List ℕ
+    → Option (SliceError HeaderError) → Type 0
 IsLaxAnswer first bytes auth number rest None =
-    IsAuthBehind first.0 auth × (bytes ≡ auth_bytes auth ++ rest) × (number.0 ≡ number_behind first.0 auth)
+    IsAuthBehind first.0 auth × (bytes ≡ auth_bytes auth ++ rest)
+    × (number.0 ≡ number_behind first.0 auth)
 IsLaxAnswer first bytes auth number rest (Some e) =
     (auth ≡ None) × (number ≡ first) × (rest ≡ bytes) × (auth_behind first.0 bytes ≡ Err e)

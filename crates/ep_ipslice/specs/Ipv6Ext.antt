@@ -4,11 +4,16 @@ use Rattle.ep_ext.specs.Auth.{auth_len}
 use Rattle.ep_ext.specs.Chain.{front_of}
 use Rattle.ep_ext.specs.Raw.{raw_len}
 use Rattle.ep_ext.specs.Value.{Piece}
-use Rattle.ep_ext.specs.declared.err.ipv6_exts.header_slice_error.HeaderSliceError.{HeaderSliceError}
+use Rattle.ep_base.specs.declared.err.slice_error.SliceError.{SliceError}
+use Rattle.ep_ext.specs.declared.err.ipv6_exts.header_error.HeaderError.{HeaderError}
 use Rattle.ep_ext.specs.declared.net.ipv6_ext_place.Ipv6ExtPlace.{Ipv6ExtPlace}
 use Rattle.ep_ext.specs.declared.net.ipv6_ext_place.Ipv6ExtPlace.TheVariants as place
 use Rattle.ep_ipslice.specs.declared.net.ipv6_extension_slice.Ipv6ExtensionSlice.{Ipv6ExtensionSlice}
-use Rattle.ep_ipslice.specs.declared.net.ipv6_extension_slice.Ipv6ExtensionSlice.TheVariants.{HopByHop, Routing, Fragment, DestinationOptions, Authentication}
+use Rattle.ep_ipslice.specs.declared.net.ipv6_extension_slice.Ipv6ExtensionSlice.TheVariants.{HopByHop}
+use Rattle.ep_ipslice.specs.declared.net.ipv6_extension_slice.Ipv6ExtensionSlice.TheVariants.{Routing}
+use Rattle.ep_ipslice.specs.declared.net.ipv6_extension_slice.Ipv6ExtensionSlice.TheVariants.{Fragment}
+use Rattle.ep_ipslice.specs.declared.net.ipv6_extension_slice.Ipv6ExtensionSlice.TheVariants.{DestinationOptions}
+use Rattle.ep_ipslice.specs.declared.net.ipv6_extension_slice.Ipv6ExtensionSlice.TheVariants.{Authentication}
 
 -- the place of a header and its bytes
 abbrev pub piece_of : Ipv6ExtensionSlice → Piece
@@ -36,10 +41,11 @@ ext_len place.Fragment bytes = 8
 ext_len place.Authentication bytes = auth_len bytes
 ext_len place.FinalDestination bytes = raw_len bytes
 
-abbrev pub some_ext : Ipv6ExtPlace → Result (List ℕ) HeaderSliceError → Result Ipv6ExtensionSlice HeaderSliceError
+abbrev pub some_ext : Ipv6ExtPlace → Result (List ℕ) (SliceError HeaderError)
+    → Result Ipv6ExtensionSlice (SliceError HeaderError)
 some_ext place (Ok header) = Ok (ext_of place header)
 some_ext place (Err e) = Err e
 
 -- the header of this place at the front of the bytes, or why there is none
-abbrev pub ext_at : Ipv6ExtPlace → List ℕ → Result Ipv6ExtensionSlice HeaderSliceError
+abbrev pub ext_at : Ipv6ExtPlace → List ℕ → Result Ipv6ExtensionSlice (SliceError HeaderError)
 ext_at place bytes = some_ext place (front_of place bytes)

@@ -1,5 +1,6 @@
 -- The extension headers of an IPv6 packet, as a view reads them (RFC 8200, sections 4 and 4.1).
-use Rattle.std.specs.Prelude.{◌≡◌, ℕ, ◌==◌, if◌then◌else◌, Bool, true, false, List, [], ◌∷◌, Option, Some, None, Result, Ok, Err}
+use Rattle.std.specs.Prelude.{◌≡◌, ℕ, ◌==◌, if◌then◌else◌, Bool, true, false, List, [], ◌∷◌, Option}
+use Rattle.std.specs.Prelude.{Some, None, Result, Ok, Err}
 use Rattle.std.specs.Borrow.{Bor}
 use Rattle.std.specs.List.{list_any}
 use Rattle.ep_base.specs.declared.err.layer.Layer.{Layer}
@@ -8,9 +9,13 @@ use Rattle.ep_ext.specs.Chain.{Row, Fault, fault_of}
 use Rattle.ep_ext.specs.Fragment.{fragment_of, fragments}
 use Rattle.ep_ext.specs.Place.{Order, in_front}
 use Rattle.ep_ext.specs.Value.{Piece, bytes_of}
-use Rattle.ep_ext.specs.declared.err.ipv6_exts.header_slice_error.HeaderSliceError.{HeaderSliceError}
+use Rattle.ep_base.specs.declared.err.slice_error.SliceError.{SliceError}
+use Rattle.ep_ext.specs.declared.err.ipv6_exts.header_error.HeaderError.{HeaderError}
 use Rattle.ep_ext.specs.declared.net.ipv6_ext_place.Ipv6ExtPlace.{Ipv6ExtPlace}
-use Rattle.ep_ext.specs.declared.net.ipv6_ext_place.Ipv6ExtPlace.TheVariants.{HopByHop, Destination, Routing, Fragment, Authentication, FinalDestination}
+use Rattle.ep_ext.specs.declared.net.ipv6_ext_place.Ipv6ExtPlace.TheVariants.{HopByHop, Destination}
+use Rattle.ep_ext.specs.declared.net.ipv6_ext_place.Ipv6ExtPlace.TheVariants.{Routing, Fragment}
+use Rattle.ep_ext.specs.declared.net.ipv6_ext_place.Ipv6ExtPlace.TheVariants.{Authentication}
+use Rattle.ep_ext.specs.declared.net.ipv6_ext_place.Ipv6ExtPlace.TheVariants.{FinalDestination}
 
 -- the order of a view: hop-by-hop options in front of all, and every other header as often as it is
 -- named
@@ -51,8 +56,8 @@ is_fragmenting_piece (FinalDestination, header) = false
 abbrev pub is_any_fragmenting : List Piece → Bool
 is_any_fragmenting pieces = list_any is_fragmenting_piece pieces
 
--- what a view shows: the number of the first header, where there is one, whether a header is that of
--- a part of a message, and the bytes of all headers
+-- what a view shows: the number of the first header, where there is one, whether a header is that
+-- of a part of a message, and the bytes of all headers
 pub record Ipv6Exts : Type 0 where
   pub first_header : Option IpNumber
   pub fragmented : Bool
@@ -72,22 +77,28 @@ exts_of first pieces = record {
 
 -- it is the view of some headers in a row
 abbrev pub IsView : Ipv6Exts → Type 0
-IsView exts = (first : ℕ) × (pieces : List Piece) × (last : ℕ) × Row view_order [] first pieces last × (exts ≡ exts_of first pieces)
+IsView exts = (first : ℕ) × (pieces : List Piece) × (last : ℕ) × Row view_order [] first pieces last
+    × (exts ≡ exts_of first pieces)
 
 -- the parts of a view are those of some headers in a row
 abbrev pub IsViewOf : IpNumber → Bool → Bool → List ℕ → Type 0
 IsViewOf first begun fragmented bytes =
-    (pieces : List Piece) × (last : ℕ) × Row view_order [] first.0 pieces last × (bytes ≡ bytes_of pieces)
+    (pieces : List Piece) × (last : ℕ) × Row view_order [] first.0 pieces last
+    × (bytes ≡ bytes_of pieces)
     × (begun ≡ is_begun pieces) × (fragmented ≡ is_any_fragmenting pieces)
 
 -- the answers of a call that stops at a fault, and of one that refuses it
-pub record Stops (first : ℕ) (pieces : List Piece) (last : ℕ) (rest : List ℕ) (answer : Ipv6Exts × IpNumber × Bor (List ℕ) × Option Fault) : Type 0 where
+pub record Stops (first : ℕ) (pieces : List Piece) (last : ℕ) (rest : List ℕ)
+    (answer : Ipv6Exts × IpNumber × Bor (List ℕ) × Option Fault) : Type 0 where
   pub view : answer.0 ≡ exts_of first pieces
   pub number : answer.1.0 ≡ last
   pub left : answer.2.now ≡ rest
   pub fault : answer.3 ≡ fault_of view_order pieces last rest
 
-abbrev pub Answers : ℕ → List Piece → ℕ → List ℕ → Result (Ipv6Exts × IpNumber × Bor (List ℕ)) HeaderSliceError → Type 0
+abbrev pub Answers : ℕ → List Piece → ℕ → List ℕ
+    → Result (Ipv6Exts × IpNumber × Bor (List ℕ)) (SliceError HeaderError) → Type 0
 Answers first pieces last rest (Ok r) =
-    (r.0 ≡ exts_of first pieces) × (r.1.0 ≡ last) × (r.2.now ≡ rest) × (fault_of view_order pieces last rest ≡ None)
-Answers first pieces last rest (Err e) = (layer : Layer) × (fault_of view_order pieces last rest ≡ Some (e, layer))
+    (r.0 ≡ exts_of first pieces) × (r.1.0 ≡ last) × (r.2.now ≡ rest)
+    × (fault_of view_order pieces last rest ≡ None)
+Answers first pieces last rest (Err e) = (layer : Layer)
+    × (fault_of view_order pieces last rest ≡ Some (e, layer))

@@ -1,36 +1,35 @@
 -- Why bytes begin with no IPv6 packet (RFC 8200, sections 3 and 4).
 use Rattle.std.specs.Prelude.{◌≡◌, ◌<◌, ◌≤◌, ℕ, ◌+◌, ◌-◌, List, length, take, drop, Some, Ok, Err}
-use Rattle.ep_base.specs.Moved.{moved}
+use Rattle.ep_base.specs.LenError.{offset_by, too_few_bytes}
 use Rattle.ep_base.specs.declared.err.layer.Layer.TheVariants as layer
 use Rattle.ep_base.specs.declared.err.len_error.LenError.{LenError}
 use Rattle.ep_base.specs.declared.len_source.LenSource.{LenSource}
-use Rattle.ep_base.specs.declared.len_source.LenSource.TheVariants.{Slice}
 use Rattle.ep_ip.specs.Ipv6.{next_header_of, payload_length_of}
 use Rattle.ep_ip.specs.Ipv6Fault.{header_at}
-use Rattle.ep_ip.specs.declared.err.ipv6.header_slice_error.HeaderSliceError.{HeaderSliceError as HeaderFault}
-use Rattle.ep_ip.specs.declared.err.ipv6.header_slice_error.HeaderSliceError.TheVariants as header_fault
+use Rattle.ep_base.specs.declared.err.slice_error.SliceError.{SliceError as HeaderSliceError}
+use Rattle.ep_base.specs.declared.err.slice_error.SliceError.TheVariants as slice_error
+use Rattle.ep_ip.specs.declared.err.ipv6.header_error.HeaderError.{HeaderError as HeaderFault}
 use Rattle.ep_ext.specs.Chain.{Chain, Fault, fault_of}
 use Rattle.ep_ext.specs.Place.{Order}
 use Rattle.ep_ext.specs.Value.{Piece}
-use Rattle.ep_ext.specs.declared.err.ipv6_exts.header_slice_error.HeaderSliceError.{HeaderSliceError as ExtsFault}
-use Rattle.ep_ext.specs.declared.err.ipv6_exts.header_slice_error.HeaderSliceError.TheVariants as exts_fault
+use Rattle.ep_ext.specs.declared.err.ipv6_exts.header_error.HeaderError.{HeaderError as ExtsFault}
 use Rattle.ep_ipslice.specs.Ipv6Exts.{view_order}
 use Rattle.ep_ipslice.specs.Packet.{body_len, body_source}
 use Rattle.ep_ipslice.specs.declared.err.ipv6.slice_error.SliceError.{SliceError}
 use Rattle.ep_ipslice.specs.declared.err.ipv6.slice_error.SliceError.TheVariants.{Len, Header, Exts}
 
-abbrev pub of_header_fault : HeaderFault → SliceError
-of_header_fault (header_fault.Len e) = Len e
-of_header_fault (header_fault.Content e) = Header e
+abbrev pub of_header_fault : HeaderSliceError HeaderFault → SliceError
+of_header_fault (slice_error.Len e) = Len e
+of_header_fault (slice_error.Content e) = Header e
 
 -- a want of bytes behind the header, in what this source bounds
-abbrev pub of_exts_fault : LenSource → ExtsFault → SliceError
-of_exts_fault source (exts_fault.Len e) = Len (record (moved e 40) { len_source = source })
-of_exts_fault source (exts_fault.Content e) = Exts e
+abbrev pub of_exts_fault : LenSource → HeaderSliceError ExtsFault → SliceError
+of_exts_fault source (slice_error.Len e) = Len (record (offset_by e 40) { len_source = source })
+of_exts_fault source (slice_error.Content e) = Exts e
 
 -- fewer bytes are there than header and payload length
 abbrev pub not_whole : List ℕ → ℕ → LenError
-not_whole header found = record { required_len = 40 + payload_length_of header; len = found; len_source = Slice; layer = layer.Ipv6Packet; layer_start_offset = 0 }
+not_whole header found = too_few_bytes layer.Ipv6Packet (40 + payload_length_of header) found
 
 -- fewer bytes stand behind the header than its payload length
 pub record IsCutOff (bytes header : List ℕ) (e : SliceError) : Type 0 where
@@ -44,21 +43,27 @@ pub record IsRowFault (order : Order) (bytes header : List ℕ) (e : SliceError)
   pub rest : List ℕ
   pub fault : Fault
   pub size : body_len header (length bytes - 40) ≤ length bytes - 40
-  pub chain : Chain order (next_header_of header) (take (body_len header (length bytes - 40)) (drop 40 bytes)) pieces last rest
+  pub chain : Chain order (next_header_of header)
+      (take (body_len header (length bytes - 40)) (drop 40 bytes)) pieces last rest
   pub found : fault_of order pieces last rest ≡ Some fault
   pub error : e ≡ of_exts_fault (body_source header (length bytes - 40)) fault.0
 
 -- the first fault of a header and of the length that it tells
 pub data IsFrontFault (bytes : List ℕ) (e : SliceError) : Type 0 where
-  InHeader : (fault : HeaderFault) → header_at bytes ≡ Err fault → e ≡ of_header_fault fault → IsFrontFault bytes e
-  InLength : (header : List ℕ) → header_at bytes ≡ Ok header → IsCutOff bytes header e → IsFrontFault bytes e
+  InHeader : (fault : HeaderSliceError HeaderFault) → header_at bytes ≡ Err fault
+      → e ≡ of_header_fault fault → IsFrontFault bytes e
+  InLength : (header : List ℕ) → header_at bytes ≡ Ok header
+      → IsCutOff bytes header e → IsFrontFault bytes e
 
 -- the first fault of the bytes, where extension headers stand in this order: of the header, then of
 -- the length that it tells, then of the extension headers
 pub data IsFaultIn (order : Order) (bytes : List ℕ) (e : SliceError) : Type 0 where
-  OfHeader : (fault : HeaderFault) → header_at bytes ≡ Err fault → e ≡ of_header_fault fault → IsFaultIn order bytes e
-  OfLength : (header : List ℕ) → header_at bytes ≡ Ok header → IsCutOff bytes header e → IsFaultIn order bytes e
-  OfExtensions : (header : List ℕ) → header_at bytes ≡ Ok header → IsRowFault order bytes header e → IsFaultIn order bytes e
+  OfHeader : (fault : HeaderSliceError HeaderFault) → header_at bytes ≡ Err fault
+      → e ≡ of_header_fault fault → IsFaultIn order bytes e
+  OfLength : (header : List ℕ) → header_at bytes ≡ Ok header → IsCutOff bytes header e
+      → IsFaultIn order bytes e
+  OfExtensions : (header : List ℕ) → header_at bytes ≡ Ok header → IsRowFault order bytes header e
+      → IsFaultIn order bytes e
 
 -- the first fault of the bytes as a view reads them
 abbrev pub IsIpv6Fault : List ℕ → SliceError → Type 0

@@ -1,15 +1,17 @@
 -- The extension headers at the front of bytes, one by one (RFC 8200, section 4).
-use Rattle.std.specs.Prelude.{◌≡◌, false, ℕ, zero, suc, List, [], ◌∷◌, ◌++◌, length, drop, Option, Some, None, Result, Ok, Err}
+use Rattle.std.specs.Prelude.{◌≡◌, false, ℕ, zero, suc, List, [], ◌∷◌, ◌++◌, length, drop, Option}
+use Rattle.std.specs.Prelude.{Some, None, Result, Ok, Err}
 use Rattle.ep_base.specs.Bytes.{num}
 use Rattle.ep_ext.specs.Chain.{Row, front_of}
 use Rattle.ep_ext.specs.Place.{Order}
 use Rattle.ep_ext.specs.Value.{Piece, bytes_of}
-use Rattle.ep_ext.specs.declared.err.ipv6_exts.header_slice_error.HeaderSliceError.{HeaderSliceError}
+use Rattle.ep_base.specs.declared.err.slice_error.SliceError.{SliceError}
+use Rattle.ep_ext.specs.declared.err.ipv6_exts.header_error.HeaderError.{HeaderError}
 use Rattle.ep_ext.specs.declared.net.ipv6_ext_place.Ipv6ExtPlace.{Ipv6ExtPlace}
 use Rattle.ep_ipslice.specs.Ipv6Exts.{place_behind, view_order}
 
 -- the whole header of a place at the front of the bytes
-abbrev pub whole_piece : Ipv6ExtPlace → Result (List ℕ) HeaderSliceError → Option Piece
+abbrev pub whole_piece : Ipv6ExtPlace → Result (List ℕ) (SliceError HeaderError) → Option Piece
 whole_piece place (Ok header) = Some (place, header)
 whole_piece place (Err e) = None
 
@@ -27,7 +29,8 @@ unfoldable pub pieces_within : ℕ → Order → List Ipv6ExtPlace → ℕ → L
 pieces_within zero order passed number bytes = []
 pieces_within (suc most) order passed number bytes =
     piece_then (front_piece (order passed number) bytes)
-    (λ (piece : Piece). pieces_within most order (passed ++ piece.0 ∷ []) (num piece.1 0 1) (drop (length piece.1) bytes))
+    (λ (piece : Piece). pieces_within most order (passed ++ piece.0 ∷ []) (num piece.1 0 1)
+    (drop (length piece.1) bytes))
 
 -- the order of headers behind others, where none is out of place
 abbrev pub any_order : Order
@@ -40,4 +43,5 @@ pieces_left number bytes = pieces_within (length bytes) any_order [] number byte
 -- the bytes are headers of a view, in a row behind others
 abbrev pub IsLeft : ℕ → List ℕ → Type 0
 IsLeft number bytes =
-    (passed : List Ipv6ExtPlace) × (pieces : List Piece) × (last : ℕ) × Row view_order passed number pieces last × (bytes ≡ bytes_of pieces)
+    (passed : List Ipv6ExtPlace) × (pieces : List Piece) × (last : ℕ)
+    × Row view_order passed number pieces last × (bytes ≡ bytes_of pieces)

@@ -1,9 +1,11 @@
 -- IP packets: base header, extension headers, payload and padding (IPv4: RFC 791, section 3.1, and
 -- RFC 4302, section 3.1.1; IPv6: RFC 8200, sections 3 and 4), and what a packet tells.
-use Rattle.std.specs.Prelude.{◌≡◌, ℕ, ◌+◌, ◌-◌, ◌==◌, ◌&&◌, nat_lt, Bool, false, if◌then◌else◌, List, [], ◌++◌, length, Option}
+use Rattle.std.specs.Prelude.{◌≡◌, ℕ, ◌+◌, ◌-◌, ◌==◌, ◌&&◌, nat_lt, Bool, false, if◌then◌else◌}
+use Rattle.std.specs.Prelude.{List, [], ◌++◌, length, Option}
 use Rattle.std.specs.Option.{option_map}
 use Rattle.ep_base.specs.declared.len_source.LenSource.{LenSource}
-use Rattle.ep_base.specs.declared.len_source.LenSource.TheVariants.{Slice, Ipv4HeaderTotalLen, Ipv6HeaderPayloadLen}
+use Rattle.ep_base.specs.declared.len_source.LenSource.TheVariants.{Slice, Ipv4HeaderTotalLen}
+use Rattle.ep_base.specs.declared.len_source.LenSource.TheVariants.{Ipv6HeaderPayloadLen}
 use Rattle.ep_base.specs.declared.net.ip_number.IpNumber.{IpNumber}
 use Rattle.ep_ip.specs.Ipv4 as v4
 use Rattle.ep_ip.specs.Ipv6 as v6
@@ -23,8 +25,8 @@ pub record IpPayload : Type 0 where
   pub len_source : LenSource
   pub payload : List ℕ
 
--- what a packet tells of the message that its payload is a part of: the identification that all parts
--- share, the place of the payload in units of 8 bytes, and whether other parts follow
+-- what a packet tells of the message that its payload is a part of: the identification that all
+-- parts share, the place of the payload in units of 8 bytes, and whether other parts follow
 pub record FragmentFields : Type 0 where
   pub identification : ℕ
   pub offset : ℕ
@@ -67,7 +69,8 @@ pub record IsIpv4Packet (bytes : List ℕ) (packet : Ipv4Packet) : Type 0 where
   pub cut : bytes ≡ packet.header ++ auth_bytes packet.auth ++ packet.payload ++ padding
   pub header : v4.IsIpv4Header packet.header
   pub auth : IsAuthBehind (v4.protocol_of packet.header) packet.auth
-  pub total : length packet.header + length (auth_bytes packet.auth) + length packet.payload ≡ v4.total_len_of packet.header
+  pub total : length packet.header + length (auth_bytes packet.auth) + length packet.payload
+      ≡ v4.total_len_of packet.header
 
 -- the bytes of a packet, without padding
 abbrev pub ipv4_bytes : Ipv4Packet → List ℕ
@@ -79,7 +82,8 @@ IsWholeIpv4 packet = IsIpv4Packet (ipv4_bytes packet) packet
 
 -- the payload is a part of a message
 abbrev pub is_ipv4_fragment : List ℕ → Bool
-is_ipv4_fragment header = v4.is_fragmenting (v4.more_fragments_of header) (v4.fragment_offset_of header)
+is_ipv4_fragment header = v4.is_fragmenting (v4.more_fragments_of header)
+    (v4.fragment_offset_of header)
 
 abbrev pub ipv4_payload : Ipv4Packet → IpPayload
 ipv4_payload packet = record {
@@ -98,8 +102,8 @@ pub record Ipv6Packet : Type 0 where
 abbrev pub ipv6_bytes : Ipv6Packet → List ℕ
 ipv6_bytes packet = packet.header ++ packet.exts.slice ++ packet.payload.payload
 
--- the packet's own length is not given: the payload length is 0 (RFC 2675, section 3), and more than
--- the header is there
+-- the packet's own length is not given: the payload length is 0 (RFC 2675, section 3), and more
+-- than the header is there
 abbrev pub is_open : List ℕ → ℕ → Bool
 is_open header behind = (v6.payload_length_of header == 0) && nat_lt 0 behind
 
@@ -111,8 +115,8 @@ body_len header behind = if is_open header behind then behind else v6.payload_le
 abbrev pub body_source : List ℕ → ℕ → LenSource
 body_source header behind = if is_open header behind then Slice else Ipv6HeaderPayloadLen
 
--- the bytes begin with this header, and as many of those behind it as its payload length says are the
--- body, extension headers and payload; padding may follow
+-- the bytes begin with this header, and as many of those behind it as its payload length says are
+-- the body, extension headers and payload; padding may follow
 pub record IsIpv6Body (bytes header : List ℕ) (source : LenSource) (body : List ℕ) : Type 0 where
   pub padding : List ℕ
   pub cut : bytes ≡ header ++ body ++ padding
@@ -130,7 +134,8 @@ pub record IsIpv6Packet (bytes : List ℕ) (packet : Ipv6Packet) : Type 0 where
   pub header : v6.IsIpv6Header packet.header
   pub row : Row view_order [] (v6.next_header_of packet.header) pieces last
   pub ended : has_place last ≡ false
-  pub size : length (bytes_of pieces) + length packet.payload.payload ≡ body_len packet.header (length bytes - 40)
+  pub size : length (bytes_of pieces) + length packet.payload.payload
+      ≡ body_len packet.header (length bytes - 40)
   pub exts : packet.exts ≡ exts_of (v6.next_header_of packet.header) pieces
   pub fields : packet.payload ≡ record {
     ip_number = record { 0 = last };

@@ -11,8 +11,10 @@ fed_from : List ℕ → fed.HashWrites
 fed_from [] = []
 fed_from (n ∷ []) = []
 fed_from (n ∷ (part ∷ [])) = []
-fed_from (n ∷ (part ∷ (source ∷ bytes))) = fed.u8 n ++ fed.u8 part ++ fed.u8 source ++ fed.slice fed.u8 bytes
+fed_from (n ∷ (part ∷ (source ∷ bytes))) = fed.u8 n ++ fed.u8 part ++ fed.u8 source
+    ++ fed.slice fed.u8 bytes
 
-pub hashed_alike : (p q : IpPayload) → on ordered_as (pointwise nat_eq) p q ≡ true → hashed_as p ≡ hashed_as q
+pub hashed_alike : (p q : IpPayload) → on ordered_as (pointwise nat_eq) p q ≡ true
+    → hashed_as p ≡ hashed_as q
 unfolding fed_from
 hashed_alike p q same = ap fed_from ((bytes_decides (ordered_as p) (ordered_as q)).0 same)

@@ -18,9 +18,9 @@ pub(super) const IPV4: [u8; 35] = [
     6, 7, 8, 0xaa, 0xbb, 0,
 ];
 
-// IPv6 (RFC 8200, section 3) with a payload length of 46: hop-by-hop options, routing header, fragment
-// header (offset 1), authentication header, destination options, two bytes of payload and one of
-// padding.
+// IPv6 (RFC 8200, section 3) with a payload length of 46: hop-by-hop options, routing header,
+// fragment header (offset 1), authentication header, destination options, two bytes of payload and
+// one of padding.
 pub(super) const IPV6: [u8; 87] = [
     0x60, 0, 0, 0, 0, 46, 0, 64, 0xfd, 0, 0, 0, 0, 0, 0, 0, 0, 0, 0, 0, 0, 0, 0, 1, 0xfd, 0, 0, 0,
     0, 0, 0, 0, 0, 0, 0, 0, 0, 0, 0, 2, 43, 0, 1, 4, 0, 0, 0, 0, 44, 0, 0, 0, 0, 0, 0, 0, 51, 0, 0,
@@ -90,7 +90,8 @@ fn repeated_fragment_headers(rt: HostRuntime) {
     }
 }
 
-// Extension headers in a row from the number 44, or 0, and whether they are those of a part of a message.
+// Extension headers in a row from the number 44, or 0, and whether they are those of a part of a
+// message.
 #[test]
 fn which_headers_are_of_a_part(rt: HostRuntime) {
     let whole = [0x11, 0, 0, 0, 0, 0, 0, 7];
@@ -220,7 +221,8 @@ fn every_front_of_an_ipv6_packet(rt: HostRuntime) {
     assert!(rt; Ipv6Slice::from_slice(&bytes[..86]).is_ok());
 }
 
-// A want inside an extension header names the packet's own length, and the place in the whole slice.
+// A want inside an extension header names the packet's own length, and the place in the whole
+// slice.
 #[test]
 fn a_cut_extension_header(rt: HostRuntime) {
     let mut bytes = IPV6;

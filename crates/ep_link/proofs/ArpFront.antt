@@ -1,52 +1,67 @@
 -- The ARP packet at the front of bytes.
-use Rattle.std.proofs.Common.{◌≡◌, ℕ, ◌≤◌, List, ◌++◌, length, take, drop, get_or, Result, Ok, Err, IfOk, arith, sym, refl, ap, subst, ◌∙◌}
+use Rattle.std.proofs.Common.{◌≡◌, ℕ, ◌≤◌, List, ◌++◌, length, take, drop, get_or, Result, Ok}
+use Rattle.std.proofs.Common.{arith, sym, refl, ap, subst, ◌∙◌}
 use Rattle.std.proofs.lemmas.Bool.{le-ltb, ltb-false}
-use Rattle.std.proofs.lemmas.List.{get_or-take, get_or_append_left, length-take-le, length-append, take-append-drop, take_at}
+use Rattle.std.proofs.lemmas.List.{get_or-take, get_or_append_left, length-take-le, length-append}
+use Rattle.std.proofs.lemmas.List.{take-append-drop, take_at}
 use Rattle.ep_base.specs.declared.err.len_error.LenError.{LenError}
 use Rattle.ep_link.specs.Arp.{IsArpPacket, packet_at, packet_len_of}
-use Rattle.ep_link.proofs.Front.{guard_ok, ok_same}
+use Rattle.ep_base.specs.Fronts.{TakesFront}
+use Rattle.ep_base.proofs.Fronts.{guard_ok, ok_same, takes}
 
 -- the first bytes of a packet say what the packet says
-pub front_is : (bytes : List ℕ) → 8 ≤ length bytes → packet_len_of bytes ≤ length bytes → IsArpPacket (take (packet_len_of bytes) bytes)
+pub front_is : (bytes : List ℕ) → 8 ≤ length bytes → packet_len_of bytes ≤ length bytes
+    → IsArpPacket (take (packet_len_of bytes) bytes)
 front_is bytes least whole =
     let n = packet_len_of bytes in
-    let fourth : get_or (take n bytes) 4 0 ≡ get_or bytes 4 0 = get_or-take n bytes 4 0 (omega arith) in
-    let fifth : get_or (take n bytes) 5 0 ≡ get_or bytes 5 0 = get_or-take n bytes 5 0 (omega arith) in
+    let fourth : get_or (take n bytes) 4 0 ≡ get_or bytes 4 0 =
+    get_or-take n bytes 4 0 (omega arith) in
+    let fifth : get_or (take n bytes) 5 0 ≡ get_or bytes 5 0 =
+    get_or-take n bytes 5 0 (omega arith) in
     let len : length (take n bytes) ≡ n = length-take-le n bytes whole in
     record { least = omega arith; whole = rw (fourth, fifth) len }
 
-packet_takes : (bytes packet : List ℕ) → packet_at bytes ≡ Ok packet → IsArpPacket packet × (bytes ≡ packet ++ drop (packet_len_of bytes) bytes)
-packet_takes bytes packet e =
+packet_found : (bytes packet : List ℕ) → packet_at bytes ≡ Ok packet
+    → IsArpPacket packet × ((rest : List ℕ) × (bytes ≡ packet ++ rest))
+packet_found bytes packet e =
     let least = guard_ok _ _ _ _ e in
     let whole = guard_ok _ _ _ _ least.1 in
     let eight : 8 ≤ length bytes = ltb-false (length bytes) 8 least.0 in
-    let fits : packet_len_of bytes ≤ length bytes = ltb-false (length bytes) (packet_len_of bytes) whole.0 in
-    let same : take (packet_len_of bytes) bytes ≡ packet = ok_same _ _ whole.1 in
-    (subst IsArpPacket same (front_is bytes eight fits), sym (ap (λ (h : List ℕ). h ++ drop (packet_len_of bytes) bytes) (sym same) ∙ take-append-drop (packet_len_of bytes) bytes))
+    let fits : packet_len_of bytes ≤ length bytes =
+    ltb-false (length bytes) (packet_len_of bytes) whole.0 in
+    let same : take (packet_len_of bytes) bytes ≡ packet = ok_same _ _ whole.1 in (
+      subst IsArpPacket same (front_is bytes eight fits),
+      (
+        drop (packet_len_of bytes) bytes,
+        sym
+            (ap (λ (h : List ℕ). h ++ drop (packet_len_of bytes) bytes) (sym same)
+            ∙ take-append-drop (packet_len_of bytes) bytes),
+      ),
+    )
 
-pub found_packet : (bytes : List ℕ) (r : Result (List ℕ) LenError) → r ≡ packet_at bytes
-    → IfOk r (λ packet. IsArpPacket packet × ((rest : List ℕ) × (bytes ≡ packet ++ rest)))
-found_packet bytes (Ok packet) e =
-    let taken : IsArpPacket packet × (bytes ≡ packet ++ drop (packet_len_of bytes) bytes) = packet_takes bytes packet (sym e) in
-    (taken.0, (drop (packet_len_of bytes) bytes, taken.1))
-found_packet bytes (Err fault) e = tt
-
-packet_at-ok : (bytes : List ℕ) → 8 ≤ length bytes → packet_len_of bytes ≤ length bytes → packet_at bytes ≡ Ok (take (packet_len_of bytes) bytes)
-packet_at-ok bytes least whole = rw (le-ltb (length bytes) 8 least, le-ltb (length bytes) (packet_len_of bytes) whole) refl
+packet_at-ok : (bytes : List ℕ) → 8 ≤ length bytes → packet_len_of bytes ≤ length bytes
+    → packet_at bytes ≡ Ok (take (packet_len_of bytes) bytes)
+packet_at-ok bytes least whole =
+    rw (le-ltb (length bytes) 8 least, le-ltb (length bytes) (packet_len_of bytes) whole) refl
 
 -- a packet is taken, whatever follows it
 packet_again : (packet rest : List ℕ) → IsArpPacket packet → packet_at (packet ++ rest) ≡ Ok packet
 packet_again packet rest is =
-    let fourth : get_or (packet ++ rest) 4 0 ≡ get_or packet 4 0 = get_or_append_left packet rest 0 4 (omega (arith, is.least)) in
-    let fifth : get_or (packet ++ rest) 5 0 ≡ get_or packet 5 0 = get_or_append_left packet rest 0 5 (omega (arith, is.least)) in
+    let fourth : get_or (packet ++ rest) 4 0 ≡ get_or packet 4 0 =
+    get_or_append_left packet rest 0 4 (omega (arith, is.least)) in
+    let fifth : get_or (packet ++ rest) 5 0 ≡ get_or packet 5 0 =
+    get_or_append_left packet rest 0 5 (omega (arith, is.least)) in
     let len = length-append packet rest in
-    let whole : packet_len_of (packet ++ rest) ≡ length packet = rw (fourth, fifth) (sym is.whole) in
+    let whole : packet_len_of (packet ++ rest) ≡ length packet =
+    rw (fourth, fifth) (sym is.whole) in
     packet_at-ok (packet ++ rest) (omega (arith, is.least)) (rw whole (omega arith))
     ∙ ap Ok (ap (λ n. take n (packet ++ rest)) whole ∙ take_at packet rest (length packet) refl)
 
-pub packet_only : (bytes packet rest : List ℕ) → IsArpPacket packet → bytes ≡ packet ++ rest → packet_at bytes ≡ Ok packet
-packet_only bytes packet rest is place = ap packet_at place ∙ packet_again packet rest is
+pub takes_packet : (bytes : List ℕ) (taken : Result (List ℕ) LenError) → taken ≡ packet_at bytes
+    → TakesFront IsArpPacket bytes taken
+takes_packet = takes IsArpPacket packet_at packet_found packet_again
 
 -- the same with the length as it was computed
-pub front_at : (bytes : List ℕ) (n : ℕ) → 8 ≤ length bytes → n ≡ packet_len_of bytes → n ≤ length bytes → IsArpPacket (take n bytes)
+pub front_at : (bytes : List ℕ) (n : ℕ) → 8 ≤ length bytes → n ≡ packet_len_of bytes
+    → n ≤ length bytes → IsArpPacket (take n bytes)
 front_at bytes n least counted whole = rw counted (front_is bytes least (rw counted at whole))

@@ -1,10 +1,15 @@
 -- The bytes of an ARP packet against its fields.
-use Rattle.std.proofs.Common.{◌≡◌, ℕ, ◌+◌, ◌*◌, List, ◌++◌, length, take, drop, get_or, arith, sym, refl, ap, ◌∙◌}
-use Rattle.std.proofs.lemmas.List.{length-append, length-drop, length-take-le, take-append-drop, take_all, take_at, drop_at}
+use Rattle.std.proofs.Common.{◌≡◌, ℕ, ◌+◌, ◌*◌, List, ◌++◌, length, take, drop, get_or, arith, sym}
+use Rattle.std.proofs.Common.{refl, ap, ◌∙◌}
+use Rattle.std.proofs.lemmas.List.{length-append, length-drop, length-take-le, take-append-drop}
+use Rattle.std.proofs.lemmas.List.{take_all, take_at, drop_at}
 use Rattle.ep_base.specs.Bytes.{IsBytes}
 use Rattle.ep_base.proofs.Cells.{drop-cells}
-use Rattle.ep_link.specs.Arp.{ArpFields, IsArp, IsArpPacket, Fits, addresses_of, behind_sender, behind_sender_hw, behind_target_hw, fields_of, hw_len_of, proto_len_of, sender_hw_of, sender_proto_of, spelling, target_hw_of, target_proto_of}
-use Rattle.ep_link.proofs.Numbers.{high_of, joined, low_of}
+use Rattle.ep_link.specs.Arp.{ArpFields, IsArp, IsArpPacket, Fits, addresses_of, behind_sender}
+use Rattle.ep_link.specs.Arp.{behind_sender_hw, behind_target_hw, fields_of, hw_len_of}
+use Rattle.ep_link.specs.Arp.{proto_len_of, sender_hw_of, sender_proto_of, spelling, target_hw_of}
+use Rattle.ep_link.specs.Arp.{target_proto_of}
+use Rattle.ep_base.proofs.Numbers.{high_of, low_of, two_again}
 
 -- how many bytes of the addresses are left behind each
 pub record Lens (bytes : List ℕ) : Type 0 where
@@ -17,28 +22,45 @@ pub lens_of : (bytes : List ℕ) → IsArpPacket bytes → Lens bytes
 lens_of bytes is =
     let h = hw_len_of bytes in
     let p = proto_len_of bytes in
-    let all : length (drop 8 bytes) ≡ 2 * h + 2 * p = omega (arith, length-drop 8 bytes, is.whole) in
-    let sender_hw : length (behind_sender_hw bytes) ≡ h + 2 * p = omega (arith, length-drop h (addresses_of bytes), all) in
-    let sender : length (behind_sender bytes) ≡ h + p = omega (arith, length-drop p (behind_sender_hw bytes), sender_hw) in
-    let target_hw : length (behind_target_hw bytes) ≡ p = omega (arith, length-drop h (behind_sender bytes), sender) in
+    let all : length (drop 8 bytes) ≡ 2 * h + 2 * p =
+    omega (arith, length-drop 8 bytes, is.whole) in
+    let sender_hw : length (behind_sender_hw bytes) ≡ h + 2 * p =
+    omega (arith, length-drop h (addresses_of bytes), all) in
+    let sender : length (behind_sender bytes) ≡ h + p =
+    omega (arith, length-drop p (behind_sender_hw bytes), sender_hw) in
+    let target_hw : length (behind_target_hw bytes) ≡ p =
+    omega (arith, length-drop h (behind_sender bytes), sender) in
     record { all = all; sender_hw = sender_hw; sender = sender; target_hw = target_hw }
 
 -- the four addresses are all that stands behind the first eight bytes
-addresses_are : (bytes : List ℕ) → IsArpPacket bytes → sender_hw_of bytes ++ (sender_proto_of bytes ++ (target_hw_of bytes ++ target_proto_of bytes)) ≡ drop 8 bytes
+addresses_are : (bytes : List ℕ) → IsArpPacket bytes
+    → sender_hw_of bytes ++ (sender_proto_of bytes ++ (target_hw_of bytes ++ target_proto_of bytes))
+    ≡ drop 8 bytes
 addresses_are bytes is =
     let h = hw_len_of bytes in
     let p = proto_len_of bytes in
-    let last : target_proto_of bytes ≡ behind_target_hw bytes = take_all p (behind_target_hw bytes) (let len = (lens_of bytes is).target_hw in omega (arith, len)) in
-    let third : target_hw_of bytes ++ target_proto_of bytes ≡ behind_sender bytes = ap (λ (xs : List ℕ). target_hw_of bytes ++ xs) last ∙ take-append-drop h (behind_sender bytes) in
-    let second : sender_proto_of bytes ++ (target_hw_of bytes ++ target_proto_of bytes) ≡ behind_sender_hw bytes = ap (λ (xs : List ℕ). sender_proto_of bytes ++ xs) third ∙ take-append-drop p (behind_sender_hw bytes) in
+    let last : target_proto_of bytes ≡ behind_target_hw bytes =
+    take_all p (behind_target_hw bytes) (let len = (lens_of bytes is).target_hw in
+    omega (arith, len)) in
+    let third : target_hw_of bytes ++ target_proto_of bytes ≡ behind_sender bytes =
+    ap (λ (xs : List ℕ). target_hw_of bytes ++ xs) last
+    ∙ take-append-drop h (behind_sender bytes) in
+    let second : sender_proto_of bytes ++ (target_hw_of bytes ++ target_proto_of bytes)
+    ≡ behind_sender_hw bytes = ap (λ (xs : List ℕ). sender_proto_of bytes ++ xs) third
+    ∙ take-append-drop p (behind_sender_hw bytes) in
     ap (λ (xs : List ℕ). sender_hw_of bytes ++ xs) second ∙ take-append-drop h (addresses_of bytes)
 
 -- what is read from a packet's bytes is spelled by them
-pub spelling-fields_of : (bytes : List ℕ) → IsArpPacket bytes → IsBytes bytes → spelling (fields_of bytes) ≡ bytes
+pub spelling-fields_of : (bytes : List ℕ) → IsArpPacket bytes → IsBytes bytes
+    → spelling (fields_of bytes) ≡ bytes
 spelling-fields_of bytes is fits =
     let lens = lens_of bytes is in
-    let h : length (sender_hw_of bytes) ≡ hw_len_of bytes = length-take-le (hw_len_of bytes) (addresses_of bytes) (let len = lens.all in omega (arith, len)) in
-    let p : length (sender_proto_of bytes) ≡ proto_len_of bytes = length-take-le (proto_len_of bytes) (behind_sender_hw bytes) (let len = lens.sender_hw in omega (arith, len)) in
+    let h : length (sender_hw_of bytes) ≡ hw_len_of bytes =
+    length-take-le (hw_len_of bytes) (addresses_of bytes)
+    (let len = lens.all in omega (arith, len)) in
+    let p : length (sender_proto_of bytes) ≡ proto_len_of bytes =
+    length-take-le (proto_len_of bytes) (behind_sender_hw bytes)
+    (let len = lens.sender_hw in omega (arith, len)) in
     rw (
       h,
       p,
@@ -57,7 +79,8 @@ pub IsArpPacket-spelling : (a : ArpFields) → IsArp a → IsArpPacket (spelling
 IsArpPacket-spelling a is =
     let one = length-append a.target_hw_addr a.target_protocol_addr in
     let two = length-append a.sender_protocol_addr (a.target_hw_addr ++ a.target_protocol_addr) in
-    let three = length-append a.sender_hw_addr (a.sender_protocol_addr ++ (a.target_hw_addr ++ a.target_protocol_addr)) in
+    let three = length-append a.sender_hw_addr
+    (a.sender_protocol_addr ++ (a.target_hw_addr ++ a.target_protocol_addr)) in
     let hw = is.hw.same in
     let proto = is.proto.same in
     record { least = omega (arith, three); whole = omega (arith, one, two, three, hw, proto) }
@@ -69,16 +92,24 @@ fields_of-spelling a fits is =
     let sp = a.sender_protocol_addr in
     let th = a.target_hw_addr in
     let tp = a.target_protocol_addr in
-    let hw_type = joined a.hw_addr_type.0 fits.hw_addr_type in
-    let proto_type = joined a.proto_addr_type.0 fits.proto_addr_type in
-    let operation = joined a.operation.0 fits.operation in
+    let hw_type = two_again a.hw_addr_type.0 fits.hw_addr_type in
+    let proto_type = two_again a.proto_addr_type.0 fits.proto_addr_type in
+    let operation = two_again a.operation.0 fits.operation in
     let sender_hw = take_at sh (sp ++ (th ++ tp)) (length sh) refl in
-    let behind_hw : drop (length sh) (sh ++ (sp ++ (th ++ tp))) ≡ sp ++ (th ++ tp) = drop_at sh (sp ++ (th ++ tp)) (length sh) refl in
-    let sender_proto = ap (λ (xs : List ℕ). take (length sp) xs) behind_hw ∙ take_at sp (th ++ tp) (length sp) refl in
-    let behind : drop (length sp) (drop (length sh) (sh ++ (sp ++ (th ++ tp)))) ≡ th ++ tp = ap (λ (xs : List ℕ). drop (length sp) xs) behind_hw ∙ drop_at sp (th ++ tp) (length sp) refl in
-    let target_hw = ap (λ (xs : List ℕ). take (length sh) xs) behind ∙ take_at th tp (length sh) (sym is.hw.same) in
-    let last : drop (length sh) (drop (length sp) (drop (length sh) (sh ++ (sp ++ (th ++ tp))))) ≡ tp = ap (λ (xs : List ℕ). drop (length sh) xs) behind ∙ drop_at th tp (length sh) (sym is.hw.same) in
-    let target_proto = ap (λ (xs : List ℕ). take (length sp) xs) last ∙ take_all (length sp) tp (let same = is.proto.same in omega (arith, same)) in
+    let behind_hw : drop (length sh) (sh ++ (sp ++ (th ++ tp))) ≡ sp ++ (th ++ tp) =
+    drop_at sh (sp ++ (th ++ tp)) (length sh) refl in
+    let sender_proto = ap (λ (xs : List ℕ). take (length sp) xs) behind_hw
+    ∙ take_at sp (th ++ tp) (length sp) refl in
+    let behind : drop (length sp) (drop (length sh) (sh ++ (sp ++ (th ++ tp)))) ≡ th ++ tp =
+    ap (λ (xs : List ℕ). drop (length sp) xs) behind_hw
+    ∙ drop_at sp (th ++ tp) (length sp) refl in
+    let target_hw = ap (λ (xs : List ℕ). take (length sh) xs) behind
+    ∙ take_at th tp (length sh) (sym is.hw.same) in
+    let last : drop (length sh) (drop (length sp) (drop (length sh) (sh ++ (sp ++ (th ++ tp)))))
+    ≡ tp = ap (λ (xs : List ℕ). drop (length sh) xs) behind
+    ∙ drop_at th tp (length sh) (sym is.hw.same) in
+    let target_proto = ap (λ (xs : List ℕ). take (length sp) xs) last
+    ∙ take_all (length sp) tp (let same = is.proto.same in omega (arith, same)) in
     λ i. record {
       hw_addr_type = record { 0 = hw_type i };
       proto_addr_type = record { 0 = proto_type i };

@@ -1,15 +1,17 @@
 -- The bytes of an Ethernet II header against its fields.
-use Rattle.std.proofs.Common.{◌≡◌, ℕ, ◌+◌, ◌*◌, ◌/◌, ◌%◌, List, [], ◌∷◌, ◌++◌, length, take, drop, get_or, arith, sym, ap, ◌∙◌, append_assoc}
+use Rattle.std.proofs.Common.{◌≡◌, ℕ, ◌+◌, ◌*◌, ◌/◌, ◌%◌, List, [], ◌∷◌, ◌++◌, length, take, drop}
+use Rattle.std.proofs.Common.{get_or, arith, sym, ap, ◌∙◌, append_assoc}
 use Rattle.std.proofs.lemmas.List.{get_or-drop, length-append, take_at, drop_at}
 use Rattle.ep_base.specs.Bytes.{IsBytes}
-use Rattle.ep_base.proofs.Cells.{cells, take-drop-cells}
-use Rattle.ep_link.specs.Ethernet.{ethernet_len, header_of, spelling, Fits}
+use Rattle.ep_base.proofs.Cells.{as_cells, cells, take-drop-cells}
+use Rattle.ep_link.specs.Ethernet.{ethernet_len, ethernet_header_of, spelling, Fits}
 use Rattle.ep_link.specs.declared.link.ethernet2_header.Ethernet2Header.{Ethernet2Header}
-use Rattle.ep_link.proofs.Numbers.{as_cells, high_of, joined, low_of}
+use Rattle.ep_base.proofs.Numbers.{high_of, low_of, two_again}
 
 -- what is read from 14 bytes is spelled by them
-pub spelling-header_of : (frame : List ℕ) → length frame ≡ ethernet_len → IsBytes frame → spelling (header_of frame) ≡ frame
-spelling-header_of frame whole fits =
+pub spelling-ethernet_header_of : (frame : List ℕ) → length frame ≡ ethernet_len → IsBytes frame
+    → spelling (ethernet_header_of frame) ≡ frame
+spelling-ethernet_header_of frame whole fits =
     rw (
       take-drop-cells 6 0 frame (omega (arith, whole)),
       take-drop-cells 6 6 frame (omega (arith, whole)),
@@ -19,22 +21,29 @@ spelling-header_of frame whole fits =
     (sym (as_cells 14 frame whole))
 
 -- a number behind a front of a known length
-pub at_behind : (front rest : List ℕ) (n i : ℕ) → length front ≡ n → get_or (front ++ rest) (n + i) 0 ≡ get_or rest i 0
-at_behind front rest n i len = sym (get_or-drop n (front ++ rest) i 0) ∙ ap (λ (xs : List ℕ). get_or xs i 0) (drop_at front rest n len)
+pub at_behind : (front rest : List ℕ) (n i : ℕ) → length front ≡ n
+    → get_or (front ++ rest) (n + i) 0 ≡ get_or rest i 0
+at_behind front rest n i len = sym (get_or-drop n (front ++ rest) i 0)
+    ∙ ap (λ (xs : List ℕ). get_or xs i 0) (drop_at front rest n len)
 
-pub header_of-spelling : (h : Ethernet2Header) → Fits h → header_of (spelling h) ≡ h
-header_of-spelling h fits =
+pub ethernet_header_of-spelling : (h : Ethernet2Header) → Fits h → ethernet_header_of (spelling h)
+    ≡ h
+ethernet_header_of-spelling h fits =
     let d = h.destination in
     let s = h.source in
     let kind : List ℕ = h.ether_type.0 / 256 % 256 ∷ h.ether_type.0 % 256 ∷ [] in
     let joint : d ++ s ++ kind ≡ d ++ (s ++ kind) = append_assoc d s kind in
-    let destination : take 6 (d ++ s ++ kind) ≡ d = ap (λ (xs : List ℕ). take 6 xs) joint ∙ take_at d (s ++ kind) 6 fits.destination in
-    let behind : drop 6 (d ++ s ++ kind) ≡ s ++ kind = ap (λ (xs : List ℕ). drop 6 xs) joint ∙ drop_at d (s ++ kind) 6 fits.destination in
-    let source : take 6 (drop 6 (d ++ s ++ kind)) ≡ s = ap (λ (xs : List ℕ). take 6 xs) behind ∙ take_at s kind 6 fits.source in
-    let len : length (d ++ s) ≡ 12 = omega (arith, length-append d s, fits.destination, fits.source) in
+    let destination : take 6 (d ++ s ++ kind) ≡ d =
+    ap (λ (xs : List ℕ). take 6 xs) joint ∙ take_at d (s ++ kind) 6 fits.destination in
+    let behind : drop 6 (d ++ s ++ kind) ≡ s ++ kind =
+    ap (λ (xs : List ℕ). drop 6 xs) joint ∙ drop_at d (s ++ kind) 6 fits.destination in
+    let source : take 6 (drop 6 (d ++ s ++ kind)) ≡ s =
+    ap (λ (xs : List ℕ). take 6 xs) behind ∙ take_at s kind 6 fits.source in
+    let len : length (d ++ s) ≡ 12 =
+    omega (arith, length-append d s, fits.destination, fits.source) in
     let high = at_behind (d ++ s) kind 12 0 len in
     let low = at_behind (d ++ s) kind 12 1 len in
-    let ether_type = (λ i. 256 * high i + low i) ∙ joined h.ether_type.0 fits.ether_type in
+    let ether_type = (λ i. 256 * high i + low i) ∙ two_again h.ether_type.0 fits.ether_type in
     λ i. record {
       source = source i;
       destination = destination i;
@@ -44,7 +53,9 @@ header_of-spelling h fits =
 -- the list that the code makes
 pub put_together : (d s : List ℕ) (a b : ℕ) → length d ≡ 6 → length s ≡ 6 →
     get_or d 0 0 ∷ get_or d 1 0 ∷ get_or d 2 0 ∷ get_or d 3 0 ∷ get_or d 4 0 ∷ get_or d 5 0
-    ∷ get_or s 0 0 ∷ get_or s 1 0 ∷ get_or s 2 0 ∷ get_or s 3 0 ∷ get_or s 4 0 ∷ get_or s 5 0 ∷ a ∷ b ∷ []
+    ∷ get_or s 0 0 ∷ get_or s 1 0 ∷ get_or s 2 0 ∷ get_or s 3 0 ∷ get_or s 4 0 ∷
+    get_or s 5 0 ∷ a ∷ b ∷ []
     ≡ d ++ s ++ (a ∷ b ∷ [])
 put_together d s a b hd hs =
-    sym (ap (λ (xs : List ℕ). xs ++ s ++ (a ∷ b ∷ [])) (as_cells 6 d hd) ∙ ap (λ (xs : List ℕ). cells 6 0 d ++ xs ++ (a ∷ b ∷ [])) (as_cells 6 s hs))
+    sym (ap (λ (xs : List ℕ). xs ++ s ++ (a ∷ b ∷ [])) (as_cells 6 d hd)
+    ∙ ap (λ (xs : List ℕ). cells 6 0 d ++ xs ++ (a ∷ b ∷ [])) (as_cells 6 s hs))

@@ -1,7 +1,5 @@
-pub mod ArpFront
-pub mod ArpSpelling
-pub mod EthernetSpelling
-pub mod Front
-pub mod Numbers
-pub mod SllFront
-pub mod SllSpelling
+mod ArpFront
+mod ArpSpelling
+mod EthernetSpelling
+mod SllFront
+mod SllSpelling

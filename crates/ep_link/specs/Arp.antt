@@ -1,5 +1,6 @@
 -- An ARP packet (RFC 826): its bytes, and each field by its place in them.
-use Rattle.std.specs.Prelude.{◌≡◌, ℕ, ◌+◌, ◌*◌, ◌^◌, ◌<◌, ◌≤◌, nat_lt, if◌then◌else◌, List, ◌∷◌, ◌++◌, length, take, drop, Result, Ok, Err}
+use Rattle.std.specs.Prelude.{◌≡◌, ℕ, ◌+◌, ◌*◌, ◌^◌, ◌<◌, ◌≤◌, nat_lt, List, ◌∷◌, ◌++◌, length}
+use Rattle.std.specs.Prelude.{take, drop, Result, []}
 use Rattle.std.specs.Int.{w16, to_be_bytes}
 use Rattle.ep_base.specs.Bytes.{num}
 use Rattle.ep_base.specs.declared.err.layer.Layer.TheVariants as layer
@@ -9,7 +10,8 @@ use Rattle.ep_base.specs.declared.link.ether_type.EtherType.{EtherType}
 use Rattle.ep_link.specs.declared.link.arp_hardware_id.ArpHardwareId.{ArpHardwareId}
 use Rattle.ep_link.specs.declared.link.arp_operation.ArpOperation.{ArpOperation}
 use Rattle.ep_tag.specs.Ether.{ether_type_at}
-use Rattle.ep_tag.specs.Front.{too_short}
+use Rattle.ep_base.specs.LenError.{too_few_bytes}
+use Rattle.ep_base.specs.Refusals.{unless_refused}
 
 -- the fields of an ARP packet
 pub record ArpFields : Type 0 where
@@ -91,7 +93,9 @@ fixed_spelling a =
 
 -- the bytes of a packet
 abbrev pub spelling : ArpFields → List ℕ
-spelling a = fixed_spelling a ++ (a.sender_hw_addr ++ (a.sender_protocol_addr ++ (a.target_hw_addr ++ a.target_protocol_addr)))
+spelling a = fixed_spelling a
+    ++ (a.sender_hw_addr ++ (a.sender_protocol_addr
+    ++ (a.target_hw_addr ++ a.target_protocol_addr)))
 
 -- both addresses of a kind have one length, which fits a byte
 pub record AreAddresses (sender target : List ℕ) : Type 0 where
@@ -105,14 +109,18 @@ pub record IsArp (a : ArpFields) : Type 0 where
 
 -- the address lengths want so many bytes, and fewer are there
 abbrev pub addresses_cut : ℕ → ℕ → LenError
-addresses_cut required found = record (too_short layer.Arp required found) { len_source = ArpAddrLengths }
+addresses_cut required found =
+    record (too_few_bytes layer.Arp required found) { len_source = ArpAddrLengths }
 
 -- the packet at the front of the bytes, or the first want: 8 bytes, the addresses
 abbrev pub packet_at : List ℕ → Result (List ℕ) LenError
-packet_at bytes =
-    if nat_lt (length bytes) 8 then Err (too_short layer.Arp 8 (length bytes)) else (
-    if nat_lt (length bytes) (packet_len_of bytes) then Err (addresses_cut (packet_len_of bytes) (length bytes)) else
-    Ok (take (packet_len_of bytes) bytes))
+packet_at bytes = unless_refused (
+    (nat_lt (length bytes) 8, too_few_bytes layer.Arp 8 (length bytes))
+    ∷ (
+      nat_lt (length bytes) (packet_len_of bytes),
+      addresses_cut (packet_len_of bytes) (length bytes),
+    )
+    ∷ []) (take (packet_len_of bytes) bytes)
 
 -- the ranges of the numbers
 pub record Fits (a : ArpFields) : Type 0 where

@@ -5,6 +5,7 @@ use Rattle.std.specs.Int.{w16, to_be_bytes}
 use Rattle.ep_base.specs.declared.len_source.LenSource.TheVariants.{Slice}
 use Rattle.ep_base.specs.declared.link.ether_type.EtherType.{EtherType}
 use Rattle.ep_tag.specs.Ether.{EtherPayload, ether_type_at}
+use Rattle.ep_base.specs.Fronts.{IsOfLength, IsReadAs}
 use Rattle.ep_link.specs.declared.link.ethernet2_header.Ethernet2Header.{Ethernet2Header}
 
 abbrev pub ethernet_len : ℕ
@@ -21,8 +22,8 @@ abbrev pub next_type_of : List ℕ → EtherType
 next_type_of frame = ether_type_at frame 12
 
 -- the fields that the first 14 bytes spell
-abbrev pub header_of : List ℕ → Ethernet2Header
-header_of frame = record {
+abbrev pub ethernet_header_of : List ℕ → Ethernet2Header
+ethernet_header_of frame = record {
   source = source_of frame;
   destination = destination_of frame;
   ether_type = next_type_of frame;
@@ -30,7 +31,8 @@ header_of frame = record {
 
 -- 0 in every field
 abbrev pub default_header : Ethernet2Header
-default_header = record { source = replicate 6 0; destination = replicate 6 0; ether_type = record { 0 = 0 } }
+default_header =
+    record { source = replicate 6 0; destination = replicate 6 0; ether_type = record { 0 = 0 } }
 
 -- the bytes of a header
 abbrev pub spelling : Ethernet2Header → List ℕ
@@ -38,15 +40,16 @@ spelling h = h.destination ++ h.source ++ to_be_bytes w16 h.ether_type.0
 
 -- what follows the header, under its ether type
 abbrev pub payload_of : List ℕ → EtherPayload
-payload_of frame = record { ether_type = next_type_of frame; len_source = Slice; payload = drop ethernet_len frame }
+payload_of frame =
+    record {
+      ether_type = next_type_of frame;
+      len_source = Slice;
+      payload = drop ethernet_len frame;
+    }
 
 -- in front of the rest stands a header with these fields, which spell it again
-pub record IsRead (bytes : List ℕ) (h : Ethernet2Header) (rest : List ℕ) : Type 0 where
-  pub front : List ℕ
-  pub whole : length front ≡ ethernet_len
-  pub place : bytes ≡ front ++ rest
-  pub fields : h ≡ header_of front
-  pub again : spelling h ≡ front
+abbrev pub IsRead : List ℕ → Ethernet2Header → List ℕ → Type 0
+IsRead = IsReadAs (IsOfLength ethernet_len) ethernet_header_of spelling (λ front. front)
 
 -- the ranges of the fields
 pub record Fits (h : Ethernet2Header) : Type 0 where

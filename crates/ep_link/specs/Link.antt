@@ -31,8 +31,8 @@ link_len (header.LinuxSll h) = sll.sll_len
 
 -- the fields of a link header, where there is one
 abbrev pub fields_of : LinkSlice → Option LinkHeader
-fields_of (slice.Ethernet2 frame) = Some (header.Ethernet2 (ethernet.header_of frame))
-fields_of (slice.LinuxSll bytes) = Some (header.LinuxSll (sll.header_of bytes))
+fields_of (slice.Ethernet2 frame) = Some (header.Ethernet2 (ethernet.ethernet_header_of frame))
+fields_of (slice.LinuxSll bytes) = Some (header.LinuxSll (sll.sll_header_of bytes))
 fields_of (slice.EtherPayload p) = None
 fields_of (slice.LinuxSllPayload p) = None
 

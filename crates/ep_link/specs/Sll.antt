@@ -1,12 +1,14 @@
 -- The header of a Linux cooked capture (libpcap's page on LINKTYPE_LINUX_SLL): its bytes, and each
 -- field by its place in them.
-use Rattle.std.specs.Prelude.{◌≡◌, ℕ, ◌^◌, ◌<◌, ◌≤◌, ◌==◌, ◌||◌, nat_le, if◌then◌else◌, List, ◌++◌, length, slice_range}
+use Rattle.std.specs.Prelude.{◌≡◌, ℕ, ◌^◌, ◌<◌, ◌≤◌, ◌==◌, ◌||◌, nat_le, if◌then◌else◌, List, ◌++◌}
+use Rattle.std.specs.Prelude.{length, slice_range}
 use Rattle.std.specs.Int.{w16, to_be_bytes}
 use Rattle.ep_base.specs.Bytes.{num}
 use Rattle.ep_link.specs.declared.link.arp_hardware_id.ArpHardwareId.{ArpHardwareId}
 use Rattle.ep_link.specs.declared.link.linux_sll_header.LinuxSllHeader.{LinuxSllHeader}
 use Rattle.ep_link.specs.declared.link.linux_sll_protocol_type.LinuxSllProtocolType.{LinuxSllProtocolType}
 use Rattle.ep_link.specs.declared.link.linux_sll_protocol_type.LinuxSllProtocolType.TheVariants as protocol
+use Rattle.ep_base.specs.Fronts.{IsReadAs}
 
 abbrev pub sll_len : ℕ
 sll_len = 16
@@ -31,7 +33,8 @@ address_of bytes = slice_range bytes 6 14
 
 -- an ether type, or below 0600 a number of Linux's own for what isn't Ethernet II
 abbrev pub ether_protocol : ℕ → LinuxSllProtocolType
-ether_protocol n = if nat_le 0x600 n then protocol.EtherType (record { 0 = n }) else protocol.LinuxNonstandardEtherType n
+ether_protocol n = if nat_le 0x600 n then protocol.EtherType (record { 0 = n })
+    else protocol.LinuxNonstandardEtherType n
 
 -- what the protocol number says, by the hardware type: 824 is netlink, 778 generic routing
 -- encapsulation; 803 (802.11 with radiotap) and 770 (frame relay) give it no meaning
@@ -50,12 +53,13 @@ number_of (protocol.GenericRoutingEncapsulationProtocolType n) = n
 number_of (protocol.EtherType t) = t.0
 number_of (protocol.LinuxNonstandardEtherType n) = n
 
--- the same kind of protocol with another number; of the two kinds that share hardware types, the one
--- that the number belongs to
+-- the same kind of protocol with another number; of the two kinds that share hardware types, the
+-- one that the number belongs to
 abbrev pub with_number : LinuxSllProtocolType → ℕ → LinuxSllProtocolType
 with_number (protocol.Ignored m) n = protocol.Ignored n
 with_number (protocol.NetlinkProtocolType m) n = protocol.NetlinkProtocolType n
-with_number (protocol.GenericRoutingEncapsulationProtocolType m) n = protocol.GenericRoutingEncapsulationProtocolType n
+with_number (protocol.GenericRoutingEncapsulationProtocolType m) n =
+    protocol.GenericRoutingEncapsulationProtocolType n
 with_number (protocol.EtherType t) n = ether_protocol n
 with_number (protocol.LinuxNonstandardEtherType m) n = ether_protocol n
 
@@ -65,8 +69,8 @@ pub record IsSllHeader (bytes : List ℕ) : Type 0 where
   pub whole : length bytes ≡ sll_len
 
 -- the fields that the first 16 bytes spell
-abbrev pub header_of : List ℕ → LinuxSllHeader
-header_of bytes = record {
+abbrev pub sll_header_of : List ℕ → LinuxSllHeader
+sll_header_of bytes = record {
   packet_type = packet_type_of bytes;
   arp_hrd_type = hardware_type_of bytes;
   sender_address_valid_length = address_len_of bytes;
@@ -77,7 +81,8 @@ header_of bytes = record {
 -- the bytes of a header
 abbrev pub spelling : LinuxSllHeader → List ℕ
 spelling h =
-    to_be_bytes w16 h.packet_type ++ to_be_bytes w16 h.arp_hrd_type.0 ++ to_be_bytes w16 h.sender_address_valid_length
+    to_be_bytes w16 h.packet_type ++ to_be_bytes w16 h.arp_hrd_type.0
+    ++ to_be_bytes w16 h.sender_address_valid_length
     ++ h.sender_address ++ to_be_bytes w16 (number_of h.protocol_type)
 
 -- the hardware type and the number name the protocol, so that it is read again
@@ -85,12 +90,8 @@ abbrev pub NamesProtocol : LinuxSllHeader → Type 0
 NamesProtocol h = protocol_of h.arp_hrd_type (number_of h.protocol_type) ≡ h.protocol_type
 
 -- in front of the rest stands a header with these fields, which spell it again
-pub record IsRead (bytes : List ℕ) (h : LinuxSllHeader) (rest : List ℕ) : Type 0 where
-  pub front : List ℕ
-  pub header : IsSllHeader front
-  pub place : bytes ≡ front ++ rest
-  pub fields : h ≡ header_of front
-  pub again : spelling h ≡ front
+abbrev pub IsRead : List ℕ → LinuxSllHeader → List ℕ → Type 0
+IsRead = IsReadAs IsSllHeader sll_header_of spelling (λ front. front)
 
 -- the ranges of the fields
 pub record Fits (h : LinuxSllHeader) : Type 0 where

@@ -14,7 +14,11 @@ pub record SllPayload : Type 0 where
   pub payload : List ℕ
 
 abbrev pub payload_of : List ℕ → SllPayload
-payload_of bytes = record { protocol_type = protocol_of (hardware_type_of bytes) (num bytes 14 2); payload = drop sll_len bytes }
+payload_of bytes =
+    record {
+      protocol_type = protocol_of (hardware_type_of bytes) (num bytes 14 2);
+      payload = drop sll_len bytes;
+    }
 
 -- the place of a kind of protocol among the variants
 abbrev pub kind_place : LinuxSllProtocolType → ℕ
@@ -36,7 +40,8 @@ abbrev pub ether_payload_of : LinuxSllProtocolType → List ℕ → Option Ether
 ether_payload_of (protocol.Ignored n) bytes = None
 ether_payload_of (protocol.NetlinkProtocolType n) bytes = None
 ether_payload_of (protocol.GenericRoutingEncapsulationProtocolType n) bytes = None
-ether_payload_of (protocol.EtherType t) bytes = Some (record { ether_type = t; len_source = Slice; payload = bytes })
+ether_payload_of (protocol.EtherType t) bytes =
+    Some (record { ether_type = t; len_source = Slice; payload = bytes })
 ether_payload_of (protocol.LinuxNonstandardEtherType n) bytes = None
 
 -- the same bytes behind an ether type, where the protocol is one

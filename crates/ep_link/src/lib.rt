@@ -1,4 +1,5 @@
-//! Link headers: Ethernet II (RFC 894) and those of Linux cooked captures, and ARP packets (RFC 826).
+//! Link headers: Ethernet II (RFC 894) and those of Linux cooked captures, and ARP packets (RFC
+//! 826).
 #![tactic(auto)]
 
 pub mod err;

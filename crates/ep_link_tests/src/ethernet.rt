@@ -129,9 +129,7 @@ fn laws(rt: HostRuntime) {
     headers_are_their_bytes(&header());
     assert!(rt; header_is_read_again(&header(), &bytes).is_ok());
     fields_by_hand();
-    copies_are_values();
-    copies_never_fail();
-    equals_are_same();
+    types_are_plain_data();
     orders_are_of_numbers();
     protocols_by_kind_and_number();
     hashes_are_of_numbers();

@@ -1,5 +1,6 @@
 -- Headers of an IPv6 packet as values beside its view.
-use Rattle.std.proofs.Common.{◌≡◌, ◌∙◌, ℕ, false, List, [], ◌++◌, length, refl, sym, ap, append_assoc, length-append}
+use Rattle.std.proofs.Common.{◌≡◌, ◌∙◌, ℕ, false, List, [], ◌++◌, length, refl, sym, ap}
+use Rattle.std.proofs.Common.{append_assoc, length-append}
 use Rattle.std.specs.Option.{option_map_or}
 use Rattle.ep_ext.specs.Chain.{Row}
 use Rattle.ep_ext.specs.Follow.{has_place}
@@ -7,7 +8,7 @@ use Rattle.ep_ext.specs.Fragment.{fragments}
 use Rattle.ep_ext.specs.Place.{place_of}
 use Rattle.ep_ext.specs.Value.{Piece, bytes_of, value_of}
 use Rattle.ep_ext.specs.declared.net.ipv6_extensions.Ipv6Extensions.{Ipv6Extensions}
-use Rattle.ep_ip.specs.Ipv6.{header_of, next_header_of}
+use Rattle.ep_ip.specs.Ipv6.{ipv6_header_of, next_header_of}
 use Rattle.ep_ipslice.specs.Ipv6Exts.{exts_of, is_any_fragmenting, view_order}
 use Rattle.ep_ipslice.specs.Packet.{IpPayload, Ipv6Packet, IsIpv6Packet}
 use Rattle.ep_packet.specs.IpHeaders.{is_fragmenting}
@@ -23,32 +24,64 @@ PlacedAreViews =
     × (is_any_fragmenting q ≡ option_map_or fragments (value_of pieces).fragment false)
 
 -- the packet of the same headers, as a view has it
-view_is : (bytes : List ℕ) (headers : IpHeaders) (payload : IpPayload) (is : IsIpv6Headers bytes headers payload) (q : List Piece) → Row view_order [] (next_header_of is.header) q is.last → bytes_of q ≡ bytes_of is.pieces →
-    is_any_fragmenting q ≡ option_map_or fragments (value_of is.pieces).fragment false → has_place payload.ip_number.0 ≡ false →
-    IsIpv6Packet bytes (record { header = is.header; exts = exts_of (next_header_of is.header) q; payload = payload })
+view_is : (bytes : List ℕ) (headers : IpHeaders) (payload : IpPayload)
+    (is : IsIpv6Headers bytes headers payload) (q : List Piece)
+    → Row view_order [] (next_header_of is.header) q is.last → bytes_of q ≡ bytes_of is.pieces →
+    is_any_fragmenting q ≡ option_map_or fragments (value_of is.pieces).fragment false
+    → has_place payload.ip_number.0 ≡ false →
+    IsIpv6Packet bytes
+    (record {
+      header = is.header;
+      exts = exts_of (next_header_of is.header) q;
+      payload = payload;
+    })
 view_is bytes headers payload is q row same parted none =
-    let body : is.body ≡ bytes_of q ++ payload.payload = is.chain.cut ∙ ap (λ (xs : List ℕ). xs ++ payload.payload) (sym same) in
-    let part : is_fragmenting headers ≡ is_any_fragmenting q = ap is_fragmenting is.value ∙ sym parted in
+    let body : is.body ≡ bytes_of q ++ payload.payload =
+    is.chain.cut ∙ ap (λ (xs : List ℕ). xs ++ payload.payload) (sym same) in
+    let part : is_fragmenting headers ≡ is_any_fragmenting q =
+    ap is_fragmenting is.value ∙ sym parted in
     record {
       pieces = q;
       last = is.last;
       padding = is.begins.padding;
-      cut = is.begins.cut ∙ ap (λ (xs : List ℕ). is.header ++ xs ++ is.begins.padding) body ∙ ap (λ (xs : List ℕ). xs ++ is.begins.padding) (sym (append_assoc is.header (bytes_of q) payload.payload));
+      cut = is.begins.cut ∙ ap (λ (xs : List ℕ). is.header ++ xs ++ is.begins.padding) body
+          ∙ ap (λ (xs : List ℕ). xs ++ is.begins.padding)
+          (sym (append_assoc is.header (bytes_of q) payload.payload));
       header = is.begins.whole;
       row = row;
       ended = ap (λ (p : IpPayload). has_place p.ip_number.0) (sym is.told) ∙ none;
-      size = sym (length-append (bytes_of q) payload.payload) ∙ sym (ap length body) ∙ is.begins.size;
+      size = sym (length-append (bytes_of q) payload.payload)
+          ∙ sym (ap length body) ∙ is.begins.size;
       exts = refl;
-      fields = is.told ∙ (λ i. record { ip_number = record { 0 = is.last }; fragmented = part i; len_source = is.begins.bounded i; payload = payload.payload });
+      fields = is.told
+          ∙ (λ i. record {
+            ip_number = record { 0 = is.last };
+            fragmented = part i;
+            len_source = is.begins.bounded i;
+            payload = payload.payload;
+          });
     }
 
-pub agree : (bytes : List ℕ) → PlacedAreViews → ((p q : Ipv6Packet) → IsIpv6Packet bytes p → IsIpv6Packet bytes q → p ≡ q) →
-    (packet : Ipv6Packet) (headers : IpHeaders) (payload : IpPayload) → IsIpv6Packet bytes packet → IsIpv6Headers bytes headers payload → has_place payload.ip_number.0 ≡ false →
-    (payload ≡ packet.payload) × ((e : Ipv6Extensions) × (headers ≡ ip.Ipv6 (header_of packet.header) e))
+pub agree : (bytes : List ℕ) → PlacedAreViews
+    → ((p q : Ipv6Packet) → IsIpv6Packet bytes p → IsIpv6Packet bytes q → p ≡ q) →
+    (packet : Ipv6Packet) (headers : IpHeaders) (payload : IpPayload) → IsIpv6Packet bytes packet
+    → IsIpv6Headers bytes headers payload → has_place payload.ip_number.0 ≡ false →
+    (payload ≡ packet.payload)
+    × ((e : Ipv6Extensions) × (headers ≡ ip.Ipv6 (ipv6_header_of packet.header) e))
 agree bytes placed alone packet headers payload begins is none =
     let q = placed (next_header_of is.header) is.pieces is.last is.chain.row in
-    let mine : Ipv6Packet = record { header = is.header; exts = exts_of (next_header_of is.header) q.0; payload = payload } in
-    let same : mine ≡ packet = alone mine packet (view_is bytes headers payload is q.0 q.1 q.2 q.3 none) begins in (
+    let mine : Ipv6Packet =
+    record {
+      header = is.header;
+      exts = exts_of (next_header_of is.header) q.0;
+      payload = payload;
+    } in
+    let same : mine ≡ packet = alone mine packet
+    (view_is bytes headers payload is q.0 q.1 q.2 q.3 none) begins in (
       ap (λ (p : Ipv6Packet). p.payload) same,
-      (value_of is.pieces, is.value ∙ ap (λ (p : Ipv6Packet). ip.Ipv6 (header_of p.header) (value_of is.pieces)) same),
+      (
+        value_of is.pieces,
+        is.value
+            ∙ ap (λ (p : Ipv6Packet). ip.Ipv6 (ipv6_header_of p.header) (value_of is.pieces)) same,
+      ),
     )

@@ -1,25 +1,35 @@
 -- The class of a frame, as its parts tell it.
-use Rattle.std.proofs.Common.{◌≡◌, ◌↔◌, ◌∙◌, ℕ, ◌==◌, Bool, true, false, cond, List, Option, Some, None, Result, Ok, Err, IsErr, IfOk, if◌then◌else◌, refl, sym, ap}
+use Rattle.std.proofs.Common.{◌≡◌, ◌↔◌, ◌∙◌, ℕ, ◌==◌, Bool, true, false, cond, List, Option, Some}
+use Rattle.std.proofs.Common.{None, Result, Ok, Err, IsErr, IfOk, if◌then◌else◌, refl, sym, ap}
 use Rattle.std.specs.Prelude.{⊤}
 use Rattle.ep_base.specs.declared.err.layer.Layer.TheVariants.{Ethernet2Header}
 use Rattle.ep_base.specs.declared.err.len_error.LenError.{LenError}
 use Rattle.ep_ip.specs.Ipv4 as v4
 use Rattle.ep_ipslice.specs.Ipv4Packet.{ipv4_packet_at}
-use Rattle.ep_ipslice.specs.Ipv6Packet.{fragment_fields_in, ipv6_packet_at}
-use Rattle.ep_ipslice.specs.Packet.{FragmentFields, IpPayload, Ipv4Packet, Ipv6Packet, ipv4_fragment_fields, ipv4_payload}
+use Rattle.ep_ipslice.specs.Ipv6Packet.{extensions_in, fragment_fields_in, ipv6_packet_at}
+use Rattle.ep_ipslice.specs.Packet.{FragmentFields, IpPayload, Ipv4Packet, Ipv6Packet, IsWholeIpv6}
+use Rattle.ep_ipslice.specs.Packet.{ipv4_fragment_fields, ipv4_payload, ipv6_fragment_fields}
 use Rattle.ep_ipslice.specs.declared.err.ipv4.slice_error.SliceError.{SliceError as Ipv4Fault}
 use Rattle.ep_ipslice.specs.declared.err.ipv6.slice_error.SliceError.{SliceError as Ipv6Fault}
 use Rattle.ep_link.specs.Arp.{packet_at}
 use Rattle.ep_link.specs.Ethernet.{ethernet_len, payload_of}
 use Rattle.ep_link.specs.declared.link.link_slice.LinkSlice.{LinkSlice}
 use Rattle.ep_link.specs.declared.link.link_slice.LinkSlice.TheVariants as link
-use Rattle.ep_packet.specs.Class.{Addresses, Class, arp_class_at, class_of, class_told, frame_class, ipv4_addresses, ipv4_class_at, ipv6_addresses, ipv6_class_at, last_class, message_class, message_told, net_told, part_class, read_class, tagged_class, whole_told}
+use Rattle.ep_packet.specs.Class.{Class, arp_class_at, class_of, class_told, frame_class}
+use Rattle.ep_packet.specs.Class.{ipv4_addresses, ipv4_class_at, ipv6_addresses, ipv6_class_at}
+use Rattle.ep_packet.specs.Class.{last_class, message_class, message_told, net_told, part_class}
+use Rattle.ep_packet.specs.Class.{read_class, tagged_class, whole_told}
 use Rattle.ep_packet.specs.Class.Class.{Whole, Other, Refused}
 use Rattle.ep_packet.specs.Readable.{ReadMessage, icmpv4, icmpv6, message_at, read_as, tcp, udp}
 use Rattle.ep_packet.specs.Readable.ReadMessage.{Icmpv4, Icmpv6, Raw, Tcp, Udp}
 use Rattle.ep_packet.specs.SliceFault.{later}
-use Rattle.ep_packet.specs.Sliced.{Layers, arp_layers, arp_type, bounded, in_frame, ipv4_layers, ipv4_type, ipv6_layers, ipv6_type, layers_in, packet_tagged, packet_with, read_transport, sliced_ethernet, transport_in, transport_of, with_transport}
+use Rattle.ep_packet.specs.Sliced.{Layers, arp_layers, arp_type, result_within, in_frame}
+use Rattle.ep_packet.specs.Sliced.{ipv4_layers}
+use Rattle.ep_packet.specs.Sliced.{ipv4_type, ipv6_layers, ipv6_type, layers_in, packet_tagged}
+use Rattle.ep_packet.specs.Sliced.{packet_with, read_transport, sliced_ethernet, transport_in}
+use Rattle.ep_packet.specs.Sliced.{transport_of, with_transport}
 use Rattle.ep_packet.specs.Tags.{Tagged, most_tags, tags_in, vlan_ids_of}
+use Rattle.ep_packet.specs.declared.addresses.Addresses.{Addresses}
 use Rattle.ep_packet.specs.declared.err.packet.slice_error.SliceError.{SliceError}
 use Rattle.ep_packet.specs.declared.net.net_slice.NetSlice.{NetSlice}
 use Rattle.ep_packet.specs.declared.net.net_slice.NetSlice.TheVariants as net
@@ -42,7 +52,9 @@ IsOwn bytes (Tcp m) = ⊤
 IsOwn bytes (Udp m) = ⊤
 IsOwn bytes (Icmpv6 m) = ⊤
 
-own_as : {E : Type 0} (bytes : List ℕ) (message : List ℕ → ReadMessage) (fault : E → SliceError) (r : Result (List ℕ) E) → ((m : List ℕ) → IsOwn bytes (message m)) → IfOk (read_as message fault r) (IsOwn bytes)
+own_as : {E : Type 0} (bytes : List ℕ) (message : List ℕ → ReadMessage) (fault : E → SliceError)
+    (r : Result (List ℕ) E) → ((m : List ℕ) → IsOwn bytes (message m))
+    → IfOk (read_as message fault r) (IsOwn bytes)
 own_as bytes message fault (Ok m) each = each m
 own_as bytes message fault (Err e) each = tt
 
@@ -57,107 +69,181 @@ read_own : (number : ℕ) (bytes : List ℕ) → AllOwn bytes (message_at number
 read_own number bytes =
     chosen (AllOwn bytes) (number == icmpv4) _ _ (own_as bytes (λ m. Icmpv4 m) _ _ (λ m. tt))
     (chosen (AllOwn bytes) (number == tcp) _ _ (own_as bytes (λ m. Tcp m) _ _ (λ m. tt))
-    (chosen (AllOwn bytes) (number == udp) _ _ (own_as bytes (λ m. Udp m) _ _ (λ m. tt)) (chosen (AllOwn bytes) (number == icmpv6) _ _ (own_as bytes (λ m. Icmpv6 m) _ _ (λ m. tt)) refl)))
+    (chosen (AllOwn bytes) (number == udp) _ _ (own_as bytes (λ m. Udp m) _ _ (λ m. tt))
+    (chosen (AllOwn bytes) (number == icmpv6) _ _
+    (own_as bytes (λ m. Icmpv6 m) _ _ (λ m. tt)) refl)))
 
-told_again : (p : IpPayload) (message : ReadMessage) → IsOwn p.payload message → message_told p (transport_of message) ≡ message
-told_again p (Raw m) own = ap (λ (xs : List ℕ). Raw xs) (sym own)
-told_again p (Icmpv4 m) own = refl
-told_again p (Tcp m) own = refl
-told_again p (Udp m) own = refl
-told_again p (Icmpv6 m) own = refl
+told_again : (bytes : List ℕ) (message : ReadMessage) → IsOwn bytes message
+    → message_told bytes (transport_of message) ≡ message
+told_again bytes (Raw m) own = ap (λ (xs : List ℕ). Raw xs) (sym own)
+told_again bytes (Icmpv4 m) own = refl
+told_again bytes (Tcp m) own = refl
+told_again bytes (Udp m) own = refl
+told_again bytes (Icmpv6 m) own = refl
+
+-- what is wrong with bytes that are no message
+pub unread : (r : Result ReadMessage SliceError) (e : SliceError)
+    → Err e ≡ read_transport r → Err e ≡ r
+unread (Ok message) e is = cc
+unread (Err f) e is = cc
+
+-- a part over IPv6, by the first fragment header of the packet's own bytes
+taken : {X : Type 0} (b : Bool) (x y : X) → b ≡ true → cond b x y ≡ x
+taken true x y is = refl
+taken false x y is = cc
+
+pub ipv6_part_told : (ids : List ℕ) (packet : Ipv6Packet) (message : Option TransportSlice)
+    (whole : IsWholeIpv6 packet)
+    (fields : Option FragmentFields) → packet.payload.fragmented ≡ true
+    → extensions_in packet ≡ whole.pieces
+    → ipv6_fragment_fields whole.pieces ≡ fields
+    → net_told ids (Some (net.Ipv6 packet)) message
+    ≡ part_class ids (ipv6_addresses packet) packet.payload fields
+ipv6_part_told ids packet message whole fields is same told =
+    taken packet.payload.fragmented _ _ is
+    ∙ ap (λ (fs : Option FragmentFields). part_class ids (ipv6_addresses packet) packet.payload fs)
+    (ap ipv6_fragment_fields same ∙ told)
 
 -- the class that a packet tells with what was read of its payload
 abbrev ChoiceTold : Class → Addresses → IpPayload → Bool → Option TransportSlice → Class
-ChoiceTold part addresses p fragmented message = if fragmented then part else whole_told addresses p message
+ChoiceTold part addresses p fragmented message = if fragmented then part
+    else whole_told addresses p message
 
-abbrev message_read : Class → Addresses → IpPayload → Bool → Result (Option TransportSlice) SliceError → Class
-message_read part addresses p fragmented (Ok message) = ChoiceTold part addresses p fragmented message
+abbrev message_read : Class → Addresses → IpPayload → Bool
+    → Result (Option TransportSlice) SliceError → Class
+message_read part addresses p fragmented (Ok message) =
+    ChoiceTold part addresses p fragmented message
 message_read part addresses p fragmented (Err e) = Refused
 
-uncut : (part : Class) (addresses : Addresses) (p : IpPayload) (r : Result ReadMessage SliceError) → AllOwn p.payload r →
-    message_read part addresses p false (bounded p.len_source (read_transport r)) ≡ read_class addresses p r
-uncut part addresses p (Ok message) own = ap (λ (m : ReadMessage). Whole addresses p.ip_number.0 p.payload m) (told_again p message own)
+uncut : (part : Class) (addresses : Addresses) (p : IpPayload) (r : Result ReadMessage SliceError)
+    → AllOwn p.payload r →
+    message_read part addresses p false (result_within p.len_source (read_transport r))
+    ≡ read_class addresses p r
+uncut part addresses p (Ok message) own =
+    ap (λ (m : ReadMessage). Whole addresses p.ip_number.0 p.payload m)
+    (told_again p.payload message own)
 uncut part addresses p (Err e) own = refl
 
 payload_told : (part : Class) (addresses : Addresses) (p : IpPayload) (fragmented : Bool) →
-    message_read part addresses p fragmented (if fragmented then Ok None else bounded p.len_source (read_transport (message_at p.ip_number.0 p.payload)))
+    message_read part addresses p fragmented
+    (if fragmented then Ok None
+    else result_within p.len_source (read_transport (message_at p.ip_number.0 p.payload)))
     ≡ (if fragmented then part else message_class addresses p)
 payload_told part addresses p true = refl
-payload_told part addresses p false = uncut part addresses p (message_at p.ip_number.0 p.payload) (read_own p.ip_number.0 p.payload)
+payload_told part addresses p false =
+    uncut part addresses p (message_at p.ip_number.0 p.payload) (read_own p.ip_number.0 p.payload)
 
-ipv4_with : (ids : List ℕ) (packet : Ipv4Packet) (n : ℕ) (r : Result (Option TransportSlice) SliceError) →
+ipv4_with : (ids : List ℕ) (packet : Ipv4Packet) (n : ℕ)
+    (r : Result (Option TransportSlice) SliceError) →
     layers_told ids (with_transport (net.Ipv4 packet) n r)
-    ≡ message_read (part_class ids (ipv4_addresses packet) (ipv4_payload packet) (Some (ipv4_fragment_fields packet.header))) (ipv4_addresses packet) (ipv4_payload packet) (ipv4_payload packet).fragmented r
+    ≡ message_read (part_class ids (ipv4_addresses packet) (ipv4_payload packet)
+    (Some (ipv4_fragment_fields packet.header))) (ipv4_addresses packet) (ipv4_payload packet)
+    (ipv4_payload packet).fragmented r
 ipv4_with ids packet n (Ok message) = refl
 ipv4_with ids packet n (Err e) = refl
 
-ipv6_with : (ids : List ℕ) (packet : Ipv6Packet) (n : ℕ) (r : Result (Option TransportSlice) SliceError) →
+ipv6_with : (ids : List ℕ) (packet : Ipv6Packet) (n : ℕ)
+    (r : Result (Option TransportSlice) SliceError) →
     layers_told ids (with_transport (net.Ipv6 packet) n r)
-    ≡ message_read (part_class ids (ipv6_addresses packet) packet.payload (fragment_fields_in packet)) (ipv6_addresses packet) packet.payload packet.payload.fragmented r
+    ≡ message_read (part_class ids (ipv6_addresses packet) packet.payload
+    (fragment_fields_in packet)) (ipv6_addresses packet) packet.payload
+    packet.payload.fragmented r
 ipv6_with ids packet n (Ok message) = refl
 ipv6_with ids packet n (Err e) = refl
 
-pub ipv4_told : (ids : List ℕ) (r : Result Ipv4Packet Ipv4Fault) → layers_told ids (ipv4_layers r) ≡ ipv4_class_at ids r
+pub ipv4_told : (ids : List ℕ) (r : Result Ipv4Packet Ipv4Fault)
+    → layers_told ids (ipv4_layers r) ≡ ipv4_class_at ids r
 ipv4_told ids (Ok packet) =
-    ipv4_with ids packet _ (transport_in (ipv4_payload packet)) ∙ payload_told _ (ipv4_addresses packet) (ipv4_payload packet) (ipv4_payload packet).fragmented
+    ipv4_with ids packet _ (transport_in (ipv4_payload packet))
+    ∙ payload_told _ (ipv4_addresses packet) (ipv4_payload packet)
+    (ipv4_payload packet).fragmented
 ipv4_told ids (Err e) = refl
 
-pub ipv6_told : (ids : List ℕ) (r : Result Ipv6Packet Ipv6Fault) → layers_told ids (ipv6_layers r) ≡ ipv6_class_at ids r
-ipv6_told ids (Ok packet) = ipv6_with ids packet _ (transport_in packet.payload) ∙ payload_told _ (ipv6_addresses packet) packet.payload packet.payload.fragmented
+pub ipv6_told : (ids : List ℕ) (r : Result Ipv6Packet Ipv6Fault)
+    → layers_told ids (ipv6_layers r) ≡ ipv6_class_at ids r
+ipv6_told ids (Ok packet) = ipv6_with ids packet _ (transport_in packet.payload)
+    ∙ payload_told _ (ipv6_addresses packet) packet.payload packet.payload.fragmented
 ipv6_told ids (Err e) = refl
 
-arp_told : (ids : List ℕ) (r : Result (List ℕ) LenError) → layers_told ids (arp_layers r) ≡ arp_class_at r
+arp_told : (ids : List ℕ) (r : Result (List ℕ) LenError)
+    → layers_told ids (arp_layers r) ≡ arp_class_at r
 arp_told ids (Ok packet) = refl
 arp_told ids (Err e) = refl
 
-chosen_told : (ids : List ℕ) (b : Bool) (x y : Result Layers SliceError) (j k : Class) → layers_told ids x ≡ j → layers_told ids y ≡ k → layers_told ids (cond b x y) ≡ cond b j k
+chosen_told : (ids : List ℕ) (b : Bool) (x y : Result Layers SliceError) (j k : Class)
+    → layers_told ids x ≡ j → layers_told ids y ≡ k → layers_told ids (cond b x y) ≡ cond b j k
 chosen_told ids true x y j k left right = left
 chosen_told ids false x y j k left right = right
 
-last_told : (ids : List ℕ) (last : Option EtherPayload) → layers_told ids (layers_in last) ≡ last_class ids last
+last_told : (ids : List ℕ) (last : Option EtherPayload)
+    → layers_told ids (layers_in last) ≡ last_class ids last
 last_told ids None = refl
 last_told ids (Some p) =
     chosen_told ids (p.ether_type.0 == ipv4_type) _ _ _ _ (ipv4_told ids (ipv4_packet_at p.payload))
-    (chosen_told ids (p.ether_type.0 == ipv6_type) _ _ _ _ (ipv6_told ids (ipv6_packet_at p.payload))
-    (chosen_told ids (p.ether_type.0 == arp_type) _ _ _ _ (arp_told ids (packet_at p.payload)) refl))
+    (chosen_told ids (p.ether_type.0 == ipv6_type) _ _ _ _
+    (ipv6_told ids (ipv6_packet_at p.payload))
+    (chosen_told ids (p.ether_type.0 == arp_type) _ _ _ _
+    (arp_told ids (packet_at p.payload)) refl))
 
-with_told : (header : Option LinkSlice) (tags : List LinkExtSlice) (n m : ℕ) (r : Result Layers SliceError) → class_told (later n (packet_with header tags (later m r))) ≡ layers_told (vlan_ids_of tags) r
+with_told : (header : Option LinkSlice) (tags : List LinkExtSlice) (n m : ℕ)
+    (r : Result Layers SliceError) → class_told (later n (packet_with header tags (later m r)))
+    ≡ layers_told (vlan_ids_of tags) r
 with_told header tags n m (Ok layers) = refl
 with_told header tags n m (Err e) = refl
 
-pub tagged_told : (header : Option LinkSlice) (n : ℕ) (r : Result Tagged SliceError) → class_told (later n (packet_tagged header r)) ≡ tagged_class r
-tagged_told header n (Ok t) = with_told header t.tags n t.len (layers_in t.last) ∙ last_told (vlan_ids_of t.tags) t.last
+pub tagged_told : (header : Option LinkSlice) (n : ℕ) (r : Result Tagged SliceError)
+    → class_told (later n (packet_tagged header r)) ≡ tagged_class r
+tagged_told header n (Ok t) = with_told header t.tags n t.len (layers_in t.last)
+    ∙ last_told (vlan_ids_of t.tags) t.last
 tagged_told header n (Err e) = refl
 
 frame_told : (r : Result (List ℕ) LenError) → class_told (in_frame r) ≡ frame_class r
-frame_told (Ok frame) = tagged_told (Some (link.Ethernet2 frame)) ethernet_len (tags_in most_tags (payload_of frame))
+frame_told (Ok frame) = tagged_told (Some (link.Ethernet2 frame)) ethernet_len
+    (tags_in most_tags (payload_of frame))
 frame_told (Err e) = refl
 
-pub class_is_told : (frame : List ℕ) (r : Result SlicedPacket SliceError) → r ≡ sliced_ethernet frame → class_told r ≡ class_of frame
-class_is_told frame r same = ap class_told same ∙ frame_told (whole_at Ethernet2Header ethernet_len frame)
+pub class_is_told : (frame : List ℕ) (r : Result SlicedPacket SliceError)
+    → r ≡ sliced_ethernet frame → class_told r ≡ class_of frame
+class_is_told frame r same = ap class_told same
+    ∙ frame_told (whole_at Ethernet2Header ethernet_len frame)
 
 -- what is sliced is never refused
 fragment_taken : (b : Bool) (k : Class) → (k ≡ Refused → ⊥) → cond b k Other ≡ Refused → ⊥
 fragment_taken true k never is = never is
 fragment_taken false k never is = cc
 
-part_taken : (ids : List ℕ) (addresses : Addresses) (p : IpPayload) (fields : Option FragmentFields) → part_class ids addresses p fields ≡ Refused → ⊥
-part_taken ids addresses p (Some fields) is = fragment_taken (v4.is_fragmenting fields.more fields.offset) _ (λ same. cc) is
+part_taken : (ids : List ℕ) (addresses : Addresses) (p : IpPayload) (fields : Option FragmentFields)
+    → part_class ids addresses p fields ≡ Refused → ⊥
+part_taken ids addresses p (Some fields) is =
+    fragment_taken (v4.is_fragmenting fields.more fields.offset) _ (λ same. cc) is
 part_taken ids addresses p None is = cc
 
-choice_taken : (b : Bool) (part whole : Class) → (part ≡ Refused → ⊥) → (whole ≡ Refused → ⊥) → cond b part whole ≡ Refused → ⊥
+choice_taken : (b : Bool) (part whole : Class) → (part ≡ Refused → ⊥) → (whole ≡ Refused → ⊥)
+    → cond b part whole ≡ Refused → ⊥
 choice_taken true part whole left right is = left is
 choice_taken false part whole left right is = right is
 
-net_taken : (ids : List ℕ) (o : Option NetSlice) (message : Option TransportSlice) → net_told ids o message ≡ Refused → ⊥
+net_taken : (ids : List ℕ) (o : Option NetSlice) (message : Option TransportSlice)
+    → net_told ids o message ≡ Refused → ⊥
 net_taken ids None message is = cc
-net_taken ids (Some (net.Ipv4 packet)) message is = choice_taken (ipv4_payload packet).fragmented _ _ (part_taken ids (ipv4_addresses packet) (ipv4_payload packet) (Some (ipv4_fragment_fields packet.header))) (λ same. cc) is
-net_taken ids (Some (net.Ipv6 packet)) message is = choice_taken packet.payload.fragmented _ _ (part_taken ids (ipv6_addresses packet) packet.payload (fragment_fields_in packet)) (λ same. cc) is
+net_taken ids (Some (net.Ipv4 packet)) message is =
+    choice_taken (ipv4_payload packet).fragmented _ _
+    (part_taken ids (ipv4_addresses packet) (ipv4_payload packet)
+    (Some (ipv4_fragment_fields packet.header))) (λ same. cc) is
+net_taken ids (Some (net.Ipv6 packet)) message is =
+    choice_taken packet.payload.fragmented _ _
+    (part_taken ids (ipv6_addresses packet) packet.payload (fragment_fields_in packet))
+    (λ same. cc) is
 net_taken ids (Some (net.Arp packet)) message is = cc
 
 pub told_refused : (r : Result SlicedPacket SliceError) → IsErr r ↔ (class_told r ≡ Refused)
-told_refused (Ok packet) = (λ h. cc, λ h. absurd (net_taken (vlan_ids_of packet.link_exts.items) packet.net packet.transport h))
+told_refused (Ok packet) = (
+  λ h. cc,
+  λ h. absurd
+      (net_taken (vlan_ids_of packet.link_exts.items) packet.net packet.transport h),
+)
 told_refused (Err e) = (λ h. refl, λ h. refl)
 
-pub refused_is_told : (frame : List ℕ) (r : Result SlicedPacket SliceError) → r ≡ sliced_ethernet frame → IsErr r ↔ (class_of frame ≡ Refused)
+pub refused_is_told : (frame : List ℕ) (r : Result SlicedPacket SliceError)
+    → r ≡ sliced_ethernet frame → IsErr r ↔ (class_of frame ≡ Refused)
 refused_is_told frame r same = rw (← class_is_told frame r same) (told_refused r)

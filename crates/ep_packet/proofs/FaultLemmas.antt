@@ -6,23 +6,27 @@ use Rattle.ep_ipslice.specs.declared.err.ip.slice_error.SliceError.{SliceError a
 use Rattle.ep_ipslice.specs.declared.err.ip.slice_error.SliceError.TheVariants as ip
 use Rattle.ep_ipslice.specs.declared.err.ipv6.slice_error.SliceError.{SliceError as Ipv6Fault}
 use Rattle.ep_ipslice.specs.declared.err.ipv6.slice_error.SliceError.TheVariants as ipv6
-use Rattle.ep_packet.specs.SliceFault.{moved, of_ip, of_ipv6, place_of}
+use Rattle.ep_packet.specs.SliceFault.{offset_by, of_ip, of_ipv6, fault_offset}
 use Rattle.ep_packet.specs.declared.err.packet.slice_error.SliceError.{SliceError}
-use Rattle.ep_packet.specs.declared.err.packet.slice_error.SliceError.TheVariants.{Len, LinuxSll, Macsec, Ip, Ipv4, Ipv6, Ipv4Exts, Ipv6Exts, Tcp}
+use Rattle.ep_packet.specs.declared.err.packet.slice_error.SliceError.TheVariants.{Len, LinuxSll}
+use Rattle.ep_packet.specs.declared.err.packet.slice_error.SliceError.TheVariants.{Macsec, Ip, Ipv4}
+use Rattle.ep_packet.specs.declared.err.packet.slice_error.SliceError.TheVariants.{Ipv6, Ipv4Exts}
+use Rattle.ep_packet.specs.declared.err.packet.slice_error.SliceError.TheVariants.{Ipv6Exts, Tcp}
 
-pub place_of_ip : (e : IpFault) → place_of (of_ip e) ≡ ip_place e
+pub place_of_ip : (e : IpFault) → fault_offset (of_ip e) ≡ ip_place e
 place_of_ip (ip.Len e) = refl
 place_of_ip (ip.IpHeaders (headers.Ip e)) = refl
 place_of_ip (ip.IpHeaders (headers.Ipv4Ext e)) = refl
 place_of_ip (ip.IpHeaders (headers.Ipv6Ext e)) = refl
 
-pub place_of_ipv6 : (e : Ipv6Fault) → place_of (of_ipv6 e) ≡ ipv6_place e
+pub place_of_ipv6 : (e : Ipv6Fault) → fault_offset (of_ipv6 e) ≡ ipv6_place e
 place_of_ipv6 (ipv6.Len e) = refl
 place_of_ipv6 (ipv6.Header e) = refl
 place_of_ipv6 (ipv6.Exts e) = refl
 
-pub moved_twice : (m n : ℕ) (e : SliceError) → moved m (moved n e) ≡ moved (m + n) e
-moved_twice m n (Len e) = let sum : e.layer_start_offset + n + m ≡ e.layer_start_offset + (m + n) = omega arith in ap (λ (p : ℕ). Len (record e { layer_start_offset = p })) sum
+pub moved_twice : (m n : ℕ) (e : SliceError) → offset_by m (offset_by n e) ≡ offset_by (m + n) e
+moved_twice m n (Len e) = let sum : e.layer_start_offset + n + m ≡ e.layer_start_offset + (m + n) =
+    omega arith in ap (λ (p : ℕ). Len (record e { layer_start_offset = p })) sum
 moved_twice m n (LinuxSll e) = refl
 moved_twice m n (Macsec e) = refl
 moved_twice m n (Ip e) = refl
@@ -32,8 +36,9 @@ moved_twice m n (Ipv4Exts e) = refl
 moved_twice m n (Ipv6Exts e) = refl
 moved_twice m n (Tcp e) = refl
 
-pub moved_nothing : (e : SliceError) → moved 0 e ≡ e
-moved_nothing (Len e) = let sum : e.layer_start_offset + 0 ≡ e.layer_start_offset = omega arith in ap (λ (p : ℕ). Len (record e { layer_start_offset = p })) sum
+pub moved_nothing : (e : SliceError) → offset_by 0 e ≡ e
+moved_nothing (Len e) = let sum : e.layer_start_offset + 0 ≡ e.layer_start_offset = omega arith in
+    ap (λ (p : ℕ). Len (record e { layer_start_offset = p })) sum
 moved_nothing (LinuxSll e) = refl
 moved_nothing (Macsec e) = refl
 moved_nothing (Ip e) = refl
@@ -44,7 +49,8 @@ moved_nothing (Ipv6Exts e) = refl
 moved_nothing (Tcp e) = refl
 
 -- a fault at the front, moved, is at that place or has none
-pub place_moved : (e : SliceError) (n m : ℕ) → place_of e ≡ 0 → n ≤ m → place_of (moved n e) ≤ m
+pub place_moved : (e : SliceError) (n m : ℕ) → fault_offset e ≡ 0 → n ≤ m → fault_offset (offset_by
+    n e) ≤ m
 place_moved (Len e) n m zero fits = omega arith
 place_moved (LinuxSll e) n m zero fits = omega arith
 place_moved (Macsec e) n m zero fits = omega arith

@@ -1,39 +1,57 @@
 -- The parts of a packet stand in its bytes, and what stands there is taken.
-use Rattle.std.proofs.Common.{◌≡◌, ◌∙◌, ℕ, List, [], Option, Some, None, Result, Ok, Err, IfOk, refl, sym, ap, subst}
+use Rattle.std.proofs.Common.{◌≡◌, ◌∙◌, ℕ, List, [], Option, Some, None, Result, Ok, Err, IfOk}
+use Rattle.std.proofs.Common.{refl, sym, ap, subst}
 use Rattle.ep_link.specs.declared.link.link_slice.LinkSlice.{LinkSlice}
 use Rattle.ep_packet.specs.Parts.{tags_len}
 use Rattle.ep_packet.specs.SliceFault.{later}
-use Rattle.ep_packet.specs.Sliced.{AreIpLayers, IsSliced, IsSlicedIp, Layers, layers_in, packet_behind, packet_of, packet_tagged, packet_with}
+use Rattle.ep_packet.specs.Sliced.{AreIpLayers, IsSliced, IsSlicedIp, Layers, layers_in}
+use Rattle.ep_packet.specs.Sliced.{packet_behind, packet_of, packet_tagged, packet_with}
 use Rattle.ep_packet.specs.Tags.{Tagged, most_tags, tags_in}
 use Rattle.ep_packet.specs.declared.err.packet.slice_error.SliceError.{SliceError}
 use Rattle.ep_packet.specs.declared.sliced_packet.SlicedPacket.{SlicedPacket}
 use Rattle.ep_packet.proofs.TaggedLaws.{MacsecIsRead, Stands, tags_found, tags_only}
 use Rattle.ep_tag.specs.Ether.{EtherPayload}
 
-found_with : (header : Option LinkSlice) (p : EtherPayload) (n : ℕ) (t : Tagged) (r : Result Layers SliceError) → layers_in t.last ≡ r → Stands most_tags p t →
+found_with : (header : Option LinkSlice) (p : EtherPayload) (n : ℕ) (t : Tagged)
+    (r : Result Layers SliceError) → layers_in t.last ≡ r → Stands most_tags p t →
     IfOk (later n (packet_with header t.tags (later t.len r))) (IsSliced p)
-found_with header p n t (Ok layers) same stands = record { last = t.last; tagged = stands.tagged; layers = same }
+found_with header p n t (Ok layers) same stands =
+    record { last = t.last; tagged = stands.tagged; layers = same }
 found_with header p n t (Err e) same stands = tt
 
-found_tagged : MacsecIsRead → (header : Option LinkSlice) (p : EtherPayload) (n : ℕ) (r : Result Tagged SliceError) → tags_in most_tags p ≡ r → IfOk (later n (packet_tagged header r)) (IsSliced p)
-found_tagged law header p n (Ok t) same = found_with header p n t (layers_in t.last) refl (tags_found law most_tags p t same)
+found_tagged : MacsecIsRead
+    → (header : Option LinkSlice) (p : EtherPayload) (n : ℕ) (r : Result Tagged SliceError)
+    → tags_in most_tags p ≡ r → IfOk (later n (packet_tagged header r)) (IsSliced p)
+found_tagged law header p n (Ok t) same =
+    found_with header p n t (layers_in t.last) refl (tags_found law most_tags p t same)
 found_tagged law header p n (Err e) same = tt
 
 -- what is taken stands in the payload
-pub found_behind : MacsecIsRead → (header : LinkSlice) (p : EtherPayload) (n : ℕ) (r : Result SlicedPacket SliceError) → r ≡ later n (packet_behind header p) → IfOk r (IsSliced p)
-found_behind law header p n r same = subst (λ (x : Result SlicedPacket SliceError). IfOk x (IsSliced p)) (sym same) (found_tagged law (Some header) p n (tags_in most_tags p) refl)
+pub found_behind : MacsecIsRead
+    → (header : LinkSlice) (p : EtherPayload) (n : ℕ) (r : Result SlicedPacket SliceError)
+    → r ≡ later n (packet_behind header p) → IfOk r (IsSliced p)
+found_behind law header p n r same =
+    subst (λ (x : Result SlicedPacket SliceError). IfOk x (IsSliced p)) (sym same)
+    (found_tagged law (Some header) p n (tags_in most_tags p) refl)
 
 -- what stands in the payload is taken
-pub taken_behind : MacsecIsRead → (header : LinkSlice) (p : EtherPayload) (n : ℕ) (r : Result SlicedPacket SliceError) → r ≡ later n (packet_behind header p) →
+pub taken_behind : MacsecIsRead
+    → (header : LinkSlice) (p : EtherPayload) (n : ℕ) (r : Result SlicedPacket SliceError)
+    → r ≡ later n (packet_behind header p) →
     (packet : SlicedPacket) → packet.link ≡ Some header → IsSliced p packet → r ≡ Ok packet
 taken_behind law header p n r same packet linked is =
     let layers : Layers = record { net = packet.net; transport = packet.transport } in
     let tags = packet.link_exts.items in
     same
-    ∙ ap (λ (x : Result Tagged SliceError). later n (packet_tagged (Some header) x)) (tags_only law tags most_tags is.last p is.tagged)
-    ∙ ap (λ (x : Result Layers SliceError). later n (packet_with (Some header) tags (later (tags_len tags) x))) is.layers
+    ∙ ap (λ (x : Result Tagged SliceError). later n (packet_tagged (Some header) x))
+    (tags_only law tags most_tags is.last p is.tagged)
+    ∙ ap (λ (x : Result Layers SliceError). later n
+    (packet_with (Some header) tags (later (tags_len tags) x))) is.layers
     ∙ ap (λ (o : Option LinkSlice). Ok (packet_of o tags layers)) (sym linked)
 
 -- an IP packet that the bytes begin with is taken
-pub taken_ip : (bytes : List ℕ) (r : Result Layers SliceError) → ((layers : Layers) → AreIpLayers bytes layers → r ≡ Ok layers) → (packet : SlicedPacket) → IsSlicedIp bytes packet → packet_with None [] r ≡ Ok packet
-taken_ip bytes r only packet is = ap (λ (x : Result Layers SliceError). packet_with None [] x) (only is.0 is.1) ∙ ap (λ (p : SlicedPacket). Ok p) (sym is.2)
+pub taken_ip : (bytes : List ℕ) (r : Result Layers SliceError)
+    → ((layers : Layers) → AreIpLayers bytes layers → r ≡ Ok layers) → (packet : SlicedPacket)
+    → IsSlicedIp bytes packet → packet_with None [] r ≡ Ok packet
+taken_ip bytes r only packet is = ap (λ (x : Result Layers SliceError). packet_with None [] x)
+    (only is.0 is.1) ∙ ap (λ (p : SlicedPacket). Ok p) (sym is.2)

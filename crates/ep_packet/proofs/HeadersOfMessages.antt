@@ -1,14 +1,18 @@
 -- The header of a message, and what stands behind it, beside its slice.
-use Rattle.std.proofs.Common.{◌≡◌, ◌∙◌, ◌⊎◌, ⊎_elim, ℕ, zero, suc, ◌+◌, ◌*◌, ◌<◌, ◌==◌, Bool, true, false, if◌then◌else◌, List, length, take, drop, get_or, Option, Some, None, Result, Ok, Err, refl, sym, ap, subst, arith}
+use Rattle.std.proofs.Common.{◌≡◌, ◌∙◌, ◌⊎◌, ⊎_elim, ℕ, zero, suc, ◌+◌, ◌*◌, ◌<◌, ◌==◌, ◌&&◌, not, Bool}
+use Rattle.std.proofs.Common.{true, false, if◌then◌else◌, List, length, take, drop, get_or, Option, Some}
+use Rattle.std.proofs.Common.{None, Result, Ok, Err, refl, sym, ap, subst, arith}
 use Rattle.std.specs.Option.{option_map}
 use Rattle.std.specs.Prelude.{nat_lt}
 use Rattle.std.proofs.lemmas.List.{get_or-take, take_all}
 use Rattle.ep_base.specs.declared.err.len_error.LenError.{LenError}
 use Rattle.ep_base.specs.declared.len_source.LenSource.{LenSource}
+use Rattle.ep_base.proofs.Fronts.{err_ok, ok_same}
 use Rattle.ep_icmp.specs.Icmpv4Fault as icmpv4_fault
 use Rattle.ep_icmp.specs.Icmpv6Fault as icmpv6_fault
 use Rattle.ep_ipslice.specs.Packet.{IpPayload}
-use Rattle.ep_packet.specs.HeaderLayers.{icmpv4_parts, icmpv6_parts, message_in, message_parts, tcp_parts, udp_parts}
+use Rattle.ep_packet.specs.HeaderLayers.{MessageParts, icmpv4_parts, icmpv6_parts, message_in}
+use Rattle.ep_packet.specs.HeaderLayers.{message_parts, tcp_parts, udp_parts}
 use Rattle.ep_packet.specs.Payload.{Payload}
 use Rattle.ep_packet.specs.Payload as payload
 use Rattle.ep_packet.specs.Readable.{ReadMessage, message_at, read_as, tcp_fault}
@@ -16,7 +20,7 @@ use Rattle.ep_packet.specs.Readable.ReadMessage.{Icmpv4, Icmpv6, Raw, Tcp, Udp}
 use Rattle.ep_packet.specs.Readable as number
 use Rattle.ep_packet.specs.SameHeaders.{behind_message, transport_fields}
 use Rattle.ep_packet.specs.SliceFault.{within}
-use Rattle.ep_packet.specs.Sliced.{bounded, read_transport, transport_in, transport_of}
+use Rattle.ep_packet.specs.Sliced.{result_within, read_transport, transport_in, transport_of}
 use Rattle.ep_packet.specs.declared.err.packet.slice_error.SliceError.{SliceError}
 use Rattle.ep_packet.specs.declared.err.packet.slice_error.SliceError.TheVariants.{Len}
 use Rattle.ep_packet.specs.declared.transport.transport_header.TransportHeader.{TransportHeader}
@@ -24,10 +28,9 @@ use Rattle.ep_packet.specs.declared.transport.transport_header.TransportHeader.T
 use Rattle.ep_packet.specs.declared.transport.transport_slice.TransportSlice.{TransportSlice}
 use Rattle.ep_packet.specs.declared.transport.transport_slice.TransportSlice.TheVariants as slice
 use Rattle.ep_tcpudp.specs.TcpFault.{segment_at}
-use Rattle.ep_tcpudp.specs.Udp.{header_of, length_of}
-use Rattle.ep_tcpudp.specs.UdpFault.{cut_off, header_at, no_header, too_short, udp_at}
+use Rattle.ep_tcpudp.specs.Udp.{udp_header_of, length_of}
+use Rattle.ep_tcpudp.specs.UdpFault.{header_at, udp_at}
 use Rattle.ep_tcpudp.specs.declared.transport.udp_header.UdpHeader.{UdpHeader}
-use Rattle.ep_tcpudp.specs.declared.err.tcp.header_slice_error.HeaderSliceError.{HeaderSliceError}
 
 -- the parts of a message's slice
 abbrev pub parts_of : TransportSlice → TransportHeader × Payload
@@ -41,7 +44,7 @@ byte_is : (bytes : List ℕ) (i : ℕ) → i < 8 → get_or (take 8 bytes) i 0 �
 byte_is bytes i lt = get_or-take 8 bytes i 0 lt
 
 -- the fields of a datagram's header are those of its first 8 bytes
-fields_are : (bytes : List ℕ) → header_of (take 8 bytes) ≡ header_of bytes
+fields_are : (bytes : List ℕ) → udp_header_of (take 8 bytes) ≡ udp_header_of bytes
 fields_are bytes =
     let a = byte_is bytes 0 (omega arith) in
     let b = byte_is bytes 1 (omega arith) in
@@ -51,91 +54,123 @@ fields_are bytes =
     let f = byte_is bytes 5 (omega arith) in
     let g = byte_is bytes 6 (omega arith) in
     let h = byte_is bytes 7 (omega arith) in
-    λ i. record { source_port = 256 * a i + b i; destination_port = 256 * c i + d i; length = 256 * e i + f i; checksum = 256 * g i + h i }
-
-ok_same : {A E : Type 0} (x y : A) → ◌≡◌ {A = Result A E} (Ok x) (Ok y) → x ≡ y
-ok_same x y is = cc
-
-err_ok : {A E : Type 0} (e : E) (x : A) → ◌≡◌ {A = Result A E} (Err e) (Ok x) → ⊥
-err_ok e x is = cc
+    λ i. record {
+      source_port = 256 * a i + b i;
+      destination_port = 256 * c i + d i;
+      length = 256 * e i + f i;
+      checksum = 256 * g i + h i;
+    }
 
 not_zero : (n : ℕ) → n ≡ 0 → (n == 0) ≡ false → ⊥
 not_zero zero is other = cc
 not_zero (suc n) is other = cc
 
 -- what is read of a datagram that counts all
-udp_cases : (short beyond nothing small : Bool) (bytes m : List ℕ) →
-    (if short then Err (too_short (length bytes)) else (
-    if beyond then Err (cut_off (length_of bytes) (length bytes)) else (
-    if nothing then Ok bytes else (
-    if small then Err (no_header (length_of bytes)) else
-    Ok (take (length_of bytes) bytes))))) ≡ Ok m → Counts bytes → (length_of bytes == 0) ≡ nothing → (short ≡ false) × (m ≡ bytes)
-udp_cases true beyond nothing small bytes m is counts zero_is = cc
-udp_cases false true nothing small bytes m is counts zero_is = cc
-udp_cases false false true small bytes m is counts zero_is = (refl, sym (ok_same {E = LenError} bytes m is))
-udp_cases false false false true bytes m is counts zero_is = cc
-udp_cases false false false false bytes m is counts zero_is =
-    (refl, sym (ok_same {E = LenError} (take (length_of bytes) bytes) m is) ∙ ⊎_elim (λ none. absurd (not_zero (length_of bytes) none zero_is)) (λ all. ap (λ (n : ℕ). take n bytes) all ∙ take_all (length bytes) bytes (omega arith)) counts)
+udp_cases : (short beyond nothing small : Bool) (e f g : LenError) (bytes m : List ℕ) →
+    (if short then Err e else (
+    if beyond then Err f else (
+    if not nothing && small then Err g else
+    Ok (if nothing then bytes else take (length_of bytes) bytes)))) ≡ Ok m → Counts bytes → (length_of bytes == 0) ≡ nothing
+    → (short ≡ false) × (m ≡ bytes)
+udp_cases true beyond nothing small e f g bytes m is counts zero_is = cc
+udp_cases false true nothing small e f g bytes m is counts zero_is = cc
+udp_cases false false true small e f g bytes m is counts zero_is =
+    (refl, sym (ok_same {E = LenError} bytes m is))
+udp_cases false false false true e f g bytes m is counts zero_is = cc
+udp_cases false false false false e f g bytes m is counts zero_is = (
+  refl,
+  sym (ok_same {E = LenError} (take (length_of bytes) bytes) m is)
+      ∙ ⊎_elim (λ none. absurd (not_zero (length_of bytes) none zero_is))
+      (λ all. ap (λ (n : ℕ). take n bytes) all
+      ∙ take_all (length bytes) bytes (omega arith)) counts,
+)
 
-udp_same : (bytes m : List ℕ) → udp_at bytes ≡ Ok m → Counts bytes → udp_parts bytes (header_at bytes) ≡ Ok (Some (parts_of (slice.Udp m)))
+udp_same : (bytes m : List ℕ) → udp_at bytes ≡ Ok m → Counts bytes
+    → udp_parts bytes (header_at bytes) ≡ Ok (Some (parts_of (slice.Udp m)))
 udp_same bytes m is counts =
-    let found = udp_cases (nat_lt (length bytes) 8) (nat_lt (length bytes) (length_of bytes)) (length_of bytes == 0) (nat_lt (length_of bytes) 8) bytes m is counts refl in
-    rw found.0 (ap (λ (h : UdpHeader). Ok (Some (transport.Udp h, payload.Udp (drop 8 bytes)))) (fields_are bytes) ∙ ap (λ (xs : List ℕ). Ok (Some (parts_of (slice.Udp xs)))) (sym found.1))
+    let found = udp_cases (nat_lt (length bytes) 8) (nat_lt (length bytes) (length_of bytes))
+    (length_of bytes == 0) (nat_lt (length_of bytes) 8) _ _ _ bytes m is counts refl in
+    rw found.0 (ap (λ (h : UdpHeader). Ok (Some (transport.Udp h, payload.Udp (drop 8 bytes))))
+    (fields_are bytes) ∙ ap (λ (xs : List ℕ). Ok (Some (parts_of (slice.Udp xs))))
+    (sym found.1))
 
 -- what a protocol's reader tells of its message
-icmpv4_same : (r : Result (List ℕ) LenError) (m : ReadMessage) → read_as (λ x. Icmpv4 x) (λ e. Len e) r ≡ Ok m → icmpv4_parts r ≡ Ok (option_map parts_of (transport_of m))
-icmpv4_same (Ok x) m is = ap (λ (w : ReadMessage). Ok (option_map parts_of (transport_of w))) (ok_same {E = SliceError} (Icmpv4 x) m is)
-icmpv4_same (Err e) m is = absurd (err_ok (Len e) m is)
-
-tcp_same : (r : Result (List ℕ) HeaderSliceError) (m : ReadMessage) → read_as (λ x. Tcp x) tcp_fault r ≡ Ok m → tcp_parts r ≡ Ok (option_map parts_of (transport_of m))
-tcp_same (Ok x) m is = ap (λ (w : ReadMessage). Ok (option_map parts_of (transport_of w))) (ok_same {E = SliceError} (Tcp x) m is)
-tcp_same (Err e) m is = absurd (err_ok (tcp_fault e) m is)
-
-icmpv6_same : (r : Result (List ℕ) LenError) (m : ReadMessage) → read_as (λ x. Icmpv6 x) (λ e. Len e) r ≡ Ok m → icmpv6_parts r ≡ Ok (option_map parts_of (transport_of m))
-icmpv6_same (Ok x) m is = ap (λ (w : ReadMessage). Ok (option_map parts_of (transport_of w))) (ok_same {E = SliceError} (Icmpv6 x) m is)
-icmpv6_same (Err e) m is = absurd (err_ok (Len e) m is)
+read_alike : {E : Type 0} (message : List ℕ → ReadMessage) (fault : E → SliceError)
+    (parts : Result (List ℕ) E → Result MessageParts SliceError) →
+    ((x : List ℕ) → parts (Ok x) ≡ Ok (option_map parts_of (transport_of (message x))))
+    → (r : Result (List ℕ) E) (m : ReadMessage) → read_as message fault r ≡ Ok m →
+    parts r ≡ Ok (option_map parts_of (transport_of m))
+read_alike message fault parts each (Ok x) m is =
+    each x ∙ ap (λ (w : ReadMessage). Ok (option_map parts_of (transport_of w)))
+    (ok_same {E = SliceError} (message x) m is)
+read_alike message fault parts each (Err e) m is = absurd (err_ok (fault e) m is)
 
 -- a datagram counts all of its bytes
 abbrev CountsAll : List ℕ → Option TransportSlice → Type 0
 CountsAll bytes o = (datagram : List ℕ) → o ≡ Some (slice.Udp datagram) → Counts bytes
 
-datagram_same : (bytes : List ℕ) (r : Result (List ℕ) LenError) (m : ReadMessage) → udp_at bytes ≡ r → read_as (λ x. Udp x) (λ e. Len e) r ≡ Ok m → CountsAll bytes (transport_of m) →
+datagram_same : (bytes : List ℕ) (r : Result (List ℕ) LenError) (m : ReadMessage) → udp_at bytes ≡ r
+    → read_as (λ x. Udp x) (λ e. Len e) r ≡ Ok m → CountsAll bytes (transport_of m) →
     udp_parts bytes (header_at bytes) ≡ Ok (option_map parts_of (transport_of m))
 datagram_same bytes (Ok x) m found is counts =
     let told : Udp x ≡ m = ok_same {E = SliceError} (Udp x) m is in
-    udp_same bytes x found (counts x (sym (ap transport_of told))) ∙ ap (λ (w : ReadMessage). Ok (option_map parts_of (transport_of w))) told
+    udp_same bytes x found (counts x (sym (ap transport_of told)))
+    ∙ ap (λ (w : ReadMessage). Ok (option_map parts_of (transport_of w))) told
 datagram_same bytes (Err e) m found is counts = absurd (err_ok (Len e) m is)
 
 message_cases : (a b c d : Bool) (bytes : List ℕ) (m : ReadMessage) →
     (if a then read_as (λ x. Icmpv4 x) (λ e. Len e) (icmpv4_fault.message_at bytes)
     else (if b then read_as (λ x. Tcp x) tcp_fault (segment_at bytes)
     else (if c then read_as (λ x. Udp x) (λ e. Len e) (udp_at bytes)
-    else (if d then read_as (λ x. Icmpv6 x) (λ e. Len e) (icmpv6_fault.message_at bytes) else Ok (Raw bytes))))) ≡ Ok m → CountsAll bytes (transport_of m) →
+    else (if d then read_as (λ x. Icmpv6 x) (λ e. Len e) (icmpv6_fault.message_at bytes)
+    else Ok (Raw bytes))))) ≡ Ok m → CountsAll bytes (transport_of m) →
     (if a then icmpv4_parts (icmpv4_fault.message_at bytes)
     else (if b then tcp_parts (segment_at bytes)
     else (if c then udp_parts bytes (header_at bytes)
-    else (if d then icmpv6_parts (icmpv6_fault.message_at bytes) else Ok None)))) ≡ Ok (option_map parts_of (transport_of m))
-message_cases true b c d bytes m is counts = icmpv4_same (icmpv4_fault.message_at bytes) m is
-message_cases false true c d bytes m is counts = tcp_same (segment_at bytes) m is
-message_cases false false true d bytes m is counts = datagram_same bytes (udp_at bytes) m refl is counts
-message_cases false false false true bytes m is counts = icmpv6_same (icmpv6_fault.message_at bytes) m is
-message_cases false false false false bytes m is counts = ap (λ (w : ReadMessage). Ok (option_map parts_of (transport_of w))) (ok_same {E = SliceError} (Raw bytes) m is)
+    else (if d then icmpv6_parts (icmpv6_fault.message_at bytes) else Ok None))))
+    ≡ Ok (option_map parts_of (transport_of m))
+message_cases true b c d bytes m is counts =
+    read_alike (λ x. Icmpv4 x) (λ e. Len e) icmpv4_parts (λ x. refl)
+    (icmpv4_fault.message_at bytes) m is
+message_cases false true c d bytes m is counts =
+    read_alike (λ x. Tcp x) tcp_fault tcp_parts (λ x. refl) (segment_at bytes) m is
+message_cases false false true d bytes m is counts =
+    datagram_same bytes (udp_at bytes) m refl is counts
+message_cases false false false true bytes m is counts =
+    read_alike (λ x. Icmpv6 x) (λ e. Len e) icmpv6_parts (λ x. refl)
+    (icmpv6_fault.message_at bytes) m is
+message_cases false false false false bytes m is counts =
+    ap (λ (w : ReadMessage). Ok (option_map parts_of (transport_of w)))
+    (ok_same {E = SliceError} (Raw bytes) m is)
 
-message_same : (n : ℕ) (bytes : List ℕ) (m : ReadMessage) → message_at n bytes ≡ Ok m → CountsAll bytes (transport_of m) → message_parts n bytes ≡ Ok (option_map parts_of (transport_of m))
-message_same n bytes m is counts = message_cases (n == number.icmpv4) (n == number.tcp) (n == number.udp) (n == number.icmpv6) bytes m is counts
+message_same : (n : ℕ) (bytes : List ℕ) (m : ReadMessage) → message_at n bytes ≡ Ok m
+    → CountsAll bytes (transport_of m)
+    → message_parts n bytes ≡ Ok (option_map parts_of (transport_of m))
+message_same n bytes m is counts = message_cases (n == number.icmpv4) (n == number.tcp)
+    (n == number.udp) (n == number.icmpv6) bytes m is counts
 
-read_same : (outer : LenSource) (n : ℕ) (bytes : List ℕ) (r : Result ReadMessage SliceError) (o : Option TransportSlice) → message_at n bytes ≡ r → bounded outer (read_transport r) ≡ Ok o → CountsAll bytes o →
+read_same : (outer : LenSource) (n : ℕ) (bytes : List ℕ) (r : Result ReadMessage SliceError)
+    (o : Option TransportSlice) → message_at n bytes ≡ r
+    → result_within outer (read_transport r) ≡ Ok o → CountsAll bytes o →
     message_parts n bytes ≡ Ok (option_map parts_of o)
 read_same outer n bytes (Ok m) o found is counts =
     let told : transport_of m ≡ o = ok_same {E = SliceError} (transport_of m) o is in
-    message_same n bytes m found (subst (CountsAll bytes) (sym told) counts) ∙ ap (λ (w : Option TransportSlice). Ok (option_map parts_of w)) told
+    message_same n bytes m found (subst (CountsAll bytes) (sym told) counts)
+    ∙ ap (λ (w : Option TransportSlice). Ok (option_map parts_of w)) told
 read_same outer n bytes (Err e) o found is counts = absurd (err_ok (within outer e) o is)
 
-part_cases : (part : Bool) (outer : LenSource) (n : ℕ) (bytes : List ℕ) (o : Option TransportSlice) → (if part then Ok None else bounded outer (read_transport (message_at n bytes))) ≡ Ok o → CountsAll bytes o →
+part_cases : (part : Bool) (outer : LenSource) (n : ℕ) (bytes : List ℕ) (o : Option TransportSlice)
+    → (if part then Ok None else result_within outer (read_transport (message_at n bytes))) ≡ Ok o
+    → CountsAll bytes o →
     (if part then Ok None else message_parts n bytes) ≡ Ok (option_map parts_of o)
-part_cases true outer n bytes o is counts = ap (λ (w : Option TransportSlice). Ok (option_map parts_of w)) (ok_same {E = SliceError} None o is)
-part_cases false outer n bytes o is counts = read_same outer n bytes (message_at n bytes) o refl is counts
+part_cases true outer n bytes o is counts =
+    ap (λ (w : Option TransportSlice). Ok (option_map parts_of w))
+    (ok_same {E = SliceError} None o is)
+part_cases false outer n bytes o is counts =
+    read_same outer n bytes (message_at n bytes) o refl is counts
 
 -- the parts of the message that an IP payload is are those of its slice
-pub parts_in : (p : IpPayload) (o : Option TransportSlice) → transport_in p ≡ Ok o → ((datagram : List ℕ) → o ≡ Some (slice.Udp datagram) → Counts p.payload) → message_in p ≡ Ok (option_map parts_of o)
+pub parts_in : (p : IpPayload) (o : Option TransportSlice) → transport_in p ≡ Ok o
+    → ((datagram : List ℕ) → o ≡ Some (slice.Udp datagram) → Counts p.payload)
+    → message_in p ≡ Ok (option_map parts_of o)
 parts_in p o is counts = part_cases p.fragmented p.len_source p.ip_number.0 p.payload o is counts

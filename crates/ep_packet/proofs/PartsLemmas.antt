@@ -1,11 +1,15 @@
 -- Where the parts of a frame stand in it.
-use Rattle.std.proofs.Common.{◌≡◌, ℕ, ◌+◌, ◌*◌, ◌≤◌, ◌==◌, ◌&&◌, not, Bool, true, false, cond, List, [], ◌∷◌, ◌++◌, length, take, drop, Option, Some, None, Result, Ok, Err, IfOk, IfErr, IfSome, arith, refl, sym, ap, subst, ◌∙◌, append_assoc, length-append}
-use Rattle.std.specs.Prelude.{nat_lt}
+use Rattle.std.proofs.Common.{◌≡◌, ℕ, ◌+◌, ◌*◌, ◌≤◌, ◌==◌, ◌&&◌, not, Bool, true, false, cond, List}
+use Rattle.std.proofs.Common.{[], ◌∷◌, ◌++◌, length, take, drop, Option, Some, None, Result, Ok}
+use Rattle.std.proofs.Common.{Err, IfSome, arith, refl, sym, ap, subst, ◌∙◌, append_assoc}
+use Rattle.std.proofs.Common.{length-append}
+use Rattle.std.specs.Prelude.{MatchResult, nat_lt}
 use Rattle.std.proofs.lemmas.Bool.{ltb-false}
 use Rattle.std.proofs.lemmas.List.{take-append-drop, append-nil, length-take-le}
 use Rattle.ep_base.specs.declared.err.layer.Layer.{Layer}
 use Rattle.ep_base.specs.declared.err.len_error.LenError.{LenError}
 use Rattle.ep_base.specs.declared.len_source.LenSource.{LenSource}
+use Rattle.ep_base.proofs.Fronts.{guard_ok, ok_same}
 use Rattle.ep_ext.specs.Ipv4Exts.{auth_bytes}
 use Rattle.ep_ext.specs.Value.{bytes_of}
 use Rattle.ep_icmp.specs.Icmpv4.{is_timestamp_reply, is_timestamp_request}
@@ -13,10 +17,12 @@ use Rattle.ep_icmp.specs.Icmpv4Fault as icmpv4_fault
 use Rattle.ep_icmp.specs.Icmpv6Fault as icmpv6_fault
 use Rattle.ep_ipslice.specs.Ipv6Exts.{Ipv6Exts}
 use Rattle.ep_ipslice.specs.Packet.{Ipv4Packet, Ipv6Packet, IsIpv4Packet, IsIpv6Packet}
-use Rattle.ep_packet.specs.Parts.{AreTagsAt, IsAt, IsNetAt, IsTagAt, LayersIn, TagIn, TagsIn, macsec_bytes, tags_len, transport_bytes}
-use Rattle.ep_packet.specs.Readable.{ReadMessage, icmpv4, icmpv6, message_at, read_as, tcp, tcp_fault, udp}
+use Rattle.ep_packet.specs.Parts.{AreTagsAt, IsAt, IsTagAt, LayersIn, StandAt, TagIn, TagsIn}
+use Rattle.ep_packet.specs.Parts.{macsec_bytes, tags_len, transport_bytes}
+use Rattle.ep_packet.specs.Readable.{ReadMessage, icmpv4, icmpv6, message_at, read_as, tcp}
+use Rattle.ep_packet.specs.Readable.{tcp_fault, udp}
 use Rattle.ep_packet.specs.Readable.ReadMessage.{Icmpv4, Icmpv6, Tcp, Udp}
-use Rattle.ep_packet.specs.SliceFault.{place_of, within}
+use Rattle.ep_packet.specs.SliceFault.{fault_offset, within}
 use Rattle.ep_packet.specs.Sliced.{read_transport, transport_of}
 use Rattle.ep_packet.specs.declared.err.packet.slice_error.SliceError.{SliceError}
 use Rattle.ep_packet.specs.declared.err.packet.slice_error.SliceError.TheVariants as error
@@ -26,7 +32,8 @@ use Rattle.ep_tag.specs.Ether.{EtherPayload}
 use Rattle.ep_tag.specs.Front.{whole_at}
 use Rattle.ep_tag.specs.LinkExt.{payload_behind, tag_len}
 use Rattle.ep_tag.specs.Macsec.{is_unmodified}
-use Rattle.ep_tag.specs.MacsecPayload.{IsMacsec, Macsec, MacsecPayload, Unmodified, Modified, named_payload, payload_under}
+use Rattle.ep_tag.specs.MacsecPayload.{IsMacsec, Macsec, MacsecPayload, Unmodified, Modified}
+use Rattle.ep_tag.specs.MacsecPayload.{named_payload, payload_under}
 use Rattle.ep_tag.specs.Vlan.{vlan_len}
 use Rattle.ep_tag.specs.declared.link.link_ext_slice.LinkExtSlice.{LinkExtSlice}
 use Rattle.ep_tag.specs.declared.link.link_ext_slice.LinkExtSlice.TheVariants as tag
@@ -34,35 +41,60 @@ use Rattle.ep_tcpudp.specs.Tcp.{data_offset_of}
 use Rattle.ep_tcpudp.specs.TcpFault.{segment_at}
 use Rattle.ep_tcpudp.specs.Udp.{length_of}
 use Rattle.ep_tcpudp.specs.UdpFault.{udp_at}
-use Rattle.ep_tcpudp.specs.declared.err.tcp.header_slice_error.HeaderSliceError.{HeaderSliceError as TcpFault}
 
 -- a part of a part is a part of the whole
-pub at_in : (bytes part sub : List ℕ) (p q : ℕ) → IsAt bytes p part → IsAt part q sub → IsAt bytes (p + q) sub
+pub at_in : (bytes part sub : List ℕ) (p q : ℕ) → IsAt bytes p part → IsAt part q sub
+    → IsAt bytes (p + q) sub
 at_in bytes part sub p q outer inner = record {
   before = outer.before ++ inner.before;
   after = inner.after ++ outer.after;
   here = omega (arith, length-append outer.before inner.before, outer.here, inner.here);
-  parts = outer.parts ∙ ap (λ (xs : List ℕ). outer.before ++ xs ++ outer.after) inner.parts ∙ simp append_assoc;
+  parts = outer.parts ∙ ap (λ (xs : List ℕ). outer.before ++ xs ++ outer.after) inner.parts
+      ∙ simp append_assoc;
 }
 
 at_whole : (bytes : List ℕ) → IsAt bytes 0 bytes
 at_whole bytes = record { before = []; after = []; here = refl; parts = sym (append-nil bytes) }
 
 at_take : (n : ℕ) (bytes : List ℕ) → IsAt bytes 0 (take n bytes)
-at_take n bytes = record { before = []; after = drop n bytes; here = refl; parts = sym (take-append-drop n bytes) }
+at_take n bytes =
+    record {
+      before = [];
+      after = drop n bytes;
+      here = refl;
+      parts = sym (take-append-drop n bytes);
+    }
 
 pub at_drop : (n : ℕ) (bytes : List ℕ) → n ≤ length bytes → IsAt bytes n (drop n bytes)
-at_drop n bytes fits = record { before = take n bytes; after = []; here = length-take-le n bytes fits; parts = sym (append-nil (take n bytes ++ drop n bytes) ∙ take-append-drop n bytes) }
+at_drop n bytes fits =
+    record {
+      before = take n bytes;
+      after = [];
+      here = length-take-le n bytes fits;
+      parts = sym (append-nil (take n bytes ++ drop n bytes) ∙ take-append-drop n bytes);
+    }
 
 pub at_fits : (bytes part : List ℕ) (p : ℕ) → IsAt bytes p part → p + length part ≤ length bytes
-at_fits bytes part p at = omega (arith, ap length at.parts, length-append (at.before ++ part) at.after, length-append at.before part, at.here)
+at_fits bytes part p at =
+    omega (
+      arith,
+      ap length at.parts,
+      length-append
+          (at.before ++ part) at.after,
+      length-append at.before part,
+      at.here,
+    )
 
-at_front : (bytes part sub : List ℕ) (p : ℕ) → IsAt bytes p part → IsAt part 0 sub → IsAt bytes p sub
-at_front bytes part sub p outer inner = let sum : p + 0 ≡ p = omega arith in subst (λ (n : ℕ). IsAt bytes n sub) sum (at_in bytes part sub p 0 outer inner)
+at_front : (bytes part sub : List ℕ) (p : ℕ) → IsAt bytes p part
+    → IsAt part 0 sub → IsAt bytes p sub
+at_front bytes part sub p outer inner = let sum : p + 0 ≡ p = omega arith in
+    subst (λ (n : ℕ). IsAt bytes n sub) sum (at_in bytes part sub p 0 outer inner)
 
 -- a part behind this much of the bytes
-at_parts : (bytes before part after : List ℕ) (place : ℕ) → length before ≡ place → bytes ≡ before ++ part ++ after → IsAt bytes place part
-at_parts bytes before part after place here parts = record { before = before; after = after; here = here; parts = parts }
+at_parts : (bytes before part after : List ℕ) (place : ℕ) → length before ≡ place
+    → bytes ≡ before ++ part ++ after → IsAt bytes place part
+at_parts bytes before part after place here parts =
+    record { before = before; after = after; here = here; parts = parts }
 
 -- the same place, counted from the front
 pub from_front : (bytes part : List ℕ) (p q : ℕ) → p ≡ q → IsAt bytes p part → IsAt bytes q part
@@ -73,174 +105,162 @@ chosen P true x y left right = left
 chosen P false x y left right = right
 
 -- all bytes are taken, of which there are enough
-whole_taken : (layer : Layer) (n : ℕ) (bytes taken : List ℕ) (few : Bool) → nat_lt (length bytes) n ≡ few → (e : LenError) → ◌≡◌ {A = Result (List ℕ) LenError} (Ok taken) (cond few (Err e) (Ok bytes)) →
-    (taken ≡ bytes) × (n ≤ length bytes)
-whole_taken layer n bytes taken true is e same = cc
-whole_taken layer n bytes taken false is e same = (cc, ltb-false (length bytes) n is)
-
-pub whole_is : (layer : Layer) (n : ℕ) (bytes taken : List ℕ) → Ok taken ≡ whole_at layer n bytes → (taken ≡ bytes) × (n ≤ length bytes)
-whole_is layer n bytes taken same = whole_taken layer n bytes taken (nat_lt (length bytes) n) refl _ same
+pub whole_is : (layer : Layer) (n : ℕ) (bytes taken : List ℕ) → Ok taken ≡ whole_at layer n bytes
+    → (taken ≡ bytes) × (n ≤ length bytes)
+whole_is layer n bytes taken same =
+    let enough = guard_ok _ _ _ _ (sym same) in
+    (sym (ok_same {E = LenError} bytes taken enough.1), ltb-false (length bytes) n enough.0)
 
 -- a VLAN tag
-pub vlan_in : (layer : Layer) (bytes vlan : List ℕ) → Ok vlan ≡ whole_at layer vlan_len bytes → TagIn bytes (tag.Vlan vlan)
+pub vlan_in : (layer : Layer) (bytes vlan : List ℕ) → Ok vlan ≡ whole_at layer vlan_len bytes
+    → TagIn bytes (tag.Vlan vlan)
 vlan_in layer bytes vlan same =
     let whole = whole_is layer vlan_len bytes vlan same in
-    subst (λ (xs : List ℕ). TagIn bytes (tag.Vlan xs)) (sym whole.0) (record { tag = at_whole bytes; next = at_drop vlan_len bytes whole.1 })
+    subst (λ (xs : List ℕ). TagIn bytes (tag.Vlan xs)) (sym whole.0)
+    (record { tag = at_whole bytes; next = at_drop vlan_len bytes whole.1 })
 
 -- a MACsec header and its payload
 under_bytes : (header payload : List ℕ) → macsec_bytes (payload_under header payload) ≡ payload
-under_bytes header payload = chosen (λ (p : MacsecPayload). macsec_bytes p ≡ payload) (is_unmodified header) _ _ refl refl
+under_bytes header payload = chosen (λ (p : MacsecPayload). macsec_bytes p ≡ payload)
+    (is_unmodified header) _ _ refl refl
 
-named_in : (bytes header : List ℕ) (p : MacsecPayload) → IsAt bytes (length header) (macsec_bytes p) → IfSome (named_payload p) (λ next. IsAt bytes (length header) next.payload)
+named_in : (bytes header : List ℕ) (p : MacsecPayload) → IsAt bytes (length header) (macsec_bytes p)
+    → IfSome (named_payload p) (λ next. IsAt bytes (length header) next.payload)
 named_in bytes header (Unmodified p) at = at
 named_in bytes header (Modified payload) at = tt
 
-pub macsec_in : (bytes : List ℕ) (macsec : Macsec) → IsMacsec bytes macsec → TagIn bytes (tag.Macsec macsec)
+pub macsec_in : (bytes : List ℕ) (macsec : Macsec) → IsMacsec bytes macsec
+    → TagIn bytes (tag.Macsec macsec)
 macsec_in bytes macsec is =
     let inside : IsAt bytes (length macsec.header) (macsec_bytes macsec.payload) =
-    subst (IsAt bytes (length macsec.header)) (sym (ap macsec_bytes is.kind ∙ under_bytes macsec.header is.payload)) (at_parts bytes macsec.header is.payload is.beyond (length macsec.header) refl is.parts) in
+    subst (IsAt bytes (length macsec.header))
+    (sym (ap macsec_bytes is.kind ∙ under_bytes macsec.header is.payload))
+    (at_parts bytes macsec.header is.payload is.beyond (length macsec.header) refl is.parts) in
     record {
       tag = (
-        at_parts bytes [] macsec.header (is.payload ++ is.beyond) 0 refl (is.parts ∙ append_assoc macsec.header is.payload is.beyond),
-        from_front bytes (macsec_bytes macsec.payload) (length macsec.header) (0 + length macsec.header) (omega arith) inside,
+        at_parts bytes [] macsec.header (is.payload ++ is.beyond) 0 refl
+            (is.parts ∙ append_assoc macsec.header is.payload is.beyond),
+        from_front bytes (macsec_bytes macsec.payload) (length macsec.header)
+            (0 + length macsec.header) (omega arith) inside,
       );
       next = named_in bytes macsec.header macsec.payload inside;
     }
 
 -- IP packets
-pub ipv4_in : (bytes : List ℕ) (packet : Ipv4Packet) → IsIpv4Packet bytes packet → IsNetAt bytes 0 (net.Ipv4 packet)
-ipv4_in bytes packet is =
-    let auth = auth_bytes packet.auth in
-    let parts = is.cut in (
-      at_parts bytes [] packet.header (auth ++ packet.payload ++ is.padding) 0 refl
-          (parts ∙ ap (λ (xs : List ℕ). xs ++ is.padding) (append_assoc packet.header auth packet.payload) ∙ append_assoc packet.header (auth ++ packet.payload) is.padding),
-      at_parts bytes packet.header auth (packet.payload ++ is.padding) (0 + length packet.header) (omega arith) (parts ∙ append_assoc (packet.header ++ auth) packet.payload is.padding),
-      at_parts bytes (packet.header ++ auth) packet.payload is.padding (0 + length packet.header + length auth) (omega (arith, length-append packet.header auth)) parts,
-    )
-
-pub ipv6_in : (bytes : List ℕ) (packet : Ipv6Packet) → IsIpv6Packet bytes packet → IsNetAt bytes 0 (net.Ipv6 packet)
-ipv6_in bytes packet is =
-    let exts = packet.exts.slice in
-    let payload = packet.payload.payload in
-    let same : bytes_of is.pieces ≡ exts = sym (ap (λ (e : Ipv6Exts). e.slice) is.exts) in
-    let parts : bytes ≡ packet.header ++ exts ++ payload ++ is.padding = is.cut ∙ ap (λ (xs : List ℕ). packet.header ++ xs ++ payload ++ is.padding) same in (
-      at_parts bytes [] packet.header (exts ++ payload ++ is.padding) 0 refl
-          (parts ∙ ap (λ (xs : List ℕ). xs ++ is.padding) (append_assoc packet.header exts payload) ∙ append_assoc packet.header (exts ++ payload) is.padding),
-      at_parts bytes packet.header exts (payload ++ is.padding) (0 + length packet.header) (omega arith) (parts ∙ append_assoc (packet.header ++ exts) payload is.padding),
-      at_parts bytes (packet.header ++ exts) payload is.padding (0 + length packet.header + length exts) (omega (arith, length-append packet.header exts)) parts,
-    )
+stand_in : (bytes header exts payload padding : List ℕ)
+    → bytes ≡ header ++ exts ++ payload ++ padding → StandAt bytes 0 header exts payload
+stand_in bytes header exts payload padding parts = (
+  at_parts bytes [] header (exts ++ payload ++ padding) 0 refl
+      (parts ∙ ap (λ (xs : List ℕ). xs ++ padding) (append_assoc header exts payload)
+      ∙ append_assoc header (exts ++ payload) padding),
+  at_parts bytes header exts (payload ++ padding) (0 + length header) (omega arith)
+      (parts ∙ append_assoc (header ++ exts) payload padding),
+  at_parts bytes (header ++ exts) payload padding (0 + length header + length exts)
+      (omega (arith, length-append header exts)) parts,
+)
 
 -- the message in a payload that stands in a packet
-pub layers_in_ipv4 : (bytes : List ℕ) (packet : Ipv4Packet) (o : Option TransportSlice) → IsIpv4Packet bytes packet → IfSome o (λ t. IsAt packet.payload 0 (transport_bytes t)) →
+message_in : (bytes header exts payload : List ℕ) (o : Option TransportSlice)
+    → StandAt bytes 0 header exts payload → IfSome o (λ t. IsAt payload 0 (transport_bytes t)) →
+    IfSome o (λ t. IsAt bytes (0 + (length header + length exts)) (transport_bytes t))
+message_in bytes header exts payload None stands at = tt
+message_in bytes header exts payload (Some t) stands at =
+    at_front bytes payload (transport_bytes t) (0 + (length header + length exts))
+    (from_front bytes payload _ (0 + (length header + length exts)) (omega arith) stands.2) at
+
+pub layers_in_ipv4 : (bytes : List ℕ) (packet : Ipv4Packet) (o : Option TransportSlice)
+    → IsIpv4Packet bytes packet → IfSome o (λ t. IsAt packet.payload 0 (transport_bytes t)) →
     LayersIn bytes 0 (record { net = Some (net.Ipv4 packet); transport = o })
-layers_in_ipv4 bytes packet None is at = record { net = ipv4_in bytes packet is; transport = tt }
-layers_in_ipv4 bytes packet (Some t) is at =
-    let stands = ipv4_in bytes packet is in
-    let place : ℕ = 0 + (length packet.header + length (auth_bytes packet.auth)) in
-    record { net = stands; transport = at_front bytes packet.payload (transport_bytes t) place (from_front bytes packet.payload _ place (omega arith) stands.2) at }
+layers_in_ipv4 bytes packet o is at =
+    let stands = stand_in bytes packet.header
+    (auth_bytes packet.auth) packet.payload is.padding is.cut in
+    record {
+      net = stands;
+      transport = message_in bytes packet.header (auth_bytes packet.auth) packet.payload o stands at;
+    }
 
-pub layers_in_ipv6 : (bytes : List ℕ) (packet : Ipv6Packet) (o : Option TransportSlice) → IsIpv6Packet bytes packet → IfSome o (λ t. IsAt packet.payload.payload 0 (transport_bytes t)) →
+pub layers_in_ipv6 : (bytes : List ℕ) (packet : Ipv6Packet) (o : Option TransportSlice)
+    → IsIpv6Packet bytes packet
+    → IfSome o (λ t. IsAt packet.payload.payload 0 (transport_bytes t)) →
     LayersIn bytes 0 (record { net = Some (net.Ipv6 packet); transport = o })
-layers_in_ipv6 bytes packet None is at = record { net = ipv6_in bytes packet is; transport = tt }
-layers_in_ipv6 bytes packet (Some t) is at =
-    let stands = ipv6_in bytes packet is in
-    let place : ℕ = 0 + (length packet.header + length packet.exts.slice) in
-    record { net = stands; transport = at_front bytes packet.payload.payload (transport_bytes t) place (from_front bytes packet.payload.payload _ place (omega arith) stands.2) at }
+layers_in_ipv6 bytes packet o is at =
+    let payload = packet.payload.payload in
+    let same : bytes_of is.pieces ≡ packet.exts.slice =
+    sym (ap (λ (e : Ipv6Exts). e.slice) is.exts) in
+    let stands = stand_in bytes packet.header packet.exts.slice payload is.padding
+    (is.cut ∙ ap (λ (xs : List ℕ). packet.header ++ xs ++ payload ++ is.padding) same) in
+    record {
+      net = stands;
+      transport = message_in bytes packet.header packet.exts.slice payload o stands at;
+    }
 
--- the headers are no longer than the packet
-pub ipv4_headers_fit : (bytes : List ℕ) (packet : Ipv4Packet) → IsIpv4Packet bytes packet → length packet.header + length (auth_bytes packet.auth) ≤ length bytes
-ipv4_headers_fit bytes packet is = omega (arith, at_fits bytes packet.payload _ (ipv4_in bytes packet is).2)
+-- what is read of a message is the front of the bytes, and its fault is there
+abbrev Reads : {E : Type 0} → List ℕ → (E → SliceError) → Result (List ℕ) E → Type 0
+Reads bytes fault r = MatchResult r (IsAt bytes 0) (λ e. fault_offset (fault e) ≡ 0)
 
-pub ipv6_headers_fit : (bytes : List ℕ) (packet : Ipv6Packet) → IsIpv6Packet bytes packet → length packet.header + length packet.exts.slice ≤ length bytes
-ipv6_headers_fit bytes packet is = omega (arith, at_fits bytes packet.payload.payload _ (ipv6_in bytes packet is).2)
+guarded : {E : Type 0} (bytes : List ℕ) (fault : E → SliceError) (b : Bool) (e : E)
+    (r : Result (List ℕ) E) → fault_offset (fault e) ≡ 0 → Reads bytes fault r
+    → Reads bytes fault (cond b (Err e) r)
+guarded bytes fault true e r front reads = front
+guarded bytes fault false e r front reads = reads
 
--- messages
-abbrev pub TransportIn : List ℕ → Result ReadMessage SliceError → Type 0
-TransportIn bytes r = IfOk (read_transport r) (λ o. IfSome o (λ t. IsAt bytes 0 (transport_bytes t)))
+abbrev of_len : LenError → SliceError
+of_len e = error.Len e
 
-abbrev MessageIn : List ℕ → ReadMessage → Type 0
-MessageIn bytes message = IfSome (transport_of message) (λ t. IsAt bytes 0 (transport_bytes t))
+icmpv4_reads : (bytes : List ℕ) → Reads bytes of_len (icmpv4_fault.message_at bytes)
+icmpv4_reads bytes =
+    guarded bytes of_len (nat_lt (length bytes) 8) _ _ refl
+    (guarded bytes of_len (is_timestamp_request bytes && not (length bytes == 20)) _ _ refl
+    (guarded bytes of_len (is_timestamp_reply bytes && not (length bytes == 20)) _ _ refl
+    (at_whole bytes)))
 
-read_in : {E : Type 0} (bytes : List ℕ) (message : List ℕ → ReadMessage) (fault : E → SliceError) (r : Result (List ℕ) E) → ((m : List ℕ) → IsAt bytes 0 m → MessageIn bytes (message m)) → IfOk r (IsAt bytes 0) →
-    TransportIn bytes (read_as message fault r)
-read_in bytes message fault (Ok m) each at = each m at
-read_in bytes message fault (Err e) each at = tt
+icmpv6_reads : (bytes : List ℕ) → Reads bytes of_len (icmpv6_fault.message_at bytes)
+icmpv6_reads bytes = guarded bytes of_len (nat_lt (length bytes) 8) _ _ refl (at_whole bytes)
 
-if_ok : {A E : Type 0} (P : A → Type 0) (b : Bool) (x y : Result A E) → IfOk x P → IfOk y P → IfOk (cond b x y) P
-if_ok P true x y left right = left
-if_ok P false x y left right = right
+tcp_reads : (bytes : List ℕ) → Reads bytes tcp_fault (segment_at bytes)
+tcp_reads bytes =
+    guarded bytes tcp_fault (nat_lt (length bytes) 20) _ _ refl
+    (guarded bytes tcp_fault (nat_lt (data_offset_of bytes) 5) _ _ refl
+    (guarded bytes tcp_fault (nat_lt (length bytes) (4 * data_offset_of bytes)) _ _ refl
+    (at_whole bytes)))
 
-icmpv4_in : (bytes : List ℕ) → IfOk (icmpv4_fault.message_at bytes) (IsAt bytes 0)
-icmpv4_in bytes =
-    if_ok (IsAt bytes 0) (nat_lt (length bytes) 8) _ _ tt
-    (if_ok (IsAt bytes 0) (is_timestamp_request bytes && not (length bytes == 20)) _ _ tt (if_ok (IsAt bytes 0) (is_timestamp_reply bytes && not (length bytes == 20)) _ _ tt (at_whole bytes)))
+udp_reads : (bytes : List ℕ) → Reads bytes of_len (udp_at bytes)
+udp_reads bytes =
+    guarded bytes of_len (nat_lt (length bytes) 8) _ _ refl
+    (guarded bytes of_len (nat_lt (length bytes) (length_of bytes)) _ _ refl
+    (guarded bytes of_len (not (length_of bytes == 0) && nat_lt (length_of bytes) 8) _ _ refl
+    (chosen (IsAt bytes 0) (length_of bytes == 0) _ _ (at_whole bytes)
+    (at_take (length_of bytes) bytes))))
 
-icmpv6_in : (bytes : List ℕ) → IfOk (icmpv6_fault.message_at bytes) (IsAt bytes 0)
-icmpv6_in bytes = if_ok (IsAt bytes 0) (nat_lt (length bytes) 8) _ _ tt (at_whole bytes)
+abbrev MessageIn : List ℕ → Option TransportSlice → Type 0
+MessageIn bytes o = IfSome o (λ t. IsAt bytes 0 (transport_bytes t))
 
-tcp_in : (bytes : List ℕ) → IfOk (segment_at bytes) (IsAt bytes 0)
-tcp_in bytes =
-    if_ok (IsAt bytes 0) (nat_lt (length bytes) 20) _ _ tt
-    (if_ok (IsAt bytes 0) (nat_lt (data_offset_of bytes) 5) _ _ tt (if_ok (IsAt bytes 0) (nat_lt (length bytes) (4 * data_offset_of bytes)) _ _ tt (at_whole bytes)))
+abbrev ReadIn : List ℕ → Result ReadMessage SliceError → Type 0
+ReadIn bytes r = MatchResult r (λ message. MessageIn bytes (transport_of message))
+    (λ e. fault_offset e ≡ 0)
 
-udp_in : (bytes : List ℕ) → IfOk (udp_at bytes) (IsAt bytes 0)
-udp_in bytes =
-    if_ok (IsAt bytes 0) (nat_lt (length bytes) 8) _ _ tt
-    (if_ok (IsAt bytes 0) (nat_lt (length bytes) (length_of bytes)) _ _ tt
-    (if_ok (IsAt bytes 0) (length_of bytes == 0) _ _ (at_whole bytes) (if_ok (IsAt bytes 0) (nat_lt (length_of bytes) 8) _ _ tt (at_take (length_of bytes) bytes))))
+read_in : {E : Type 0} (bytes : List ℕ) (message : List ℕ → ReadMessage) (fault : E → SliceError)
+    (r : Result (List ℕ) E) →
+    ((m : List ℕ) → IsAt bytes 0 m → MessageIn bytes (transport_of (message m)))
+    → Reads bytes fault r → ReadIn bytes (read_as message fault r)
+read_in bytes message fault (Ok m) each reads = each m reads
+read_in bytes message fault (Err e) each reads = reads
 
--- a message is the front of the payload that it is read of
-pub transport_at : (number : ℕ) (bytes : List ℕ) → TransportIn bytes (message_at number bytes)
-transport_at number bytes =
-    chosen (TransportIn bytes) (number == icmpv4) _ _ (read_in bytes (λ m. Icmpv4 m) _ (icmpv4_fault.message_at bytes) (λ m at. at) (icmpv4_in bytes))
-    (chosen (TransportIn bytes) (number == tcp) _ _ (read_in bytes (λ m. Tcp m) tcp_fault (segment_at bytes) (λ m at. at) (tcp_in bytes))
-    (chosen (TransportIn bytes) (number == udp) _ _ (read_in bytes (λ m. Udp m) _ (udp_at bytes) (λ m at. at) (udp_in bytes))
-    (chosen (TransportIn bytes) (number == icmpv6) _ _ (read_in bytes (λ m. Icmpv6 m) _ (icmpv6_fault.message_at bytes) (λ m at. at) (icmpv6_in bytes)) tt)))
+message_read : (number : ℕ) (bytes : List ℕ) → ReadIn bytes (message_at number bytes)
+message_read number bytes =
+    chosen (ReadIn bytes) (number == icmpv4) _ _
+    (read_in bytes (λ m. Icmpv4 m) of_len (icmpv4_fault.message_at bytes)
+    (λ m at. at) (icmpv4_reads bytes))
+    (chosen (ReadIn bytes) (number == tcp) _ _
+    (read_in bytes (λ m. Tcp m) tcp_fault (segment_at bytes) (λ m at. at) (tcp_reads bytes))
+    (chosen (ReadIn bytes) (number == udp) _ _
+    (read_in bytes (λ m. Udp m) of_len (udp_at bytes) (λ m at. at) (udp_reads bytes))
+    (chosen (ReadIn bytes) (number == icmpv6) _ _
+    (read_in bytes (λ m. Icmpv6 m) of_len (icmpv6_fault.message_at bytes) (λ m at. at)
+    (icmpv6_reads bytes)) tt)))
 
--- the fault of a message is at its front
-abbrev pub FaultAtFront : Result ReadMessage SliceError → Type 0
-FaultAtFront r = IfErr r (λ e. place_of e ≡ 0)
-
-read_front : {E : Type 0} (message : List ℕ → ReadMessage) (fault : E → SliceError) (r : Result (List ℕ) E) → IfErr r (λ e. place_of (fault e) ≡ 0) → FaultAtFront (read_as message fault r)
-read_front message fault (Ok m) front = tt
-read_front message fault (Err e) front = front
-
-if_err : {A E : Type 0} (P : E → Type 0) (b : Bool) (x y : Result A E) → IfErr x P → IfErr y P → IfErr (cond b x y) P
-if_err P true x y left right = left
-if_err P false x y left right = right
-
-abbrev LenAtFront : LenError → Type 0
-LenAtFront e = place_of (error.Len e) ≡ 0
-
-abbrev TcpAtFront : TcpFault → Type 0
-TcpAtFront e = place_of (tcp_fault e) ≡ 0
-
-icmpv4_front : (bytes : List ℕ) → IfErr (icmpv4_fault.message_at bytes) LenAtFront
-icmpv4_front bytes =
-    if_err LenAtFront (nat_lt (length bytes) 8) _ _ refl
-    (if_err LenAtFront (is_timestamp_request bytes && not (length bytes == 20)) _ _ refl (if_err LenAtFront (is_timestamp_reply bytes && not (length bytes == 20)) _ _ refl tt))
-
-icmpv6_front : (bytes : List ℕ) → IfErr (icmpv6_fault.message_at bytes) LenAtFront
-icmpv6_front bytes = if_err LenAtFront (nat_lt (length bytes) 8) _ _ refl tt
-
-tcp_front : (bytes : List ℕ) → IfErr (segment_at bytes) TcpAtFront
-tcp_front bytes =
-    if_err TcpAtFront (nat_lt (length bytes) 20) _ _ refl (if_err TcpAtFront (nat_lt (data_offset_of bytes) 5) _ _ refl (if_err TcpAtFront (nat_lt (length bytes) (4 * data_offset_of bytes)) _ _ refl tt))
-
-udp_front : (bytes : List ℕ) → IfErr (udp_at bytes) LenAtFront
-udp_front bytes =
-    if_err LenAtFront (nat_lt (length bytes) 8) _ _ refl
-    (if_err LenAtFront (nat_lt (length bytes) (length_of bytes)) _ _ refl (if_err LenAtFront (length_of bytes == 0) _ _ tt (if_err LenAtFront (nat_lt (length_of bytes) 8) _ _ refl tt)))
-
-message_front : (number : ℕ) (bytes : List ℕ) → FaultAtFront (message_at number bytes)
-message_front number bytes =
-    chosen FaultAtFront (number == icmpv4) _ _ (read_front (λ m. Icmpv4 m) (λ e. error.Len e) (icmpv4_fault.message_at bytes) (icmpv4_front bytes))
-    (chosen FaultAtFront (number == tcp) _ _ (read_front (λ m. Tcp m) tcp_fault (segment_at bytes) (tcp_front bytes))
-    (chosen FaultAtFront (number == udp) _ _ (read_front (λ m. Udp m) (λ e. error.Len e) (udp_at bytes) (udp_front bytes))
-    (chosen FaultAtFront (number == icmpv6) _ _ (read_front (λ m. Icmpv6 m) (λ e. error.Len e) (icmpv6_fault.message_at bytes) (icmpv6_front bytes)) tt)))
-
--- and stays there, whatever bounds the payload
-place_within : (outer : LenSource) (e : SliceError) → place_of (within outer e) ≡ place_of e
+-- a fault stays in its place, whatever bounds the payload
+place_within : (outer : LenSource) (e : SliceError) → fault_offset (within outer e) ≡ fault_offset e
 place_within outer (error.Len e) = refl
 place_within outer (error.LinuxSll e) = refl
 place_within outer (error.Macsec e) = refl
@@ -251,43 +271,72 @@ place_within outer (error.Ipv4Exts e) = refl
 place_within outer (error.Ipv6Exts e) = refl
 place_within outer (error.Tcp e) = refl
 
-read_of : (r : Result ReadMessage SliceError) (e : SliceError) → FaultAtFront r → ◌≡◌ {A = Result (Option TransportSlice) SliceError} (Err e) (read_transport r) → place_of e ≡ 0
-read_of (Ok message) e front same = cc
-read_of (Err f) e front same = let is : e ≡ f = cc in ap place_of is ∙ front
+read_of : (bytes : List ℕ) (r : Result ReadMessage SliceError) (e : SliceError) → ReadIn bytes r
+    → ◌≡◌ {A = Result (Option TransportSlice) SliceError} (Err e) (read_transport r)
+    → fault_offset e ≡ 0
+read_of bytes (Ok message) e read same = cc
+read_of bytes (Err f) e read same = let is : e ≡ f = cc in ap fault_offset is ∙ read
 
-pub fault_front : (number : ℕ) (bytes : List ℕ) (outer : LenSource) (e told : SliceError) → Err e ≡ read_transport (message_at number bytes) → told ≡ within outer e → place_of told ≡ 0
-fault_front number bytes outer e told same is = ap place_of is ∙ place_within outer e ∙ read_of (message_at number bytes) e (message_front number bytes) same
+pub fault_front : (number : ℕ) (bytes : List ℕ) (outer : LenSource) (e told : SliceError)
+    → Err e ≡ read_transport (message_at number bytes) → told ≡ within outer e → fault_offset told
+    ≡ 0
+fault_front number bytes outer e told same is =
+    ap fault_offset is ∙ place_within outer e ∙ read_of bytes (message_at number bytes) e
+    (message_read number bytes) same
 
-found_at : (number : ℕ) (bytes : List ℕ) (o : Option TransportSlice) → Ok o ≡ read_transport (message_at number bytes) → IfSome o (λ t. IsAt bytes 0 (transport_bytes t))
-found_at number bytes o same = subst (λ (r : Result (Option TransportSlice) SliceError). IfOk r (λ x. IfSome x (λ t. IsAt bytes 0 (transport_bytes t)))) (sym same) (transport_at number bytes)
+found_of : (bytes : List ℕ) (r : Result ReadMessage SliceError) (o : Option TransportSlice)
+    → ReadIn bytes r → Ok o ≡ read_transport r → MessageIn bytes o
+found_of bytes (Ok message) o read same =
+    subst (MessageIn bytes) (sym (ok_same {E = SliceError} o (transport_of message) same)) read
+found_of bytes (Err e) o read same = cc
 
-pub transport_found : (number : ℕ) (bytes payload : List ℕ) (o : Option TransportSlice) → Ok o ≡ read_transport (message_at number bytes) → bytes ≡ payload → IfSome o (λ t. IsAt payload 0 (transport_bytes t))
+pub transport_found : (number : ℕ) (bytes payload : List ℕ) (o : Option TransportSlice)
+    → Ok o ≡ read_transport (message_at number bytes) → bytes ≡ payload
+    → IfSome o (λ t. IsAt payload 0 (transport_bytes t))
 transport_found number bytes payload o same is =
-    subst (λ (xs : List ℕ). IfSome o (λ t. IsAt xs 0 (transport_bytes t))) is (found_at number bytes o same)
+    subst (λ (xs : List ℕ). MessageIn xs o) is
+    (found_of bytes (message_at number bytes) o (message_read number bytes) same)
 
--- a tag in a part of a frame
-tag_in_frame : (frame bytes : List ℕ) (place : ℕ) (t : LinkExtSlice) → IsAt frame place bytes → IsTagAt bytes 0 t → IsTagAt frame place t
-tag_in_frame frame bytes place (tag.Vlan b) at here = at_front frame bytes b place at here
-tag_in_frame frame bytes place (tag.Macsec m) at here = (
-  at_front frame bytes m.header place at here.0,
-  at_in frame bytes (macsec_bytes m.payload) place (length m.header) at (from_front bytes (macsec_bytes m.payload) (0 + length m.header) (length m.header) (omega arith) here.1),
+-- a part of a part, at this place from the front
+pub at_later : (frame bytes part : List ℕ) (place p q : ℕ) → place + p ≡ q → IsAt frame place bytes
+    → IsAt bytes p part → IsAt frame q part
+at_later frame bytes part place p q sum at inner =
+    from_front frame part (place + p) q sum (at_in frame bytes part place p at inner)
+
+pub tag_later : (frame bytes : List ℕ) (place p q : ℕ) (t : LinkExtSlice) → place + p ≡ q
+    → IsAt frame place bytes → IsTagAt bytes p t → IsTagAt frame q t
+tag_later frame bytes place p q (tag.Vlan b) sum at here =
+    at_later frame bytes b place p q sum at here
+tag_later frame bytes place p q (tag.Macsec m) sum at here = (
+  at_later frame bytes m.header place p q sum at here.0,
+  at_later frame bytes (macsec_bytes m.payload) place (p + length m.header) (q + length m.header)
+      (omega (arith, sum)) at here.1,
 )
 
 -- one tag more
-pub more_tags_len : (tags : List LinkExtSlice) (t : LinkExtSlice) → tags_len (tags ++ t ∷ []) ≡ tags_len tags + tag_len t
+pub more_tags_len : (tags : List LinkExtSlice) (t : LinkExtSlice)
+    → tags_len (tags ++ t ∷ []) ≡ tags_len tags + tag_len t
 more_tags_len [] t = omega arith
 more_tags_len (u ∷ tags) t = omega (arith, more_tags_len tags t)
 
-tag_moved : (frame : List ℕ) (p q : ℕ) (t : LinkExtSlice) → p ≡ q → IsTagAt frame p t → IsTagAt frame q t
+tag_moved : (frame : List ℕ) (p q : ℕ) (t : LinkExtSlice) → p ≡ q
+    → IsTagAt frame p t → IsTagAt frame q t
 tag_moved frame p q t same at = subst (λ (n : ℕ). IsTagAt frame n t) same at
 
-more_tags : (frame : List ℕ) (place : ℕ) (tags : List LinkExtSlice) (t : LinkExtSlice) → AreTagsAt frame place tags → IsTagAt frame (place + tags_len tags) t → AreTagsAt frame place (tags ++ t ∷ [])
+more_tags : (frame : List ℕ) (place : ℕ) (tags : List LinkExtSlice) (t : LinkExtSlice)
+    → AreTagsAt frame place tags → IsTagAt frame (place + tags_len tags) t
+    → AreTagsAt frame place (tags ++ t ∷ [])
 more_tags frame place [] t are at = (tag_moved frame (place + 0) place t (omega arith) at, tt)
-more_tags frame place (u ∷ tags) t are at =
-    (are.0, more_tags frame (place + tag_len u) tags t are.1 (tag_moved frame (place + (tag_len u + tags_len tags)) (place + tag_len u + tags_len tags) t (omega arith) at))
+more_tags frame place (u ∷ tags) t are at = (
+  are.0,
+  more_tags frame (place + tag_len u) tags t are.1
+      (tag_moved frame (place + (tag_len u + tags_len tags))
+      (place + tag_len u + tags_len tags) t (omega arith) at),
+)
 
 -- tags that were read, and the rest behind them
-pub record Passed (bytes : List ℕ) (tags : List LinkExtSlice) (len : ℕ) (rest : List ℕ) : Type 0 where
+pub record Passed (bytes : List ℕ) (tags : List LinkExtSlice) (len : ℕ)
+    (rest : List ℕ) : Type 0 where
   pub tags_at : AreTagsAt bytes 0 tags
   pub len_is : len ≡ tags_len tags
   pub rest_at : IsAt bytes len rest
@@ -295,37 +344,65 @@ pub record Passed (bytes : List ℕ) (tags : List LinkExtSlice) (len : ℕ) (res
 pub nothing_passed : (bytes : List ℕ) → Passed bytes [] 0 bytes
 nothing_passed bytes = record { tags_at = tt; len_is = refl; rest_at = at_whole bytes }
 
-pub passed_fits : (bytes : List ℕ) (tags : List LinkExtSlice) (len : ℕ) (rest : List ℕ) → Passed bytes tags len rest → len ≤ length bytes
+pub passed_fits : (bytes : List ℕ) (tags : List LinkExtSlice) (len : ℕ) (rest : List ℕ)
+    → Passed bytes tags len rest → len ≤ length bytes
 passed_fits bytes tags len rest passed = omega (arith, at_fits bytes rest len passed.rest_at)
 
 -- a tag at the front of the rest is one of them, with what stands behind it
-tags_more : (bytes : List ℕ) (tags more : List LinkExtSlice) (len : ℕ) (rest : List ℕ) (t : LinkExtSlice) → Passed bytes tags len rest → TagIn rest t → more ≡ tags ++ t ∷ [] → AreTagsAt bytes 0 more
+tags_more : (bytes : List ℕ) (tags more : List LinkExtSlice) (len : ℕ) (rest : List ℕ)
+    (t : LinkExtSlice) → Passed bytes tags len rest → TagIn rest t → more ≡ tags ++ t ∷ []
+    → AreTagsAt bytes 0 more
 tags_more bytes tags more len rest t passed in_rest pushed =
-    let here : IsTagAt bytes (0 + tags_len tags) t = tag_moved bytes len (0 + tags_len tags) t (omega (arith, passed.len_is)) (tag_in_frame bytes rest len t passed.rest_at in_rest.tag) in
+    let here : IsTagAt bytes (0 + tags_len tags) t =
+    tag_later bytes rest len 0 (0 + tags_len tags) t
+    (omega (arith, passed.len_is)) passed.rest_at in_rest.tag in
     subst (AreTagsAt bytes 0) (sym pushed) (more_tags bytes 0 tags t passed.tags_at here)
 
-len_more : (tags more : List LinkExtSlice) (len n : ℕ) (t : LinkExtSlice) → len ≡ tags_len tags → more ≡ tags ++ t ∷ [] → n ≡ tag_len t → len + n ≡ tags_len more
-len_more tags more len n t len_is pushed counted = omega (arith, len_is, counted, ap tags_len pushed ∙ more_tags_len tags t)
+len_more : (tags more : List LinkExtSlice) (len n : ℕ) (t : LinkExtSlice) → len ≡ tags_len tags
+    → more ≡ tags ++ t ∷ [] → n ≡ tag_len t → len + n ≡ tags_len more
+len_more tags more len n t len_is pushed counted =
+    omega (arith, len_is, counted, ap tags_len pushed ∙ more_tags_len tags t)
 
-pub passed_more : (bytes : List ℕ) (tags more : List LinkExtSlice) (len n : ℕ) (rest next : List ℕ) (t : LinkExtSlice) → Passed bytes tags len rest → TagIn rest t → more ≡ tags ++ t ∷ [] → n ≡ tag_len t →
+pub passed_more : (bytes : List ℕ) (tags more : List LinkExtSlice) (len n : ℕ) (rest next : List ℕ)
+    (t : LinkExtSlice) → Passed bytes tags len rest → TagIn rest t
+    → more ≡ tags ++ t ∷ [] → n ≡ tag_len t →
     IsAt rest (tag_len t) next → Passed bytes more (len + n) next
 passed_more bytes tags more len n rest next t passed in_rest pushed counted at = record {
   tags_at = tags_more bytes tags more len rest t passed in_rest pushed;
   len_is = len_more tags more len n t passed.len_is pushed counted;
-  rest_at = from_front bytes next (len + tag_len t) (len + n) (omega (arith, counted)) (at_in bytes rest next len (tag_len t) passed.rest_at at);
+  rest_at = from_front bytes next (len + tag_len t) (len + n) (omega (arith, counted))
+      (at_in bytes rest next len (tag_len t) passed.rest_at at);
 }
 
-pub tag_found : (bytes : List ℕ) (o : Option LinkExtSlice) (t : LinkExtSlice) → IfSome o (λ u. TagIn bytes u) → o ≡ Some t → TagIn bytes t
-tag_found bytes o t at same = subst (λ (x : Option LinkExtSlice). IfSome x (λ u. TagIn bytes u)) same at
+pub tag_found : (bytes : List ℕ) (o : Option LinkExtSlice) (t : LinkExtSlice)
+    → IfSome o (λ u. TagIn bytes u) → o ≡ Some t → TagIn bytes t
+tag_found bytes o t at same =
+    subst (λ (x : Option LinkExtSlice). IfSome x (λ u. TagIn bytes u)) same at
 
-pub next_at : (bytes : List ℕ) (t : LinkExtSlice) (next : EtherPayload) → TagIn bytes t → payload_behind t ≡ Some next → IsAt bytes (tag_len t) next.payload
-next_at bytes t next in_bytes named = subst (λ (o : Option EtherPayload). IfSome o (λ q. IsAt bytes (tag_len t) q.payload)) named in_bytes.next
+pub next_at : (bytes : List ℕ) (t : LinkExtSlice) (next : EtherPayload) → TagIn bytes t
+    → payload_behind t ≡ Some next → IsAt bytes (tag_len t) next.payload
+next_at bytes t next in_bytes named =
+    subst (λ (o : Option EtherPayload). IfSome o (λ q. IsAt bytes (tag_len t) q.payload))
+    named in_bytes.next
 
 -- where the tags end
-pub ended_with : (bytes : List ℕ) (tags : List LinkExtSlice) (len : ℕ) (rest : EtherPayload) → Passed bytes tags len rest.payload → TagsIn bytes 0 (record { tags = tags; len = len; last = Some rest })
-ended_with bytes tags len rest passed = record { tags = passed.tags_at; len = passed.len_is; last = from_front bytes rest.payload len (0 + len) (omega arith) passed.rest_at }
+pub ended_with : (bytes : List ℕ) (tags : List LinkExtSlice) (len : ℕ) (rest : EtherPayload)
+    → Passed bytes tags len rest.payload
+    → TagsIn bytes 0 (record { tags = tags; len = len; last = Some rest })
+ended_with bytes tags len rest passed =
+    record {
+      tags = passed.tags_at;
+      len = passed.len_is;
+      last = from_front bytes rest.payload len (0 + len) (omega arith) passed.rest_at;
+    }
 
-pub ended_without : (bytes : List ℕ) (tags more : List LinkExtSlice) (len n : ℕ) (rest : List ℕ) (t : LinkExtSlice) → Passed bytes tags len rest → TagIn rest t → more ≡ tags ++ t ∷ [] → n ≡ tag_len t →
+pub ended_without : (bytes : List ℕ) (tags more : List LinkExtSlice) (len n : ℕ) (rest : List ℕ)
+    (t : LinkExtSlice) → Passed bytes tags len rest → TagIn rest t
+    → more ≡ tags ++ t ∷ [] → n ≡ tag_len t →
     TagsIn bytes 0 (record { tags = more; len = len + n; last = None })
 ended_without bytes tags more len n rest t passed in_rest pushed counted =
-    record { tags = tags_more bytes tags more len rest t passed in_rest pushed; len = len_more tags more len n t passed.len_is pushed counted; last = tt }
+    record {
+      tags = tags_more bytes tags more len rest t passed in_rest pushed;
+      len = len_more tags more len n t passed.len_is pushed counted;
+      last = tt;
+    }

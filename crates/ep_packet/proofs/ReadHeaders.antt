@@ -1,9 +1,12 @@
 -- The headers of the IP packet at the front of bytes.
-use Rattle.std.proofs.Common.{◌≡◌, ℕ, ◌<◌, ◌/◌, ◌==◌, Bool, false, List, [], ◌∷◌, ◌++◌, length, get_or, Option, Some, None, Result, Ok, Err, ⊎_elim, sym, ap, ◌∙◌, subst, append_assoc, arith}
+use Rattle.std.proofs.Common.{◌≡◌, ℕ, ◌<◌, ◌/◌, ◌==◌, Bool, false, List, [], ◌∷◌, ◌++◌, length}
+use Rattle.std.proofs.Common.{get_or, Option, Some, None, Result, Ok, Err, ⊎_elim, sym, ap, ◌∙◌}
+use Rattle.std.proofs.Common.{subst, append_assoc, arith}
 use Rattle.std.proofs.lemmas.List.{get_or_append_left}
 use Rattle.std.specs.Option.{option_map_or}
 use Rattle.ep_base.specs.declared.len_source.LenSource.{LenSource}
 use Rattle.ep_base.specs.declared.net.ip_number.IpNumber.{IpNumber}
+use Rattle.ep_base.proofs.Fronts.{err_ok, ok_same}
 use Rattle.ep_ext.specs.Chain.{Chain, Fault, fault_of}
 use Rattle.ep_ext.specs.Fragment.{fragments}
 use Rattle.ep_ext.specs.Ipv4Exts.{auth_bytes}
@@ -14,7 +17,8 @@ use Rattle.ep_ip.specs.Ipv4 as v4
 use Rattle.ep_ip.specs.Ipv6 as v6
 use Rattle.ep_ip.specs.declared.net.ipv6_header.Ipv6Header.{Ipv6Header}
 use Rattle.ep_ipslice.specs.Ipv4Packet.{ipv4_packet_at}
-use Rattle.ep_ipslice.specs.Ipv6Fault.{IsFaultIn, IsFrontFault, InHeader, InLength, OfHeader, OfLength}
+use Rattle.ep_ipslice.specs.Ipv6Fault.{IsFaultIn, IsFrontFault, InHeader, InLength, OfHeader}
+use Rattle.ep_ipslice.specs.Ipv6Fault.{OfLength}
 use Rattle.ep_ipslice.specs.Packet.{IpPayload, Ipv4Packet, IsIpv4Packet, IsIpv6Body}
 use Rattle.ep_ipslice.specs.declared.err.ip.headers_slice_error.HeadersSliceError.{HeadersSliceError}
 use Rattle.ep_ipslice.specs.declared.err.ipv4.slice_error.SliceError.{SliceError as Ipv4Fault}
@@ -34,120 +38,192 @@ IsSame E x y = ◌≡◌ {A = Result Parts E} (Ok x) (Ok y)
 abbrev pub IsRefusal : (E : Type 0) → E → Parts → Type 0
 IsRefusal E e x = ◌≡◌ {A = Result Parts E} (Err e) (Ok x)
 
-ok_same : {A E : Type 0} (x y : A) → ◌≡◌ {A = Result A E} (Ok x) (Ok y) → x ≡ y
-ok_same x y h = cc
-
-err_ok : {A E : Type 0} (e : E) (x : A) → ◌≡◌ {A = Result A E} (Err e) (Ok x) → ⊥
-err_ok e x h = cc
-
 none_some : (x : Fault) → ◌≡◌ {A = Option Fault} None (Some x) → ⊥
 none_some x h = cc
 
 -- the parts of a packet are those of the one that stands there
-pub ipv4_only : (bytes : List ℕ) (packet : Ipv4Packet) (parts : Parts) → parts ≡ ipv4_parts packet → ((p : Ipv4Packet) → IsIpv4Packet bytes p → ◌≡◌ {A = Result Ipv4Packet Ipv4Fault} (Ok packet) (Ok p)) →
-    (headers : IpHeaders) (payload : IpPayload) → IsIpv4Headers bytes headers payload → IsSame Ipv4Fault parts (headers, payload)
+pub ipv4_only : (bytes : List ℕ) (packet : Ipv4Packet) (parts : Parts) → parts ≡ ipv4_parts packet
+    → ((p : Ipv4Packet) → IsIpv4Packet bytes p
+    → ◌≡◌ {A = Result Ipv4Packet Ipv4Fault} (Ok packet) (Ok p)) →
+    (headers : IpHeaders) (payload : IpPayload) → IsIpv4Headers bytes headers payload
+    → IsSame Ipv4Fault parts (headers, payload)
 ipv4_only bytes packet parts told only headers payload is =
-    ap Ok (told ∙ ap ipv4_parts (ok_same packet is.packet (only is.packet is.begins)) ∙ sym is.value)
+    ap Ok (told ∙ ap ipv4_parts (ok_same packet is.packet (only is.packet is.begins))
+    ∙ sym is.value)
 
-pub ipv4_never : (bytes : List ℕ) (e : Ipv4Fault) → ((p : Ipv4Packet) → IsIpv4Packet bytes p → ◌≡◌ {A = Result Ipv4Packet Ipv4Fault} (Err e) (Ok p)) →
-    (headers : IpHeaders) (payload : IpPayload) → IsIpv4Headers bytes headers payload → IsRefusal Ipv4Fault e (headers, payload)
+pub ipv4_never : (bytes : List ℕ) (e : Ipv4Fault)
+    → ((p : Ipv4Packet) → IsIpv4Packet bytes p
+    → ◌≡◌ {A = Result Ipv4Packet Ipv4Fault} (Err e) (Ok p)) →
+    (headers : IpHeaders) (payload : IpPayload) → IsIpv4Headers bytes headers payload
+    → IsRefusal Ipv4Fault e (headers, payload)
 ipv4_never bytes e only headers payload is = absurd (err_ok e is.packet (only is.packet is.begins))
 
 -- where there are no parts, there is no packet
-refused_of : (r : Result Ipv4Packet Ipv4Fault) (e : Ipv4Fault) → ◌≡◌ {A = Result Parts Ipv4Fault} (Err e) (with_ipv4_headers r) → r ≡ Err e
+refused_of : (r : Result Ipv4Packet Ipv4Fault) (e : Ipv4Fault)
+    → ◌≡◌ {A = Result Parts Ipv4Fault} (Err e) (with_ipv4_headers r) → r ≡ Err e
 refused_of (Ok packet) e is = absurd (err_ok e (ipv4_parts packet) is)
 refused_of (Err fault) e is = let same : fault ≡ e = cc in ap Err same
 
-pub ipv4_refused : (bytes : List ℕ) (e : Ipv4Fault) → ◌≡◌ {A = Result Parts Ipv4Fault} (Err e) (with_ipv4_headers (ipv4_packet_at bytes)) → ipv4_packet_at bytes ≡ Err e
+pub ipv4_refused : (bytes : List ℕ) (e : Ipv4Fault)
+    → ◌≡◌ {A = Result Parts Ipv4Fault} (Err e) (with_ipv4_headers (ipv4_packet_at bytes))
+    → ipv4_packet_at bytes ≡ Err e
 ipv4_refused bytes e is = refused_of (ipv4_packet_at bytes) e is
 
 -- a fault in front of the extension headers is the first one, whatever their order
-pub front_fault : (order : Order) (bytes : List ℕ) (e : Ipv6Fault) → IsFrontFault bytes e → IsFaultIn order bytes e
+pub front_fault : (order : Order) (bytes : List ℕ) (e : Ipv6Fault) → IsFrontFault bytes e
+    → IsFaultIn order bytes e
 front_fault order bytes e (InHeader fault is error) = OfHeader fault is error
 front_fault order bytes e (InLength header is cut) = OfLength header is cut
 
-pub chain_same : (first number : ℕ) (body other : List ℕ) (pieces : List Piece) (last : ℕ) (rest : List ℕ) → first ≡ number → body ≡ other → Chain place_of number other pieces last rest →
+pub chain_same : (first number : ℕ) (body other : List ℕ) (pieces : List Piece) (last : ℕ)
+    (rest : List ℕ) → first ≡ number → body ≡ other → Chain place_of number other pieces last rest →
     Chain place_of first body pieces last rest
 chain_same first number body other pieces last rest named cut chain =
-    subst (λ (n : ℕ). Chain place_of n body pieces last rest) (sym named) (subst (λ (xs : List ℕ). Chain place_of number xs pieces last rest) (sym cut) chain)
+    subst (λ (n : ℕ). Chain place_of n body pieces last rest) (sym named)
+    (subst (λ (xs : List ℕ). Chain place_of number xs pieces last rest) (sym cut) chain)
 
 -- a row that ends without a fault isn't refused
-pub never_refused : (pieces : List Piece) (last : ℕ) (rest : List ℕ) (fault : Fault) → fault_of place_of pieces last rest ≡ None → fault_of place_of pieces last rest ≡ Some fault → ⊥
+pub never_refused : (pieces : List Piece) (last : ℕ) (rest : List ℕ) (fault : Fault)
+    → fault_of place_of pieces last rest ≡ None
+    → fault_of place_of pieces last rest ≡ Some fault → ⊥
 never_refused pieces last rest fault ended found = none_some fault (sym ended ∙ found)
 
 -- headers stand where their header, their body and their extension headers were found
-pub ipv6_found : (bytes : List ℕ) (h : Ipv6Header) (header : List ℕ) (source : LenSource) (body : List ℕ) (first : ℕ) (pieces : List Piece) (last : ℕ) (rest : List ℕ) (exts : Ipv6Extensions) (number : IpNumber) (fragmented : Bool) (left : List ℕ) →
-    h ≡ v6.header_of header → IsIpv6Body bytes header source body → first ≡ v6.next_header_of header → Chain place_of first body pieces last rest → exts ≡ value_of pieces → number.0 ≡ last → left ≡ rest →
-    fault_of place_of pieces last rest ≡ None → fragmented ≡ option_map_or fragments exts.fragment false →
-    IsIpv6Headers bytes (Ipv6 h exts) (record { ip_number = number; fragmented = fragmented; len_source = source; payload = left })
-ipv6_found bytes h header source body first pieces last rest exts number fragmented left fields begins named chain exts_is numbered left_is ended parted = record {
-  header = header;
-  source = source;
-  body = body;
-  pieces = pieces;
-  last = last;
-  begins = begins;
-  chain = subst (λ (n : ℕ). Chain place_of n body pieces last left) named (subst (λ (xs : List ℕ). Chain place_of first body pieces last xs) (sym left_is) chain);
-  ended = ap (fault_of place_of pieces last) left_is ∙ ended;
-  value = λ i. Ipv6 (fields i) (exts_is i);
-  told = λ i. record { ip_number = record { 0 = numbered i }; fragmented = parted i; len_source = source; payload = left };
-}
+pub ipv6_found : (bytes : List ℕ) (h : Ipv6Header) (header : List ℕ) (source : LenSource)
+    (body : List ℕ) (first : ℕ) (pieces : List Piece) (last : ℕ) (rest : List ℕ)
+    (exts : Ipv6Extensions) (number : IpNumber) (fragmented : Bool) (left : List ℕ) →
+    h ≡ v6.ipv6_header_of header → IsIpv6Body bytes header source body → first ≡ v6.next_header_of
+    header
+    → Chain place_of first body pieces last rest → exts ≡ value_of pieces
+    → number.0 ≡ last → left ≡ rest →
+    fault_of place_of pieces last rest ≡ None
+    → fragmented ≡ option_map_or fragments exts.fragment false →
+    IsIpv6Headers bytes (Ipv6 h exts)
+    (record {
+      ip_number = number;
+      fragmented = fragmented;
+      len_source = source;
+      payload = left;
+    })
+ipv6_found bytes h header source body first pieces last rest exts number fragmented left fields
+    begins named chain exts_is numbered left_is ended parted = record {
+      header = header;
+      source = source;
+      body = body;
+      pieces = pieces;
+      last = last;
+      begins = begins;
+      chain = subst (λ (n : ℕ). Chain place_of n body pieces last left) named
+          (subst (λ (xs : List ℕ). Chain place_of first body pieces last xs) (sym left_is) chain);
+      ended = ap (fault_of place_of pieces last) left_is ∙ ended;
+      value = λ i. Ipv6 (fields i) (exts_is i);
+      told = λ i. record {
+        ip_number = record { 0 = numbered i };
+        fragmented = parted i;
+        len_source = source;
+        payload = left;
+      };
+    }
 
 -- what is read of the headers is what stands there
-pub ipv6_only : (bytes : List ℕ) (headers : IpHeaders) (payload : IpPayload) (is : IsIpv6Headers bytes headers payload) (h : Ipv6Header) (header : List ℕ) (exts : Ipv6Extensions) (number : IpNumber) (fragmented : Bool) (source : LenSource) (rest : List ℕ) →
-    h ≡ v6.header_of header → header ≡ is.header → exts ≡ value_of is.pieces → number.0 ≡ is.last → fragmented ≡ option_map_or fragments exts.fragment false → source ≡ is.source → rest ≡ payload.payload →
-    IsSame Ipv6Fault (Ipv6 h exts, record { ip_number = number; fragmented = fragmented; len_source = source; payload = rest }) (headers, payload)
-ipv6_only bytes headers payload is h header exts number fragmented source rest fields same exts_is named parted bounded left =
-    let h_is : h ≡ v6.header_of is.header = fields ∙ ap v6.header_of same in
+pub ipv6_only : (bytes : List ℕ) (headers : IpHeaders) (payload : IpPayload)
+    (is : IsIpv6Headers bytes headers payload) (h : Ipv6Header) (header : List ℕ)
+    (exts : Ipv6Extensions) (number : IpNumber) (fragmented : Bool)
+    (source : LenSource) (rest : List ℕ) →
+    h ≡ v6.ipv6_header_of header → header ≡ is.header → exts ≡ value_of is.pieces → number.0
+    ≡ is.last
+    → fragmented ≡ option_map_or fragments exts.fragment false → source ≡ is.source
+    → rest ≡ payload.payload →
+    IsSame Ipv6Fault (
+      Ipv6 h exts,
+      record
+          { ip_number = number; fragmented = fragmented; len_source = source; payload = rest },
+    )
+    (headers, payload)
+ipv6_only bytes headers payload is h header exts number fragmented source rest fields same exts_is
+    named parted bounded left =
+    let h_is : h ≡ v6.ipv6_header_of is.header = fields ∙ ap v6.ipv6_header_of same in
     let value : Ipv6 h exts ≡ headers = (λ i. Ipv6 (h_is i) (exts_is i)) ∙ sym is.value in
     let parted_is : fragmented ≡ is_fragmenting headers = parted ∙ ap is_fragmenting value in
-    let told : record { ip_number = number; fragmented = fragmented; len_source = source; payload = rest } ≡ payload =
-    (λ i. record { ip_number = record { 0 = named i }; fragmented = parted_is i; len_source = bounded i; payload = left i }) ∙ sym is.told in
+    let told : record
+    { ip_number = number; fragmented = fragmented; len_source = source; payload = rest }
+    ≡ payload =
+    (λ i. record {
+      ip_number = record { 0 = named i };
+      fragmented = parted_is i;
+      len_source = bounded i;
+      payload = left i;
+    }) ∙ sym is.told in
     λ i. Ok (value i, told i)
 
-first_byte : (bytes header rest : List ℕ) → bytes ≡ header ++ rest → 0 < length header → get_or bytes 0 0 ≡ get_or header 0 0
-first_byte bytes header rest parts some = ap (λ (xs : List ℕ). get_or xs 0 0) parts ∙ get_or_append_left header rest 0 0 some
+first_byte : (bytes header rest : List ℕ) → bytes ≡ header ++ rest → 0 < length header
+    → get_or bytes 0 0 ≡ get_or header 0 0
+first_byte bytes header rest parts some = ap (λ (xs : List ℕ). get_or xs 0 0) parts
+    ∙ get_or_append_left header rest 0 0 some
 
-ipv4_version : (bytes : List ℕ) (headers : IpHeaders) (payload : IpPayload) → IsIpv4Headers bytes headers payload → v4.version_of bytes ≡ 4
+ipv4_version : (bytes : List ℕ) (headers : IpHeaders) (payload : IpPayload)
+    → IsIpv4Headers bytes headers payload → v4.version_of bytes ≡ 4
 ipv4_version bytes headers payload is =
     let packet = is.packet in
     let begins = is.begins in
     let rest : List ℕ = auth_bytes packet.auth ++ packet.payload ++ begins.padding in
     let parts : bytes ≡ packet.header ++ rest =
-    begins.cut ∙ ap (λ (xs : List ℕ). xs ++ begins.padding) (append_assoc packet.header (auth_bytes packet.auth) packet.payload)
+    begins.cut ∙ ap (λ (xs : List ℕ). xs ++ begins.padding)
+    (append_assoc packet.header (auth_bytes packet.auth) packet.payload)
     ∙ append_assoc packet.header (auth_bytes packet.auth ++ packet.payload) begins.padding in
-    ap (λ (n : ℕ). n / 16) (first_byte bytes packet.header rest parts (omega (arith, begins.header.whole, begins.header.minimum))) ∙ begins.header.version
+    ap (λ (n : ℕ). n / 16) (first_byte bytes packet.header rest parts
+    (omega (arith, begins.header.whole, begins.header.minimum))) ∙ begins.header.version
 
-ipv6_version : (bytes : List ℕ) (headers : IpHeaders) (payload : IpPayload) → IsIpv6Headers bytes headers payload → v4.version_of bytes ≡ 6
+ipv6_version : (bytes : List ℕ) (headers : IpHeaders) (payload : IpPayload)
+    → IsIpv6Headers bytes headers payload → v4.version_of bytes ≡ 6
 ipv6_version bytes headers payload is =
-    let parts : bytes ≡ is.header ++ (is.body ++ is.begins.padding) = is.begins.cut ∙ append_assoc is.header is.body is.begins.padding in
-    ap (λ (n : ℕ). n / 16) (first_byte bytes is.header (is.body ++ is.begins.padding) parts (omega (arith, is.begins.whole.whole))) ∙ is.begins.whole.version
+    let parts : bytes ≡ is.header ++ (is.body ++ is.begins.padding) =
+    is.begins.cut ∙ append_assoc is.header is.body is.begins.padding in
+    ap (λ (n : ℕ). n / 16) (first_byte bytes is.header (is.body ++ is.begins.padding) parts
+    (omega (arith, is.begins.whole.whole))) ∙ is.begins.whole.version
 
 four_six : (n : ℕ) → n ≡ 4 → n ≡ 6 → ⊥
 four_six n four six = omega (arith, four, six)
 
 -- the version tells whose headers stand there
-pub of_four : (bytes : List ℕ) (headers : IpHeaders) (payload : IpPayload) → v4.version_of bytes ≡ 4 → IsIpHeaders bytes headers payload → IsIpv4Headers bytes headers payload
-of_four bytes headers payload four either = ⊎_elim (λ is. is) (λ is. absurd (four_six (v4.version_of bytes) four (ipv6_version bytes headers payload is))) either
+pub of_four : (bytes : List ℕ) (headers : IpHeaders) (payload : IpPayload) → v4.version_of bytes ≡ 4
+    → IsIpHeaders bytes headers payload → IsIpv4Headers bytes headers payload
+of_four bytes headers payload four either =
+    ⊎_elim (λ is. is)
+    (λ is. absurd (four_six (v4.version_of bytes) four (ipv6_version bytes headers payload is)))
+    either
 
-pub of_six : (bytes : List ℕ) (headers : IpHeaders) (payload : IpPayload) → v4.version_of bytes ≡ 6 → IsIpHeaders bytes headers payload → IsIpv6Headers bytes headers payload
-of_six bytes headers payload six either = ⊎_elim (λ is. absurd (four_six (v4.version_of bytes) (ipv4_version bytes headers payload is) six)) (λ is. is) either
+pub of_six : (bytes : List ℕ) (headers : IpHeaders) (payload : IpPayload) → v4.version_of bytes ≡ 6
+    → IsIpHeaders bytes headers payload → IsIpv6Headers bytes headers payload
+of_six bytes headers payload six either =
+    ⊎_elim (λ is. absurd (four_six (v4.version_of bytes)
+    (ipv4_version bytes headers payload is) six)) (λ is. is) either
 
-pub of_neither : (bytes : List ℕ) (headers : IpHeaders) (payload : IpPayload) → (v4.version_of bytes ≡ 4 → ⊥) → (v4.version_of bytes ≡ 6 → ⊥) → IsIpHeaders bytes headers payload → ⊥
-of_neither bytes headers payload four six either = ⊎_elim (λ is. four (ipv4_version bytes headers payload is)) (λ is. six (ipv6_version bytes headers payload is)) either
+pub of_neither : (bytes : List ℕ) (headers : IpHeaders) (payload : IpPayload)
+    → (v4.version_of bytes ≡ 4 → ⊥) → (v4.version_of bytes ≡ 6 → ⊥)
+    → IsIpHeaders bytes headers payload → ⊥
+of_neither bytes headers payload four six either =
+    ⊎_elim (λ is. four (ipv4_version bytes headers payload is))
+    (λ is. six (ipv6_version bytes headers payload is)) either
 
 -- the same among faults of both versions
 pub same_as : {E : Type 0} (x y : Parts) → IsSame E x y → IsSame HeadersSliceError x y
 same_as x y is = ap Ok (ok_same x y is)
 
-pub refusal_as : {E : Type 0} (e : E) (f : HeadersSliceError) (x : Parts) → IsRefusal E e x → IsRefusal HeadersSliceError f x
+pub refusal_as : {E : Type 0} (e : E) (f : HeadersSliceError) (x : Parts) → IsRefusal E e x
+    → IsRefusal HeadersSliceError f x
 refusal_as e f x is = absurd (err_ok e x is)
 
 -- number and bytes of the one payload
-pub read_same : (a b : IpHeaders) (p q : IpPayload) → IsSame HeadersSliceError (a, p) (b, q) → (a ≡ b) × (p.ip_number ≡ q.ip_number) × (p.payload ≡ q.payload)
+pub read_same : (a b : IpHeaders) (p q : IpPayload) → IsSame HeadersSliceError (a, p) (b, q)
+    → (a ≡ b) × (p.ip_number ≡ q.ip_number) × (p.payload ≡ q.payload)
 read_same a b p q is =
-    let same : (a, p) ≡ (b, q) = ok_same (a, p) (b, q) is in
-    (ap (λ (r : Parts). r.0) same, ap (λ (r : Parts). r.1.ip_number) same, ap (λ (r : Parts). r.1.payload) same)
+    let same : (a, p) ≡ (b, q) = ok_same (a, p) (b, q) is in (
+      ap (λ (r : Parts). r.0) same,
+      ap (λ (r : Parts). r.1.ip_number) same,
+      ap
+          (λ (r : Parts). r.1.payload) same,
+    )
 
 pub read_never : (e : HeadersSliceError) (x : Parts) → IsRefusal HeadersSliceError e x → ⊥
 read_never e x is = err_ok e x is

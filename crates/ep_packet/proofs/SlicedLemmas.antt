@@ -1,20 +1,25 @@
 -- The parts of a packet together.
-use Rattle.std.proofs.Common.{◌≡◌, ◌∙◌, ℕ, ◌≤◌, Bool, true, false, cond, drop, ◌+◌, List, [], ◌∷◌, length, Option, Some, None, Result, Ok, Err, IfOk, IfSome, IsSome, ◌<◌, ◌^◌, arith, refl, sym, ap, subst}
+use Rattle.std.proofs.Common.{◌≡◌, ◌∙◌, ℕ, ◌≤◌, drop, ◌+◌, List, [], ◌∷◌, length, Option, Some}
+use Rattle.std.proofs.Common.{None, Result, Ok, Err, IfOk, IfSome, IsSome, ◌<◌, ◌^◌, arith, refl}
+use Rattle.std.proofs.Common.{sym, ap, subst}
 use Rattle.std.specs.Option.{ok_or}
-use Rattle.std.specs.Prelude.{nat_lt}
 use Rattle.std.proofs.lemmas.Bool.{ltb-false}
 use Rattle.ep_base.specs.declared.len_source.LenSource.TheVariants as source
+use Rattle.ep_base.proofs.Fronts.{guard_ok, ok_same}
 use Rattle.ep_ext.specs.Ipv4Exts.{auth_bytes}
-use Rattle.ep_link.specs.Sll.{greatest_packet_type, packet_type_of, sll_len}
+use Rattle.ep_link.specs.Sll.{sll_len}
 use Rattle.ep_link.specs.SllFault.{whole_at as sll_at}
 use Rattle.ep_link.specs.SllPayload.{ether_payload_of, named_payload, payload_of}
-use Rattle.ep_link.specs.declared.err.linux_sll.header_slice_error.HeaderSliceError.{HeaderSliceError as SllFault}
+use Rattle.ep_base.specs.declared.err.slice_error.SliceError.{SliceError as HeaderSliceError}
+use Rattle.ep_link.specs.declared.err.linux_sll.header_error.HeaderError.{HeaderError as SllFault}
 use Rattle.ep_link.specs.declared.link.linux_sll_protocol_type.LinuxSllProtocolType.{LinuxSllProtocolType}
 use Rattle.ep_link.specs.declared.link.linux_sll_protocol_type.LinuxSllProtocolType.TheVariants as protocol
 use Rattle.ep_link.specs.declared.link.link_slice.LinkSlice.{LinkSlice}
-use Rattle.ep_packet.specs.Parts.{AreTagsAt, ArePartsOf, IsAt, IsNetAt, IsTagAt, LayersBehind, LayersIn, TagsIn, headers_len, macsec_bytes, tags_len, transport_bytes}
-use Rattle.ep_packet.specs.SliceFault.{later, moved, place_of}
-use Rattle.ep_packet.specs.Sliced.{Layers, layers_in, no_layers, packet_behind, packet_of, packet_tagged, packet_with}
+use Rattle.ep_packet.specs.Parts.{AreTagsAt, ArePartsOf, IsAt, IsNetAt, LayersBehind, LayersIn}
+use Rattle.ep_packet.specs.Parts.{StandAt, TagsIn, headers_len, tags_len, transport_bytes}
+use Rattle.ep_packet.specs.SliceFault.{later, offset_by, fault_offset}
+use Rattle.ep_packet.specs.Sliced.{Layers, layers_in, no_layers, packet_behind, packet_of}
+use Rattle.ep_packet.specs.Sliced.{packet_tagged, packet_with}
 use Rattle.ep_packet.specs.Tags.{Tagged, tags_in}
 use Rattle.ep_packet.specs.declared.err.packet.slice_error.SliceError.{SliceError}
 use Rattle.ep_packet.specs.declared.net.net_slice.NetSlice.{NetSlice}
@@ -22,131 +27,175 @@ use Rattle.ep_packet.specs.declared.net.net_slice.NetSlice.TheVariants as net
 use Rattle.ep_packet.specs.declared.sliced_packet.SlicedPacket.{SlicedPacket}
 use Rattle.ep_packet.specs.declared.transport.transport_slice.TransportSlice.{TransportSlice}
 use Rattle.ep_packet.proofs.FaultLemmas.{moved_twice}
-use Rattle.ep_packet.proofs.PartsLemmas.{at_drop, at_fits, at_in, from_front}
+use Rattle.ep_packet.proofs.PartsLemmas.{at_drop, at_fits, at_later, tag_later}
 use Rattle.ep_tag.specs.Ether.{EtherPayload}
 use Rattle.ep_tag.specs.LinkExt.{tag_len}
 use Rattle.ep_tag.specs.declared.link.link_ext_slice.LinkExtSlice.{LinkExtSlice}
-use Rattle.ep_tag.specs.declared.link.link_ext_slice.LinkExtSlice.TheVariants as tag
 
 -- the exits of a packet behind a link header
-pub faulty_tags : (link : LinkSlice) (p : EtherPayload) (n : ℕ) (e told : SliceError) → Err e ≡ tags_in 3 p → told ≡ moved n e → Err told ≡ later n (packet_behind link p)
-faulty_tags link p n e told same is = ap Err is ∙ ap (λ (r : Result Tagged SliceError). later n (packet_tagged (Some link) r)) same
+pub faulty_tags : (link : LinkSlice) (p : EtherPayload) (n : ℕ) (e told : SliceError)
+    → Err e ≡ tags_in 3 p → told ≡ offset_by n e → Err told ≡ later n (packet_behind link p)
+faulty_tags link p n e told same is = ap Err is
+    ∙ ap (λ (r : Result Tagged SliceError). later n (packet_tagged (Some link) r)) same
 
-pub faulty_layers : (link : LinkSlice) (p : EtherPayload) (n : ℕ) (t : Tagged) (e told : SliceError) → Ok t ≡ tags_in 3 p → Err e ≡ layers_in t.last → told ≡ moved (n + t.len) e →
+pub faulty_layers : (link : LinkSlice) (p : EtherPayload) (n : ℕ) (t : Tagged) (e told : SliceError)
+    → Ok t ≡ tags_in 3 p → Err e ≡ layers_in t.last → told ≡ offset_by (n + t.len) e →
     Err told ≡ later n (packet_behind link p)
 faulty_layers link p n t e told tagged same is =
     ap Err (is ∙ sym (moved_twice n t.len e))
-    ∙ ap (λ (r : Result Layers SliceError). later n (packet_with (Some link) t.tags (later t.len r))) same
+    ∙ ap (λ (r : Result Layers SliceError). later n
+    (packet_with (Some link) t.tags (later t.len r))) same
     ∙ ap (λ (r : Result Tagged SliceError). later n (packet_tagged (Some link) r)) tagged
 
-pub whole_packet : (link : LinkSlice) (p : EtherPayload) (n : ℕ) (t : Tagged) (layers : Layers) → Ok t ≡ tags_in 3 p → Ok layers ≡ layers_in t.last →
+pub whole_packet : (link : LinkSlice) (p : EtherPayload) (n : ℕ) (t : Tagged) (layers : Layers)
+    → Ok t ≡ tags_in 3 p → Ok layers ≡ layers_in t.last →
     Ok (packet_of (Some link) t.tags layers) ≡ later n (packet_behind link p)
 whole_packet link p n t layers tagged same =
-    ap (λ (r : Result Layers SliceError). later n (packet_with (Some link) t.tags (later t.len r))) same
+    ap (λ (r : Result Layers SliceError). later n
+    (packet_with (Some link) t.tags (later t.len r))) same
     ∙ ap (λ (r : Result Tagged SliceError). later n (packet_tagged (Some link) r)) tagged
 
--- a part of a part, at this place from the front
-at_later : (frame bytes part : List ℕ) (place p q : ℕ) → place + p ≡ q → IsAt frame place bytes → IsAt bytes p part → IsAt frame q part
-at_later frame bytes part place p q sum at inner = from_front frame part (place + p) q sum (at_in frame bytes part place p at inner)
-
-net_later : (frame bytes : List ℕ) (place p q : ℕ) (packet : NetSlice) → place + p ≡ q → IsAt frame place bytes → IsNetAt bytes p packet → IsNetAt frame q packet
-net_later frame bytes place p q (net.Ipv4 packet) sum at here = (
-  at_later frame bytes packet.header place p q sum at here.0,
-  at_later frame bytes (auth_bytes packet.auth) place (p + length packet.header) (q + length packet.header) (omega (arith, sum)) at here.1,
-  at_later frame bytes packet.payload place (p + length packet.header + length (auth_bytes packet.auth)) (q + length packet.header + length (auth_bytes packet.auth)) (omega (arith, sum)) at here.2,
+-- parts of a part, at this place from the front
+stand_later : (frame bytes header exts payload : List ℕ) (place p q : ℕ) → place + p ≡ q
+    → IsAt frame place bytes → StandAt bytes p header exts payload
+    → StandAt frame q header exts payload
+stand_later frame bytes header exts payload place p q sum at here = (
+  at_later frame bytes header place p q sum at here.0,
+  at_later frame bytes exts place (p + length header) (q + length header)
+      (omega (arith, sum)) at here.1,
+  at_later frame bytes payload place (p + length header + length exts)
+      (q + length header + length exts) (omega (arith, sum)) at here.2,
 )
-net_later frame bytes place p q (net.Ipv6 packet) sum at here = (
-  at_later frame bytes packet.header place p q sum at here.0,
-  at_later frame bytes packet.exts.slice place (p + length packet.header) (q + length packet.header) (omega (arith, sum)) at here.1,
-  at_later frame bytes packet.payload.payload place (p + length packet.header + length packet.exts.slice) (q + length packet.header + length packet.exts.slice) (omega (arith, sum)) at here.2,
-)
-net_later frame bytes place p q (net.Arp packet) sum at here = at_later frame bytes packet place p q sum at here
 
-maybe_net_later : (frame bytes : List ℕ) (place p q : ℕ) (o : Option NetSlice) → place + p ≡ q → IsAt frame place bytes → IfSome o (IsNetAt bytes p) → IfSome o (IsNetAt frame q)
+net_later : (frame bytes : List ℕ) (place p q : ℕ) (packet : NetSlice) → place + p ≡ q
+    → IsAt frame place bytes → IsNetAt bytes p packet → IsNetAt frame q packet
+net_later frame bytes place p q (net.Ipv4 packet) sum at here =
+    stand_later frame bytes packet.header (auth_bytes packet.auth)
+    packet.payload place p q sum at here
+net_later frame bytes place p q (net.Ipv6 packet) sum at here =
+    stand_later frame bytes packet.header packet.exts.slice
+    packet.payload.payload place p q sum at here
+net_later frame bytes place p q (net.Arp packet) sum at here =
+    at_later frame bytes packet place p q sum at here
+
+maybe_net_later : (frame bytes : List ℕ) (place p q : ℕ) (o : Option NetSlice) → place + p ≡ q
+    → IsAt frame place bytes → IfSome o (IsNetAt bytes p) → IfSome o (IsNetAt frame q)
 maybe_net_later frame bytes place p q None sum at here = tt
-maybe_net_later frame bytes place p q (Some packet) sum at here = net_later frame bytes place p q packet sum at here
+maybe_net_later frame bytes place p q (Some packet) sum at here =
+    net_later frame bytes place p q packet sum at here
 
-transport_later : (frame bytes : List ℕ) (place p q n : ℕ) (o : Option TransportSlice) → place + p ≡ q → IsAt frame place bytes → IfSome o (λ m. IsAt bytes (p + n) (transport_bytes m)) →
+transport_later : (frame bytes : List ℕ) (place p q n : ℕ) (o : Option TransportSlice)
+    → place + p ≡ q → IsAt frame place bytes
+    → IfSome o (λ m. IsAt bytes (p + n) (transport_bytes m)) →
     IfSome o (λ m. IsAt frame (q + n) (transport_bytes m))
 transport_later frame bytes place p q n None sum at here = tt
-transport_later frame bytes place p q n (Some m) sum at here = at_later frame bytes (transport_bytes m) place (p + n) (q + n) (omega (arith, sum)) at here
+transport_later frame bytes place p q n (Some m) sum at here =
+    at_later frame bytes (transport_bytes m) place (p + n) (q + n) (omega (arith, sum)) at here
 
-layers_later : (frame bytes : List ℕ) (place p q : ℕ) (layers : Layers) → place + p ≡ q → IsAt frame place bytes → LayersIn bytes p layers → LayersIn frame q layers
+layers_later : (frame bytes : List ℕ) (place p q : ℕ) (layers : Layers) → place + p ≡ q
+    → IsAt frame place bytes → LayersIn bytes p layers → LayersIn frame q layers
 layers_later frame bytes place p q layers sum at inside = record {
   net = maybe_net_later frame bytes place p q layers.net sum at inside.net;
-  transport = transport_later frame bytes place p q (headers_len layers.net) layers.transport sum at inside.transport;
+  transport = transport_later frame bytes place p q
+      (headers_len layers.net) layers.transport sum at inside.transport;
 }
 
-tag_later : (frame bytes : List ℕ) (place p q : ℕ) (t : LinkExtSlice) → place + p ≡ q → IsAt frame place bytes → IsTagAt bytes p t → IsTagAt frame q t
-tag_later frame bytes place p q (tag.Vlan b) sum at here = at_later frame bytes b place p q sum at here
-tag_later frame bytes place p q (tag.Macsec m) sum at here = (
-  at_later frame bytes m.header place p q sum at here.0,
-  at_later frame bytes (macsec_bytes m.payload) place (p + length m.header) (q + length m.header) (omega (arith, sum)) at here.1,
+tags_later : (frame bytes : List ℕ) (place p q : ℕ) (tags : List LinkExtSlice) → place + p ≡ q
+    → IsAt frame place bytes → AreTagsAt bytes p tags → AreTagsAt frame q tags
+tags_later frame bytes place p q [] sum at here = tt
+tags_later frame bytes place p q (t ∷ tags) sum at here = (
+  tag_later frame bytes place p q t sum at here.0,
+  tags_later frame bytes place (p + tag_len t)
+      (q + tag_len t) tags (omega (arith, sum)) at here.1,
 )
 
-tags_later : (frame bytes : List ℕ) (place p q : ℕ) (tags : List LinkExtSlice) → place + p ≡ q → IsAt frame place bytes → AreTagsAt bytes p tags → AreTagsAt frame q tags
-tags_later frame bytes place p q [] sum at here = tt
-tags_later frame bytes place p q (t ∷ tags) sum at here =
-    (tag_later frame bytes place p q t sum at here.0, tags_later frame bytes place (p + tag_len t) (q + tag_len t) tags (omega (arith, sum)) at here.1)
-
 -- the parts of a payload, where the payload stands in a frame
-pub parts_later : (frame bytes : List ℕ) (place : ℕ) (packet : SlicedPacket) → IsAt frame place bytes → ArePartsOf bytes 0 packet → ArePartsOf frame place packet
+pub parts_later : (frame bytes : List ℕ) (place : ℕ) (packet : SlicedPacket)
+    → IsAt frame place bytes → ArePartsOf bytes 0 packet → ArePartsOf frame place packet
 parts_later frame bytes place packet at are = record {
   tags = tags_later frame bytes place 0 place packet.link_exts.items (omega arith) at are.tags;
-  layers = layers_later frame bytes place (0 + tags_len packet.link_exts.items) (place + tags_len packet.link_exts.items) (record { net = packet.net; transport = packet.transport }) (omega arith) at are.layers;
+  layers = layers_later frame bytes place (0 + tags_len packet.link_exts.items)
+      (place + tags_len packet.link_exts.items)
+      (record { net = packet.net; transport = packet.transport }) (omega arith) at are.layers;
 }
 
 none_some : IsSome {T = EtherPayload} None → ⊥
 none_some some = cc
 
-layer_fits_at : (bytes : List ℕ) (n len : ℕ) (o : Option EtherPayload) (e : SliceError) → IfSome o (λ q. IsAt bytes (0 + len) q.payload) →
-    IfSome o (λ q. (m : ℕ) → length q.payload + m < 2 ^ 64 → place_of e + m < 2 ^ 64) → IsSome o → n + length bytes < 2 ^ 64 → place_of e + (n + len) < 2 ^ 64
+layer_fits_at : (bytes : List ℕ) (n len : ℕ) (o : Option EtherPayload) (e : SliceError)
+    → IfSome o (λ q. IsAt bytes (0 + len) q.payload) →
+    IfSome o (λ q. (m : ℕ) → length q.payload + m < 2 ^ 64 → fault_offset e + m < 2 ^ 64) → IsSome o
+    → n + length bytes < 2 ^ 64 → fault_offset e + (n + len) < 2 ^ 64
 layer_fits_at bytes n len None e at fits some room = absurd (none_some some)
-layer_fits_at bytes n len (Some q) e at fits some room = fits (n + len) (omega (arith, at_fits bytes q.payload (0 + len) at, room))
+layer_fits_at bytes n len (Some q) e at fits some room =
+    fits (n + len) (omega (arith, at_fits bytes q.payload (0 + len) at, room))
 
 -- where layers are refused, something was named
 pub named_of : (o : Option EtherPayload) (e : SliceError) → Err e ≡ layers_in o → IsSome o
-named_of None e same = let no : ◌≡◌ {A = Result Layers SliceError} (Err e) (Ok no_layers) = same in cc
+named_of None e same = let no : ◌≡◌ {A = Result Layers SliceError} (Err e) (Ok no_layers) =
+    same in cc
 named_of (Some q) e same = refl
 
-layers_behind : (bytes : List ℕ) (n place : ℕ) (o : Option EtherPayload) (layers : Layers) → n ≡ place → IfSome o (λ q. IsAt bytes n q.payload) → LayersBehind o layers → LayersIn bytes place layers
-layers_behind bytes n place None layers same at none = subst (LayersIn bytes place) (sym none) (record { net = tt; transport = tt })
-layers_behind bytes n place (Some q) layers same at inside = layers_later bytes q.payload n 0 place layers (omega (arith, same)) at inside
+layers_behind : (bytes : List ℕ) (n place : ℕ) (o : Option EtherPayload) (layers : Layers)
+    → n ≡ place → IfSome o (λ q. IsAt bytes n q.payload) → LayersBehind o layers
+    → LayersIn bytes place layers
+layers_behind bytes n place None layers same at none =
+    subst (LayersIn bytes place) (sym none) (record { net = tt; transport = tt })
+layers_behind bytes n place (Some q) layers same at inside =
+    layers_later bytes q.payload n 0 place layers (omega (arith, same)) at inside
 
 -- the parts of a payload, with the layers in what the last ether type names
-pub parts_with : (bytes : List ℕ) (link : Option LinkSlice) (t : Tagged) (layers : Layers) → TagsIn bytes 0 t → LayersBehind t.last layers → ArePartsOf bytes 0 (packet_of link t.tags layers)
+pub parts_with : (bytes : List ℕ) (link : Option LinkSlice) (t : Tagged) (layers : Layers)
+    → TagsIn bytes 0 t → LayersBehind t.last layers
+    → ArePartsOf bytes 0 (packet_of link t.tags layers)
 parts_with bytes link t layers tags inside =
-    record { tags = tags.tags; layers = layers_behind bytes (0 + t.len) (0 + tags_len t.tags) t.last layers (omega (arith, tags.len)) tags.last inside }
+    record {
+      tags = tags.tags;
+      layers = layers_behind bytes (0 + t.len) (0 + tags_len t.tags) t.last layers (omega (arith, tags.len)) tags.last inside;
+    }
 
 -- a fault of the layers, moved by what stands in front of them, lies within the bytes
-pub layer_fits : (bytes : List ℕ) (n : ℕ) (t : Tagged) (e : SliceError) → TagsIn bytes 0 t → IfSome t.last (λ q. (m : ℕ) → length q.payload + m < 2 ^ 64 → place_of e + m < 2 ^ 64) → IsSome t.last →
-    n + length bytes < 2 ^ 64 → place_of e + (n + t.len) < 2 ^ 64
-layer_fits bytes n t e tags fits some room = layer_fits_at bytes n t.len t.last e tags.last fits some room
+pub layer_fits : (bytes : List ℕ) (n : ℕ) (t : Tagged) (e : SliceError) → TagsIn bytes 0 t
+    → IfSome t.last (λ q. (m : ℕ) → length q.payload + m < 2 ^ 64 → fault_offset e + m < 2 ^ 64)
+    → IsSome t.last →
+    n + length bytes < 2 ^ 64 → fault_offset e + (n + t.len) < 2 ^ 64
+layer_fits bytes n t e tags fits some room =
+    layer_fits_at bytes n t.len t.last e tags.last fits some room
 
-pub parts_in_frame : (frame bytes : List ℕ) (place : ℕ) (r : Result SlicedPacket SliceError) → IsAt frame place bytes → IfOk r (λ packet. ArePartsOf bytes 0 packet) → IfOk r (λ packet. ArePartsOf frame place packet)
+pub parts_in_frame : (frame bytes : List ℕ) (place : ℕ) (r : Result SlicedPacket SliceError)
+    → IsAt frame place bytes → IfOk r (λ packet. ArePartsOf bytes 0 packet)
+    → IfOk r (λ packet. ArePartsOf frame place packet)
 parts_in_frame frame bytes place (Ok packet) at are = parts_later frame bytes place packet at are
 parts_in_frame frame bytes place (Err e) at are = tt
 
 -- the header of a cooked capture's packet begins all of its bytes
-sll_taken : (few other : Bool) (bytes packet : List ℕ) (e f : SllFault) → few ≡ nat_lt (length bytes) sll_len → Ok packet ≡ cond few (Err e) (cond other (Err f) (Ok bytes)) → (packet ≡ bytes) × (sll_len ≤ length bytes)
-sll_taken true other bytes packet e f is same = cc
-sll_taken false true bytes packet e f is same = cc
-sll_taken false false bytes packet e f is same = (cc, ltb-false (length bytes) sll_len (sym is))
-
-pub sll_whole : (bytes packet : List ℕ) → Ok packet ≡ sll_at bytes → (packet ≡ bytes) × (sll_len ≤ length bytes)
-sll_whole bytes packet same = sll_taken (nat_lt (length bytes) sll_len) (nat_lt greatest_packet_type (packet_type_of bytes)) bytes packet _ _ refl same
+pub sll_whole : (bytes packet : List ℕ) → Ok packet ≡ sll_at bytes
+    → (packet ≡ bytes) × (sll_len ≤ length bytes)
+sll_whole bytes packet same =
+    let enough = guard_ok _ _ _ _ (sym same) in
+    let taken = guard_ok _ _ _ _ enough.1 in (
+      sym (ok_same {E = HeaderSliceError SllFault} bytes packet taken.1),
+      ltb-false
+          (length bytes) sll_len enough.0,
+    )
 
 -- what its protocol names, if it is an ether type
 pub some_named : (o : Option EtherPayload) (p : EtherPayload) → Ok p ≡ ok_or o (tt {0}) → o ≡ Some p
 some_named None p same = cc
 some_named (Some q) p same = cc
 
-named_bytes : (protocol : LinuxSllProtocolType) (bytes : List ℕ) (p : EtherPayload) → ether_payload_of protocol bytes ≡ Some p → p.payload ≡ bytes
+named_bytes : (protocol : LinuxSllProtocolType) (bytes : List ℕ) (p : EtherPayload)
+    → ether_payload_of protocol bytes ≡ Some p → p.payload ≡ bytes
 named_bytes (protocol.Ignored n) bytes p same = cc
 named_bytes (protocol.NetlinkProtocolType n) bytes p same = cc
 named_bytes (protocol.GenericRoutingEncapsulationProtocolType n) bytes p same = cc
-named_bytes (protocol.EtherType t) bytes p same = let is : record { ether_type = t; len_source = source.Slice; payload = bytes } ≡ p = cc in ap (λ (q : EtherPayload). q.payload) (sym is)
+named_bytes (protocol.EtherType t) bytes p same =
+    let is : record { ether_type = t; len_source = source.Slice; payload = bytes } ≡ p = cc in
+    ap (λ (q : EtherPayload). q.payload) (sym is)
 named_bytes (protocol.LinuxNonstandardEtherType n) bytes p same = cc
 
-pub named_at : (bytes : List ℕ) (p : EtherPayload) → sll_len ≤ length bytes → named_payload (payload_of bytes) ≡ Some p → IsAt bytes sll_len p.payload
-named_at bytes p enough named = subst (IsAt bytes sll_len) (sym (named_bytes (payload_of bytes).protocol_type (drop sll_len bytes) p named)) (at_drop sll_len bytes enough)
+pub named_at : (bytes : List ℕ) (p : EtherPayload) → sll_len ≤ length bytes
+    → named_payload (payload_of bytes) ≡ Some p → IsAt bytes sll_len p.payload
+named_at bytes p enough named = subst (IsAt bytes sll_len)
+    (sym (named_bytes (payload_of bytes).protocol_type (drop sll_len bytes) p named))
+    (at_drop sll_len bytes enough)

@@ -1,10 +1,10 @@
--- Frames from outside, at which laws state the definitions' values (IEEE 802.3, 802.1Q and 802.1AE; RFC
--- 768, 791, 826 and 8200).
+-- Frames from outside, at which laws state the definitions' values (IEEE 802.3, 802.1Q and 802.1AE;
+-- RFC 768, 791, 826 and 8200).
 use Rattle.std.specs.Prelude.{ℕ, List, [], ◌∷◌, ◌++◌, Option, None}
 use Rattle.ep_base.specs.declared.len_source.LenSource.TheVariants.{Slice}
 use Rattle.ep_ipslice.specs.Packet.{Ipv4Packet}
-use Rattle.ep_packet.specs.Class.{Addresses}
-use Rattle.ep_packet.specs.Class.Addresses.{V4}
+use Rattle.ep_packet.specs.declared.addresses.Addresses.{Addresses}
+use Rattle.ep_packet.specs.declared.addresses.Addresses.TheVariants.{V4}
 use Rattle.ep_packet.specs.declared.net.net_slice.NetSlice.{NetSlice}
 use Rattle.ep_packet.specs.declared.sliced_packet.SlicedPacket.{SlicedPacket}
 use Rattle.ep_tag.specs.Ether.{EtherPayload}
@@ -20,12 +20,13 @@ abbrev pub udp_message : List ℕ
 udp_message = 0 ∷ 1 ∷ 0 ∷ 2 ∷ 0 ∷ 8 ∷ 0 ∷ 0 ∷ []
 
 -- the IPv4 header of an uncut message of eight bytes with this number, from 10.0.0.1 to 10.0.0.2
-abbrev pub ipv4_header_of : ℕ → List ℕ
-ipv4_header_of number = 0x45 ∷ 0 ∷ 0 ∷ 28 ∷ 0 ∷ 7 ∷ 0 ∷ 0 ∷ 64 ∷ number ∷ 0 ∷ 0 ∷ 10 ∷ 0 ∷ 0 ∷ 1 ∷ 10 ∷ 0 ∷ 0 ∷ 2 ∷ []
+abbrev pub ipv4_header_before : ℕ → List ℕ
+ipv4_header_before number = 0x45 ∷ 0 ∷ 0 ∷ 28 ∷ 0 ∷ 7 ∷ 0 ∷ 0 ∷ 64 ∷ number ∷ 0 ∷ 0 ∷ 10 ∷ 0 ∷ 0 ∷
+    1 ∷ 10 ∷ 0 ∷ 0 ∷ 2 ∷ []
 
 -- that of UDP
 abbrev pub ipv4_header : List ℕ
-ipv4_header = ipv4_header_of 17
+ipv4_header = ipv4_header_before 17
 
 abbrev pub ipv4_packet : Ipv4Packet
 ipv4_packet = record { header = ipv4_header; auth = None; payload = udp_message }
@@ -35,7 +36,8 @@ ipv4_addresses = V4 (10 ∷ 0 ∷ 0 ∷ 1 ∷ []) (10 ∷ 0 ∷ 0 ∷ 2 ∷ [])
 
 -- that of eight bytes of one from byte 24 on, identification 0102, more fragments
 abbrev pub ipv4_fragment_header : List ℕ
-ipv4_fragment_header = 0x45 ∷ 0 ∷ 0 ∷ 28 ∷ 1 ∷ 2 ∷ 0x20 ∷ 3 ∷ 64 ∷ 17 ∷ 0 ∷ 0 ∷ 10 ∷ 0 ∷ 0 ∷ 1 ∷ 10 ∷ 0 ∷ 0 ∷ 2 ∷ []
+ipv4_fragment_header = 0x45 ∷ 0 ∷ 0 ∷ 28 ∷ 1 ∷ 2 ∷ 0x20 ∷ 3 ∷ 64 ∷ 17 ∷ 0 ∷ 0 ∷ 10 ∷ 0 ∷ 0 ∷
+    1 ∷ 10 ∷ 0 ∷ 0 ∷ 2 ∷ []
 
 abbrev pub eight_bytes : List ℕ
 eight_bytes = 1 ∷ 2 ∷ 3 ∷ 4 ∷ 5 ∷ 6 ∷ 7 ∷ 8 ∷ []
@@ -46,7 +48,8 @@ whole_frame = frame_addresses ++ 0x81 ∷ 0 ∷ 0 ∷ 5 ∷ 8 ∷ 0 ∷ [] ++ ip
 
 -- tags with identifiers 5, of priority 1, and 9 in front of the part
 abbrev pub cut_frame : List ℕ
-cut_frame = frame_addresses ++ 0x88 ∷ 0xa8 ∷ 0x20 ∷ 5 ∷ 0x81 ∷ 0 ∷ 0 ∷ 9 ∷ 8 ∷ 0 ∷ [] ++ ipv4_fragment_header ++ eight_bytes
+cut_frame = frame_addresses ++ 0x88 ∷ 0xa8 ∷ 0x20 ∷ 5 ∷ 0x81 ∷ 0 ∷ 0 ∷ 9 ∷ 8 ∷ 0 ∷ []
+    ++ ipv4_fragment_header ++ eight_bytes
 
 abbrev pub ipv6_source : List ℕ
 ipv6_source = 0xfd ∷ 0 ∷ 0 ∷ 0 ∷ 0 ∷ 0 ∷ 0 ∷ 0 ∷ 0 ∷ 0 ∷ 0 ∷ 0 ∷ 0 ∷ 0 ∷ 0 ∷ 1 ∷ []
@@ -56,10 +59,11 @@ ipv6_destination = 0xfd ∷ 0 ∷ 0 ∷ 0 ∷ 0 ∷ 0 ∷ 0 ∷ 0 ∷ 0 ∷ 0 �
 
 -- an IPv6 header with this payload length, and a fragment header behind it
 abbrev pub ipv6_header : ℕ → List ℕ
-ipv6_header payload_len = 0x60 ∷ 0 ∷ 0 ∷ 0 ∷ 0 ∷ payload_len ∷ 44 ∷ 64 ∷ ipv6_source ++ ipv6_destination
+ipv6_header payload_len = 0x60 ∷ 0 ∷ 0 ∷ 0 ∷ 0 ∷ payload_len ∷ 44 ∷ 64 ∷
+    ipv6_source ++ ipv6_destination
 
--- fragment headers: of a message that isn't cut, with another fragment header behind it; and of a part
--- from byte 8 on, identification 01020304, more fragments
+-- fragment headers: of a message that isn't cut, with another fragment header behind it; and of a
+-- part from byte 8 on, identification 01020304, more fragments
 abbrev pub atomic_fragment : List ℕ
 atomic_fragment = 44 ∷ 0 ∷ 0 ∷ 0 ∷ 0 ∷ 0 ∷ 0 ∷ 7 ∷ []
 
@@ -67,10 +71,12 @@ abbrev pub second_fragment : List ℕ
 second_fragment = 17 ∷ 0 ∷ 0 ∷ 9 ∷ 1 ∷ 2 ∷ 3 ∷ 4 ∷ []
 
 abbrev pub ipv6_cut_frame : List ℕ
-ipv6_cut_frame = frame_addresses ++ 0x86 ∷ 0xdd ∷ [] ++ ipv6_header 16 ++ second_fragment ++ eight_bytes
+ipv6_cut_frame = frame_addresses ++ 0x86 ∷ 0xdd ∷ [] ++ ipv6_header 16
+    ++ second_fragment ++ eight_bytes
 
 abbrev pub ipv6_other_frame : List ℕ
-ipv6_other_frame = frame_addresses ++ 0x86 ∷ 0xdd ∷ [] ++ ipv6_header 24 ++ atomic_fragment ++ second_fragment ++ eight_bytes
+ipv6_other_frame = frame_addresses ++ 0x86 ∷ 0xdd ∷ [] ++ ipv6_header 24 ++ atomic_fragment
+    ++ second_fragment ++ eight_bytes
 
 -- VLAN tags with identifiers 4 to 1, each in front of the one before
 abbrev pub tag_4 : List ℕ
@@ -87,7 +93,8 @@ tag_1 = 0 ∷ 1 ∷ 0x88 ∷ 0xa8 ∷ tag_2
 
 -- bytes behind the ether type of a VLAN tag
 abbrev pub vlan_named : List ℕ → EtherPayload
-vlan_named bytes = record { ether_type = record { 0 = 0x8100 }; len_source = Slice; payload = bytes }
+vlan_named bytes =
+    record { ether_type = record { 0 = 0x8100 }; len_source = Slice; payload = bytes }
 
 -- the header of a Linux cooked capture's packet that came from 1:2:3:4:5:6, with this protocol
 abbrev pub cooked_header : List ℕ → List ℕ
@@ -101,11 +108,17 @@ cooked_packet = cooked_header (8 ∷ 0 ∷ []) ++ ipv4_header ++ udp_message
 abbrev pub cooked_without_type : List ℕ
 cooked_without_type = cooked_header (0 ∷ 4 ∷ []) ++ 0x45 ∷ []
 
--- a MACsec header with a short length of 6, two bytes of an ether type and the VLAN tag that it names
+-- a MACsec header with a short length of 6, two bytes of an ether type and the VLAN tag that it
+-- names
 abbrev pub bounded_packet : Option NetSlice → SlicedPacket
 bounded_packet net = record {
   link = None;
-  link_exts = record { items = tag.Macsec (record { header = 0 ∷ 6 ∷ 0 ∷ 0 ∷ 0 ∷ 1 ∷ 0x81 ∷ 0 ∷ []; payload = Unmodified (vlan_named tag_4) }) ∷ tag.Vlan tag_4 ∷ [] };
+  link_exts = record {
+    items = tag.Macsec (record {
+      header = 0 ∷ 6 ∷ 0 ∷ 0 ∷ 0 ∷ 1 ∷ 0x81 ∷ 0 ∷ [];
+      payload = Unmodified (vlan_named tag_4);
+    }) ∷ tag.Vlan tag_4 ∷ [];
+  };
   net = net;
   transport = None;
 }

@@ -1,13 +1,15 @@
--- The headers and the payload of the IP packet at the front of bytes, or why there are none (RFC 791;
--- RFC 8200).
-use Rattle.std.specs.Prelude.{ℕ, ◌-◌, ◌==◌, nat_lt, if◌then◌else◌, List, [], length, Option, Some, None, Result, Ok, Err}
+-- The headers and the payload of the IP packet at the front of bytes, or why there are none (RFC
+-- 791; RFC 8200).
+use Rattle.std.specs.Prelude.{ℕ, ◌-◌, ◌==◌, nat_lt, if◌then◌else◌, List, [], length, Option, Some}
+use Rattle.std.specs.Prelude.{None, Result, Ok, Err}
 use Rattle.ep_ext.specs.Chain.{Fault, fault_of}
 use Rattle.ep_ext.specs.Place.{place_of}
 use Rattle.ep_ext.specs.Value.{Piece, value_of}
 use Rattle.ep_ip.specs.Ipv4.{version_of}
-use Rattle.ep_ip.specs.Ipv6.{header_of, next_header_of}
+use Rattle.ep_ip.specs.Ipv6.{ipv6_header_of, next_header_of}
 use Rattle.ep_ip.specs.Ipv6Fault.{header_at}
-use Rattle.ep_ip.specs.declared.err.ipv6.header_slice_error.HeaderSliceError.{HeaderSliceError as HeaderFault}
+use Rattle.ep_base.specs.declared.err.slice_error.SliceError.{SliceError}
+use Rattle.ep_ip.specs.declared.err.ipv6.header_error.HeaderError.{HeaderError as HeaderFault}
 use Rattle.ep_ipslice.specs.IpFault.{headers_fault}
 use Rattle.ep_ipslice.specs.IpSlice.{ipv4_fault, ipv6_fault, no_version}
 use Rattle.ep_ipslice.specs.Ipv4Packet.{ipv4_packet_at}
@@ -26,13 +28,13 @@ use Rattle.ep_packet.specs.IpHeaders.{is_fragmenting, with_ipv4_headers}
 use Rattle.ep_packet.specs.declared.net.ip_headers.IpHeaders.{IpHeaders}
 use Rattle.ep_packet.specs.declared.net.ip_headers.IpHeaders.TheVariants.{Ipv6}
 
--- the extension headers at the front of a body, each at a place of its own, of which the first has this
--- number. (None is empty.)
+-- the extension headers at the front of a body, each at a place of its own, of which the first has
+-- this number. (None is empty.)
 abbrev pub placed_headers : ℕ → List ℕ → List Piece
 placed_headers first body = pieces_within (length body) place_of [] first body
 
 abbrev pub ipv6_value : (header : List ℕ) → List Piece → IpHeaders
-ipv6_value header pieces = Ipv6 (header_of header) (value_of pieces)
+ipv6_value header pieces = Ipv6 (ipv6_header_of header) (value_of pieces)
 
 -- the headers and the payload of these extension headers
 abbrev pub ipv6_parts : (bytes header : List ℕ) → List Piece → IpHeaders × IpPayload
@@ -47,22 +49,29 @@ ipv6_parts bytes header pieces = (
 )
 
 -- the same, if the extension headers don't end at a fault
-abbrev pub ipv6_parts_unless : (bytes header : List ℕ) → List Piece → Option Fault → Result (IpHeaders × IpPayload) Ipv6Fault
+abbrev pub ipv6_parts_unless : (bytes header : List ℕ) → List Piece → Option Fault
+    → Result (IpHeaders × IpPayload) Ipv6Fault
 ipv6_parts_unless bytes header pieces None = Ok (ipv6_parts bytes header pieces)
-ipv6_parts_unless bytes header pieces (Some fault) = Err (of_exts_fault (body_source header (length bytes - 40)) fault.0)
+ipv6_parts_unless bytes header pieces (Some fault) =
+    Err (of_exts_fault (body_source header (length bytes - 40)) fault.0)
 
 -- the fault at which extension headers end, if there is one
 abbrev pub fault_behind : (bytes header : List ℕ) → List Piece → Option Fault
-fault_behind bytes header pieces = fault_of place_of pieces (number_behind (next_header_of header) pieces) (rest_behind bytes header pieces)
+fault_behind bytes header pieces = fault_of place_of pieces
+    (number_behind (next_header_of header) pieces) (rest_behind bytes header pieces)
 
-abbrev pub ipv6_parts_with : (bytes header : List ℕ) → List Piece → Result (IpHeaders × IpPayload) Ipv6Fault
+abbrev pub ipv6_parts_with : (bytes header : List ℕ) → List Piece
+    → Result (IpHeaders × IpPayload) Ipv6Fault
 ipv6_parts_with bytes header pieces =
-    if nat_lt (length bytes - 40) (body_len header (length bytes - 40)) then Err (Len (not_whole header (length bytes)))
+    if nat_lt (length bytes - 40) (body_len header (length bytes - 40))
+    then Err (Len (not_whole header (length bytes)))
     else ipv6_parts_unless bytes header pieces (fault_behind bytes header pieces)
 
-abbrev pub ipv6_parts_behind : List ℕ → Result (List ℕ) HeaderFault → Result (IpHeaders × IpPayload) Ipv6Fault
+abbrev pub ipv6_parts_behind : List ℕ → Result (List ℕ) (SliceError HeaderFault)
+    → Result (IpHeaders × IpPayload) Ipv6Fault
 ipv6_parts_behind bytes (Err e) = Err (of_header_fault e)
-ipv6_parts_behind bytes (Ok header) = ipv6_parts_with bytes header (placed_headers (next_header_of header) (body_of bytes header))
+ipv6_parts_behind bytes (Ok header) =
+    ipv6_parts_with bytes header (placed_headers (next_header_of header) (body_of bytes header))
 
 -- of version 6
 abbrev pub ipv6_headers_at : List ℕ → Result (IpHeaders × IpPayload) Ipv6Fault
@@ -72,11 +81,13 @@ ipv6_headers_at bytes = ipv6_parts_behind bytes (header_at bytes)
 abbrev pub ipv4_headers_at : List ℕ → Result (IpHeaders × IpPayload) Ipv4Fault
 ipv4_headers_at bytes = with_ipv4_headers (ipv4_packet_at bytes)
 
-abbrev pub of_ipv4 : Result (IpHeaders × IpPayload) Ipv4Fault → Result (IpHeaders × IpPayload) HeadersSliceError
+abbrev pub of_ipv4 : Result (IpHeaders × IpPayload) Ipv4Fault
+    → Result (IpHeaders × IpPayload) HeadersSliceError
 of_ipv4 (Ok parts) = Ok parts
 of_ipv4 (Err e) = Err (headers_fault (ipv4_fault e))
 
-abbrev pub of_ipv6 : Result (IpHeaders × IpPayload) Ipv6Fault → Result (IpHeaders × IpPayload) HeadersSliceError
+abbrev pub of_ipv6 : Result (IpHeaders × IpPayload) Ipv6Fault
+    → Result (IpHeaders × IpPayload) HeadersSliceError
 of_ipv6 (Ok parts) = Ok parts
 of_ipv6 (Err e) = Err (headers_fault (ipv6_fault e))
 
@@ -85,4 +96,5 @@ abbrev pub ip_headers_at : List ℕ → Result (IpHeaders × IpPayload) HeadersS
 ip_headers_at bytes =
     if length bytes == 0 then Err (headers.Len no_version)
     else (if version_of bytes == 4 then of_ipv4 (ipv4_headers_at bytes)
-    else (if version_of bytes == 6 then of_ipv6 (ipv6_headers_at bytes) else Err (headers.Content (Ip (UnsupportedIpVersion (version_of bytes))))))
+    else (if version_of bytes == 6 then of_ipv6 (ipv6_headers_at bytes)
+    else Err (headers.Content (Ip (UnsupportedIpVersion (version_of bytes))))))

@@ -59,11 +59,15 @@ net_headers_len (Ipv4 h e) = ip_headers_len (ip.Ipv4 h e)
 net_headers_len (Ipv6 h e) = ip_headers_len (ip.Ipv6 h e)
 net_headers_len (Arp packet) = packet_len_in packet
 
--- the headers of an IP packet name one another, and the last one this number; ARP has none that could
-abbrev pub IsIpLinked : IpHeaders → (last : ℕ) → NetHeaders → Result EtherType NetSetNextHeaderError → Type 0
-IsIpLinked old last new result = (linked : IpHeaders) × IsLinked old last linked × (new ≡ of_ip linked) × (result ≡ Ok (record { 0 = ether_type_of old }))
+-- the headers of an IP packet name one another, and the last one this number; ARP has none that
+-- could
+abbrev pub IsIpLinked : IpHeaders → (last : ℕ) → NetHeaders
+    → Result EtherType NetSetNextHeaderError → Type 0
+IsIpLinked old last new result = (linked : IpHeaders) × IsLinked old last linked
+    × (new ≡ of_ip linked) × (result ≡ Ok (record { 0 = ether_type_of old }))
 
-abbrev pub IsNetLinked : NetHeaders → (last : ℕ) → NetHeaders → Result EtherType NetSetNextHeaderError → Type 0
+abbrev pub IsNetLinked : NetHeaders → (last : ℕ) → NetHeaders
+    → Result EtherType NetSetNextHeaderError → Type 0
 IsNetLinked (Ipv4 h e) last new result = IsIpLinked (ip.Ipv4 h e) last new result
 IsNetLinked (Ipv6 h e) last new result = IsIpLinked (ip.Ipv6 h e) last new result
 IsNetLinked (Arp packet) last new result = (new ≡ Arp packet) × (result ≡ Err ArpHeader)

@@ -4,7 +4,7 @@ use Rattle.ep_base.specs.declared.err.layer.Layer.TheVariants.{Ethernet2Header}
 use Rattle.ep_base.specs.declared.err.len_error.LenError.{LenError}
 use Rattle.ep_base.specs.declared.len_source.LenSource.TheVariants.{Slice}
 use Rattle.ep_base.specs.declared.link.ether_type.EtherType.{EtherType}
-use Rattle.ep_link.specs.Ethernet.{ethernet_len, header_of, payload_of}
+use Rattle.ep_link.specs.Ethernet.{ethernet_len, ethernet_header_of, payload_of}
 use Rattle.ep_link.specs.declared.link.link_header.LinkHeader.{LinkHeader}
 use Rattle.ep_link.specs.declared.link.link_header.LinkHeader.TheVariants.{Ethernet2}
 use Rattle.ep_packet.specs.HeaderLayers.{HeaderLayers, ip_layers, layers_of, payload_alone}
@@ -52,17 +52,17 @@ result_told (Ok h) = Ok (headers_told h)
 result_told (Err e) = Err e
 
 -- the payload of a MACsec header that was changed
-abbrev pub modified : MacsecPayload → Payload
-modified (Unmodified p) = Empty
-modified (Modified bytes) = MacsecMod bytes
+abbrev pub modified_payload : MacsecPayload → Payload
+modified_payload (Unmodified p) = Empty
+modified_payload (Modified bytes) = MacsecMod bytes
 
 abbrev pub modified_behind : Option LinkExtSlice → Payload
 modified_behind None = Empty
 modified_behind (Some (Vlan bytes)) = Empty
-modified_behind (Some (Macsec m)) = modified m.payload
+modified_behind (Some (Macsec m)) = modified_payload m.payload
 
--- the layers behind tags. Their short lengths bound what the last ether type names; where none names
--- anything, the payload is that of the modified MACsec header.
+-- the layers behind tags. Their short lengths bound what the last ether type names; where none
+-- names anything, the payload is that of the modified MACsec header.
 abbrev pub layers_behind : List LinkExtSlice → Option EtherPayload → Result HeaderLayers SliceError
 layers_behind tags None = Ok (payload_alone (modified_behind (last_of tags)))
 layers_behind tags (Some p) = layers_of (record p { len_source = source_behind tags })
@@ -77,7 +77,8 @@ headers_of link tags layers = record {
   payload = layers.payload;
 }
 
-abbrev pub headers_with : Option LinkHeader → List LinkExtSlice → Result HeaderLayers SliceError → Result Headers SliceError
+abbrev pub headers_with : Option LinkHeader → List LinkExtSlice → Result HeaderLayers SliceError
+    → Result Headers SliceError
 headers_with link tags (Ok layers) = Ok (headers_of link tags layers)
 headers_with link tags (Err e) = Err e
 
@@ -90,7 +91,8 @@ abbrev pub headers_behind : Option LinkHeader → EtherPayload → Result Header
 headers_behind link p = headers_tagged link (tags_in most_tags p)
 
 abbrev pub in_frame : Result (List ℕ) LenError → Result Headers SliceError
-in_frame (Ok frame) = later ethernet_len (headers_behind (Some (Ethernet2 (header_of frame))) (payload_of frame))
+in_frame (Ok frame) = later ethernet_len
+    (headers_behind (Some (Ethernet2 (ethernet_header_of frame))) (payload_of frame))
 in_frame (Err e) = Err (Len e)
 
 -- those of an Ethernet II frame, or the first fault with its place in the frame
@@ -99,7 +101,8 @@ ethernet_headers frame = in_frame (whole_at Ethernet2Header ethernet_len frame)
 
 -- those of the bytes behind an ether type
 abbrev pub ether_type_headers : EtherType → List ℕ → Result Headers SliceError
-ether_type_headers t bytes = headers_behind None (record { ether_type = t; len_source = Slice; payload = bytes })
+ether_type_headers t bytes = headers_behind None
+    (record { ether_type = t; len_source = Slice; payload = bytes })
 
 -- those of an IP packet of either version
 abbrev pub ip_packet_headers : List ℕ → Result Headers SliceError
@@ -112,11 +115,11 @@ vlan_headers (header.Vlan h ∷ tags) = h ∷ vlan_headers tags
 vlan_headers (header.Macsec h ∷ tags) = vlan_headers tags
 
 -- the first two of them
-abbrev pub vlan_of : List SingleVlanHeader → Option VlanHeader
-vlan_of [] = None
-vlan_of (tag ∷ []) = Some (Single tag)
-vlan_of (outer ∷ inner ∷ tags) = Some (Double (record { outer = outer; inner = inner }))
+abbrev pub vlan_header_of : List SingleVlanHeader → Option VlanHeader
+vlan_header_of [] = None
+vlan_header_of (tag ∷ []) = Some (Single tag)
+vlan_header_of (outer ∷ inner ∷ tags) = Some (Double (record { outer = outer; inner = inner }))
 
 -- their identifiers
-abbrev pub ids_of : List LinkExtHeader → List ℕ
-ids_of tags = map (λ (h : SingleVlanHeader). h.vlan_id) (vlan_headers tags)
+abbrev pub ids_in : List LinkExtHeader → List ℕ
+ids_in tags = map (λ (h : SingleVlanHeader). h.vlan_id) (vlan_headers tags)

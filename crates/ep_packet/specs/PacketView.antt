@@ -1,5 +1,6 @@
 -- What the parts of a packet tell of one another.
-use Rattle.std.specs.Prelude.{ℕ, ◌-◌, ◌==◌, ◌||◌, Bool, true, false, if◌then◌else◌, List, [], ◌∷◌, length, Option, Some, None, is_some}
+use Rattle.std.specs.Prelude.{ℕ, ◌-◌, ◌==◌, ◌||◌, Bool, true, false, if◌then◌else◌, List, [], ◌∷◌}
+use Rattle.std.specs.Prelude.{length, Option, Some, None, is_some}
 use Rattle.std.specs.List.{slice_get}
 use Rattle.std.specs.Option.{option_map}
 use Rattle.ep_base.specs.declared.len_source.LenSource.{LenSource}
@@ -51,11 +52,15 @@ source_behind tags = if is_any_cut tags then source.MacsecShortLength else sourc
 -- what the last ether type names, and what bounds it
 abbrev pub ether_payload_in : SlicedPacket → Option EtherPayload
 ether_payload_in packet =
-    option_map (λ (p : EtherPayload). record p { len_source = source_behind packet.link_exts.items }) (last_payload packet.link packet.link_exts.items)
+    option_map (λ (p : EtherPayload). record p
+    { len_source = source_behind packet.link_exts.items })
+    (last_payload packet.link packet.link_exts.items)
 
 -- the last ether type, where nothing behind it was looked into
 abbrev pub payload_ether_type_in : SlicedPacket → Option EtherType
-payload_ether_type_in packet = if is_some packet.net then None else option_map (λ (p : EtherPayload). p.ether_type) (last_payload packet.link packet.link_exts.items)
+payload_ether_type_in packet = if is_some packet.net then None
+    else option_map (λ (p : EtherPayload). p.ether_type)
+    (last_payload packet.link packet.link_exts.items)
 
 abbrev pub ip_payload_of : Option NetSlice → Option IpPayload
 ip_payload_of None = None
@@ -72,7 +77,7 @@ vlan_tags (Vlan bytes ∷ tags) = bytes ∷ vlan_tags tags
 vlan_tags (Macsec m ∷ tags) = vlan_tags tags
 
 -- the first two of them
-abbrev pub vlan_of : List (List ℕ) → Option VlanSlice
-vlan_of [] = None
-vlan_of (tag ∷ []) = Some (SingleVlan tag)
-vlan_of (outer ∷ inner ∷ tags) = Some (DoubleVlan (record { outer = outer; inner = inner }))
+abbrev pub vlan_slice_of : List (List ℕ) → Option VlanSlice
+vlan_slice_of [] = None
+vlan_slice_of (tag ∷ []) = Some (SingleVlan tag)
+vlan_slice_of (outer ∷ inner ∷ tags) = Some (DoubleVlan (record { outer = outer; inner = inner }))

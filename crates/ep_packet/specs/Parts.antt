@@ -1,5 +1,6 @@
 -- Where the parts of a frame stand in it.
-use Rattle.std.specs.Prelude.{◌≡◌, ℕ, ◌+◌, ⊤, List, [], ◌∷◌, ◌++◌, length, Option, Some, None, IfSome}
+use Rattle.std.specs.Prelude.{◌≡◌, ℕ, ◌+◌, ⊤, List, [], ◌∷◌, ◌++◌, length, Option, Some, None}
+use Rattle.std.specs.Prelude.{IfSome}
 use Rattle.ep_ext.specs.Ipv4Exts.{auth_bytes}
 use Rattle.ep_packet.specs.Sliced.{Layers, no_layers}
 use Rattle.ep_packet.specs.Tags.{Tagged}
@@ -28,7 +29,8 @@ macsec_bytes (Modified bytes) = bytes
 -- a VLAN tag with all that follows it, or a MACsec header and its payload
 abbrev pub IsTagAt : List ℕ → ℕ → LinkExtSlice → Type 0
 IsTagAt frame place (tag.Vlan bytes) = IsAt frame place bytes
-IsTagAt frame place (tag.Macsec macsec) = IsAt frame place macsec.header × IsAt frame (place + length macsec.header) (macsec_bytes macsec.payload)
+IsTagAt frame place (tag.Macsec macsec) = IsAt frame place macsec.header
+    × IsAt frame (place + length macsec.header) (macsec_bytes macsec.payload)
 
 -- each tag stands where the one in front of it ends
 abbrev pub AreTagsAt : List ℕ → ℕ → List LinkExtSlice → Type 0
@@ -40,13 +42,16 @@ tags_len [] = 0
 tags_len (t ∷ tags) = tag_len t + tags_len tags
 
 -- header, extension headers and payload one behind the other
+abbrev pub StandAt : List ℕ → ℕ → List ℕ → List ℕ → List ℕ → Type 0
+StandAt frame place header exts payload =
+    IsAt frame place header × IsAt frame (place + length header) exts
+    × IsAt frame (place + length header + length exts) payload
+
 abbrev pub IsNetAt : List ℕ → ℕ → NetSlice → Type 0
 IsNetAt frame place (net.Ipv4 packet) =
-    IsAt frame place packet.header × IsAt frame (place + length packet.header) (auth_bytes packet.auth)
-    × IsAt frame (place + length packet.header + length (auth_bytes packet.auth)) packet.payload
+    StandAt frame place packet.header (auth_bytes packet.auth) packet.payload
 IsNetAt frame place (net.Ipv6 packet) =
-    IsAt frame place packet.header × IsAt frame (place + length packet.header) packet.exts.slice
-    × IsAt frame (place + length packet.header + length packet.exts.slice) packet.payload.payload
+    StandAt frame place packet.header packet.exts.slice packet.payload.payload
 IsNetAt frame place (net.Arp packet) = IsAt frame place packet
 
 -- the bytes in front of a packet's payload
@@ -66,7 +71,8 @@ transport_bytes (transport.Icmpv6 m) = m
 -- network layer and transport layer from a place on
 pub record LayersIn (frame : List ℕ) (place : ℕ) (layers : Layers) : Type 0 where
   pub net : IfSome layers.net (IsNetAt frame place)
-  pub transport : IfSome layers.transport (λ message. IsAt frame (place + headers_len layers.net) (transport_bytes message))
+  pub transport : IfSome layers.transport
+      (λ message. IsAt frame (place + headers_len layers.net) (transport_bytes message))
 
 -- the layers in what an ether type names, if it was named
 abbrev pub LayersBehind : Option EtherPayload → Layers → Type 0
@@ -87,4 +93,5 @@ pub record TagsIn (frame : List ℕ) (place : ℕ) (t : Tagged) : Type 0 where
 -- every part of a packet is the frame from its place on; this is where its tags begin
 pub record ArePartsOf (frame : List ℕ) (place : ℕ) (packet : SlicedPacket) : Type 0 where
   pub tags : AreTagsAt frame place packet.link_exts.items
-  pub layers : LayersIn frame (place + tags_len packet.link_exts.items) (record { net = packet.net; transport = packet.transport })
+  pub layers : LayersIn frame (place + tags_len packet.link_exts.items)
+      (record { net = packet.net; transport = packet.transport })

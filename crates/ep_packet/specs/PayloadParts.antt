@@ -10,6 +10,7 @@ abbrev pub maybe_told : Option (TransportHeader × PayloadSlice) → MessagePart
 maybe_told None = None
 maybe_told (Some m) = Some (m.0, payload_told m.1)
 
-abbrev pub parts_told : Result (Option (TransportHeader × PayloadSlice)) SliceError → Result MessageParts SliceError
+abbrev pub parts_told : Result (Option (TransportHeader × PayloadSlice)) SliceError
+    → Result MessageParts SliceError
 parts_told (Ok m) = Ok (maybe_told m)
 parts_told (Err e) = Err e

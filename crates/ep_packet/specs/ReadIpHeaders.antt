@@ -20,8 +20,9 @@ pub record IsIpv4Headers (bytes : List ℕ) (headers : IpHeaders) (payload : IpP
   pub begins : IsIpv4Packet bytes packet
   pub value : (headers, payload) ≡ ipv4_parts packet
 
--- the bytes begin with an IPv6 header, and what its payload length gives it are extension headers in a
--- row, each at a place of its own, and the payload, which is of the number that the row names last
+-- the bytes begin with an IPv6 header, and what its payload length gives it are extension headers
+-- in a row, each at a place of its own, and the payload, which is of the number that the row names
+-- last
 pub record IsIpv6Headers (bytes : List ℕ) (headers : IpHeaders) (payload : IpPayload) : Type 0 where
   pub header : List ℕ
   pub source : LenSource
@@ -31,7 +32,7 @@ pub record IsIpv6Headers (bytes : List ℕ) (headers : IpHeaders) (payload : IpP
   pub begins : IsIpv6Body bytes header source body
   pub chain : Chain place_of (v6.next_header_of header) body pieces last payload.payload
   pub ended : fault_of place_of pieces last payload.payload ≡ None
-  pub value : headers ≡ Ipv6 (v6.header_of header) (value_of pieces)
+  pub value : headers ≡ Ipv6 (v6.ipv6_header_of header) (value_of pieces)
   pub told : payload ≡ record {
     ip_number = record { 0 = last };
     fragmented = is_fragmenting headers;
@@ -41,9 +42,11 @@ pub record IsIpv6Headers (bytes : List ℕ) (headers : IpHeaders) (payload : IpP
 
 -- of one version or the other
 abbrev pub IsIpHeaders : List ℕ → IpHeaders → IpPayload → Type 0
-IsIpHeaders bytes headers payload = IsIpv4Headers bytes headers payload ⊎ IsIpv6Headers bytes headers payload
+IsIpHeaders bytes headers payload = IsIpv4Headers bytes headers payload
+    ⊎ IsIpv6Headers bytes headers payload
 
 -- the first fault of the headers of a packet is that of the packet, where extension headers of IPv6
 -- stand at places of their own
 abbrev pub IsIpHeadersFault : List ℕ → HeadersSliceError → Type 0
-IsIpHeadersFault bytes e = (fault : SliceError) × IsIpFaultIn place_of bytes fault × (e ≡ headers_fault fault)
+IsIpHeadersFault bytes e = (fault : SliceError) × IsIpFaultIn place_of bytes fault
+    × (e ≡ headers_fault fault)

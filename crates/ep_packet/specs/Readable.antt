@@ -1,13 +1,17 @@
--- Messages of the protocols that are read: ICMP (RFC 792, RFC 4443), TCP (RFC 9293) and UDP (RFC 768).
+-- Messages of the protocols that are read: ICMP (RFC 792, RFC 4443), TCP (RFC 9293) and UDP (RFC
+-- 768).
 use Rattle.std.specs.Prelude.{ℕ, ◌==◌, is_ok, Bool, if◌then◌else◌, List, Result, Ok, Err}
 use Rattle.ep_icmp.specs.Icmpv4Fault as icmpv4_fault
 use Rattle.ep_icmp.specs.Icmpv6Fault as icmpv6_fault
 use Rattle.ep_packet.specs.declared.err.packet.slice_error.SliceError.{SliceError}
 use Rattle.ep_packet.specs.declared.err.packet.slice_error.SliceError.TheVariants as slice_error
+use Rattle.ep_packet.specs.declared.message.Message.{Message}
+use Rattle.ep_packet.specs.declared.message.Message.TheVariants as message
 use Rattle.ep_tcpudp.specs.TcpFault.{segment_at}
 use Rattle.ep_tcpudp.specs.UdpFault.{udp_at}
-use Rattle.ep_tcpudp.specs.declared.err.tcp.header_slice_error.HeaderSliceError.{HeaderSliceError}
-use Rattle.ep_tcpudp.specs.declared.err.tcp.header_slice_error.HeaderSliceError.TheVariants as tcp_error
+use Rattle.ep_base.specs.declared.err.slice_error.SliceError.{SliceError as HeaderSliceError}
+use Rattle.ep_base.specs.declared.err.slice_error.SliceError.TheVariants as tcp_error
+use Rattle.ep_tcpudp.specs.declared.err.tcp.header_error.HeaderError.{HeaderError}
 
 -- their numbers, over both IP versions
 abbrev pub icmpv4 : ℕ
@@ -32,11 +36,12 @@ pub data ReadMessage : Type 0 where
   Raw : List ℕ → ReadMessage
 
 -- what is read of bytes, or the fault among those of all layers
-abbrev pub read_as : {E : Type 0} → (List ℕ → ReadMessage) → (E → SliceError) → Result (List ℕ) E → Result ReadMessage SliceError
+abbrev pub read_as : {E : Type 0} → (List ℕ → ReadMessage) → (E → SliceError) → Result (List ℕ) E
+    → Result ReadMessage SliceError
 read_as message fault (Ok bytes) = Ok (message bytes)
 read_as message fault (Err e) = Err (fault e)
 
-abbrev pub tcp_fault : HeaderSliceError → SliceError
+abbrev pub tcp_fault : HeaderSliceError HeaderError → SliceError
 tcp_fault (tcp_error.Len e) = slice_error.Len e
 tcp_fault (tcp_error.Content e) = slice_error.Tcp e
 
@@ -44,10 +49,24 @@ tcp_fault (tcp_error.Content e) = slice_error.Tcp e
 -- with other numbers
 abbrev pub message_at : ℕ → List ℕ → Result ReadMessage SliceError
 message_at number bytes =
-    if number == icmpv4 then read_as (λ m. Icmpv4 m) (λ e. slice_error.Len e) (icmpv4_fault.message_at bytes)
+    if number == icmpv4 then read_as (λ m. Icmpv4 m) (λ e. slice_error.Len e)
+    (icmpv4_fault.message_at bytes)
     else (if number == tcp then read_as (λ m. Tcp m) tcp_fault (segment_at bytes)
     else (if number == udp then read_as (λ m. Udp m) (λ e. slice_error.Len e) (udp_at bytes)
-    else (if number == icmpv6 then read_as (λ m. Icmpv6 m) (λ e. slice_error.Len e) (icmpv6_fault.message_at bytes) else Ok (Raw bytes))))
+    else (if number == icmpv6 then read_as (λ m. Icmpv6 m) (λ e. slice_error.Len e)
+    (icmpv6_fault.message_at bytes) else Ok (Raw bytes))))
 
 abbrev pub is_readable : ℕ → List ℕ → Bool
 is_readable number bytes = is_ok (message_at number bytes)
+
+-- the message that the code tells
+abbrev pub as_read : Message → ReadMessage
+as_read (message.Icmpv4 bytes) = Icmpv4 bytes
+as_read (message.Tcp bytes) = Tcp bytes
+as_read (message.Udp bytes) = Udp bytes
+as_read (message.Icmpv6 bytes) = Icmpv6 bytes
+as_read (message.Raw bytes) = Raw bytes.now
+
+abbrev pub as_answer : Result Message SliceError → Result ReadMessage SliceError
+as_answer (Ok message) = Ok (as_read message)
+as_answer (Err e) = Err e

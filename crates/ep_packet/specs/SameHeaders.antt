@@ -43,11 +43,12 @@ pub record IsPlaced (packet : Ipv6Packet) (h : NetHeaders) : Type 0 where
   pub last : ℕ
   pub row : Row place_of [] (v6.next_header_of packet.header) pieces last
   pub all : bytes_of pieces ≡ packet.exts.slice
-  pub fields : h ≡ headers.Ipv6 (v6.header_of packet.header) (value_of pieces)
+  pub fields : h ≡ headers.Ipv6 (v6.ipv6_header_of packet.header) (value_of pieces)
 
 -- the headers are those of the packet
 abbrev pub AreFieldsOf : NetSlice → NetHeaders → Type 0
-AreFieldsOf (slice.Ipv4 packet) h = h ≡ headers.Ipv4 (v4.header_of packet.header) (ipv4_exts_of packet.auth)
+AreFieldsOf (slice.Ipv4 packet) h =
+    h ≡ headers.Ipv4 (v4.ipv4_header_of packet.header) (ipv4_exts_of packet.auth)
 AreFieldsOf (slice.Ipv6 packet) h = IsPlaced packet h
 AreFieldsOf (slice.Arp packet) h = h ≡ headers.Arp (arp.fields_of packet)
 
@@ -57,10 +58,10 @@ AreNetFields (Some packet) h = (fields : NetHeaders) × (h ≡ Some fields) × A
 
 -- the fields of a message's header
 abbrev pub transport_fields : TransportSlice → TransportHeader
-transport_fields (message.Icmpv4 m) = header.Icmpv4 (icmpv4.header_of m)
-transport_fields (message.Tcp m) = header.Tcp (tcp.header_of m)
-transport_fields (message.Udp m) = header.Udp (udp.header_of m)
-transport_fields (message.Icmpv6 m) = header.Icmpv6 (icmpv6.header_of m)
+transport_fields (message.Icmpv4 m) = header.Icmpv4 (icmpv4.icmpv4_header_of m)
+transport_fields (message.Tcp m) = header.Tcp (tcp.tcp_header_of m)
+transport_fields (message.Udp m) = header.Udp (udp.udp_header_of m)
+transport_fields (message.Icmpv6 m) = header.Icmpv6 (icmpv6.icmpv6_header_of m)
 
 -- what stands behind it
 abbrev pub behind_message : TransportSlice → Payload
@@ -86,11 +87,12 @@ behind_layers net (Some m) below = behind_message m
 behind_layers (Some packet) None below = behind_packet packet
 behind_layers None None below = below
 
--- a UDP datagram whose length field is 0 or counts all of the IP payload that it stands in; of other
--- messages nothing is asked
+-- a UDP datagram whose length field is 0 or counts all of the IP payload that it stands in; of
+-- other messages nothing is asked
 abbrev pub IsWholeIn : Option IpPayload → Option TransportSlice → Type 0
 IsWholeIn p m =
-    (q : IpPayload) (datagram : List ℕ) → p ≡ Some q → m ≡ Some (message.Udp datagram) → (udp.length_of q.payload ≡ 0) ⊎ (udp.length_of q.payload ≡ length q.payload)
+    (q : IpPayload) (datagram : List ℕ) → p ≡ Some q → m ≡ Some (message.Udp datagram)
+    → (udp.length_of q.payload ≡ 0) ⊎ (udp.length_of q.payload ≡ length q.payload)
 
 -- the headers and the payload are those that the slices have
 pub record AreHeadersOf (packet : SlicedPacket) (h : Headers) : Type 0 where
@@ -98,5 +100,6 @@ pub record AreHeadersOf (packet : SlicedPacket) (h : Headers) : Type 0 where
   pub link_exts : h.link_exts ≡ map fields_of packet.link_exts.items
   pub net : AreNetFields packet.net h.net
   pub transport : h.transport ≡ option_map transport_fields packet.transport
-  pub payload : h.payload ≡ behind_layers packet.net packet.transport (behind_tags packet.link_exts.items (ether_payload_in packet))
+  pub payload : h.payload ≡ behind_layers packet.net packet.transport
+      (behind_tags packet.link_exts.items (ether_payload_in packet))
   pub datagram : IsWholeIn (ip_payload_of packet.net) packet.transport

@@ -1,6 +1,6 @@
 -- Why a packet is refused, and where: the faults of each layer among those of all.
 use Rattle.std.specs.Prelude.{ℕ, ◌+◌, ◌<◌, ◌^◌, Result, Ok, Err}
-use Rattle.ep_base.specs.Moved as len_error
+use Rattle.ep_base.specs.LenError as len_error
 use Rattle.ep_base.specs.declared.len_source.LenSource.{LenSource}
 use Rattle.ep_base.specs.declared.len_source.LenSource.TheVariants as source
 use Rattle.ep_ipslice.specs.declared.err.ip.headers_error.HeadersError.TheVariants as headers
@@ -10,20 +10,23 @@ use Rattle.ep_ipslice.specs.declared.err.ipv4.slice_error.SliceError.{SliceError
 use Rattle.ep_ipslice.specs.declared.err.ipv4.slice_error.SliceError.TheVariants as ipv4
 use Rattle.ep_ipslice.specs.declared.err.ipv6.slice_error.SliceError.{SliceError as Ipv6Fault}
 use Rattle.ep_ipslice.specs.declared.err.ipv6.slice_error.SliceError.TheVariants as ipv6
-use Rattle.ep_link.specs.declared.err.linux_sll.header_slice_error.HeaderSliceError.{HeaderSliceError as SllFault}
-use Rattle.ep_link.specs.declared.err.linux_sll.header_slice_error.HeaderSliceError.TheVariants as sll
+use Rattle.ep_base.specs.declared.err.slice_error.SliceError.{SliceError as HeaderSliceError}
+use Rattle.ep_base.specs.declared.err.slice_error.SliceError.TheVariants as slice_error
+use Rattle.ep_link.specs.declared.err.linux_sll.header_error.HeaderError.{HeaderError as SllFault}
 use Rattle.ep_packet.specs.declared.err.packet.slice_error.SliceError.{SliceError}
-use Rattle.ep_packet.specs.declared.err.packet.slice_error.SliceError.TheVariants.{Len, LinuxSll, Macsec, Ip, Ipv4, Ipv6, Ipv4Exts, Ipv6Exts, Tcp}
-use Rattle.ep_tag.specs.declared.err.macsec.header_slice_error.HeaderSliceError.{HeaderSliceError as MacsecFault}
-use Rattle.ep_tag.specs.declared.err.macsec.header_slice_error.HeaderSliceError.TheVariants as macsec
+use Rattle.ep_packet.specs.declared.err.packet.slice_error.SliceError.TheVariants.{Len, LinuxSll}
+use Rattle.ep_packet.specs.declared.err.packet.slice_error.SliceError.TheVariants.{Macsec, Ip, Ipv4}
+use Rattle.ep_packet.specs.declared.err.packet.slice_error.SliceError.TheVariants.{Ipv6, Ipv4Exts}
+use Rattle.ep_packet.specs.declared.err.packet.slice_error.SliceError.TheVariants.{Ipv6Exts, Tcp}
+use Rattle.ep_tag.specs.declared.err.macsec.header_error.HeaderError.{HeaderError as MacsecFault}
 
-abbrev pub of_linux_sll : SllFault → SliceError
-of_linux_sll (sll.Len e) = Len e
-of_linux_sll (sll.Content e) = LinuxSll e
+abbrev pub of_linux_sll : HeaderSliceError SllFault → SliceError
+of_linux_sll (slice_error.Len e) = Len e
+of_linux_sll (slice_error.Content e) = LinuxSll e
 
-abbrev pub of_macsec : MacsecFault → SliceError
-of_macsec (macsec.Len e) = Len e
-of_macsec (macsec.Content e) = Macsec e
+abbrev pub of_macsec : HeaderSliceError MacsecFault → SliceError
+of_macsec (slice_error.Len e) = Len e
+of_macsec (slice_error.Content e) = Macsec e
 
 abbrev pub of_ipv4 : Ipv4Fault → SliceError
 of_ipv4 (ipv4.Len e) = Len e
@@ -42,38 +45,38 @@ of_ip (ip.IpHeaders (headers.Ipv4Ext e)) = Ipv4Exts e
 of_ip (ip.IpHeaders (headers.Ipv6Ext e)) = Ipv6Exts e
 
 -- the place of the layer that wants bytes; a fault of the content names no place
-abbrev pub place_of : SliceError → ℕ
-place_of (Len e) = e.layer_start_offset
-place_of (LinuxSll e) = 0
-place_of (Macsec e) = 0
-place_of (Ip e) = 0
-place_of (Ipv4 e) = 0
-place_of (Ipv6 e) = 0
-place_of (Ipv4Exts e) = 0
-place_of (Ipv6Exts e) = 0
-place_of (Tcp e) = 0
+abbrev pub fault_offset : SliceError → ℕ
+fault_offset (Len e) = e.layer_start_offset
+fault_offset (LinuxSll e) = 0
+fault_offset (Macsec e) = 0
+fault_offset (Ip e) = 0
+fault_offset (Ipv4 e) = 0
+fault_offset (Ipv6 e) = 0
+fault_offset (Ipv4Exts e) = 0
+fault_offset (Ipv6Exts e) = 0
+fault_offset (Tcp e) = 0
 
 -- the place n bytes further on fits a `usize`
 abbrev pub CanMove : SliceError → ℕ → Type 0
-CanMove e n = place_of e + n < 2 ^ 64
+CanMove e n = fault_offset e + n < 2 ^ 64
 
--- seen from n bytes earlier, a want of bytes is n bytes further on, and a fault of the content is the
--- same
-abbrev pub moved : ℕ → SliceError → SliceError
-moved n (Len e) = Len (len_error.moved e n)
-moved n (LinuxSll e) = LinuxSll e
-moved n (Macsec e) = Macsec e
-moved n (Ip e) = Ip e
-moved n (Ipv4 e) = Ipv4 e
-moved n (Ipv6 e) = Ipv6 e
-moved n (Ipv4Exts e) = Ipv4Exts e
-moved n (Ipv6Exts e) = Ipv6Exts e
-moved n (Tcp e) = Tcp e
+-- seen from n bytes earlier, a want of bytes is n bytes further on, and a fault of the content is
+-- the same
+abbrev pub offset_by : ℕ → SliceError → SliceError
+offset_by n (Len e) = Len (len_error.offset_by e n)
+offset_by n (LinuxSll e) = LinuxSll e
+offset_by n (Macsec e) = Macsec e
+offset_by n (Ip e) = Ip e
+offset_by n (Ipv4 e) = Ipv4 e
+offset_by n (Ipv6 e) = Ipv6 e
+offset_by n (Ipv4Exts e) = Ipv4Exts e
+offset_by n (Ipv6Exts e) = Ipv6Exts e
+offset_by n (Tcp e) = Tcp e
 
 -- what was read n bytes further on
 abbrev pub later : {A : Type 0} → ℕ → Result A SliceError → Result A SliceError
 later n (Ok x) = Ok x
-later n (Err e) = Err (moved n e)
+later n (Err e) = Err (offset_by n e)
 
 -- what bounds an IP payload bounds what stands in it, where nothing nearer does
 abbrev pub bounded_by : LenSource → LenSource → LenSource

@@ -1,5 +1,6 @@
 -- A frame, or what stands in it, cut into its parts.
-use Rattle.std.specs.Prelude.{◌≡◌, ℕ, ◌+◌, ◌==◌, if◌then◌else◌, List, [], length, Option, Some, None, Result, Ok, Err}
+use Rattle.std.specs.Prelude.{◌≡◌, ℕ, ◌+◌, ◌==◌, if◌then◌else◌, List, [], length, Option, Some}
+use Rattle.std.specs.Prelude.{None, Result, Ok, Err}
 use Rattle.ep_base.specs.declared.err.layer.Layer.TheVariants.{Ethernet2Header}
 use Rattle.ep_base.specs.declared.err.len_error.LenError.{LenError}
 use Rattle.ep_base.specs.declared.len_source.LenSource.{LenSource}
@@ -20,12 +21,14 @@ use Rattle.ep_link.specs.Ethernet.{ethernet_len, payload_of}
 use Rattle.ep_link.specs.SllFault as sll_fault
 use Rattle.ep_link.specs.Sll.{sll_len}
 use Rattle.ep_link.specs.SllPayload as sll
-use Rattle.ep_link.specs.declared.err.linux_sll.header_slice_error.HeaderSliceError.{HeaderSliceError as SllFault}
+use Rattle.ep_base.specs.declared.err.slice_error.SliceError.{SliceError as HeaderSliceError}
+use Rattle.ep_link.specs.declared.err.linux_sll.header_error.HeaderError.{HeaderError as SllFault}
 use Rattle.ep_link.specs.declared.link.link_slice.LinkSlice.{LinkSlice}
 use Rattle.ep_link.specs.declared.link.link_slice.LinkSlice.TheVariants as link
 use Rattle.ep_packet.specs.Readable.{ReadMessage, message_at}
 use Rattle.ep_packet.specs.Readable.ReadMessage.{Icmpv4, Icmpv6, Raw, Tcp, Udp}
-use Rattle.ep_packet.specs.SliceFault.{later, moved, of_ip, of_ipv4, of_ipv6, of_linux_sll, within}
+use Rattle.ep_packet.specs.SliceFault.{later, offset_by, of_ip, of_ipv4, of_ipv6, of_linux_sll}
+use Rattle.ep_packet.specs.SliceFault.{within}
 use Rattle.ep_packet.specs.IsTagged.{IsTagged}
 use Rattle.ep_packet.specs.Tags.{Tagged, most_tags, tags_in}
 use Rattle.ep_packet.specs.declared.err.packet.slice_error.SliceError.{SliceError}
@@ -57,18 +60,21 @@ transport_of (Udp m) = Some (transport.Udp m)
 transport_of (Icmpv6 m) = Some (transport.Icmpv6 m)
 transport_of (Raw m) = None
 
-abbrev pub read_transport : Result ReadMessage SliceError → Result (Option TransportSlice) SliceError
+abbrev pub read_transport : Result ReadMessage SliceError
+    → Result (Option TransportSlice) SliceError
 read_transport (Ok message) = Ok (transport_of message)
 read_transport (Err e) = Err e
 
 -- what stands in an IP payload, of which this is what bounds it
-abbrev pub bounded : LenSource → Result (Option TransportSlice) SliceError → Result (Option TransportSlice) SliceError
-bounded outer (Ok message) = Ok message
-bounded outer (Err e) = Err (within outer e)
+abbrev pub result_within : LenSource → Result (Option TransportSlice) SliceError
+    → Result (Option TransportSlice) SliceError
+result_within outer (Ok message) = Ok message
+result_within outer (Err e) = Err (within outer e)
 
 -- the message that an IP payload is: none where it is a part of one
 abbrev pub transport_in : IpPayload → Result (Option TransportSlice) SliceError
-transport_in p = if p.fragmented then Ok None else bounded p.len_source (read_transport (message_at p.ip_number.0 p.payload))
+transport_in p = if p.fragmented then Ok None
+    else result_within p.len_source (read_transport (message_at p.ip_number.0 p.payload))
 
 -- the network layer and the transport layer
 pub record Layers : Type 0 where
@@ -79,15 +85,19 @@ abbrev pub no_layers : Layers
 no_layers = record { net = None; transport = None }
 
 -- a packet and the message that stands so many bytes further on
-abbrev pub with_transport : NetSlice → ℕ → Result (Option TransportSlice) SliceError → Result Layers SliceError
-with_transport packet headers_len (Ok message) = Ok (record { net = Some packet; transport = message })
-with_transport packet headers_len (Err e) = Err (moved headers_len e)
+abbrev pub with_transport : NetSlice → ℕ → Result (Option TransportSlice) SliceError
+    → Result Layers SliceError
+with_transport packet headers_len (Ok message) =
+    Ok (record { net = Some packet; transport = message })
+with_transport packet headers_len (Err e) = Err (offset_by headers_len e)
 
 abbrev pub in_ipv4 : Ipv4Packet → Result Layers SliceError
-in_ipv4 packet = with_transport (net.Ipv4 packet) (length packet.header + length (auth_bytes packet.auth)) (transport_in (ipv4_payload packet))
+in_ipv4 packet = with_transport (net.Ipv4 packet)
+    (length packet.header + length (auth_bytes packet.auth)) (transport_in (ipv4_payload packet))
 
 abbrev pub in_ipv6 : Ipv6Packet → Result Layers SliceError
-in_ipv6 packet = with_transport (net.Ipv6 packet) (length packet.header + length packet.exts.slice) (transport_in packet.payload)
+in_ipv6 packet = with_transport (net.Ipv6 packet) (length packet.header + length packet.exts.slice)
+    (transport_in packet.payload)
 
 abbrev pub ipv4_layers : Result Ipv4Packet Ipv4Fault → Result Layers SliceError
 ipv4_layers (Ok packet) = in_ipv4 packet
@@ -111,7 +121,8 @@ abbrev pub layers_of : EtherPayload → Result Layers SliceError
 layers_of p =
     if p.ether_type.0 == ipv4_type then ipv4_layers (ipv4_packet_at p.payload)
     else (if p.ether_type.0 == ipv6_type then ipv6_layers (ipv6_packet_at p.payload)
-    else (if p.ether_type.0 == arp_type then arp_layers (arp.packet_at p.payload) else Ok no_layers))
+    else (if p.ether_type.0 == arp_type then arp_layers (arp.packet_at p.payload)
+    else Ok no_layers))
 
 -- the layers behind the tags: none where nothing is named there
 abbrev pub layers_in : Option EtherPayload → Result Layers SliceError
@@ -120,13 +131,21 @@ layers_in (Some p) = layers_of p
 
 -- all parts together
 abbrev pub packet_of : Option LinkSlice → List LinkExtSlice → Layers → SlicedPacket
-packet_of link tags layers = record { link = link; link_exts = record { items = tags }; net = layers.net; transport = layers.transport }
+packet_of link tags layers =
+    record {
+      link = link;
+      link_exts = record { items = tags };
+      net = layers.net;
+      transport = layers.transport;
+    }
 
-abbrev pub packet_with : Option LinkSlice → List LinkExtSlice → Result Layers SliceError → Result SlicedPacket SliceError
+abbrev pub packet_with : Option LinkSlice → List LinkExtSlice → Result Layers SliceError
+    → Result SlicedPacket SliceError
 packet_with link tags (Ok layers) = Ok (packet_of link tags layers)
 packet_with link tags (Err e) = Err e
 
-abbrev pub packet_tagged : Option LinkSlice → Result Tagged SliceError → Result SlicedPacket SliceError
+abbrev pub packet_tagged : Option LinkSlice → Result Tagged SliceError
+    → Result SlicedPacket SliceError
 packet_tagged link (Ok t) = packet_with link t.tags (later t.len (layers_in t.last))
 packet_tagged link (Err e) = Err e
 
@@ -146,12 +165,12 @@ abbrev pub in_linux_sll : List ℕ → Option EtherPayload → Result SlicedPack
 in_linux_sll bytes None = Ok (packet_of (Some (link.LinuxSll bytes)) [] no_layers)
 in_linux_sll bytes (Some p) = later sll_len (packet_behind (link.LinuxSll bytes) p)
 
-abbrev pub in_cooked : Result (List ℕ) SllFault → Result SlicedPacket SliceError
+abbrev pub in_cooked : Result (List ℕ) (HeaderSliceError SllFault) → Result SlicedPacket SliceError
 in_cooked (Ok bytes) = in_linux_sll bytes (sll.named_payload (sll.payload_of bytes))
 in_cooked (Err e) = Err (of_linux_sll e)
 
--- those of a packet of a Linux cooked capture, whose payload is looked into where its protocol is an
--- ether type
+-- those of a packet of a Linux cooked capture, whose payload is looked into where its protocol is
+-- an ether type
 abbrev pub sliced_linux_sll : List ℕ → Result SlicedPacket SliceError
 sliced_linux_sll bytes = in_cooked (sll_fault.whole_at bytes)
 
@@ -161,13 +180,15 @@ ether_payload t bytes = record { ether_type = t; len_source = source.Slice; payl
 
 -- their parts
 abbrev pub sliced_ether_type : EtherType → List ℕ → Result SlicedPacket SliceError
-sliced_ether_type t bytes = packet_behind (link.EtherPayload (ether_payload t bytes)) (ether_payload t bytes)
+sliced_ether_type t bytes = packet_behind (link.EtherPayload (ether_payload t bytes))
+    (ether_payload t bytes)
 
 -- those of an IP packet of either version
 abbrev pub sliced_ip : List ℕ → Result SlicedPacket SliceError
 sliced_ip bytes = packet_with None [] (ip_layers (ip_packet_at bytes))
 
--- the bytes begin with an IP packet, and the layers are the packet and the message that its payload is
+-- the bytes begin with an IP packet, and the layers are the packet and the message that its payload
+-- is
 pub record AreIpLayers (bytes : List ℕ) (layers : Layers) : Type 0 where
   pub packet : IpSlice
   pub begins : IsIpPacket bytes packet
@@ -175,7 +196,8 @@ pub record AreIpLayers (bytes : List ℕ) (layers : Layers) : Type 0 where
 
 -- nothing in the place of a link header, no tags, and these layers
 abbrev pub IsSlicedIp : List ℕ → SlicedPacket → Type 0
-IsSlicedIp bytes packet = (layers : Layers) × AreIpLayers bytes layers × (packet ≡ packet_of None [] layers)
+IsSlicedIp bytes packet = (layers : Layers) × AreIpLayers bytes layers
+    × (packet ≡ packet_of None [] layers)
 
 -- the tags that stand in a payload, and the layers in what the last of them names
 pub record IsSliced (p : EtherPayload) (packet : SlicedPacket) : Type 0 where

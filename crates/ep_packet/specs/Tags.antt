@@ -1,10 +1,11 @@
--- The tags behind a link header: VLAN tags (IEEE 802.1Q, section 9) and MACsec headers (IEEE 802.1AE,
--- clause 9), each named by the ether type in front of it.
-use Rattle.std.specs.Prelude.{ℕ, zero, suc, ◌+◌, ◌||◌, ◌==◌, Bool, if◌then◌else◌, List, [], ◌∷◌, Option, Some, None, Result, Ok, Err}
+-- The tags behind a link header: VLAN tags (IEEE 802.1Q, section 9) and MACsec headers (IEEE
+-- 802.1AE, clause 9), each named by the ether type in front of it.
+use Rattle.std.specs.Prelude.{ℕ, zero, suc, ◌+◌, ◌||◌, ◌==◌, Bool, if◌then◌else◌, List, [], ◌∷◌}
+use Rattle.std.specs.Prelude.{Option, Some, None, Result, Ok, Err}
 use Rattle.ep_base.specs.declared.err.layer.Layer.TheVariants.{VlanHeader}
 use Rattle.ep_base.specs.declared.err.len_error.LenError.{LenError}
 use Rattle.ep_base.specs.declared.link.ether_type.EtherType.{EtherType}
-use Rattle.ep_packet.specs.SliceFault.{moved, of_macsec}
+use Rattle.ep_packet.specs.SliceFault.{offset_by, of_macsec}
 use Rattle.ep_packet.specs.declared.err.packet.slice_error.SliceError.{SliceError}
 use Rattle.ep_packet.specs.declared.err.packet.slice_error.SliceError.TheVariants.{Len}
 use Rattle.ep_tag.specs.Ether.{EtherPayload}
@@ -12,7 +13,8 @@ use Rattle.ep_tag.specs.Front.{whole_at}
 use Rattle.ep_tag.specs.LinkExt.{payload_behind, tag_len}
 use Rattle.ep_tag.specs.MacsecPayload.{Macsec, macsec_at}
 use Rattle.ep_tag.specs.Vlan.{vlan_id_of, vlan_len}
-use Rattle.ep_tag.specs.declared.err.macsec.header_slice_error.HeaderSliceError.{HeaderSliceError}
+use Rattle.ep_base.specs.declared.err.slice_error.SliceError.{SliceError as HeaderSliceError}
+use Rattle.ep_tag.specs.declared.err.macsec.header_error.HeaderError.{HeaderError}
 use Rattle.ep_tag.specs.declared.link.link_ext_slice.LinkExtSlice.{LinkExtSlice}
 use Rattle.ep_tag.specs.declared.link.link_ext_slice.LinkExtSlice.TheVariants as tag
 
@@ -29,7 +31,8 @@ abbrev pub vlan_tag : Result (List ℕ) LenError → Result (Option LinkExtSlice
 vlan_tag (Ok bytes) = Ok (Some (tag.Vlan bytes))
 vlan_tag (Err e) = Err (Len e)
 
-abbrev pub macsec_tag : Result Macsec HeaderSliceError → Result (Option LinkExtSlice) SliceError
+abbrev pub macsec_tag : Result Macsec (HeaderSliceError HeaderError)
+    → Result (Option LinkExtSlice) SliceError
 macsec_tag (Ok macsec) = Ok (Some (tag.Macsec macsec))
 macsec_tag (Err e) = Err (of_macsec e)
 
@@ -46,26 +49,29 @@ pub record Tagged : Type 0 where
   pub len : ℕ
   pub last : Option EtherPayload
 
-abbrev pub untagged : Option EtherPayload → Tagged
-untagged last = record { tags = []; len = 0; last = last }
+abbrev pub without_tags : Option EtherPayload → Tagged
+without_tags last = record { tags = []; len = 0; last = last }
 
 -- a tag and what was read behind it
-abbrev pub behind : LinkExtSlice → Result Tagged SliceError → Result Tagged SliceError
-behind t (Ok more) = Ok (record { tags = t ∷ more.tags; len = tag_len t + more.len; last = more.last })
-behind t (Err e) = Err (moved (tag_len t) e)
+abbrev pub with_tag : LinkExtSlice → Result Tagged SliceError → Result Tagged SliceError
+with_tag t (Ok more) =
+    Ok (record { tags = t ∷ more.tags; len = tag_len t + more.len; last = more.last })
+with_tag t (Err e) = Err (offset_by (tag_len t) e)
 
-abbrev pub read_further : (EtherPayload → Result Tagged SliceError) → Option EtherPayload → Result Tagged SliceError
-read_further read None = Ok (untagged None)
+abbrev pub read_further : (EtherPayload → Result Tagged SliceError) → Option EtherPayload
+    → Result Tagged SliceError
+read_further read None = Ok (without_tags None)
 read_further read (Some p) = read p
 
-abbrev pub from_tag : (EtherPayload → Result Tagged SliceError) → EtherPayload → Result (Option LinkExtSlice) SliceError → Result Tagged SliceError
+abbrev pub from_tag : (EtherPayload → Result Tagged SliceError) → EtherPayload
+    → Result (Option LinkExtSlice) SliceError → Result Tagged SliceError
 from_tag read p (Err e) = Err e
-from_tag read p (Ok None) = Ok (untagged (Some p))
-from_tag read p (Ok (Some t)) = behind t (read_further read (payload_behind t))
+from_tag read p (Ok None) = Ok (without_tags (Some p))
+from_tag read p (Ok (Some t)) = with_tag t (read_further read (payload_behind t))
 
 -- the tags in front of a payload, n at most, or the first fault
 unfoldable pub tags_in : ℕ → EtherPayload → Result Tagged SliceError
-tags_in zero p = Ok (untagged (Some p))
+tags_in zero p = Ok (without_tags (Some p))
 tags_in (suc n) p = from_tag (tags_in n) p (tag_at p)
 
 -- the greatest number of tags

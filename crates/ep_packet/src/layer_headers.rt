@@ -1,11 +1,13 @@
 //! The headers of the network and the transport layer, behind the tags.
 ghost use Rattle.std.specs.Prelude.{◌≡◌, ◌≤◌, ◌<◌, ◌+◌, ◌^◌, ℕ, length, IfErr, IfOk, Ok, Err};
-ghost use Rattle.ep_packet.specs.HeaderLayers.{HeaderLayers, in_packet, ip_layers, ipv4_layers, ipv6_layers, layers_of, message_in, message_parts, of_headers, packet_len};
+ghost use Rattle.ep_packet.specs.HeaderLayers.{HeaderLayers, in_packet, ip_layers, ipv4_layers};
+ghost use Rattle.ep_packet.specs.HeaderLayers.{ipv6_layers, layers_of, message_in, message_parts};
+ghost use Rattle.ep_packet.specs.HeaderLayers.{of_headers, packet_len};
 ghost use Rattle.ep_packet.specs.IpHeadersAt.{ip_headers_at, ipv4_headers_at, ipv6_headers_at};
 ghost use Rattle.ep_packet.specs.Payload.{payload_told};
 ghost use Rattle.ep_packet.specs.PayloadParts.{parts_told};
 ghost use Rattle.ep_packet.specs.ReadIpHeaders.{IsIpHeaders};
-ghost use Rattle.ep_packet.specs.SliceFault.{place_of};
+ghost use Rattle.ep_packet.specs.SliceFault.{fault_offset};
 
 use crate::err::packet::SliceError;
 use crate::{IpHeaders, NetHeaders, PayloadSlice, TransportHeader, slice_fault};
@@ -29,7 +31,8 @@ pub(crate) struct LayerHeaders<'a> {
 impl<'a> Model for LayerHeaders<'a> {
     ghost Value = { HeaderLayers };
 
-    ghost view = { λ layers. record { net = layers.net; transport = layers.transport; payload = payload_told layers.payload } };
+    ghost view = { λ layers. record
+        { net = layers.net; transport = layers.transport; payload = payload_told layers.payload } };
 }
 
 impl<'a> LayerHeaders<'a> {
@@ -38,7 +41,8 @@ impl<'a> LayerHeaders<'a> {
         payload: EtherPayloadSlice<'a>,
     ) -> Result<LayerHeaders<'a>, SliceError>
         ensures layers { result ≡ layers_of payload.entry }
-        ensures place { IfErr result (λ e. (n : ℕ) → length payload.entry.payload + n < 2 ^ 64 → place_of e + n < 2 ^ 64) }
+        ensures place { IfErr result (λ e. (n : ℕ) → length payload.entry.payload + n < 2 ^ 64
+            → fault_offset e + n < 2 ^ 64) }
     {
         match payload.ether_type {
             EtherType::IPV4 => Self::from_ipv4(payload.payload),
@@ -61,7 +65,8 @@ impl<'a> LayerHeaders<'a> {
 
     fn from_ipv4(slice: &'a [u8]) -> Result<LayerHeaders<'a>, SliceError>
         ensures layers { result ≡ ipv4_layers (length slice.now) (ipv4_headers_at slice.now) }
-        ensures place { IfErr result (λ e. (n : ℕ) → length slice.now + n < 2 ^ 64 → place_of e + n < 2 ^ 64) }
+        ensures place { IfErr result (λ e. (n : ℕ) → length slice.now + n < 2 ^ 64
+            → fault_offset e + n < 2 ^ 64) }
     {
         laws::faults_can_be_moved();
         match IpHeaders::from_ipv4_slice(slice) {
@@ -72,7 +77,8 @@ impl<'a> LayerHeaders<'a> {
 
     fn from_ipv6(slice: &'a [u8]) -> Result<LayerHeaders<'a>, SliceError>
         ensures layers { result ≡ ipv6_layers (length slice.now) (ipv6_headers_at slice.now) }
-        ensures place { IfErr result (λ e. (n : ℕ) → length slice.now + n < 2 ^ 64 → place_of e + n < 2 ^ 64) }
+        ensures place { IfErr result (λ e. (n : ℕ) → length slice.now + n < 2 ^ 64
+            → fault_offset e + n < 2 ^ 64) }
     {
         laws::faults_can_be_moved();
         match IpHeaders::from_ipv6_slice(slice) {
@@ -99,7 +105,7 @@ impl<'a> LayerHeaders<'a> {
     ) -> Result<LayerHeaders<'a>, SliceError>
         requires { IsIpHeaders slice.now headers payload }
         ensures layers { result ≡ in_packet (length slice.now) headers payload.entry }
-        ensures place { IfErr result (λ e. place_of e ≤ length slice.now) }
+        ensures place { IfErr result (λ e. fault_offset e ≤ length slice.now) }
     {
         let place = packet_len(&headers, slice.len()) - payload.payload.len();
         match message_in(&payload) {
@@ -137,13 +143,13 @@ fn packet_len(headers: &IpHeaders, found: usize) -> usize
     }
 }
 
-// The header of the message that the payload is and what stands behind it, unless it is a part of one or
-// its protocol is another.
+// The header of the message that the payload is and what stands behind it, unless it is a part of
+// one or its protocol is another.
 fn message_in<'a>(
     payload: &IpPayloadSlice<'a>,
 ) -> Result<Option<(TransportHeader, PayloadSlice<'a>)>, SliceError>
     ensures message { parts_told result ≡ message_in payload.now }
-    ensures place { IfErr result (λ e. place_of e ≡ 0) }
+    ensures place { IfErr result (λ e. fault_offset e ≡ 0) }
 {
     if payload.fragmented {
         return Ok(None);
@@ -156,7 +162,7 @@ fn read_message(
     payload: &[u8],
 ) -> Result<Option<(TransportHeader, PayloadSlice<'_>)>, SliceError>
     ensures message { parts_told result ≡ message_parts ip_number.0 payload.now }
-    ensures place { IfErr result (λ e. place_of e ≡ 0) }
+    ensures place { IfErr result (λ e. fault_offset e ≡ 0) }
 {
     match ip_number {
         IpNumber::ICMP => match Icmpv4Slice::from_slice(payload) {

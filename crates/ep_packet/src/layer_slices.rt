@@ -7,8 +7,10 @@ ghost use Rattle.ep_ipslice.specs.Ipv6Packet.{ipv6_packet_at};
 ghost use Rattle.ep_ipslice.specs.Packet.{IsIpv4Packet, IsIpv6Packet};
 ghost use Rattle.ep_packet.specs.Parts.{IsAt, LayersBehind, LayersIn, transport_bytes};
 ghost use Rattle.ep_packet.specs.Readable.{message_at};
-ghost use Rattle.ep_packet.specs.SliceFault.{place_of};
-ghost use Rattle.ep_packet.specs.Sliced.{AreIpLayers, Layers, in_ipv4, in_ipv6, ip_layers, ipv4_layers, ipv6_layers, layers_in, layers_of, read_transport, transport_in};
+ghost use Rattle.ep_packet.specs.SliceFault.{fault_offset};
+ghost use Rattle.ep_packet.specs.Sliced.{AreIpLayers, Layers, in_ipv4, in_ipv6, ip_layers};
+ghost use Rattle.ep_packet.specs.Sliced.{ipv4_layers, ipv6_layers, layers_in, layers_of};
+ghost use Rattle.ep_packet.specs.Sliced.{read_transport, transport_in};
 
 use crate::err::packet::SliceError;
 use crate::{NetSlice, TransportSlice, slice_fault};
@@ -40,7 +42,9 @@ impl<'a> LayerSlices<'a> {
     ) -> Result<LayerSlices<'a>, SliceError>
         ensures layers { result ≡ layers_in last.now }
         ensures parts { IfOk result (λ layers. LayersBehind last.now layers) }
-        ensures place { IfErr result (λ e. IfSome last.now (λ q. (n : ℕ) → length q.payload + n < 2 ^ 64 → place_of e + n < 2 ^ 64)) }
+        ensures place { IfErr result
+            (λ e. IfSome last.now (λ q. (n : ℕ) → length q.payload + n < 2 ^ 64
+            → fault_offset e + n < 2 ^ 64)) }
     {
         match last {
             Some(payload) => Self::from_ether_payload(payload),
@@ -54,7 +58,8 @@ impl<'a> LayerSlices<'a> {
     fn from_ether_payload(payload: &EtherPayloadSlice<'a>) -> Result<LayerSlices<'a>, SliceError>
         ensures layers { result ≡ layers_of payload.now }
         ensures parts { IfOk result (λ layers. LayersIn payload.now.payload 0 layers) }
-        ensures place { IfErr result (λ e. (n : ℕ) → length payload.now.payload + n < 2 ^ 64 → place_of e + n < 2 ^ 64) }
+        ensures place { IfErr result (λ e. (n : ℕ) → length payload.now.payload + n < 2 ^ 64
+            → fault_offset e + n < 2 ^ 64) }
     {
         match payload.ether_type {
             EtherType::IPV4 => Self::from_ipv4(payload.payload),
@@ -76,7 +81,8 @@ impl<'a> LayerSlices<'a> {
     fn from_ipv4(slice: &'a [u8]) -> Result<LayerSlices<'a>, SliceError>
         ensures layers { result ≡ ipv4_layers (ipv4_packet_at slice.now) }
         ensures parts { IfOk result (λ layers. LayersIn slice.now 0 layers) }
-        ensures place { IfErr result (λ e. (n : ℕ) → length slice.now + n < 2 ^ 64 → place_of e + n < 2 ^ 64) }
+        ensures place { IfErr result (λ e. (n : ℕ) → length slice.now + n < 2 ^ 64
+            → fault_offset e + n < 2 ^ 64) }
     {
         laws::faults_can_be_moved();
         match Ipv4Slice::from_slice(slice) {
@@ -88,7 +94,8 @@ impl<'a> LayerSlices<'a> {
     fn from_ipv6(slice: &'a [u8]) -> Result<LayerSlices<'a>, SliceError>
         ensures layers { result ≡ ipv6_layers (ipv6_packet_at slice.now) }
         ensures parts { IfOk result (λ layers. LayersIn slice.now 0 layers) }
-        ensures place { IfErr result (λ e. (n : ℕ) → length slice.now + n < 2 ^ 64 → place_of e + n < 2 ^ 64) }
+        ensures place { IfErr result (λ e. (n : ℕ) → length slice.now + n < 2 ^ 64
+            → fault_offset e + n < 2 ^ 64) }
     {
         laws::faults_can_be_moved();
         match Ipv6Slice::from_slice(slice) {
@@ -103,7 +110,8 @@ impl<'a> LayerSlices<'a> {
         ensures found { IfOk result (λ layers. AreIpLayers slice.now layers) }
         ensures only { (layers : Layers) → AreIpLayers slice.now layers → result ≡ Ok layers }
         ensures parts { IfOk result (λ layers. LayersIn slice.now 0 layers) }
-        ensures place { IfErr result (λ e. (n : ℕ) → length slice.now + n < 2 ^ 64 → place_of e + n < 2 ^ 64) }
+        ensures place { IfErr result (λ e. (n : ℕ) → length slice.now + n < 2 ^ 64
+            → fault_offset e + n < 2 ^ 64) }
     {
         laws::faults_can_be_moved();
         match IpSlice::from_slice(slice) {
@@ -117,7 +125,8 @@ impl<'a> LayerSlices<'a> {
         requires { IsIpv4Packet slice.now packet }
         ensures layers { result ≡ in_ipv4 packet.entry }
         ensures parts { IfOk result (λ layers. LayersIn slice.now 0 layers) }
-        ensures place { IfErr result (λ e. (n : ℕ) → length slice.now + n < 2 ^ 64 → place_of e + n < 2 ^ 64) }
+        ensures place { IfErr result (λ e. (n : ℕ) → length slice.now + n < 2 ^ 64
+            → fault_offset e + n < 2 ^ 64) }
     {
         let transport = match transport_in(packet.payload()) {
             Ok(transport) => transport,
@@ -135,7 +144,8 @@ impl<'a> LayerSlices<'a> {
         requires { IsIpv6Packet slice.now packet }
         ensures layers { result ≡ in_ipv6 packet.entry }
         ensures parts { IfOk result (λ layers. LayersIn slice.now 0 layers) }
-        ensures place { IfErr result (λ e. (n : ℕ) → length slice.now + n < 2 ^ 64 → place_of e + n < 2 ^ 64) }
+        ensures place { IfErr result (λ e. (n : ℕ) → length slice.now + n < 2 ^ 64
+            → fault_offset e + n < 2 ^ 64) }
     {
         let transport = match transport_in(packet.payload()) {
             Ok(transport) => transport,
@@ -171,8 +181,9 @@ fn ipv6_headers_len(packet: &Ipv6Slice<'_>) -> usize
 #[inline(always)]
 fn transport_in<'a>(payload: &IpPayloadSlice<'a>) -> Result<Option<TransportSlice<'a>>, SliceError>
     ensures message { result ≡ transport_in payload.now }
-    ensures parts { IfOk result (λ o. IfSome o (λ message. IsAt payload.now.payload 0 (transport_bytes message))) }
-    ensures place { IfErr result (λ e. place_of e ≡ 0) }
+    ensures parts { IfOk result
+        (λ o. IfSome o (λ message. IsAt payload.now.payload 0 (transport_bytes message))) }
+    ensures place { IfErr result (λ e. fault_offset e ≡ 0) }
 {
     if payload.fragmented {
         return Ok(None);
@@ -183,8 +194,9 @@ fn transport_in<'a>(payload: &IpPayloadSlice<'a>) -> Result<Option<TransportSlic
     }
 }
 
+/// The message that bytes with this number are, if its protocol is known.
 #[inline(always)]
-fn read_transport(
+pub(crate) fn read_transport(
     ip_number: IpNumber,
     payload: &[u8],
 ) -> Result<Option<TransportSlice<'_>>, SliceError>

@@ -1,10 +1,13 @@
 //! Packets of any of the protocols: what their layers have in common.
 #![tactic(auto)]
 
+mod addresses;
+mod class;
 pub mod err;
 pub mod laws;
 mod layer_headers;
 mod layer_slices;
+mod message;
 mod net;
 mod packet_headers;
 mod payload_slice;
@@ -13,6 +16,9 @@ mod sliced_packet;
 mod tagged_slice;
 mod transport;
 
+pub use addresses::Addresses;
+pub use class::{Class, CutMessage, Part, WholeMessage};
+pub use message::{Message, read_message};
 pub use net::{IpHeader, IpHeaders, NetHeaders, NetSlice};
 pub use packet_headers::PacketHeaders;
 pub use payload_slice::PayloadSlice;

@@ -1,10 +1,13 @@
 ghost use Rattle.std.specs.Prelude.{◌≡◌, ◌≤◌, ◌<◌, ◌+◌, ◌^◌, ℕ, length, map, IfErr, IfSome, Ok};
 ghost use Rattle.std.specs.Option.{option_map};
-ghost use Rattle.ep_packet.specs.PacketHeaders.{Headers, ether_type_headers, ethernet_headers, headers_behind, ids_of, ip_packet_headers, layers_behind, modified_behind, result_told, vlan_headers, vlan_of};
+ghost use Rattle.ep_packet.specs.PacketHeaders.{Headers, ether_type_headers, ethernet_headers};
+ghost use Rattle.ep_packet.specs.PacketHeaders.{headers_behind, ids_in, ip_packet_headers};
+ghost use Rattle.ep_packet.specs.PacketHeaders.{layers_behind, modified_behind, result_told};
+ghost use Rattle.ep_packet.specs.PacketHeaders.{vlan_headers, vlan_header_of};
 ghost use Rattle.ep_packet.specs.Payload.{payload_told};
 ghost use Rattle.ep_packet.specs.SameHeaders.{AreHeadersOf};
 ghost use Rattle.ep_packet.specs.Sliced.{sliced_ether_type, sliced_ethernet, sliced_ip};
-ghost use Rattle.ep_packet.specs.SliceFault.{later, place_of};
+ghost use Rattle.ep_packet.specs.SliceFault.{later, fault_offset};
 ghost use Rattle.ep_packet.specs.declared.sliced_packet.SlicedPacket.{SlicedPacket};
 ghost use Rattle.ep_tag.specs.LinkExt.{fields_of};
 
@@ -42,18 +45,19 @@ impl<'a> PacketHeaders<'a> {
 
     /// The headers of an Ethernet II frame (RFC 894; IEEE 802.3, clause 3).
     ///
-    /// They are those of the layers that `SlicedPacket::from_ethernet` slices, but for two: the length
-    /// field of UDP isn't looked at, so that all of an IP payload behind the header is payload; and
-    /// extension headers of IPv6 that an `Ipv6Extensions` doesn't take end the headers, so that the IP
-    /// payload begins with them.
+    /// They are those of the layers that `SlicedPacket::from_ethernet` slices, but for two: the
+    /// length field of UDP isn't looked at, so that all of an IP payload behind the header is
+    /// payload; and extension headers of IPv6 that an `Ipv6Extensions` doesn't take end the
+    /// headers, so that the IP payload begins with them.
     ///
-    /// Refused is the first layer that isn't whole or breaks its format, with the error of that layer.
-    /// The place of a want of bytes counts from the front of the frame; what a header wants within an IP
-    /// payload has the source of that payload's length.
+    /// Refused is the first layer that isn't whole or breaks its format, with the error of that
+    /// layer. The place of a want of bytes counts from the front of the frame; what a header wants
+    /// within an IP payload has the source of that payload's length.
     pub fn from_ethernet_slice(slice: &'a [u8]) -> Result<PacketHeaders<'a>, SliceError>
         ensures exact { result_told result ≡ ethernet_headers slice.now }
         // The headers of the slices, where their own headers and payloads are all the frame's.
-        ensures agrees { (packet : SlicedPacket) (headers : Headers) → sliced_ethernet slice.now ≡ Ok packet
+        ensures agrees { (packet : SlicedPacket) (headers : Headers)
+            → sliced_ethernet slice.now ≡ Ok packet
             → AreHeadersOf packet headers → result_told result ≡ Ok headers }
     {
         laws::rows_are_found();
@@ -73,15 +77,16 @@ impl<'a> PacketHeaders<'a> {
         Self::behind_link(Some(link), frame.payload(), Ethernet2Header::LEN)
     }
 
-    /// The headers of the bytes behind an ether type, without a link header. The errors are as those of
-    /// [`PacketHeaders::from_ethernet_slice`].
+    /// The headers of the bytes behind an ether type, without a link header. The errors are as
+    /// those of [`PacketHeaders::from_ethernet_slice`].
     pub fn from_ether_type(
         ether_type: EtherType,
         slice: &'a [u8],
     ) -> Result<PacketHeaders<'a>, SliceError>
         ensures exact { result_told result ≡ ether_type_headers ether_type slice.now }
         // The headers of the slices, as above.
-        ensures agrees { (packet : SlicedPacket) (headers : Headers) → sliced_ether_type ether_type slice.now ≡ Ok packet
+        ensures agrees { (packet : SlicedPacket) (headers : Headers)
+            → sliced_ether_type ether_type slice.now ≡ Ok packet
             → AreHeadersOf packet headers → result_told result ≡ Ok headers }
     {
         laws::rows_are_found();
@@ -95,12 +100,13 @@ impl<'a> PacketHeaders<'a> {
         Self::behind_link(None, payload, 0)
     }
 
-    /// The headers of an IP packet of the version that its first half byte tells, without a link header.
-    /// The errors are as those of [`PacketHeaders::from_ethernet_slice`].
+    /// The headers of an IP packet of the version that its first half byte tells, without a link
+    /// header. The errors are as those of [`PacketHeaders::from_ethernet_slice`].
     pub fn from_ip_slice(slice: &'a [u8]) -> Result<PacketHeaders<'a>, SliceError>
         ensures exact { result_told result ≡ ip_packet_headers slice.now }
         // The headers of the slices, as above.
-        ensures agrees { (packet : SlicedPacket) (headers : Headers) → sliced_ip slice.now ≡ Ok packet
+        ensures agrees { (packet : SlicedPacket) (headers : Headers)
+            → sliced_ip slice.now ≡ Ok packet
             → AreHeadersOf packet headers → result_told result ≡ Ok headers }
     {
         laws::rows_are_found();
@@ -155,7 +161,7 @@ impl<'a> PacketHeaders<'a> {
 
     /// The first two VLAN tags, or the one that there is; MACsec headers may stand between them.
     pub fn vlan(&self) -> Option<VlanHeader>
-        ensures { result ≡ vlan_of (vlan_headers self.now.link_exts.items) }
+        ensures { result ≡ vlan_header_of (vlan_headers self.now.link_exts.items) }
     {
         let mut outer: Option<&SingleVlanHeader> = None;
         for tag in self.link_exts.as_slice() {
@@ -179,7 +185,7 @@ impl<'a> PacketHeaders<'a> {
 
     /// The identifiers of all VLAN tags, the outer one first.
     pub fn vlan_ids(&self) -> ArrayVec<VlanId, 3>
-        ensures { result.items ≡ ids_of self.now.link_exts.items }
+        ensures { result.items ≡ ids_in self.now.link_exts.items }
     {
         let mut ids = ArrayVec::new();
         for tag in self.link_exts.as_slice() {
@@ -191,14 +197,16 @@ impl<'a> PacketHeaders<'a> {
     }
 }
 
-// The layers in what the last ether type behind the tags names, or the payload that a modified MACsec
-// header has.
+// The layers in what the last ether type behind the tags names, or the payload that a modified
+// MACsec header has.
 fn layers_behind<'a>(
     tags: &ArrayVec<LinkExtSlice<'a>, 3>,
     last: Option<EtherPayloadSlice<'a>>,
 ) -> Result<LayerHeaders<'a>, SliceError>
     ensures layers { result ≡ layers_behind tags.now.items last.entry }
-    ensures place { IfErr result (λ e. IfSome last.entry (λ q. (n : ℕ) → length q.payload + n < 2 ^ 64 → place_of e + n < 2 ^ 64)) }
+    ensures place { IfErr result
+        (λ e. IfSome last.entry (λ q. (n : ℕ) → length q.payload + n < 2 ^ 64
+        → fault_offset e + n < 2 ^ 64)) }
 {
     match last {
         Some(payload) => LayerHeaders::from_ether_payload(EtherPayloadSlice {

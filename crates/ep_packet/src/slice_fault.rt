@@ -1,7 +1,9 @@
 //! The faults of each layer among those of all, and seen from a slice that begins earlier.
 ghost use Rattle.std.specs.Prelude.{◌≡◌};
 ghost use Rattle.ep_packet.specs.Readable.{tcp_fault};
-ghost use Rattle.ep_packet.specs.SliceFault.{CanMove, bounded_by, moved, of_ip, of_ipv4, of_ipv6, of_linux_sll, of_macsec, within};
+ghost use Rattle.ep_packet.specs.SliceFault.{CanMove, bounded_by, offset_by, of_ip, of_ipv4};
+ghost use Rattle.ep_packet.specs.SliceFault.{of_ipv6};
+ghost use Rattle.ep_packet.specs.SliceFault.{of_linux_sll, of_macsec, within};
 
 use crate::err::packet::SliceError;
 use ep_base::LenSource;
@@ -72,7 +74,7 @@ pub(crate) fn of_tcp(error: tcp::HeaderSliceError) -> SliceError
 /// The same fault of what starts `offset` bytes further on.
 pub(crate) fn moved(error: SliceError, offset: usize) -> SliceError
     requires { CanMove error offset }
-    ensures { result ≡ moved offset error }
+    ensures { result ≡ offset_by offset error }
 {
     match error {
         SliceError::Len(error) => SliceError::Len(error.add_offset(offset)),

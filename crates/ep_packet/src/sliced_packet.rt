@@ -1,4 +1,5 @@
-ghost use Rattle.std.specs.Prelude.{◌≡◌, ◌≤◌, ◌<◌, ◌+◌, ◌^◌, ◌↔◌, IfOk, IfSome, IsErr, length, Ok, Some};
+ghost use Rattle.std.specs.Prelude.{◌≡◌, ◌≤◌, ◌<◌, ◌+◌, ◌^◌, ◌↔◌, IfOk, IfSome, IsErr, length, Ok};
+ghost use Rattle.std.specs.Prelude.{Some};
 ghost use Rattle.std.specs.Option.{option_map};
 ghost use Rattle.ep_link.specs.Ethernet.{ethernet_len, payload_of};
 ghost use Rattle.ep_link.specs.Sll.{sll_len};
@@ -6,10 +7,14 @@ ghost use Rattle.ep_link.specs.SllPayload.{named_payload, payload_of as sll_payl
 ghost use Rattle.ep_link.specs.declared.link.link_slice.LinkSlice.TheVariants as link_slice;
 ghost use Rattle.ep_packet.specs.Class.{class_of, class_told};
 ghost use Rattle.ep_packet.specs.Class.Class.{Refused};
-ghost use Rattle.ep_packet.specs.PacketView.{ether_payload_in, ip_payload_of, is_part, last_payload, payload_ether_type_in, vlan_of, vlan_tags};
+ghost use Rattle.ep_packet.specs.PacketView.{ether_payload_in, ip_payload_of, is_part};
+ghost use Rattle.ep_packet.specs.PacketView.{last_payload, payload_ether_type_in, vlan_slice_of};
+ghost use Rattle.ep_packet.specs.PacketView.{vlan_tags};
 ghost use Rattle.ep_packet.specs.Parts.{ArePartsOf};
 ghost use Rattle.ep_packet.specs.SliceFault.{later};
-ghost use Rattle.ep_packet.specs.Sliced.{IsSliced, IsSlicedIp, ether_payload, packet_behind, sliced_ether_type, sliced_ethernet, sliced_ip, sliced_linux_sll};
+ghost use Rattle.ep_packet.specs.Sliced.{IsSliced, IsSlicedIp, ether_payload, packet_behind};
+ghost use Rattle.ep_packet.specs.Sliced.{sliced_ether_type, sliced_ethernet, sliced_ip};
+ghost use Rattle.ep_packet.specs.Sliced.{sliced_linux_sll};
 ghost use Rattle.ep_packet.specs.Tags.{vlan_ids_of};
 
 use crate::err::packet::SliceError;
@@ -44,18 +49,19 @@ impl<'a> SlicedPacket<'a> {
 
     /// The parts of an Ethernet II frame (RFC 894; IEEE 802.3, clause 3).
     ///
-    /// Behind the link header stand up to three tags; a fourth is payload that is not looked into, and
-    /// so is a modified MACsec payload. IPv4, IPv6 and ARP packets are sliced, and the message in an IP
-    /// packet that is no fragment: ICMP, TCP and UDP.
+    /// Behind the link header stand up to three tags; a fourth is payload that is not looked into,
+    /// and so is a modified MACsec payload. IPv4, IPv6 and ARP packets are sliced, and the message
+    /// in an IP packet that is no fragment: ICMP, TCP and UDP.
     ///
-    /// Refused is the first layer that isn't whole or breaks its format, with the error of that layer.
-    /// The place of a want of bytes counts from the front of the frame; what a header or message wants
-    /// within an IP payload has the source of that payload's length.
+    /// Refused is the first layer that isn't whole or breaks its format, with the error of that
+    /// layer. The place of a want of bytes counts from the front of the frame; what a header or
+    /// message wants within an IP payload has the source of that payload's length.
     pub fn from_ethernet(slice: &'a [u8]) -> Result<SlicedPacket<'a>, SliceError>
         // Tags and layers that are taken stand behind the link header, and no others could.
         ensures found { IfOk result (λ packet. IsSliced (payload_of slice.now) packet) }
         // What stands there is taken.
-        ensures only { (packet : SlicedPacket) → ethernet_len ≤ length slice.now → packet.link ≡ Some (link_slice.Ethernet2 slice.now)
+        ensures only { (packet : SlicedPacket) → ethernet_len ≤ length slice.now
+            → packet.link ≡ Some (link_slice.Ethernet2 slice.now)
             → IsSliced (payload_of slice.now) packet → result ≡ Ok packet }
         // Each part is the frame from its place on.
         ensures parts { IfOk result (λ packet. ArePartsOf slice.now ethernet_len packet) }
@@ -74,12 +80,14 @@ impl<'a> SlicedPacket<'a> {
         Self::behind_link(LinkSlice::Ethernet2(frame), payload, Ethernet2Header::LEN)
     }
 
-    /// The parts of a packet of a Linux cooked capture (libpcap's page on LINKTYPE_LINUX_SLL), whose
-    /// payload is looked into as that of [`SlicedPacket::from_ethernet`] where its protocol is an ether
-    /// type. The errors are of the same kind.
+    /// The parts of a packet of a Linux cooked capture (libpcap's page on LINKTYPE_LINUX_SLL),
+    /// whose payload is looked into as that of [`SlicedPacket::from_ethernet`] where its protocol
+    /// is an ether type. The errors are of the same kind.
     pub fn from_linux_sll(slice: &'a [u8]) -> Result<SlicedPacket<'a>, SliceError>
-        // Tags and layers that are taken stand behind the header, where its protocol is an ether type.
-        ensures found { IfOk result (λ packet. IfSome (named_payload (sll_payload_of slice.now)) (λ p. IsSliced p packet)) }
+        // Tags and layers that are taken stand behind the header, where its protocol is an ether
+        // type.
+        ensures found { IfOk result
+            (λ packet. IfSome (named_payload (sll_payload_of slice.now)) (λ p. IsSliced p packet)) }
         // Each part is the packet from its place on.
         ensures parts { IfOk result (λ packet. ArePartsOf slice.now sll_len packet) }
         ensures exact { result ≡ sliced_linux_sll slice.now }
@@ -102,16 +110,18 @@ impl<'a> SlicedPacket<'a> {
         }
     }
 
-    /// The parts of the bytes behind an ether type, which stand in the place of a link header. The errors
-    /// are as those of [`SlicedPacket::from_ethernet`].
+    /// The parts of the bytes behind an ether type, which stand in the place of a link header. The
+    /// errors are as those of [`SlicedPacket::from_ethernet`].
     pub fn from_ether_type(
         ether_type: EtherType,
         slice: &'a [u8],
     ) -> Result<SlicedPacket<'a>, SliceError>
         // Tags and layers that are taken stand in the slice, and no others could.
-        ensures found { IfOk result (λ packet. IsSliced (ether_payload ether_type slice.now) packet) }
+        ensures found { IfOk result
+            (λ packet. IsSliced (ether_payload ether_type slice.now) packet) }
         // What stands there is taken.
-        ensures only { (packet : SlicedPacket) → packet.link ≡ Some (link_slice.EtherPayload (ether_payload ether_type slice.now))
+        ensures only { (packet : SlicedPacket)
+            → packet.link ≡ Some (link_slice.EtherPayload (ether_payload ether_type slice.now))
             → IsSliced (ether_payload ether_type slice.now) packet → result ≡ Ok packet }
         // Each part is the slice from its place on.
         ensures parts { IfOk result (λ packet. ArePartsOf slice.now 0 packet) }
@@ -131,8 +141,8 @@ impl<'a> SlicedPacket<'a> {
         Self::behind_link(LinkSlice::EtherPayload(link), payload, 0)
     }
 
-    /// The parts of an IP packet of the version that its first half byte tells. Nothing stands in the
-    /// place of a link header. The errors are as those of [`SlicedPacket::from_ethernet`].
+    /// The parts of an IP packet of the version that its first half byte tells. Nothing stands in
+    /// the place of a link header. The errors are as those of [`SlicedPacket::from_ethernet`].
     pub fn from_ip(slice: &'a [u8]) -> Result<SlicedPacket<'a>, SliceError>
         // The slice begins with the packet that is taken.
         ensures found { IfOk result (λ packet. IsSlicedIp slice.now packet) }
@@ -153,8 +163,9 @@ impl<'a> SlicedPacket<'a> {
         }
     }
 
-    /// The ether type of what was not looked into: the last one, where there is no packet of the network
-    /// layer. None behind a modified MACsec payload, and where there was none from the beginning.
+    /// The ether type of what was not looked into: the last one, where there is no packet of the
+    /// network layer. None behind a modified MACsec payload, and where there was none from the
+    /// beginning.
     pub fn payload_ether_type(&self) -> Option<EtherType>
         ensures { result ≡ payload_ether_type_in self.now }
     {
@@ -167,8 +178,8 @@ impl<'a> SlicedPacket<'a> {
         }
     }
 
-    /// What the last ether type names, also where it was looked into. It is bounded by a MACsec header's
-    /// short length where one of the tags has one.
+    /// What the last ether type names, also where it was looked into. It is bounded by a MACsec
+    /// header's short length where one of the tags has one.
     pub fn ether_payload(&self) -> Option<EtherPayloadSlice<'a>>
         ensures { result ≡ ether_payload_in self.now }
     {
@@ -216,7 +227,7 @@ impl<'a> SlicedPacket<'a> {
 
     /// The first two VLAN tags, or the one that there is; MACsec headers may stand between them.
     pub fn vlan(&self) -> Option<VlanSlice<'a>>
-        ensures { result ≡ vlan_of (vlan_tags self.now.link_exts.items) }
+        ensures { result ≡ vlan_slice_of (vlan_tags self.now.link_exts.items) }
     {
         let mut outer: Option<SingleVlanSlice<'a>> = None;
         for tag in self.link_exts.as_slice() {

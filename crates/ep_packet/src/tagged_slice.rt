@@ -2,7 +2,7 @@
 ghost use Rattle.std.specs.Prelude.{◌≡◌, ◌≤◌, length, IfErr, IfOk, IfSome};
 ghost use Rattle.ep_packet.specs.PacketView.{is_cut, source_behind};
 ghost use Rattle.ep_packet.specs.Parts.{TagIn, TagsIn};
-ghost use Rattle.ep_packet.specs.SliceFault.{place_of};
+ghost use Rattle.ep_packet.specs.SliceFault.{fault_offset};
 ghost use Rattle.ep_packet.specs.Tags.{Tagged, most_tags, tag_at, tags_in};
 
 use crate::err::packet::SliceError;
@@ -33,7 +33,7 @@ impl<'a> TaggedSlice<'a> {
     ) -> Result<TaggedSlice<'a>, SliceError>
         ensures tags { result ≡ tags_in most_tags payload.entry }
         ensures parts { IfOk result (λ t. TagsIn payload.entry.payload 0 t) }
-        ensures place { IfErr result (λ e. place_of e ≤ length payload.entry.payload) }
+        ensures place { IfErr result (λ e. fault_offset e ≤ length payload.entry.payload) }
     {
         let mut tags = ArrayVec::new();
         let mut len = 0;
@@ -76,7 +76,7 @@ impl<'a> TaggedSlice<'a> {
 fn tag_of<'a>(payload: &EtherPayloadSlice<'a>) -> Result<Option<LinkExtSlice<'a>>, SliceError>
     ensures tag { result ≡ tag_at payload.now }
     ensures parts { IfOk result (λ o. IfSome o (λ t. TagIn payload.now.payload t)) }
-    ensures place { IfErr result (λ e. place_of e ≡ 0) }
+    ensures place { IfErr result (λ e. fault_offset e ≡ 0) }
 {
     match payload.ether_type {
         EtherType::VLAN_TAGGED_FRAME

@@ -1,6 +1,6 @@
-//! Every front of one frame of each kind: where lengths tell how long a frame is, no front of it is taken.
-//! The bytes were worked out by hand after IEEE 802.3, 802.1Q and 802.1AE and RFC 791, 792, 826, 4302, 4443,
-//! 8200 and 9293.
+//! Every front of one frame of each kind: where lengths tell how long a frame is, no front of it is
+//! taken. The bytes were worked out by hand after IEEE 802.3, 802.1Q and 802.1AE and RFC 791, 792,
+//! 826, 4302, 4443, 8200 and 9293.
 use ep_packet::{NetSlice, SlicedPacket};
 
 // What the frame is, if it is taken and no front of it is.

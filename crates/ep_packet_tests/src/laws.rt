@@ -16,14 +16,11 @@ fn laws_are_called() {
     laws::sliced::cooked_packets_by_hand();
     laws::sliced::ip_packets_by_hand();
     laws::sliced::lengths_by_hand();
-    laws::traits::copies_are_values();
-    laws::traits::copies_of_ip_headers_are_values();
-    laws::traits::copies_of_net_are_values();
-    laws::traits::copies_of_packets_are_values();
-    laws::traits::copies_never_fail();
-    laws::traits::equals_are_same();
-    laws::traits::equal_net_is_same();
-    laws::traits::equal_packets_are_same();
+    laws::traits::types_are_plain_data();
+    laws::traits::copies_of_messages_are_values();
+    laws::traits::equal_messages_are_read_alike();
+    laws::traits::net_is_plain_data();
+    laws::traits::packets_are_plain_data();
     laws::traits::copies_of_payloads_are_values();
     laws::traits::payloads_are_told_apart();
 }

@@ -1,5 +1,5 @@
-//! Headers of frames. The bytes were worked out by hand after IEEE 802.1Q and 802.1AE and RFC 768, 791,
-//! 792, 826, 8200 and 9293; addresses are zero.
+//! Headers of frames. The bytes were worked out by hand after IEEE 802.1Q and 802.1AE and RFC 768,
+//! 791, 792, 826, 8200 and 9293; addresses are zero.
 use ep_base::err::{Layer, LenError};
 use ep_base::{EtherType, IpNumber, LenSource};
 use ep_ipslice::err::ip;
@@ -139,8 +139,8 @@ fn payload_within_a_short_length(rt: HostRuntime) {
     assert!(rt; payload_of(0x88e5, &bytes) == Ok(PayloadSlice::Ether(named)));
 }
 
-// An IPv6 packet whose payload length is 16: a fragment header that names this number, with these two
-// bytes of offset and flag, and eight bytes more.
+// An IPv6 packet whose payload length is 16: a fragment header that names this number, with these
+// two bytes of offset and flag, and eight bytes more.
 fn number_behind(next: u8, more: u8) -> Option<IpNumber> {
     let mut packet = [0; 56];
     packet[..8].copy_from_slice(&[0x60, 0, 0, 0, 0, 16, 44, 64]);

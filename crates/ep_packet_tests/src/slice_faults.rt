@@ -1,12 +1,12 @@
-//! Where packets end too early. The bytes were worked out by hand after IEEE 802.3, 802.1Q and 802.1AE and
-//! RFC 768, 791, 792, 826, 4302, 4443, 8200 and 9293; addresses are zero.
+//! Where packets end too early. The bytes were worked out by hand after IEEE 802.3, 802.1Q and
+//! 802.1AE and RFC 768, 791, 792, 826, 4302, 4443, 8200 and 9293; addresses are zero.
 use ep_base::err::{Layer, LenError};
 use ep_base::{EtherType, LenSource};
 use ep_packet::SlicedPacket;
 use ep_packet::err::packet::SliceError;
 
-// Bytes behind an ether type, and the layer that wants more of them: how many it needs, how many there
-// are, what bounds them, and where it begins.
+// Bytes behind an ether type, and the layer that wants more of them: how many it needs, how many
+// there are, what bounds them, and where it begins.
 #[derive(Drop)]
 struct Cut<'a> {
     ether_type: u16,

@@ -1,10 +1,12 @@
-//! Parts of packets. The bytes were worked out by hand after IEEE 802.3, 802.1Q and 802.1AE, libpcap's
-//! page on LINKTYPE_LINUX_SLL, and RFC 768, 791, 8200 and 9293.
+//! Parts of packets. The bytes were worked out by hand after IEEE 802.3, 802.1Q and 802.1AE,
+//! libpcap's page on LINKTYPE_LINUX_SLL, and RFC 768, 791, 8200 and 9293.
 use ep_base::{EtherType, LenSource};
 use ep_link::LinkSlice;
 use ep_link::err::linux_sll;
 use ep_packet::err::packet::SliceError;
-use ep_packet::{NetSlice, SlicedPacket, TransportSlice};
+use ep_packet::{
+    Addresses, Class, CutMessage, Message, NetSlice, SlicedPacket, TransportSlice, WholeMessage,
+};
 use ep_tag::VlanSlice;
 
 // An IPv4 packet with a UDP message of eight bytes of payload, from 10.0.0.1 to 10.0.0.2.
@@ -41,14 +43,48 @@ fn cooked_capture_of_an_unknown_kind(rt: HostRuntime) {
     assert!(rt; refused == Some(SliceError::LinuxSll(error)));
 }
 
-// A VLAN tag with identifier 5, a MACsec header with a short length of 42 that is behind it, and a tag
-// with identifier 9 in front of the packet, whose ether type names it.
+// A VLAN tag with identifier 5, a MACsec header with a short length of 42 that is behind it, and a
+// tag with identifier 9 in front of the packet, whose ether type names it.
 fn tagged_frame() -> [u8; 66] {
     let mut frame = [0; 66];
     frame[12..22].copy_from_slice(&[0x88, 0xa8, 0, 5, 0x88, 0xe5, 0, 42, 0, 0]);
     frame[22..30].copy_from_slice(&[0, 1, 0x81, 0, 0, 9, 8, 0]);
     frame[30..].copy_from_slice(&IPV4);
     frame
+}
+
+fn source_of_a_datagram(frame: &[u8]) -> Option<[u8; 4]> {
+    match Class::from_ethernet(frame) {
+        Class::Whole(
+            WholeMessage {
+                addresses: Addresses::V4 { source, .. },
+                message: Message::Udp(_),
+                ..
+            },
+        ) => Some(source),
+        _ => None,
+    }
+}
+
+fn identification_of_a_part(frame: &[u8]) -> Option<u32> {
+    match Class::from_ethernet(frame) {
+        Class::Cut(CutMessage { identification, .. }) => Some(identification),
+        _ => None,
+    }
+}
+
+fn is_refused(frame: &[u8]) -> bool {
+    matches!(Class::from_ethernet(frame), Class::Refused)
+}
+
+#[test]
+fn classes_of_a_frame(rt: HostRuntime) {
+    let mut frame = tagged_frame();
+    assert_eq!(rt; source_of_a_datagram(&frame), Some([10, 0, 0, 1]));
+    // More fragments follow.
+    frame[36] = 0x20;
+    assert_eq!(rt; identification_of_a_part(&frame), Some(7));
+    assert!(rt; is_refused(&frame[..13]));
 }
 
 #[test]
@@ -106,8 +142,8 @@ fn behind_tags(bytes: &[u8]) -> Option<(usize, Option<EtherType>)> {
     }
 }
 
-// A fourth tag is payload, be it whole or not; behind an encrypted MACsec payload and behind one that
-// was changed nothing is named; behind an authenticated one the ether type is.
+// A fourth tag is payload, be it whole or not; behind an encrypted MACsec payload and behind one
+// that was changed nothing is named; behind an authenticated one the ether type is.
 #[test]
 fn ends_of_the_tags(rt: HostRuntime) {
     let vlan = Some((3, Some(EtherType::VLAN_TAGGED_FRAME)));

@@ -1,8 +1,8 @@
-pub mod Bits
-pub mod Front
-pub mod MacsecFront
-pub mod MacsecRead
-pub mod MacsecSpelling
-pub mod Numbers
-pub mod SameHeaders
-pub mod VlanSpelling
+mod Bits
+mod Front
+mod MacsecFront
+mod MacsecRead
+mod MacsecSpelling
+mod Numbers
+mod SameHeaders
+mod VlanSpelling

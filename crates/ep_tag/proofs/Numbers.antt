@@ -1,7 +1,7 @@
 -- Numbers against the bytes that spell them.
-use Rattle.std.proofs.Common.{◌≡◌, ℕ, zero, suc, ◌+◌, ◌*◌, ◌/◌, ◌%◌, ◌^◌, ◌<◌, cond, eqb, List, [], ◌++◌, length, drop, arith, ap, ◌∙◌, zero-add}
-use Rattle.std.proofs.lemmas.List.{append-nil, drop_all}
-use Rattle.ep_base.proofs.Cells.{cells, drop-cells}
+use Rattle.std.proofs.Common.{◌≡◌, ℕ, zero, suc, ◌+◌, ◌*◌, ◌/◌, ◌%◌, ◌^◌, ◌<◌, cond, eqb, arith}
+use Rattle.std.proofs.Common.{◌∙◌}
+use Rattle.ep_base.proofs.Numbers.{digits_of}
 
 worth_below : (m w : ℕ) → m < 2 → cond (eqb m 1) w 0 ≡ m * w
 worth_below zero w h = omega arith
@@ -12,37 +12,25 @@ worth_below (suc (suc m)) w h = absurd (omega (arith, h))
 pub worth_of : (n w : ℕ) → cond (eqb (n % 2) 1) w 0 ≡ n % 2 * w
 worth_of n w = worth_below (n % 2) w (omega arith)
 
-pub high_of : (a b : ℕ) → a < 256 → b < 256 → (256 * a + b) / 256 % 256 ≡ a
-high_of a b h k = omega arith
-
-pub low_of : (a b : ℕ) → b < 256 → (256 * a + b) % 256 ≡ b
-low_of a b h = omega arith
-
--- two bytes of a number of 16 bits
-pub joined : (n : ℕ) → n < 2 ^ 16 → 256 * (n / 256 % 256) + n % 256 ≡ n
-joined n h = omega arith
-
--- four and eight bytes of a number of 32 and 64 bits
-pub joined_4 : (n : ℕ) → n < 2 ^ 32 → 256 * (256 * (256 * (n / 2 ^ 24 % 256) + n / 2 ^ 16 % 256) + n / 2 ^ 8 % 256) + n % 256 ≡ n
-joined_4 n h = omega arith
-
+-- eight bytes of a number of 64 bits
 pub joined_8 : (n : ℕ) → n < 2 ^ 64 →
-    256 * (256 * (256 * (256 * (256 * (256 * (256 * (n / 2 ^ 56 % 256) + n / 2 ^ 48 % 256) + n / 2 ^ 40 % 256) + n / 2 ^ 32 % 256) + n / 2 ^ 24 % 256) + n / 2 ^ 16 % 256) + n / 2 ^ 8 % 256) + n % 256 ≡ n
+    256 * (256 *
+    (256 * (256 *
+    (256 * (256 * (256 * (n / 2 ^ 56 % 256) + n / 2 ^ 48 % 256) + n / 2 ^ 40 % 256) + n /
+    2 ^ 32 % 256) + n / 2 ^ 24 % 256) + n / 2 ^ 16 % 256) + n / 2 ^ 8 % 256) + n % 256
+    ≡ n
 joined_8 n h = omega arith
-
-pub digits_4 : (a b c d : ℕ) → a < 256 → b < 256 → c < 256 → d < 256 →
-    let n = 256 * (256 * (256 * a + b) + c) + d in
-    (n / 2 ^ 24 % 256 ≡ a) × (n / 2 ^ 16 % 256 ≡ b) × (n / 256 % 256 ≡ c) × (n % 256 ≡ d)
-digits_4 a b c d ha hb hc hd = (omega arith, omega arith, omega arith, omega arith)
 
 -- the lower four of eight bytes, and the upper four
 low_digits : (x e f g h : ℕ) → e < 256 → f < 256 → g < 256 → h < 256 →
     let n = 256 * (256 * (256 * (256 * x + e) + f) + g) + h in
-    (n / 2 ^ 32 ≡ x) × (n / 2 ^ 24 % 256 ≡ e) × (n / 2 ^ 16 % 256 ≡ f) × (n / 256 % 256 ≡ g) × (n % 256 ≡ h)
+    (n / 2 ^ 32 ≡ x) × (n / 2 ^ 24 % 256 ≡ e) × (n / 2 ^ 16 % 256 ≡ f)
+    × (n / 256 % 256 ≡ g) × (n % 256 ≡ h)
 low_digits x e f g h he hf hg hh = (omega arith, omega arith, omega arith, omega arith, omega arith)
 
 high_digits : (n x : ℕ) → n / 2 ^ 32 ≡ x →
-    (n / 2 ^ 56 % 256 ≡ x / 2 ^ 24 % 256) × (n / 2 ^ 48 % 256 ≡ x / 2 ^ 16 % 256) × (n / 2 ^ 40 % 256 ≡ x / 256 % 256) × (n / 2 ^ 32 % 256 ≡ x % 256)
+    (n / 2 ^ 56 % 256 ≡ x / 2 ^ 24 % 256) × (n / 2 ^ 48 % 256 ≡ x / 2 ^ 16 % 256)
+    × (n / 2 ^ 40 % 256 ≡ x / 256 % 256) × (n / 2 ^ 32 % 256 ≡ x % 256)
 high_digits n x e = (omega arith, omega arith, omega arith, omega arith)
 
 pub record Digits8 (n a b c d e f g h : ℕ) : Type 0 where
@@ -55,14 +43,16 @@ pub record Digits8 (n a b c d e f g h : ℕ) : Type 0 where
   pub byte6 : n / 256 % 256 ≡ g
   pub byte7 : n % 256 ≡ h
 
-pub digits_8 : (a b c d e f g h : ℕ) → a < 256 → b < 256 → c < 256 → d < 256 → e < 256 → f < 256 → g < 256 → h < 256 →
-    Digits8 (256 * (256 * (256 * (256 * (256 * (256 * (256 * a + b) + c) + d) + e) + f) + g) + h) a b c d e f g h
+pub digits_8 : (a b c d e f g h : ℕ) → a < 256 → b < 256 → c < 256 → d < 256 → e < 256
+    → f < 256 → g < 256 → h < 256 →
+    Digits8 (256 * (256 * (256 * (256 * (256 * (256 * (256 * a + b) + c) + d) + e) + f) + g) + h)
+    a b c d e f g h
 digits_8 a b c d e f g h ha hb hc hd he hf hg hh =
     let x = 256 * (256 * (256 * a + b) + c) + d in
     let n = 256 * (256 * (256 * (256 * x + e) + f) + g) + h in
     let low = low_digits x e f g h he hf hg hh in
     let high = high_digits n x low.0 in
-    let upper = digits_4 a b c d ha hb hc hd in
+    let upper = digits_of a b c d ha hb hc hd in
     record {
       byte0 = high.0 ∙ upper.0;
       byte1 = high.1 ∙ upper.1;
@@ -73,10 +63,3 @@ digits_8 a b c d e f g h ha hb hc hd he hf hg hh =
       byte6 = low.3;
       byte7 = low.4;
     }
-
--- a list, number by number
-pub as_cells : (n : ℕ) (xs : List ℕ) → length xs ≡ n → xs ≡ cells n 0 xs
-as_cells n xs len =
-    let past : drop n xs ≡ [] = drop_all n xs (omega arith) in
-    drop-cells n 0 xs (omega arith) ∙ ap (λ k. cells n 0 xs ++ drop k xs) (zero-add n) ∙ ap (λ (ys : List ℕ). cells n 0 xs ++ ys) past
-    ∙ append-nil (cells n 0 xs)

@@ -12,6 +12,7 @@ fed_from [] = []
 fed_from (t ∷ []) = []
 fed_from (t ∷ (s ∷ bytes)) = fed.u16 t ++ fed.u8 s ++ fed.slice fed.u8 bytes
 
-pub hashed_alike : (p q : EtherPayload) → on ordered_as (pointwise nat_eq) p q ≡ true → hashed_as p ≡ hashed_as q
+pub hashed_alike : (p q : EtherPayload) → on ordered_as (pointwise nat_eq) p q ≡ true
+    → hashed_as p ≡ hashed_as q
 unfolding fed_from
 hashed_alike p q same = ap fed_from ((bytes_decides (ordered_as p) (ordered_as q)).0 same)

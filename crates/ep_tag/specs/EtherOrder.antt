@@ -1,4 +1,5 @@
--- Payloads behind an ether type, compared by the type, then by what bounds them, then by their bytes.
+-- Payloads behind an ether type, compared by the type, then by what bounds them, then by their
+-- bytes.
 use Rattle.std.specs.Prelude.{ℕ, List, ◌∷◌, ◌++◌}
 use Rattle.std.specs.Hash as fed
 use Rattle.ep_base.specs.LenSource.{source_place}
@@ -10,4 +11,5 @@ ordered_as p = p.ether_type.0 ∷ source_place p.len_source ∷ p.payload
 
 -- what a hasher is fed
 abbrev pub hashed_as : EtherPayload → fed.HashWrites
-hashed_as p = fed.u16 p.ether_type.0 ++ fed.u8 (source_place p.len_source) ++ fed.slice fed.u8 p.payload
+hashed_as p = fed.u16 p.ether_type.0 ++ fed.u8 (source_place p.len_source)
+    ++ fed.slice fed.u8 p.payload

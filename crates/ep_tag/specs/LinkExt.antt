@@ -17,8 +17,8 @@ tag_len (tag.Macsec m) = length m.header
 
 -- the fields of the tag
 abbrev pub fields_of : LinkExtSlice → LinkExtHeader
-fields_of (tag.Vlan bytes) = header.Vlan (vlan.header_of bytes)
-fields_of (tag.Macsec m) = header.Macsec (macsec.header_of m.header)
+fields_of (tag.Vlan bytes) = header.Vlan (vlan.single_vlan_header_of bytes)
+fields_of (tag.Macsec m) = header.Macsec (macsec.macsec_header_of m.header)
 
 -- what the tag's own ether type names, where it has one
 abbrev pub payload_behind : LinkExtSlice → Option EtherPayload

@@ -1,5 +1,7 @@
 -- The MACsec header (IEEE 802.1AE, clause 9) and the payload behind it.
-use Rattle.std.specs.Prelude.{◌≡◌, ◌≤◌, ◌<◌, ℕ, ◌+◌, ◌-◌, ◌%◌, ◌^◌, ◌&&◌, ◌==◌, not, Bool, false, if◌then◌else◌, List, [], ◌∷◌, ◌++◌, length, slice_index, slice_set, Option, Some, None, is_some, ⊤}
+use Rattle.std.specs.Prelude.{◌≡◌, ◌≤◌, ◌<◌, ℕ, ◌+◌, ◌-◌, ◌%◌, ◌^◌, ◌&&◌, ◌==◌, not, Bool, false}
+use Rattle.std.specs.Prelude.{if◌then◌else◌, List, [], ◌∷◌, ◌++◌, length, slice_index, slice_set}
+use Rattle.std.specs.Prelude.{Option, Some, None, is_some, ⊤}
 use Rattle.std.specs.Int.{w16, w32, w64, bit_at, to_be_bytes}
 use Rattle.ep_base.specs.Bytes.{num}
 use Rattle.ep_base.specs.declared.link.ether_type.EtherType.{EtherType}
@@ -7,6 +9,7 @@ use Rattle.ep_tag.specs.declared.link.macsec_header.MacsecHeader.{MacsecHeader}
 use Rattle.ep_tag.specs.declared.link.macsec_p_type.MacsecPType.{MacsecPType}
 use Rattle.ep_tag.specs.declared.link.macsec_p_type.MacsecPType.TheVariants as ptype
 use Rattle.ep_tag.specs.Ether.{ether_type_at}
+use Rattle.ep_base.specs.Fronts.{IsReadAs}
 
 -- bit k of the first byte, the lowest being bit 0
 abbrev pub bit_of : List ℕ → ℕ → Bool
@@ -69,13 +72,16 @@ header_len_of header = 6 + sci_len header + type_len header
 
 -- the ether type, where it is there: the last two bytes
 abbrev pub next_type_of : List ℕ → Option EtherType
-next_type_of header = if is_unmodified header then Some (ether_type_at header (6 + sci_len header)) else None
+next_type_of header = if is_unmodified header
+    then Some (ether_type_at header (6 + sci_len header)) else None
 
 -- what the payload is, by the two bits for encrypted and changed
 abbrev pub ptype_of : List ℕ → MacsecPType
 ptype_of header =
-    if is_encrypted header then (if is_changed header then ptype.Encrypted else ptype.EncryptedUnmodified)
-    else (if is_changed header then ptype.Modified else ptype.Unmodified (ether_type_at header (6 + sci_len header)))
+    if is_encrypted header then (if is_changed header then ptype.Encrypted
+    else ptype.EncryptedUnmodified)
+    else (if is_changed header then ptype.Modified
+    else ptype.Unmodified (ether_type_at header (6 + sci_len header)))
 
 -- an ether type is to follow, and the short length has no room for it
 abbrev pub has_no_room : List ℕ → Bool
@@ -89,8 +95,8 @@ pub record IsMacsecHeader (header : List ℕ) : Type 0 where
   pub whole : length header ≡ header_len_of header
 
 -- the fields that a header's bytes spell
-abbrev pub header_of : List ℕ → MacsecHeader
-header_of header = record {
+abbrev pub macsec_header_of : List ℕ → MacsecHeader
+macsec_header_of header = record {
   ptype = ptype_of header;
   endstation_id = endstation_id_of header;
   scb = scb_of header;
@@ -123,23 +129,22 @@ worth b n = if b then n else 0
 
 abbrev pub first_byte : MacsecHeader → ℕ
 first_byte h =
-    worth h.endstation_id (2 ^ 6) + worth (is_some h.sci) (2 ^ 5) + worth h.scb (2 ^ 4) + ptype_bits h.ptype + h.an
+    worth h.endstation_id (2 ^ 6) + worth (is_some h.sci) (2 ^ 5) + worth h.scb
+    (2 ^ 4) + ptype_bits h.ptype + h.an
 
 -- the bytes of a header; the two bits in front of the short length are unused and 0
 abbrev pub spelling : MacsecHeader → List ℕ
-spelling h = first_byte h ∷ h.short_len ∷ (to_be_bytes w32 h.packet_nr ++ sci_spelling h.sci ++ ptype_spelling h.ptype)
+spelling h = first_byte h ∷ h.short_len ∷
+    (to_be_bytes w32 h.packet_nr ++ sci_spelling h.sci ++ ptype_spelling h.ptype)
 
 -- the bytes with the two unused bits as 0
 abbrev pub with_unused_bits_zero : List ℕ → List ℕ
 with_unused_bits_zero header = slice_set header 1 (slice_index header 1 % 2 ^ 6)
 
--- in front of the rest stands a header with these fields, which spell it again but for the unused bits
-pub record IsRead (bytes : List ℕ) (h : MacsecHeader) (rest : List ℕ) : Type 0 where
-  pub front : List ℕ
-  pub header : IsMacsecHeader front
-  pub place : bytes ≡ front ++ rest
-  pub fields : h ≡ header_of front
-  pub again : spelling h ≡ with_unused_bits_zero front
+-- in front of the rest stands a header with these fields, which spell it again but for the unused
+-- bits
+abbrev pub IsRead : List ℕ → MacsecHeader → List ℕ → Type 0
+IsRead = IsReadAs IsMacsecHeader macsec_header_of spelling with_unused_bits_zero
 
 -- the fields leave room for the ether type: an unmodified payload has no short length of 1
 abbrev pub HasRoom : MacsecHeader → Type 0

@@ -1,12 +1,14 @@
 -- What a MACsec header makes of the bytes behind it (IEEE 802.1AE, clause 9).
-use Rattle.std.specs.Prelude.{◌≡◌, ◌<◌, ℕ, ◌+◌, ◌-◌, ◌==◌, nat_lt, if◌then◌else◌, List, [], ◌++◌, length, take, drop, Option, Some, None, Result, Ok, Err}
+use Rattle.std.specs.Prelude.{◌≡◌, ◌<◌, ℕ, ◌+◌, ◌-◌, ◌==◌, nat_lt, if◌then◌else◌, List, [], ◌++◌}
+use Rattle.std.specs.Prelude.{length, take, drop, Option, Some, None, Result, Ok, Err}
 use Rattle.ep_base.specs.declared.err.layer.Layer.TheVariants.{MacsecPacket}
 use Rattle.ep_base.specs.declared.len_source.LenSource.{LenSource}
 use Rattle.ep_base.specs.declared.len_source.LenSource.TheVariants.{Slice, MacsecShortLength}
-use Rattle.ep_tag.specs.declared.err.macsec.header_slice_error.HeaderSliceError.{HeaderSliceError}
-use Rattle.ep_tag.specs.declared.err.macsec.header_slice_error.HeaderSliceError.TheVariants.{Len}
+use Rattle.ep_base.specs.declared.err.slice_error.SliceError.{SliceError}
+use Rattle.ep_base.specs.declared.err.slice_error.SliceError.TheVariants.{Len}
+use Rattle.ep_tag.specs.declared.err.macsec.header_error.HeaderError.{HeaderError}
 use Rattle.ep_tag.specs.Ether.{EtherPayload, ether_type_at}
-use Rattle.ep_tag.specs.Front.{too_short}
+use Rattle.ep_base.specs.LenError.{too_few_bytes}
 use Rattle.ep_tag.specs.Macsec.{IsMacsecHeader, is_unmodified, sci_len, short_len_of, type_len}
 use Rattle.ep_tag.specs.MacsecFault.{header_at}
 
@@ -31,7 +33,12 @@ source_of header = if short_len_of header == 0 then Slice else MacsecShortLength
 -- bytes as the payload of a header
 abbrev pub payload_under : List ℕ → List ℕ → MacsecPayload
 payload_under header bytes =
-    if is_unmodified header then Unmodified (record { ether_type = ether_type_at header (6 + sci_len header); len_source = source_of header; payload = bytes })
+    if is_unmodified header then Unmodified
+    (record {
+      ether_type = ether_type_at header (6 + sci_len header);
+      len_source = source_of header;
+      payload = bytes;
+    })
     else Modified bytes
 
 -- header and payload stand at the front of the bytes; a short length above 0 says how long the
@@ -47,21 +54,24 @@ pub record IsMacsec (bytes : List ℕ) (macsec : Macsec) : Type 0 where
 
 -- the payload's bytes among those behind the header
 abbrev pub bytes_under : List ℕ → List ℕ → List ℕ
-bytes_under header rest = if short_len_of header == 0 then rest else take (payload_len_of header) rest
+bytes_under header rest = if short_len_of header == 0 then rest
+    else take (payload_len_of header) rest
 
 -- a header and what it makes of the bytes behind it, or a want of bytes
-abbrev pub macsec_with : List ℕ → List ℕ → Result Macsec HeaderSliceError
+abbrev pub macsec_with : List ℕ → List ℕ → Result Macsec (SliceError HeaderError)
 macsec_with header rest =
     if nat_lt (length rest) (payload_len_of header)
-    then Err (Len (too_short MacsecPacket (length header + payload_len_of header) (length header + length rest)))
+    then Err (Len (too_few_bytes MacsecPacket (length header + payload_len_of header)
+    (length header + length rest)))
     else Ok (record { header = header; payload = payload_under header (bytes_under header rest) })
 
-abbrev pub macsec_behind : List ℕ → Result (List ℕ) HeaderSliceError → Result Macsec HeaderSliceError
+abbrev pub macsec_behind : List ℕ → Result (List ℕ) (SliceError HeaderError)
+    → Result Macsec (SliceError HeaderError)
 macsec_behind bytes (Ok header) = macsec_with header (drop (length header) bytes)
 macsec_behind bytes (Err e) = Err e
 
 -- header and payload at the front of the bytes, or the first fault
-abbrev pub macsec_at : List ℕ → Result Macsec HeaderSliceError
+abbrev pub macsec_at : List ℕ → Result Macsec (SliceError HeaderError)
 macsec_at bytes = macsec_behind bytes (header_at bytes)
 
 -- what the header's ether type names, where it has one

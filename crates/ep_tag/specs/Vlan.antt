@@ -1,11 +1,13 @@
 -- The VLAN tag behind the ether type that names it (IEEE 802.1Q, section 9.6): its bytes, and each
 -- field by its place in them.
-use Rattle.std.specs.Prelude.{◌≡◌, ℕ, ◌+◌, ◌*◌, ◌/◌, ◌%◌, ◌^◌, ◌<◌, ◌≤◌, ◌==◌, Bool, false, if◌then◌else◌, List, ◌++◌, length, drop}
+use Rattle.std.specs.Prelude.{ℕ, ◌+◌, ◌*◌, ◌/◌, ◌%◌, ◌^◌, ◌<◌, ◌≤◌, ◌==◌, Bool, false}
+use Rattle.std.specs.Prelude.{if◌then◌else◌, List, ◌++◌, drop}
 use Rattle.std.specs.Int.{w16, bit_at, to_be_bytes}
 use Rattle.ep_base.specs.Bytes.{num}
 use Rattle.ep_base.specs.declared.len_source.LenSource.TheVariants.{Slice}
 use Rattle.ep_base.specs.declared.link.ether_type.EtherType.{EtherType}
 use Rattle.ep_tag.specs.Ether.{EtherPayload, ether_type_at}
+use Rattle.ep_base.specs.Fronts.{IsOfLength, IsReadAs}
 use Rattle.ep_tag.specs.declared.link.single_vlan_header.SingleVlanHeader.{SingleVlanHeader}
 use Rattle.ep_tag.specs.declared.link.double_vlan_header.DoubleVlanHeader.{DoubleVlanHeader}
 
@@ -29,8 +31,8 @@ abbrev pub next_type_of : List ℕ → EtherType
 next_type_of tag = ether_type_at tag 2
 
 -- the fields that the first four bytes spell
-abbrev pub header_of : List ℕ → SingleVlanHeader
-header_of tag = record {
+abbrev pub single_vlan_header_of : List ℕ → SingleVlanHeader
+single_vlan_header_of tag = record {
   pcp = pcp_of tag;
   drop_eligible_indicator = drop_eligible_of tag;
   vlan_id = vlan_id_of tag;
@@ -39,7 +41,8 @@ header_of tag = record {
 
 -- 0 in every field
 abbrev pub default_header : SingleVlanHeader
-default_header = record { pcp = 0; drop_eligible_indicator = false; vlan_id = 0; ether_type = record { 0 = 0 } }
+default_header =
+    record { pcp = 0; drop_eligible_indicator = false; vlan_id = 0; ether_type = record { 0 = 0 } }
 
 -- the bytes of a header
 abbrev pub spelling : SingleVlanHeader → List ℕ
@@ -49,15 +52,12 @@ spelling h =
 
 -- what stands behind a tag, under the tag's ether type
 abbrev pub payload_of : List ℕ → EtherPayload
-payload_of tag = record { ether_type = next_type_of tag; len_source = Slice; payload = drop vlan_len tag }
+payload_of tag =
+    record { ether_type = next_type_of tag; len_source = Slice; payload = drop vlan_len tag }
 
 -- in front of the rest stands a tag with these fields, which spell it again
-pub record IsRead (bytes : List ℕ) (h : SingleVlanHeader) (rest : List ℕ) : Type 0 where
-  pub front : List ℕ
-  pub whole : length front ≡ vlan_len
-  pub place : bytes ≡ front ++ rest
-  pub fields : h ≡ header_of front
-  pub again : spelling h ≡ front
+abbrev pub IsRead : List ℕ → SingleVlanHeader → List ℕ → Type 0
+IsRead = IsReadAs (IsOfLength vlan_len) single_vlan_header_of spelling (λ front. front)
 
 -- two tags, the outer one first
 abbrev pub double_spelling : DoubleVlanHeader → List ℕ

@@ -6,7 +6,7 @@ use Rattle.ep_tag.specs.declared.link.vlan_header.VlanHeader.TheVariants as head
 use Rattle.ep_tag.specs.declared.link.vlan_slice.VlanSlice.{VlanSlice}
 use Rattle.ep_tag.specs.declared.link.vlan_slice.VlanSlice.TheVariants as slice
 use Rattle.ep_tag.specs.Ether.{EtherPayload}
-use Rattle.ep_tag.specs.Vlan.{double_spelling, header_of, payload_of, spelling}
+use Rattle.ep_tag.specs.Vlan.{double_spelling, single_vlan_header_of, payload_of, spelling}
 
 -- the bytes of the tags, the outer one first
 abbrev pub tags_spelling : VlanHeader → List ℕ
@@ -20,8 +20,13 @@ last_type_in (header.Double h) = h.inner.ether_type
 
 -- the fields of the tags
 abbrev pub fields_of : VlanSlice → VlanHeader
-fields_of (slice.SingleVlan tag) = header.Single (header_of tag)
-fields_of (slice.DoubleVlan tags) = header.Double (record { outer = header_of tags.outer; inner = header_of tags.inner })
+fields_of (slice.SingleVlan tag) = header.Single (single_vlan_header_of tag)
+fields_of (slice.DoubleVlan tags) =
+    header.Double (record {
+      outer = single_vlan_header_of tags.outer;
+      inner = single_vlan_header_of
+          tags.inner;
+    })
 
 -- what follows the last tag, under its ether type
 abbrev pub last_payload_of : VlanSlice → EtherPayload

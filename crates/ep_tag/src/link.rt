@@ -3,7 +3,6 @@
 mod double_vlan_header;
 mod double_vlan_slice;
 mod ether_payload_slice;
-mod front;
 mod link_ext_header;
 mod link_ext_slice;
 mod macsec_an;
@@ -16,6 +15,7 @@ mod macsec_slice;
 mod single_vlan_header;
 mod single_vlan_header_slice;
 mod single_vlan_slice;
+mod vlan_bytes;
 mod vlan_header;
 mod vlan_id;
 mod vlan_pcp;

@@ -46,8 +46,8 @@ fn header() -> Result<MacsecHeader, Fail> {
     })
 }
 
-// The readers below answer what a test compares and no more: a slice that a test held would bring its
-// contract into the proof of everything behind it.
+// The readers below answer what a test compares and no more: a slice that a test held would bring
+// its contract into the proof of everything behind it.
 
 fn header_slice(bytes: &[u8]) -> Option<MacsecHeaderSlice<'_>> {
     MacsecHeaderSlice::from_slice(bytes).ok()
@@ -184,7 +184,8 @@ fn numbers_of_a_header_slice(rt: HostRuntime) -> Result<(), Fail> {
     Ok(())
 }
 
-// What a payload is read as: the ether type and what bounds it, where it is unmodified, and its bytes.
+// What a payload is read as: the ether type and what bounds it, where it is unmodified, and its
+// bytes.
 pub(super) type Payload<'a> = (Option<(EtherType, LenSource)>, &'a [u8]);
 
 pub(super) fn payload_of<'a>(macsec: &MacsecSlice<'a>) -> Payload<'a> {

@@ -5,10 +5,12 @@ use ep_base::{EtherType, LenSource};
 use ep_tag::err::macsec::{HeaderError, HeaderSliceError};
 use ep_tag::{MacsecPType, MacsecSlice};
 
-// The lengths of a payload behind short lengths 0, 1, 2, 3, 47 and 63, or none where they are refused.
+// The lengths of a payload behind short lengths 0, 1, 2, 3, 47 and 63, or none where they are
+// refused.
 type PayloadLens = [Option<u8>; 6];
 
-// Where the two bytes of the ether type belong to the header and are counted by the short length, ..
+// Where the two bytes of the ether type belong to the header and are counted by the short length,
+// ..
 fn unmodified(whole: u8) -> PayloadLens {
     [Some(whole), None, Some(0), Some(1), Some(45), Some(61)]
 }
@@ -18,8 +20,8 @@ fn modified(whole: u8) -> PayloadLens {
     [Some(whole), Some(1), Some(2), Some(3), Some(47), Some(63)]
 }
 
-// Of 80 bytes: the flags E, C and SC of the first one, the length of the header, what its payload is,
-// and the payload's lengths.
+// Of 80 bytes: the flags E, C and SC of the first one, the length of the header, what its payload
+// is, and the payload's lengths.
 fn by_flags() -> [(u8, u8, MacsecPType, PayloadLens); 8] {
     let no_identifier = MacsecPType::Unmodified(EtherType(0x0607));
     let identifier = MacsecPType::Unmodified(EtherType(0x0e0f));
@@ -135,8 +137,8 @@ fn every_flag_and_short_length_of_too_few_bytes(rt: HostRuntime) {
     }
 }
 
-// The refusal of the first `len` bytes of a header of `header_len` bytes, which needs `whole_len` with
-// its payload.
+// The refusal of the first `len` bytes of a header of `header_len` bytes, which needs `whole_len`
+// with its payload.
 fn front_refused(len: usize, header_len: usize, whole_len: usize) -> HeaderSliceError {
     if len < 6 {
         want(6, len, Layer::MacsecHeader)

@@ -5,8 +5,8 @@ use ep_tag::laws::traits::*;
 use ep_tag::{MacsecAn, MacsecShortLen, VlanId, VlanPcp};
 use std::test::Fail;
 
-// The readers below answer a number and no more: a value that a test held would bring its contract into
-// the proof of everything behind it.
+// The readers below answer a number and no more: a value that a test held would bring its contract
+// into the proof of everything behind it.
 
 fn vlan_id(value: u16) -> Option<u16> {
     Some(VlanId::try_new(value).ok()?.value())
@@ -106,9 +106,9 @@ fn laws(rt: HostRuntime) {
     assert!(rt; vlan_pcp_constants() == [VlanPcp::ZERO]);
     assert!(rt; macsec_an_constants() == [MacsecAn::ZERO]);
     assert!(rt; macsec_short_len_constants() == [MacsecShortLen::ZERO]);
+    types_are_plain_data();
     copies_are_values();
     copies_never_fail();
-    equals_are_same();
     macsec_payloads_are_equal_as_told();
     orders_are_of_numbers();
     macsec_p_types_by_kind();

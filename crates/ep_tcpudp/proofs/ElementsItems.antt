@@ -1,18 +1,23 @@
 -- The items of options are the elements that they spell, and the fault that ends them.
-use Rattle.std.proofs.Common.{◌≡◌, inl, inr, ⊎_elim, ℕ, zero, suc, ◌≤◌, true, false, eqb, List, [], ◌∷◌, ◌++◌, length, drop, map, Option, Some, None, Result, Ok, Err, arith, sym, refl, ap, ◌∙◌, append_assoc}
+use Rattle.std.proofs.Common.{◌≡◌, inl, inr, ⊎_elim, ℕ, zero, suc, ◌≤◌, true, false, eqb, List, []}
+use Rattle.std.proofs.Common.{◌∷◌, ◌++◌, length, drop, map, Option, Some, None, Result, Ok, Err}
+use Rattle.std.proofs.Common.{arith, sym, refl, ap, ◌∙◌, append_assoc}
 use Rattle.std.proofs.lemmas.Bool.{cases_Bool, eqb-true, ne_eqb, or_parts}
 use Rattle.std.proofs.lemmas.List.{append-nil, length-drop}
 use Rattle.std.proofs.lemmas.List.Concat.{flat_map-cons}
 use Rattle.std.proofs.lemmas.Simd.{map-map}
 use Rattle.ep_base.specs.Bytes.{IsBytes}
-use Rattle.ep_tcpudp.specs.Elements.{AreItems, EndsAs, IsFault, ItemsAreSpelled, NoOtherItems, items_and}
-use Rattle.ep_tcpudp.specs.Options.{kind_at, size_at, element_at, element_bytes, elements_bytes, is_end, items_of, packed_element, FitsElements}
+use Rattle.ep_tcpudp.specs.Elements.{AreItems, EndsAs, IsFault, ItemsAreSpelled, NoOtherItems}
+use Rattle.ep_tcpudp.specs.Elements.{items_and}
+use Rattle.ep_tcpudp.specs.Options.{kind_at, size_at, element_at, element_bytes, elements_bytes}
+use Rattle.ep_tcpudp.specs.Options.{is_end, items_of, packed_element, FitsElements}
 use Rattle.ep_tcpudp.specs.declared.transport.tcp_option_element.TcpOptionElement.{TcpOptionElement}
 use Rattle.ep_tcpudp.specs.declared.transport.tcp_option_read_error.TcpOptionReadError.{TcpOptionReadError}
 use Rattle.ep_tcpudp.proofs.ElementFaults.{element_fault, fault_kind, fault_refused}
 use Rattle.ep_tcpudp.proofs.ElementsRead.{IsRead, element_read}
 use Rattle.ep_tcpudp.proofs.OptionsAgain.{end-cons, item_again}
-use Rattle.ep_tcpudp.proofs.OptionsItems.{element_size, items-end, items-none, items-step, some_left}
+use Rattle.ep_tcpudp.proofs.OptionsItems.{element_size, items-end, items-none, items-step}
+use Rattle.ep_tcpudp.proofs.OptionsItems.{some_left}
 use Rattle.ep_tcpudp.proofs.Words.{drop_fits}
 
 abbrev pub Item : Type 0
@@ -22,7 +27,8 @@ Item = Result TcpOptionElement TcpOptionReadError
 
 why_end : (bytes : List ℕ) → is_end bytes ≡ true → EndsAs None bytes
 why_end [] h = inl refl
-why_end (x ∷ xs) h = let none = eqb-true x 0 (sym (end-cons x xs) ∙ h) in inr (xs, ap (λ n. n ∷ xs) none)
+why_end (x ∷ xs) h = let none = eqb-true x 0 (sym (end-cons x xs) ∙ h) in
+    inr (xs, ap (λ n. n ∷ xs) none)
 
 none_spelled : (bytes : List ℕ) → is_end bytes ≡ true → AreItems bytes (items_of bytes)
 none_spelled bytes h = record {
@@ -34,7 +40,8 @@ none_spelled bytes h = record {
   all = items-end bytes h;
 }
 
-fault_spelled : (bytes : List ℕ) (f : TcpOptionReadError) → IsFault bytes f → items_of bytes ≡ Err f ∷ [] → AreItems bytes (items_of bytes)
+fault_spelled : (bytes : List ℕ) (f : TcpOptionReadError) → IsFault bytes f
+    → items_of bytes ≡ Err f ∷ [] → AreItems bytes (items_of bytes)
 fault_spelled bytes f fault is = record {
   elements = [];
   fault = Some f;
@@ -44,12 +51,15 @@ fault_spelled bytes f fault is = record {
   all = is;
 }
 
-items_and-cons : (x : TcpOptionElement) (xs : List TcpOptionElement) (fault : Option TcpOptionReadError) → Ok x ∷ items_and xs fault ≡ items_and (x ∷ xs) fault
+items_and-cons : (x : TcpOptionElement) (xs : List TcpOptionElement)
+    (fault : Option TcpOptionReadError) → Ok x ∷ items_and xs fault ≡ items_and (x ∷ xs) fault
 items_and-cons x xs None = refl
 items_and-cons x xs (Some f) = refl
 
-more_spelled : (bytes : List ℕ) (x : TcpOptionElement) → IsRead bytes x → AreItems (drop (size_at bytes) bytes) (items_of (drop (size_at bytes) bytes))
-    → items_of bytes ≡ Ok x ∷ items_of (drop (size_at bytes) bytes) → AreItems bytes (items_of bytes)
+more_spelled : (bytes : List ℕ) (x : TcpOptionElement) → IsRead bytes x
+    → AreItems (drop (size_at bytes) bytes) (items_of (drop (size_at bytes) bytes))
+    → items_of bytes ≡ Ok x ∷ items_of (drop (size_at bytes) bytes)
+    → AreItems bytes (items_of bytes)
 more_spelled bytes x read more is = record {
   elements = x ∷ more.elements;
   fault = more.fault;
@@ -62,29 +72,35 @@ more_spelled bytes x read more is = record {
     packed = λ i. read.packed i ∷ more.begins.packed i;
   };
   ends = more.ends;
-  all = is ∙ ap (λ (xs : List Item). Ok x ∷ xs) more.all ∙ items_and-cons x more.elements more.fault;
+  all = is ∙ ap (λ (xs : List Item). Ok x ∷ xs) more.all
+      ∙ items_and-cons x more.elements more.fault;
 }
 
 no_end_kind : (bytes : List ℕ) → is_end bytes ≡ false → eqb (kind_at bytes) 0 ≡ false
 no_end_kind bytes h = (or_parts _ _ h).1
 
-one_spelled : (bytes : List ℕ) (item : Item) → item ≡ element_at bytes → IsBytes bytes → is_end bytes ≡ false
-    → ((x : TcpOptionElement) → element_at bytes ≡ Ok x → AreItems (drop (size_at bytes) bytes) (items_of (drop (size_at bytes) bytes)))
+one_spelled : (bytes : List ℕ) (item : Item) → item ≡ element_at bytes
+    → IsBytes bytes → is_end bytes ≡ false
+    → ((x : TcpOptionElement) → element_at bytes ≡ Ok x
+    → AreItems (drop (size_at bytes) bytes) (items_of (drop (size_at bytes) bytes)))
     → AreItems bytes (items_of bytes)
 one_spelled bytes (Ok x) e fits goes more =
     let read = element_read bytes x fits (some_left bytes goes) (sym e) in
     more_spelled bytes x read (more x (sym e)) (items-step bytes goes ∙ rw (← e) refl)
 one_spelled bytes (Err f) e fits goes more =
-    fault_spelled bytes f (element_fault bytes f (no_end_kind bytes goes) (sym e)) (items-step bytes goes ∙ rw (← e, items-none) refl)
+    fault_spelled bytes f (element_fault bytes f (no_end_kind bytes goes) (sym e))
+    (items-step bytes goes ∙ rw (← e, items-none) refl)
 
-spelled_within : (n : ℕ) (bytes : List ℕ) → length bytes ≤ n → IsBytes bytes → AreItems bytes (items_of bytes)
+spelled_within : (n : ℕ) (bytes : List ℕ) → length bytes ≤ n → IsBytes bytes
+    → AreItems bytes (items_of bytes)
 spelled_within zero [] h fits = none_spelled [] refl
 spelled_within zero (x ∷ xs) h fits = absurd (omega arith)
 spelled_within (suc n) bytes h fits =
     ⊎_elim (λ (ends : is_end bytes ≡ true). none_spelled bytes ends)
     (λ (goes : is_end bytes ≡ false). one_spelled bytes (element_at bytes) refl fits goes
     (λ x e. let size = element_size bytes x e in let some = some_left bytes goes in
-    spelled_within n (drop (size_at bytes) bytes) (omega (arith, length-drop (size_at bytes) bytes)) (drop_fits (size_at bytes) bytes fits)))
+    spelled_within n (drop (size_at bytes) bytes) (omega (arith, length-drop (size_at bytes) bytes))
+    (drop_fits (size_at bytes) bytes fits)))
     (cases_Bool (is_end bytes))
 
 pub items_spelled : ItemsAreSpelled
@@ -93,7 +109,8 @@ items_spelled bytes fits = spelled_within (length bytes) bytes (omega arith) fit
 -- ---- and in one way
 
 read_again : (elements : List TcpOptionElement) (rest : List ℕ) → FitsElements elements
-    → items_of (elements_bytes elements ++ rest) ≡ map (λ (x : TcpOptionElement). Ok (packed_element x)) elements ++ items_of rest
+    → items_of (elements_bytes elements ++ rest)
+    ≡ map (λ (x : TcpOptionElement). Ok (packed_element x)) elements ++ items_of rest
 read_again [] rest fits = refl
 read_again (x ∷ elements) rest fits =
     ap (λ (bytes : List ℕ). items_of (bytes ++ rest)) (flat_map-cons element_bytes x elements)
@@ -105,8 +122,10 @@ abbrev pub oks : List TcpOptionElement → List Item
 oks elements = map (λ (x : TcpOptionElement). Ok x) elements
 
 in_front : (elements : List TcpOptionElement) → map packed_element elements ≡ elements
-    → ◌≡◌ {A = List Item} (map (λ (x : TcpOptionElement). Ok (packed_element x)) elements) (oks elements)
-in_front elements packed = sym (map-map (λ (x : TcpOptionElement). Ok x) packed_element elements) ∙ ap (λ (xs : List TcpOptionElement). map (λ (x : TcpOptionElement). Ok x) xs) packed
+    → ◌≡◌ {A = List Item} (map (λ (x : TcpOptionElement). Ok (packed_element x)) elements)
+    (oks elements)
+in_front elements packed = sym (map-map (λ (x : TcpOptionElement). Ok x) packed_element elements)
+    ∙ ap (λ (xs : List TcpOptionElement). map (λ (x : TcpOptionElement). Ok x) xs) packed
 
 not_end : (bytes : List ℕ) → (kind_at bytes ≡ 0 → ⊥) → is_end bytes ≡ false
 not_end [] h = absurd (h refl)
@@ -115,14 +134,17 @@ not_end (x ∷ xs) h = end-cons x xs ∙ ne_eqb x 0 h
 nothing_more : (rest : List ℕ) → EndsAs None rest → items_of rest ≡ []
 nothing_more rest ends =
     ⊎_elim (λ (none : rest ≡ []). ap items_of none ∙ items-none)
-    (λ (last : (behind : List ℕ) × (rest ≡ 0 ∷ behind)). ap items_of last.1 ∙ items-end (0 ∷ last.0) (end-cons 0 last.0))
+    (λ (last : (behind : List ℕ) × (rest ≡ 0 ∷ behind)). ap items_of last.1
+    ∙ items-end (0 ∷ last.0) (end-cons 0 last.0))
     ends
 
 fault_more : (rest : List ℕ) (f : TcpOptionReadError) → IsFault rest f → items_of rest ≡ Err f ∷ []
 fault_more rest f fault =
-    items-step rest (not_end rest (fault_kind rest f fault)) ∙ rw (fault_refused rest f fault, items-none) refl
+    items-step rest (not_end rest (fault_kind rest f fault))
+    ∙ rw (fault_refused rest f fault, items-none) refl
 
-ended : (elements : List TcpOptionElement) (fault : Option TcpOptionReadError) (rest : List ℕ) → EndsAs fault rest → oks elements ++ items_of rest ≡ items_and elements fault
+ended : (elements : List TcpOptionElement) (fault : Option TcpOptionReadError) (rest : List ℕ)
+    → EndsAs fault rest → oks elements ++ items_of rest ≡ items_and elements fault
 ended elements None rest ends = rw (nothing_more rest ends) (append-nil (oks elements))
 ended elements (Some f) rest ends = rw (fault_more rest f ends) refl
 

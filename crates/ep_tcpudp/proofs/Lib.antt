@@ -6,7 +6,6 @@ pub mod Guards
 pub mod OptionsAgain
 pub mod OptionsBytes
 pub mod OptionsItems
-pub mod SameErrors
 pub mod SameValues
 pub mod Sealed
 pub mod TcpFront

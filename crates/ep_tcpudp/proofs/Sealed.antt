@@ -1,30 +1,43 @@
 -- Headers with their checksums in them.
-use Rattle.std.proofs.Common.{◌≡◌, ◌≤◌, ℕ, ◌+◌, ◌*◌, ◌%◌, List, ◌∷◌, ◌++◌, length, take, drop, length-append, append_assoc, arith}
+use Rattle.std.proofs.Common.{◌≡◌, ◌≤◌, ℕ, ◌+◌, ◌*◌, ◌%◌, List, ◌∷◌, ◌++◌, length, take, drop}
+use Rattle.std.proofs.Common.{length-append, append_assoc, arith}
 use Rattle.std.specs.Int.{w16, w32, to_be_bytes}
 use Rattle.std.proofs.lemmas.List.{length-take-le}
 use Rattle.ep_base.specs.MessageSum.{ChecksumSumsToAllOnes, NoZeroSumsToAllOnes}
 use Rattle.ep_tcpudp.specs.Tcp as tcp
 use Rattle.ep_tcpudp.specs.Tcp.{data_offset, flag, flags}
 use Rattle.ep_tcpudp.specs.TcpChecksum as tcp_checksum
-use Rattle.ep_tcpudp.specs.TcpChecksum.{SealedTcpSumsToAllOnes, SealedSegmentSumsToAllOnes, segment_checksum, with_checksum}
+use Rattle.ep_tcpudp.specs.TcpChecksum.{SealedTcpSumsToAllOnes, SealedSegmentSumsToAllOnes}
+use Rattle.ep_tcpudp.specs.TcpChecksum.{segment_checksum}
 use Rattle.ep_tcpudp.specs.declared.transport.tcp_header.TcpHeader.{TcpHeader}
 use Rattle.ep_tcpudp.specs.Udp.{spelling}
+use Rattle.ep_tcpudp.proofs.TcpSums.{segment_around}
 use Rattle.ep_tcpudp.specs.UdpChecksum.{SealedUdpSumsToAllOnes, right_checksum}
 use Rattle.ep_tcpudp.specs.declared.transport.udp_header.UdpHeader.{UdpHeader}
 
 -- the six bytes in front of the checksum
 front_of : List ℕ → UdpHeader → List ℕ
-front_of pseudo h = pseudo ++ (to_be_bytes w16 h.source_port ++ to_be_bytes w16 h.destination_port ++ to_be_bytes w16 h.length)
+front_of pseudo h =
+    pseudo ++ (to_be_bytes w16 h.source_port ++ to_be_bytes w16 h.destination_port
+    ++ to_be_bytes w16 h.length)
 
 -- where the checksum stands
 around : (pseudo payload : List ℕ) (h : UdpHeader) (c : ℕ)
-    → pseudo ++ spelling (record h { checksum = c }) ++ payload ≡ front_of pseudo h ++ (to_be_bytes w16 c ++ payload)
+    → pseudo ++ spelling (record h { checksum = c }) ++ payload ≡ front_of pseudo h
+    ++ (to_be_bytes w16 c ++ payload)
 unfolding front_of
 around pseudo payload h c = simp append_assoc
 
-even_front : (pseudo : List ℕ) (h : UdpHeader) → length pseudo % 2 ≡ 0 → length (front_of pseudo h) % 2 ≡ 0
+even_front : (pseudo : List ℕ) (h : UdpHeader) → length pseudo % 2 ≡ 0
+    → length (front_of pseudo h) % 2 ≡ 0
 unfolding front_of
-even_front pseudo h even = omega (arith, length-append pseudo (to_be_bytes w16 h.source_port ++ to_be_bytes w16 h.destination_port ++ to_be_bytes w16 h.length))
+even_front pseudo h even =
+    omega (
+      arith,
+      length-append pseudo
+          (to_be_bytes w16 h.source_port ++ to_be_bytes w16 h.destination_port
+          ++ to_be_bytes w16 h.length),
+    )
 
 pub sealed_udp : NoZeroSumsToAllOnes → SealedUdpSumsToAllOnes
 sealed_udp sums pseudo payload h even =
@@ -34,39 +47,51 @@ sealed_udp sums pseudo payload h even =
 -- the sixteen bytes in front of TCP's checksum, and what stands behind it
 tcp_front : List ℕ → TcpHeader → List ℕ
 tcp_front pseudo h =
-    pseudo ++ (to_be_bytes w16 h.source_port ++ to_be_bytes w16 h.destination_port ++ to_be_bytes w32 h.sequence_number
-    ++ to_be_bytes w32 h.acknowledgment_number ++ (data_offset h * 16 + flag h.ns 1) ∷ flags h ∷ to_be_bytes w16 h.window_size)
+    pseudo ++ (to_be_bytes w16 h.source_port ++ to_be_bytes w16 h.destination_port
+    ++ to_be_bytes w32 h.sequence_number
+    ++ to_be_bytes w32 h.acknowledgment_number ++ (data_offset h * 16 + flag h.ns 1) ∷ flags h ∷
+    to_be_bytes w16 h.window_size)
 
 tcp_rest : TcpHeader → List ℕ → List ℕ
 tcp_rest h payload = to_be_bytes w16 h.urgent_pointer ++ (h.options ++ payload)
 
 tcp_around : (pseudo payload : List ℕ) (h : TcpHeader) (c : ℕ)
-    → pseudo ++ tcp.spelling (record h { checksum = c }) ++ payload ≡ tcp_front pseudo h ++ (to_be_bytes w16 c ++ tcp_rest h payload)
+    → pseudo ++ tcp.spelling (record h { checksum = c }) ++ payload ≡ tcp_front pseudo h
+    ++ (to_be_bytes w16 c ++ tcp_rest h payload)
 unfolding tcp_front tcp_rest
 tcp_around pseudo payload h c = simp append_assoc
 
-even_tcp : (pseudo : List ℕ) (h : TcpHeader) → length pseudo % 2 ≡ 0 → length (tcp_front pseudo h) % 2 ≡ 0
+even_tcp : (pseudo : List ℕ) (h : TcpHeader) → length pseudo % 2 ≡ 0
+    → length (tcp_front pseudo h) % 2 ≡ 0
 unfolding tcp_front
 even_tcp pseudo h even =
     omega (
       arith,
-      length-append pseudo (to_be_bytes w16 h.source_port ++ to_be_bytes w16 h.destination_port ++ to_be_bytes w32 h.sequence_number
-          ++ to_be_bytes w32 h.acknowledgment_number ++ (data_offset h * 16 + flag h.ns 1) ∷ flags h ∷ to_be_bytes w16 h.window_size),
+      length-append pseudo (to_be_bytes w16 h.source_port ++ to_be_bytes w16 h.destination_port
+          ++ to_be_bytes w32 h.sequence_number
+          ++ to_be_bytes w32 h.acknowledgment_number ++ (data_offset h * 16 + flag h.ns 1) ∷
+          flags h ∷ to_be_bytes w16 h.window_size),
     )
 
 pub sealed_tcp : ChecksumSumsToAllOnes → SealedTcpSumsToAllOnes
 sealed_tcp sums pseudo payload h even words =
     let all = sums (tcp_front pseudo h) (tcp_rest h payload) (even_tcp pseudo h even) in
-    rw (tcp_around pseudo payload h (tcp_checksum.right_checksum pseudo h payload), tcp_around pseudo payload h 0) all
+    rw (
+      tcp_around pseudo payload h (tcp_checksum.right_checksum pseudo h payload),
+      tcp_around
+          pseudo payload h 0,
+    ) all
 
-segment_around : (pseudo segment : List ℕ) (c : ℕ)
-    → pseudo ++ with_checksum segment c ≡ pseudo ++ take 16 segment ++ (to_be_bytes w16 c ++ drop 18 segment)
-segment_around pseudo segment c = simp append_assoc
-
-even_segment : (pseudo segment : List ℕ) → length pseudo % 2 ≡ 0 → 18 ≤ length segment → length (pseudo ++ take 16 segment) % 2 ≡ 0
-even_segment pseudo segment even least = omega (arith, length-append pseudo (take 16 segment), length-take-le 16 segment)
+even_segment : (pseudo segment : List ℕ) → length pseudo % 2 ≡ 0 → 18 ≤ length segment
+    → length (pseudo ++ take 16 segment) % 2 ≡ 0
+even_segment pseudo segment even least =
+    omega (arith, length-append pseudo (take 16 segment), length-take-le 16 segment)
 
 pub sealed_segment : ChecksumSumsToAllOnes → SealedSegmentSumsToAllOnes
 sealed_segment sums pseudo segment even least =
-    let all = sums (pseudo ++ take 16 segment) (drop 18 segment) (even_segment pseudo segment even least) in
-    rw (segment_around pseudo segment (segment_checksum pseudo segment), segment_around pseudo segment 0) all
+    let all = sums (pseudo ++ take 16 segment) (drop 18 segment)
+    (even_segment pseudo segment even least) in
+    rw (
+      ← segment_around pseudo segment (segment_checksum pseudo segment),
+      ← segment_around pseudo segment 0,
+    ) all

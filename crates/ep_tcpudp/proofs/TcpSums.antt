@@ -1,5 +1,6 @@
 -- The sums of segments, added piece by piece.
-use Rattle.std.proofs.Common.{◌≡◌, ℕ, ◌%◌, ◌≤◌, List, ◌++◌, length, take, drop, arith, ap, ◌∙◌, length-append, append_assoc}
+use Rattle.std.proofs.Common.{◌≡◌, ℕ, ◌%◌, ◌≤◌, List, ◌++◌, length, take, drop, arith, ap, ◌∙◌}
+use Rattle.std.proofs.Common.{length-append, append_assoc}
 use Rattle.std.proofs.lemmas.List.{length-take-le, take-append-le, drop-append-le, length-drop}
 use Rattle.std.specs.Int.{w16, to_be_bytes}
 use Rattle.ep_base.specs.MessageSum.{with_word}
@@ -8,33 +9,36 @@ use Rattle.ep_tcpudp.specs.TcpChecksum.{with_checksum}
 
 -- a segment behind its pseudo header, with the checksum as a word in it
 pub segment_around : (front segment : List ℕ) (value : ℕ)
-    → with_word (front ++ take 16 segment) value (drop 18 segment) ≡ front ++ with_checksum segment value
+    → with_word (front ++ take 16 segment) value (drop 18 segment) ≡ front
+    ++ with_checksum segment value
 segment_around front segment value = simp append_assoc
 
--- the same of a header and of the payload behind it
-header_around : (front header payload : List ℕ) → 18 ≤ length header
-    → with_word (front ++ take 16 header) 0 (drop 18 header) ++ payload ≡ front ++ with_checksum (header ++ payload) 0
-header_around front header payload least =
-    rw (take-append-le 16 header payload (omega arith), drop-append-le 18 header payload least) (simp append_assoc)
-
 -- a payload is added behind a header
-pub header_added : (sum last : ℕ) (front header payload : List ℕ) → length front % 2 ≡ 0 → 18 ≤ length header → length header % 2 ≡ 0
-    → sum ≡ fold (total (with_word (front ++ take 16 header) 0 (drop 18 header))) → AddsText sum payload last
+pub header_added : (sum last : ℕ) (front header payload : List ℕ)
+    → length front % 2 ≡ 0 → 18 ≤ length header
+    → length header % 2 ≡ 0 → sum ≡ fold (total (front ++ with_checksum header 0))
+    → AddsText sum payload last
     → last ≡ fold (total (front ++ with_checksum (header ++ payload) 0))
-header_added sum last front header payload even least whole sums adds =
+header_added sum last front header payload even least words sums adds =
     let size = length-take-le 16 header (omega arith) in
     let rest = length-drop 18 header in
-    let both = length-append front (take 16 header) in
-    let all = length-append (front ++ take 16 header) (to_be_bytes w16 0 ++ drop 18 header) in
-    adds (with_word (front ++ take 16 header) 0 (drop 18 header)) (omega arith) sums
-    ∙ ap (λ (text : List ℕ). fold (total text)) (header_around front header payload least)
+    let around = length-append (take 16 header) (to_be_bytes w16 0) in
+    let whole = length-append (take 16 header ++ to_be_bytes w16 0) (drop 18 header) in
+    let all = length-append front (with_checksum header 0) in
+    adds (front ++ with_checksum header 0) (omega arith) sums
+    ∙ ap (λ (text : List ℕ). fold (total text))
+    (rw (take-append-le 16 header payload (omega arith), drop-append-le 18 header payload least)
+    (simp append_assoc))
 
 -- so it is behind the two parts of a header
-pub parts_added : (sum last : ℕ) (front fixed options payload header : List ℕ) → length front % 2 ≡ 0 → length fixed ≡ 20 → length options % 4 ≡ 0
-    → fixed ++ options ≡ header → sum ≡ fold (total (front ++ fixed ++ options)) → AddsText sum payload last
+pub parts_added : (sum last : ℕ) (front fixed options payload header : List ℕ)
+    → length front % 2 ≡ 0 → length fixed ≡ 20 → length options % 4 ≡ 0
+    → fixed ++ options ≡ header → sum ≡ fold (total (front ++ fixed ++ options))
+    → AddsText sum payload last
     → last ≡ fold (total (front ++ header ++ payload))
 parts_added sum last front fixed options payload header even size words is sums adds =
     let both = length-append front fixed in
     let all = length-append (front ++ fixed) options in
     adds (front ++ fixed ++ options) (omega arith) sums
-    ∙ ap (λ (xs : List ℕ). fold (total (xs ++ payload))) (append_assoc front fixed options ∙ ap (λ (xs : List ℕ). front ++ xs) is)
+    ∙ ap (λ (xs : List ℕ). fold (total (xs ++ payload)))
+    (append_assoc front fixed options ∙ ap (λ (xs : List ℕ). front ++ xs) is)

@@ -1,60 +1,88 @@
 -- The UDP header, and the datagram, at the front of bytes.
-use Rattle.std.proofs.Common.{◌≡◌, ◌⊎◌, inl, inr, ⊎_elim, ℕ, ◌-◌, ◌≤◌, ◌↔◌, List, ◌++◌, length, take, drop, Result, Ok, Err, IfOk, IsOk, arith, sym, refl, ap, ◌∙◌}
+use Rattle.std.proofs.Common.{◌≡◌, ◌⊎◌, inl, inr, ⊎_elim, ℕ, ◌-◌, ◌≤◌, ◌↔◌, List, ◌++◌, length}
+use Rattle.std.proofs.Common.{take, drop, Result, Ok, Err, IfOk, IsOk, arith, sym, refl, ap, ◌∙◌}
 use Rattle.std.proofs.lemmas.Bool.{le-ltb, eq-eqb, ne_eqb, ltb-false, cases_eq, true≢false}
-use Rattle.std.proofs.lemmas.List.{length-take-le, take-append-drop, take_at, take_rest, drop_at, length-append}
+use Rattle.std.proofs.lemmas.List.{length-take-le, take-append-drop, take_at, length-append}
 use Rattle.ep_base.specs.declared.err.len_error.LenError.{LenError}
-use Rattle.ep_tcpudp.proofs.Guards.{guard_ok, ok_same}
+use Rattle.ep_base.specs.Fronts.{TakesFront}
+use Rattle.ep_base.proofs.Fronts.{guard_ok, ok_same, takes}
 use Rattle.ep_tcpudp.specs.Udp.{IsUdpHeader, ReadableUdp, summed_udp, length_of}
 use Rattle.ep_tcpudp.specs.UdpFault.{header_at, udp_at}
 
 header_at-ok : (bytes : List ℕ) → 8 ≤ length bytes → header_at bytes ≡ Ok (take 8 bytes)
 header_at-ok bytes least = rw (le-ltb (length bytes) 8 least) refl
 
-pub found_front : (bytes : List ℕ) (r : Result (List ℕ) LenError) → r ≡ header_at bytes → IfOk r (λ front. IsUdpHeader front × ((rest : List ℕ) × (bytes ≡ front ++ rest)))
-found_front bytes (Ok front) e =
-    let least = guard_ok _ _ _ _ (sym e) in
+front_takes : (bytes front : List ℕ) → header_at bytes ≡ Ok front
+    → IsUdpHeader front × ((rest : List ℕ) × (bytes ≡ front ++ rest))
+front_takes bytes front e =
+    let least = guard_ok _ _ _ _ e in
     let fits : 8 ≤ length bytes = ltb-false (length bytes) 8 least.0 in
     let same : take 8 bytes ≡ front = ok_same _ _ least.1 in
-    rw (← same) (record { whole = length-take-le 8 bytes fits }, (drop 8 bytes, sym (take-append-drop 8 bytes)))
-found_front bytes (Err fault) e = tt
+    rw (← same) (
+      record { whole = length-take-le 8 bytes fits },
+      (drop 8 bytes, sym (take-append-drop 8 bytes)),
+    )
 
 -- a header is taken, whatever follows it
-pub front_again : (front rest : List ℕ) → IsUdpHeader front → header_at (front ++ rest) ≡ Ok front
+front_again : (front rest : List ℕ) → IsUdpHeader front → header_at (front ++ rest) ≡ Ok front
 front_again front rest header =
     let len = length-append front rest in
-    header_at-ok (front ++ rest) (omega (arith, header.whole)) ∙ ap Ok (take_at front rest 8 header.whole)
+    header_at-ok (front ++ rest) (omega (arith, header.whole))
+    ∙ ap Ok (take_at front rest 8 header.whole)
 
--- what the code has behind the front
-pub rest_of : (bytes front rest : List ℕ) → bytes ≡ front ++ rest → length front ≡ 8 → take (length bytes - 8) (drop 8 bytes) ≡ rest
-rest_of bytes front rest e whole = take_rest bytes 8 ∙ rw e (drop_at front rest 8 whole)
+pub takes_header : (bytes : List ℕ) (taken : Result (List ℕ) LenError)
+    → taken ≡ header_at bytes → TakesFront IsUdpHeader bytes taken
+takes_header = takes IsUdpHeader header_at front_takes front_again
 
 -- readable bytes are taken
 udp_at-readable : (bytes : List ℕ) → ReadableUdp bytes → udp_at bytes ≡ Ok (summed_udp bytes)
 udp_at-readable bytes readable =
     ⊎_elim
-    (λ (none : length_of bytes ≡ 0). rw (le-ltb (length bytes) 8 readable.header, le-ltb (length bytes) (length_of bytes) (omega arith), eq-eqb (length_of bytes) 0 none) refl)
+    (λ (none : length_of bytes ≡ 0). rw (
+      le-ltb (length bytes) 8 readable.header,
+      le-ltb (length bytes) (length_of bytes)
+          (omega arith),
+      eq-eqb (length_of bytes) 0 none,
+    ) refl)
     (λ (some : (8 ≤ length_of bytes) × (length_of bytes ≤ length bytes)).
-    rw (le-ltb (length bytes) 8 readable.header, le-ltb (length bytes) (length_of bytes) some.1, ne_eqb (length_of bytes) 0 (λ e. omega (arith, some.0)), le-ltb (length_of bytes) 8 some.0) refl)
+    rw (
+      le-ltb (length bytes) 8 readable.header,
+      le-ltb (length bytes)
+          (length_of bytes) some.1,
+      ne_eqb (length_of bytes) 0 (λ e. omega (arith, some.0)),
+      le-ltb
+          (length_of bytes) 8 some.0,
+    ) refl)
     readable.covers
 
 -- what is taken is readable, and is the datagram
-taken : (bytes datagram : List ℕ) → udp_at bytes ≡ Ok datagram → ReadableUdp bytes × (datagram ≡ summed_udp bytes)
+taken : (bytes datagram : List ℕ) → udp_at bytes ≡ Ok datagram
+    → ReadableUdp bytes × (datagram ≡ summed_udp bytes)
 taken bytes datagram e =
     let least = guard_ok _ _ _ _ e in
     let within = guard_ok _ _ _ _ least.1 in
     let whole : 8 ≤ length bytes = ltb-false (length bytes) 8 least.0 in
-    let fits : length_of bytes ≤ length bytes = ltb-false (length bytes) (length_of bytes) within.0 in
-    let covers : (length_of bytes ≡ 0) ⊎ ((8 ≤ length_of bytes) × (length_of bytes ≤ length bytes)) =
+    let fits : length_of bytes ≤ length bytes =
+    ltb-false (length bytes) (length_of bytes) within.0 in
+    let covers : (length_of bytes ≡ 0)
+    ⊎ ((8 ≤ length_of bytes) × (length_of bytes ≤ length bytes)) =
     ⊎_elim (λ none. inl none)
-    (λ some. inr (ltb-false (length_of bytes) 8 (guard_ok _ _ _ _ (rw (ne_eqb (length_of bytes) 0 some) at within.1)).0, fits))
+    (λ some. inr (
+      ltb-false (length_of bytes) 8
+          (guard_ok _ _ _ _ (rw (ne_eqb (length_of bytes) 0 some) at within.1)).0,
+      fits,
+    ))
     (cases_eq (length_of bytes) 0) in
     let readable : ReadableUdp bytes = record { header = whole; covers = covers } in
     (readable, ok_same _ _ (sym e ∙ udp_at-readable bytes readable))
 
-pub ok_readable : (bytes : List ℕ) (r : Result (List ℕ) LenError) → r ≡ udp_at bytes → IsOk r ↔ ReadableUdp bytes
+pub ok_readable : (bytes : List ℕ) (r : Result (List ℕ) LenError) → r ≡ udp_at bytes
+    → IsOk r ↔ ReadableUdp bytes
 ok_readable bytes (Ok datagram) e = ((λ _. (taken bytes datagram (sym e)).0), (λ _. refl))
-ok_readable bytes (Err fault) e = ((λ h. absurd (true≢false (sym h))), (λ readable. cc (e, udp_at-readable bytes readable)))
+ok_readable bytes (Err fault) e =
+    ((λ h. absurd (true≢false (sym h))), (λ readable. cc (e, udp_at-readable bytes readable)))
 
-pub ok_view : (bytes : List ℕ) (r : Result (List ℕ) LenError) → r ≡ udp_at bytes → IfOk r (λ datagram. datagram ≡ summed_udp bytes)
+pub ok_view : (bytes : List ℕ) (r : Result (List ℕ) LenError) → r ≡ udp_at bytes
+    → IfOk r (λ datagram. datagram ≡ summed_udp bytes)
 ok_view bytes (Ok datagram) e = (taken bytes datagram (sym e)).1
 ok_view bytes (Err fault) e = tt

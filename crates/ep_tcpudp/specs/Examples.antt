@@ -22,24 +22,30 @@ source_v6 = 253 ∷ (replicate 14 0 ++ 1 ∷ [])
 abbrev pub destination_v6 : List ℕ
 destination_v6 = 253 ∷ (replicate 14 0 ++ 2 ∷ [])
 
--- the first segment of a connection between ports 1 and 2: number 3, window 1024, over IPv4 with the
--- checksum 97da
+-- the first segment of a connection between ports 1 and 2: number 3, window 1024, over IPv4 with
+-- the checksum 97da
 abbrev pub first_segment : List ℕ
-first_segment = 0 ∷ 1 ∷ 0 ∷ 2 ∷ 0 ∷ 0 ∷ 0 ∷ 3 ∷ 0 ∷ 0 ∷ 0 ∷ 0 ∷ 80 ∷ 2 ∷ 4 ∷ 0 ∷ 151 ∷ 218 ∷ 0 ∷ 0 ∷ []
+first_segment = 0 ∷ 1 ∷ 0 ∷ 2 ∷ 0 ∷ 0 ∷ 0 ∷ 3 ∷ 0 ∷ 0 ∷ 0 ∷ 0 ∷ 80 ∷ 2 ∷ 4 ∷
+    0 ∷ 151 ∷ 218 ∷ 0 ∷ 0 ∷ []
 
 -- the same with the three reserved bits set, and the checksum 89da
 abbrev pub reserved_segment : List ℕ
-reserved_segment = 0 ∷ 1 ∷ 0 ∷ 2 ∷ 0 ∷ 0 ∷ 0 ∷ 3 ∷ 0 ∷ 0 ∷ 0 ∷ 0 ∷ 94 ∷ 2 ∷ 4 ∷ 0 ∷ 137 ∷ 218 ∷ 0 ∷ 0 ∷ []
+reserved_segment = 0 ∷ 1 ∷ 0 ∷ 2 ∷ 0 ∷ 0 ∷ 0 ∷ 3 ∷ 0 ∷ 0 ∷ 0 ∷ 0 ∷ 94 ∷ 2 ∷ 4 ∷
+    0 ∷ 137 ∷ 218 ∷ 0 ∷ 0 ∷ []
 
--- a header with each field its own number, one word of options, the flags ns, cwr, ack and fin, and the
--- reserved bits set
+-- a header with each field its own number, one word of options, the flags ns, cwr, ack and fin, and
+-- the reserved bits set
 abbrev pub tcp_front : List ℕ
-tcp_front = 0 ∷ 1 ∷ 0 ∷ 2 ∷ 0 ∷ 0 ∷ 0 ∷ 3 ∷ 0 ∷ 0 ∷ 0 ∷ 4 ∷ 111 ∷ 145 ∷ 0 ∷ 5 ∷ 0 ∷ 6 ∷ 0 ∷ 7 ∷ 1 ∷ 1 ∷ 1 ∷ 0 ∷ []
+tcp_front = 0 ∷ 1 ∷ 0 ∷ 2 ∷ 0 ∷ 0 ∷ 0 ∷ 3 ∷ 0 ∷ 0 ∷ 0 ∷ 4 ∷ 111 ∷ 145 ∷ 0 ∷ 5 ∷ 0 ∷ 6 ∷
+    0 ∷ 7 ∷ 1 ∷ 1 ∷ 1 ∷ 0 ∷ []
 
 -- the same with them 0
 abbrev pub tcp_front_as_written : List ℕ
-tcp_front_as_written = 0 ∷ 1 ∷ 0 ∷ 2 ∷ 0 ∷ 0 ∷ 0 ∷ 3 ∷ 0 ∷ 0 ∷ 0 ∷ 4 ∷ 97 ∷ 145 ∷ 0 ∷ 5 ∷ 0 ∷ 6 ∷ 0 ∷ 7 ∷ 1 ∷ 1 ∷ 1 ∷ 0 ∷ []
+tcp_front_as_written = 0 ∷ 1 ∷ 0 ∷ 2 ∷ 0 ∷ 0 ∷ 0 ∷ 3 ∷ 0 ∷ 0 ∷ 0 ∷ 4 ∷ 97 ∷ 145 ∷ 0 ∷ 5 ∷ 0 ∷ 6 ∷
+    0 ∷ 7 ∷ 1 ∷ 1 ∷ 1 ∷ 0 ∷ []
 
--- options of a first segment: size 1460, selective acknowledgements, timestamps, a no-operation, scale 7
+-- options of a first segment: size 1460, selective acknowledgements, timestamps, a no-operation,
+-- scale 7
 abbrev pub first_options : List ℕ
-first_options = 2 ∷ 4 ∷ 5 ∷ 180 ∷ 4 ∷ 2 ∷ 8 ∷ 10 ∷ 0 ∷ 0 ∷ 0 ∷ 1 ∷ 0 ∷ 0 ∷ 0 ∷ 0 ∷ 1 ∷ 3 ∷ 3 ∷ 7 ∷ []
+first_options = 2 ∷ 4 ∷ 5 ∷ 180 ∷ 4 ∷ 2 ∷ 8 ∷ 10 ∷ 0 ∷ 0 ∷ 0 ∷ 1 ∷ 0 ∷ 0 ∷
+    0 ∷ 0 ∷ 1 ∷ 3 ∷ 3 ∷ 7 ∷ []

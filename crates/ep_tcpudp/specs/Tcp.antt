@@ -1,8 +1,11 @@
--- The TCP header (RFC 9293, section 3.1): its bytes, and each field by its place in them. The flag ns
--- is that of RFC 3540, ece and cwr those of RFC 3168, section 6.1.
-use Rattle.std.specs.Prelude.{◌≡◌, ◌<◌, ◌≤◌, ℕ, ◌+◌, ◌*◌, ◌/◌, ◌%◌, ◌^◌, Bool, false, ◌==◌, if◌then◌else◌, List, [], ◌∷◌, ◌++◌, length, slice_index, slice_range, slice_set, take, drop}
+-- The TCP header (RFC 9293, section 3.1): its bytes, and each field by its place in them. The flag
+-- ns is that of RFC 3540, ece and cwr those of RFC 3168, section 6.1.
+use Rattle.std.specs.Prelude.{◌≡◌, ◌<◌, ◌≤◌, ℕ, ◌+◌, ◌*◌, ◌/◌, ◌%◌, ◌^◌, Bool, false, ◌==◌}
+use Rattle.std.specs.Prelude.{if◌then◌else◌, List, [], ◌∷◌, ◌++◌, length, slice_index, slice_range}
+use Rattle.std.specs.Prelude.{slice_set, take, drop}
 use Rattle.std.specs.Int.{w16, w32, to_be_bytes, bit_at}
 use Rattle.ep_base.specs.Bytes.{num}
+use Rattle.ep_base.specs.Fronts.{IsReadAs}
 use Rattle.ep_tcpudp.specs.TcpOptions.{IsTcpOptions}
 use Rattle.ep_tcpudp.specs.declared.transport.tcp_header.TcpHeader.{TcpHeader}
 
@@ -81,8 +84,8 @@ abbrev pub options_of : List ℕ → List ℕ
 options_of bytes = slice_range bytes 20 (4 * data_offset_of bytes)
 
 -- the fields that these bytes spell
-abbrev pub header_of : List ℕ → TcpHeader
-header_of bytes = record {
+abbrev pub tcp_header_of : List ℕ → TcpHeader
+tcp_header_of bytes = record {
   source_port = source_port_of bytes;
   destination_port = destination_port_of bytes;
   sequence_number = sequence_number_of bytes;
@@ -138,27 +141,27 @@ flag set worth = if set then worth else 0
 -- byte 13: eight flags
 abbrev pub flags : TcpHeader → ℕ
 flags h =
-    flag h.cwr 128 + flag h.ece 64 + flag h.urg 32 + flag h.ack 16 + flag h.psh 8 + flag h.rst 4 + flag h.syn 2 + flag h.fin 1
+    flag h.cwr 128 + flag h.ece 64 + flag h.urg 32 + flag h.ack 16 + flag h.psh 8 + flag h.rst
+    4 + flag h.syn 2 + flag h.fin 1
 
 -- the bytes of a header
 abbrev pub spelling : TcpHeader → List ℕ
 spelling h =
-    to_be_bytes w16 h.source_port ++ to_be_bytes w16 h.destination_port ++ to_be_bytes w32 h.sequence_number
-    ++ to_be_bytes w32 h.acknowledgment_number ++ (data_offset h * 16 + flag h.ns 1) ∷ flags h ∷ to_be_bytes w16 h.window_size
+    to_be_bytes w16 h.source_port ++ to_be_bytes w16 h.destination_port
+    ++ to_be_bytes w32 h.sequence_number
+    ++ to_be_bytes w32 h.acknowledgment_number ++ (data_offset h * 16 + flag h.ns 1) ∷ flags h ∷
+    to_be_bytes w16 h.window_size
     ++ to_be_bytes w16 h.checksum ++ to_be_bytes w16 h.urgent_pointer ++ h.options
 
 -- the bytes with the three reserved bits, behind the data offset, as 0
 abbrev pub with_reserved_bits_zero : List ℕ → List ℕ
-with_reserved_bits_zero bytes = slice_set bytes 12 (slice_index bytes 12 / 16 * 16 + slice_index bytes 12 % 2)
+with_reserved_bits_zero bytes = slice_set bytes 12
+    (slice_index bytes 12 / 16 * 16 + slice_index bytes 12 % 2)
 
 -- in front of the rest stood a header, with these fields; written again it is the same, but for the
 -- reserved bits
-pub record IsRead (bytes : List ℕ) (h : TcpHeader) (rest : List ℕ) : Type 0 where
-  pub front : List ℕ
-  pub header : IsTcpHeader front
-  pub place : bytes ≡ front ++ rest
-  pub fields : h ≡ header_of front
-  pub again : spelling h ≡ with_reserved_bits_zero front
+abbrev pub IsRead : List ℕ → TcpHeader → List ℕ → Type 0
+IsRead = IsReadAs IsTcpHeader tcp_header_of spelling with_reserved_bits_zero
 
 -- the ranges of the fields
 pub record Fits (h : TcpHeader) : Type 0 where

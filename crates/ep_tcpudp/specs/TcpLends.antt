@@ -6,4 +6,5 @@ use Rattle.ep_tcpudp.specs.contracts.transport.tcp_options.TcpOptions.{the_row}
 
 -- once the borrow r ends, the options are the bytes that r shows last, as many as before
 abbrev pub lends_bytes : MutBor (List ℕ) → MutBor (List ℕ) → Fml
-lends_bytes options r = Lends the_row (Array u8 0) options r (λ bytes. refill (length options.now) options.now bytes)
+lends_bytes options r = Lends the_row (Array u8 0) options r
+    (λ bytes. refill (length options.now) options.now bytes)

@@ -1,6 +1,7 @@
--- The options of a TCP header (RFC 9293, section 3.1): what the data offset, in words of 4 bytes from
--- 5 to 15, leaves behind the 20 bytes of the fixed fields.
-use Rattle.std.specs.Prelude.{◌≡◌, ℕ, ◌-◌, ◌%◌, ◌≤◌, nat_lt, if◌then◌else◌, List, ◌++◌, length, replicate, Result, Ok, Err}
+-- The options of a TCP header (RFC 9293, section 3.1): what the data offset, in words of 4 bytes
+-- from 5 to 15, leaves behind the 20 bytes of the fixed fields.
+use Rattle.std.specs.Prelude.{◌≡◌, ℕ, ◌-◌, ◌%◌, ◌≤◌, nat_lt, if◌then◌else◌, List, ◌++◌, length}
+use Rattle.std.specs.Prelude.{replicate, Result, Ok, Err}
 use Rattle.ep_tcpudp.specs.declared.transport.tcp_option_write_error.TcpOptionWriteError.{TcpOptionWriteError}
 use Rattle.ep_tcpudp.specs.declared.transport.tcp_option_write_error.TcpOptionWriteError.TheVariants.{NotEnoughSpace}
 
@@ -15,4 +16,5 @@ whole_options bytes = bytes ++ replicate ((4 - length bytes % 4) % 4) 0
 
 -- the options that these bytes are, filled up; more than 40 bytes are refused with their number
 abbrev pub options_of_bytes : List ℕ → Result (List ℕ) TcpOptionWriteError
-options_of_bytes bytes = if nat_lt 40 (length bytes) then Err (NotEnoughSpace (length bytes)) else Ok (whole_options bytes)
+options_of_bytes bytes = if nat_lt 40 (length bytes) then Err (NotEnoughSpace (length bytes))
+    else Ok (whole_options bytes)

@@ -1,7 +1,9 @@
 -- UDP (RFC 768): the bytes of the header, each field by its place in them, and the whole datagram.
-use Rattle.std.specs.Prelude.{◌≡◌, ◌⊎◌, ℕ, ◌+◌, ◌^◌, ◌<◌, ◌≤◌, ◌==◌, if◌then◌else◌, List, ◌++◌, length, take}
+use Rattle.std.specs.Prelude.{◌≡◌, ◌⊎◌, ℕ, ◌+◌, ◌^◌, ◌<◌, ◌≤◌, ◌==◌, if◌then◌else◌, List, ◌++◌}
+use Rattle.std.specs.Prelude.{length, take}
 use Rattle.std.specs.Int.{w16, to_be_bytes}
 use Rattle.ep_base.specs.Bytes.{num}
+use Rattle.ep_base.specs.Fronts.{IsReadAs}
 use Rattle.ep_tcpudp.specs.declared.transport.udp_header.UdpHeader.{UdpHeader}
 
 abbrev pub source_port_of : List ℕ → ℕ
@@ -22,8 +24,8 @@ pub record IsUdpHeader (bytes : List ℕ) : Type 0 where
   pub whole : length bytes ≡ 8
 
 -- the fields that these bytes spell
-abbrev pub header_of : List ℕ → UdpHeader
-header_of bytes = record {
+abbrev pub udp_header_of : List ℕ → UdpHeader
+udp_header_of bytes = record {
   source_port = source_port_of bytes;
   destination_port = destination_port_of bytes;
   length = length_of bytes;
@@ -32,15 +34,12 @@ header_of bytes = record {
 
 -- the bytes of a header
 abbrev pub spelling : UdpHeader → List ℕ
-spelling h = to_be_bytes w16 h.source_port ++ to_be_bytes w16 h.destination_port ++ to_be_bytes w16 h.length ++ to_be_bytes w16 h.checksum
+spelling h = to_be_bytes w16 h.source_port ++ to_be_bytes w16 h.destination_port
+    ++ to_be_bytes w16 h.length ++ to_be_bytes w16 h.checksum
 
 -- the header h is read at the front of the bytes, and rest stands behind it
-pub record IsRead (bytes : List ℕ) (h : UdpHeader) (rest : List ℕ) : Type 0 where
-  pub front : List ℕ
-  pub header : IsUdpHeader front
-  pub place : bytes ≡ front ++ rest
-  pub fields : h ≡ header_of front
-  pub again : spelling h ≡ front
+abbrev pub IsRead : List ℕ → UdpHeader → List ℕ → Type 0
+IsRead = IsReadAs IsUdpHeader udp_header_of spelling (λ front. front)
 
 -- the ranges of the fields
 pub record Fits (h : UdpHeader) : Type 0 where

@@ -1,6 +1,7 @@
 //! TCP and UDP: headers as values, and views of the bytes of messages.
 
 mod limit;
+mod part;
 mod tcp_header;
 mod tcp_header_slice;
 pub mod tcp_option;
@@ -10,9 +11,11 @@ mod tcp_option_write_error;
 mod tcp_options;
 mod tcp_options_iterator;
 mod tcp_slice;
+mod tcp_view;
 mod udp_header;
 mod udp_header_slice;
 mod udp_slice;
+mod udp_view;
 
 pub use tcp_header::TcpHeader;
 pub use tcp_header_slice::TcpHeaderSlice;

@@ -183,8 +183,9 @@ fn of_ones(rt: &impl Abort, alloc: Global, header: &TcpHeader, len: usize) -> Ch
     header.calc_checksum_ipv4_raw(V4.0, V4.1, &repeated(rt, alloc, 1, len))
 }
 
-// The greatest payload over IPv4, of ones, behind headers of 20 and of 60 bytes, and one byte more: other
-// tools give 217b and 817a. (Over IPv6 the limit is above 4 gigabytes; `laws::examples` has it.)
+// The greatest payload over IPv4, of ones, behind headers of 20 and of 60 bytes, and one byte more:
+// other tools give 217b and 817a. (Over IPv6 the limit is above 4 gigabytes; `laws::examples` has
+// it.)
 #[test]
 fn tcp_greatest_payload(rt: HostRuntime) {
     let mut header = tcp_header();
@@ -257,8 +258,8 @@ fn of_header_in_ipv6(rt: &impl Abort, bytes: &[u8]) -> Checksum {
     tcp_header_slice(rt, bytes).calc_checksum_ipv6(&ipv6, &[])
 }
 
-// The first segment below with its three reserved bits set: slices sum them as they stand, which gives
-// 89da over IPv4 and a3d8 over IPv6, and fields don't have them.
+// The first segment below with its three reserved bits set: slices sum them as they stand, which
+// gives 89da over IPv4 and a3d8 over IPv6, and fields don't have them.
 #[test]
 fn tcp_reserved_bits_are_summed(rt: HostRuntime) {
     let mut bytes = SYN;
@@ -291,8 +292,8 @@ fn ones_behind(rt: &impl Abort, alloc: Global, data_offset: u8, len: usize) -> V
     bytes
 }
 
-// Segments of 65534 and 65535 bytes, and one byte more: a program apart gives 1e79 and 1d78, and with 40
-// bytes of options 7e78 and 7d77.
+// Segments of 65534 and 65535 bytes, and one byte more: a program apart gives 1e79 and 1d78, and
+// with 40 bytes of options 7e78 and 7d77.
 #[test]
 fn tcp_greatest_segment(rt: HostRuntime) {
     assert!(rt; whole(&rt, rt.alloc(), 0x50, 65534) == Ok(0x1e79));

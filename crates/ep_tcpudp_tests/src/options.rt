@@ -51,8 +51,8 @@ fn kinds_and_lengths(rt: HostRuntime) {
     assert!(rt; lengths == [1, 1, 4, 3, 2, 10]);
 }
 
-// The options of a first segment as Linux sends them: 1460, selective acknowledgements, timestamps, a
-// no-operation and the scale 7.
+// The options of a first segment as Linux sends them: 1460, selective acknowledgements, timestamps,
+// a no-operation and the scale 7.
 const FIRST_SEGMENT: [u8; 20] = [
     2, 4, 0x05, 0xb4, 4, 2, 8, 10, 0, 0, 0, 1, 0, 0, 0, 0, 1, 3, 3, 7,
 ];

@@ -9,8 +9,8 @@ use std::hash::FoldHasher;
 use std::process::Abort;
 use std::test::*;
 
-// A header with four bytes of options, made by hand after RFC 9293, with all reserved bits set, and two
-// bytes of payload.
+// A header with four bytes of options, made by hand after RFC 9293, with all reserved bits set, and
+// two bytes of payload.
 const BYTES: [u8; 26] = [
     0, 1, 0, 2, 0, 0, 0, 3, 0, 0, 0, 4, 0x6f, 0x91, 0, 5, 0, 6, 0, 7, 1, 1, 1, 0, 0xaa, 0xbb,
 ];
@@ -47,7 +47,8 @@ fn too_short(required_len: usize, len: usize) -> HeaderSliceError {
     })
 }
 
-// The readers below end a test whose bytes they refuse. They have no contracts, as tests alone call them.
+// The readers below end a test whose bytes they refuse. They have no contracts, as tests alone call
+// them.
 
 fn header_slice<'a>(rt: &impl Abort, bytes: &'a [u8]) -> TcpHeaderSlice<'a> {
     let Ok(header) = TcpHeaderSlice::from_slice(bytes) else {

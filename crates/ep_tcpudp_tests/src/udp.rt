@@ -30,7 +30,8 @@ fn want(required_len: usize, len: usize, len_source: LenSource, layer: Layer) ->
     }
 }
 
-// The readers below end a test whose bytes they refuse. They have no contracts, as tests alone call them.
+// The readers below end a test whose bytes they refuse. They have no contracts, as tests alone call
+// them.
 
 fn header_slice<'a>(rt: &impl Abort, bytes: &'a [u8]) -> UdpHeaderSlice<'a> {
     let Ok(header) = UdpHeaderSlice::from_slice(bytes) else {
@@ -172,9 +173,7 @@ fn laws_are_called(rt: HostRuntime) {
     laws::udp::headers_are_their_bytes(&fields());
     let again = laws::udp::header_is_read_again(&fields(), &BYTES);
     assert!(rt; again == Ok((fields(), &BYTES[8..])));
-    laws::traits::copies_are_values();
-    laws::traits::copies_never_fail();
-    laws::traits::equals_are_same();
+    laws::traits::types_are_plain_data();
     laws::udp::header_lengths();
     laws::examples::udp_datagrams();
     laws::examples::udp_refused();

@@ -1,31 +1,43 @@
 -- What an IP payload of either version is read as.
-use Rattle.std.proofs.Common.{◌≡◌, ◌∙◌, ap, refl, ℕ, Bool, true, false, cond, List, Option, Some, Result, Ok, Err, if◌then◌else◌}
+use Rattle.std.proofs.Common.{◌≡◌, ◌∙◌, ap, refl, ℕ, Bool, true, false, cond, List, Option, Some}
+use Rattle.std.proofs.Common.{Result, Ok, Err, if◌then◌else◌}
 use Rattle.ep_ip.specs.Ipv4.{is_fragmenting}
 use Rattle.ep_ipslice.specs.Packet.{FragmentFields, IpPayload}
-use Rattle.ep_packet.specs.Class.{Addresses, Class, message_class, part_class, read_class}
+use Rattle.ep_packet.specs.Class.{Class, message_class, part_class, read_class}
 use Rattle.ep_packet.specs.Class.Class.{Cut, Refused, Whole}
 use Rattle.ep_packet.specs.Readable.{ReadMessage, message_at}
+use Rattle.ep_packet.specs.declared.addresses.Addresses.{Addresses}
 use Rattle.ep_packet.specs.declared.err.packet.slice_error.SliceError.{SliceError}
 
 abbrev pub class_with : List ℕ → Addresses → IpPayload → Option FragmentFields → Class
-class_with ids addresses p fields = if p.fragmented then part_class ids addresses p fields else message_class addresses p
+class_with ids addresses p fields = if p.fragmented then part_class ids addresses p fields
+    else message_class addresses p
 
-pub whole_with : (ids : List ℕ) (addresses : Addresses) (p : IpPayload) (fields : Option FragmentFields) (read : ReadMessage) → p.fragmented ≡ false
-    → message_at p.ip_number.0 p.payload ≡ Ok read → class_with ids addresses p fields ≡ Whole addresses p.ip_number.0 p.payload read
+pub whole_with : (ids : List ℕ) (addresses : Addresses) (p : IpPayload)
+    (fields : Option FragmentFields) (read : ReadMessage) → p.fragmented ≡ false
+    → message_at p.ip_number.0 p.payload ≡ Ok read
+    → class_with ids addresses p fields ≡ Whole addresses p.ip_number.0 p.payload read
 whole_with ids addresses p fields read uncut is =
     ap (λ (b : Bool). cond b (part_class ids addresses p fields) (message_class addresses p)) uncut
     ∙ ap (λ (r : Result ReadMessage SliceError). read_class addresses p r) is
 
-pub refused_with : (ids : List ℕ) (addresses : Addresses) (p : IpPayload) (fields : Option FragmentFields) (e : SliceError) → p.fragmented ≡ false
+pub refused_with : (ids : List ℕ) (addresses : Addresses) (p : IpPayload)
+    (fields : Option FragmentFields) (e : SliceError) → p.fragmented ≡ false
     → message_at p.ip_number.0 p.payload ≡ Err e → class_with ids addresses p fields ≡ Refused
 refused_with ids addresses p fields e uncut is =
     ap (λ (b : Bool). cond b (part_class ids addresses p fields) (message_class addresses p)) uncut
     ∙ ap (λ (r : Result ReadMessage SliceError). read_class addresses p r) is
 
-pub part_of : (ids : List ℕ) (addresses : Addresses) (p : IpPayload) (fields : Option FragmentFields) (told : FragmentFields) → fields ≡ Some told
+pub part_of : (ids : List ℕ) (addresses : Addresses) (p : IpPayload)
+    (fields : Option FragmentFields) (told : FragmentFields) → fields ≡ Some told
     → p.fragmented ≡ true → is_fragmenting told.more told.offset ≡ true
     → class_with ids addresses p fields
-    ≡ Cut (record { vlan_ids = ids; addresses = addresses; identification = told.identification; number = p.ip_number.0 }) told.offset told.more p.payload
+    ≡ Cut (record {
+      vlan_ids = ids;
+      addresses = addresses;
+      identification = told.identification;
+      number = p.ip_number.0;
+    }) told.offset told.more p.payload
 part_of ids addresses p fields told is cut fragments =
     ap (λ (b : Bool). cond b (part_class ids addresses p fields) (message_class addresses p)) cut
     ∙ ap (part_class ids addresses p) is

@@ -1,25 +1,26 @@
-pub mod Accepted
-pub mod AcceptedLists
-pub mod AppendIp
-pub mod BuiltFrames
-pub mod BuiltPackets
-pub mod BuiltSums
-pub mod CallLemmas
+-- for the crates above, beside what is proved of each function
 pub mod Complete
-pub mod Lengths
 pub mod FrameTags
-pub mod FrameClass
-pub mod FramedIpv4
-pub mod FramedIpv6
-pub mod LinkedExts
 pub mod Members
-pub mod PartLemmas
-pub mod PoolLemmas
+pub mod OutcomeLemmas
 pub mod Push
-pub mod PutBack
-pub mod Retaining
-pub mod Runs
-pub mod SameBuffers
-pub mod Sections
-pub mod ViewedRows
-pub mod Written
+mod Accepted
+mod AcceptedLists
+mod AppendIp
+mod BuiltFrames
+mod BuiltPackets
+mod BuiltSums
+mod CallLemmas
+mod FrameClass
+mod FramedIpv4
+mod FramedIpv6
+mod Lengths
+mod LinkedExts
+mod PartLemmas
+mod PutBack
+mod Retaining
+mod Runs
+mod SameBuffers
+mod Sections
+mod ViewedRows
+mod Written

@@ -1,5 +1,7 @@
 -- Extension headers that were made to name one another: the number of the first, and their length.
-use Rattle.std.proofs.Common.{◌≡◌, ◌∙◌, ap, sym, subst, refl, ℕ, ◌+◌, Bool, true, false, cond, eqb, is_some, List, [], ◌∷◌, length, length-append, Option, Some, None, unwrap_or, arith}
+use Rattle.std.proofs.Common.{◌≡◌, ◌∙◌, ap, sym, subst, refl, ℕ, ◌+◌, Bool, true, false, cond, eqb}
+use Rattle.std.proofs.Common.{is_some, List, [], ◌∷◌, length, length-append, Option, Some, None}
+use Rattle.std.proofs.Common.{unwrap_or, arith}
 use Rattle.std.specs.Option.{option_and_then, option_map}
 use Rattle.std.proofs.lemmas.Bool.{eqb-true}
 use Rattle.ep_ext.specs.Auth.{auth_spelling}
@@ -7,14 +9,18 @@ use Rattle.ep_ext.specs.Chain.{Row}
 use Rattle.ep_ext.specs.Follow.{Follows, bytes_in, header_in, header_len}
 use Rattle.ep_ext.specs.Fragment.{fragment_spelling}
 use Rattle.ep_ext.specs.Ipv4Exts.{ipv4_exts_spelling, ipv4_with_link}
-use Rattle.ep_ext.specs.Link.{all_places, first_named, piece_if, pieces_in, raw_with_next, with_links}
+use Rattle.ep_ext.specs.Link.{all_places, first_named, piece_if, pieces_in, raw_with_next}
+use Rattle.ep_ext.specs.Link.{with_links}
 use Rattle.ep_ext.specs.Place.{number_of, place_of}
 use Rattle.ep_ext.specs.Raw.{raw_spelling}
 use Rattle.ep_ext.specs.Value.{Piece, bytes_of}
 use Rattle.ep_ext.specs.declared.net.ip_auth_header.IpAuthHeader.{IpAuthHeader}
 use Rattle.ep_ext.specs.declared.net.ipv4_extensions.Ipv4Extensions.{Ipv4Extensions}
 use Rattle.ep_ext.specs.declared.net.ipv6_ext_place.Ipv6ExtPlace.{Ipv6ExtPlace}
-use Rattle.ep_ext.specs.declared.net.ipv6_ext_place.Ipv6ExtPlace.TheVariants.{HopByHop, Destination, Routing, Fragment, Authentication, FinalDestination}
+use Rattle.ep_ext.specs.declared.net.ipv6_ext_place.Ipv6ExtPlace.TheVariants.{HopByHop, Destination}
+use Rattle.ep_ext.specs.declared.net.ipv6_ext_place.Ipv6ExtPlace.TheVariants.{Routing, Fragment}
+use Rattle.ep_ext.specs.declared.net.ipv6_ext_place.Ipv6ExtPlace.TheVariants.{Authentication}
+use Rattle.ep_ext.specs.declared.net.ipv6_ext_place.Ipv6ExtPlace.TheVariants.{FinalDestination}
 use Rattle.ep_ext.specs.declared.net.ipv6_extensions.Ipv6Extensions.{Ipv6Extensions}
 use Rattle.ep_ext.specs.declared.net.ipv6_fragment_header.Ipv6FragmentHeader.{Ipv6FragmentHeader}
 use Rattle.ep_ext.specs.declared.net.ipv6_raw_ext_header.Ipv6RawExtHeader.{Ipv6RawExtHeader}
@@ -27,7 +33,8 @@ none_some : {A : Type 0} (x : A) → ◌≡◌ {A = Option A} None (Some x) → 
 none_some x h = cc
 
 -- a place with no header in front of it has the number that leads there
-test : (b : Bool) (n : ℕ) (p q : Ipv6ExtPlace) (other : Option Ipv6ExtPlace) → (b ≡ true → n ≡ number_of p) → (other ≡ Some q → number_of q ≡ n)
+test : (b : Bool) (n : ℕ) (p q : Ipv6ExtPlace) (other : Option Ipv6ExtPlace)
+    → (b ≡ true → n ≡ number_of p) → (other ≡ Some q → number_of q ≡ n)
     → cond b (Some p) other ≡ Some q → number_of q ≡ n
 test true n p q other is rest e = sym (ap number_of (some_same p q e)) ∙ sym (is refl)
 test false n p q other is rest e = rest e
@@ -46,16 +53,19 @@ abbrev first_of : List Piece → ℕ → ℕ
 first_of [] last = last
 first_of (piece ∷ pieces) last = number_of piece.0
 
-first_of_row : (first : ℕ) (pieces : List Piece) (last : ℕ) → Row place_of [] first pieces last → first ≡ first_of pieces last
+first_of_row : (first : ℕ) (pieces : List Piece) (last : ℕ) → Row place_of [] first pieces last
+    → first ≡ first_of pieces last
 first_of_row first [] last row = row
 first_of_row first (piece ∷ pieces) last row = sym (begins first piece.0 row.0)
 
 first_if : (place : Ipv6ExtPlace) (o : Option (List ℕ)) (pieces : List Piece) (last : ℕ)
-    → first_of (piece_if place o pieces) last ≡ cond (is_some o) (number_of place) (first_of pieces last)
+    → first_of (piece_if place o pieces) last
+    ≡ cond (is_some o) (number_of place) (first_of pieces last)
 first_if place None pieces last = refl
 first_if place (Some h) pieces last = refl
 
-first_in : (value : Ipv6Extensions) (places : List Ipv6ExtPlace) (last : ℕ) → first_of (pieces_in value places) last ≡ first_named value places last
+first_in : (value : Ipv6Extensions) (places : List Ipv6ExtPlace) (last : ℕ)
+    → first_of (pieces_in value places) last ≡ first_named value places last
 first_in value [] last = refl
 first_in value (place ∷ places) last =
     first_if place (header_in value place) (pieces_in value places) last
@@ -65,57 +75,76 @@ first_in value (place ∷ places) last =
 abbrev Shape : Option (List ℕ) → Option (List ℕ) → Type 0
 Shape new old = option_map length new ≡ option_map length old
 
-raw_shape : (n : ℕ) (o : Option Ipv6RawExtHeader) → Shape (option_map raw_spelling (option_map (raw_with_next n) o)) (option_map raw_spelling o)
+raw_shape : (n : ℕ) (o : Option Ipv6RawExtHeader)
+    → Shape (option_map raw_spelling (option_map (raw_with_next n) o)) (option_map raw_spelling o)
 raw_shape n None = refl
 raw_shape n (Some h) = refl
 
 fragment_shape : (n : ℕ) (o : Option Ipv6FragmentHeader)
-    → Shape (option_map fragment_spelling (option_map {T = Ipv6FragmentHeader} (λ h. record h { next_header = record { 0 = n } }) o)) (option_map fragment_spelling o)
+    → Shape (option_map fragment_spelling
+    (option_map {T = Ipv6FragmentHeader} (λ h. record h { next_header = record { 0 = n } }) o))
+    (option_map fragment_spelling o)
 fragment_shape n None = refl
 fragment_shape n (Some h) = refl
 
 auth_shape : (n : ℕ) (o : Option IpAuthHeader)
-    → Shape (option_map auth_spelling (option_map {T = IpAuthHeader} (λ h. record h { next_header = record { 0 = n } }) o)) (option_map auth_spelling o)
+    → Shape (option_map auth_spelling
+    (option_map {T = IpAuthHeader} (λ h. record h { next_header = record { 0 = n } }) o))
+    (option_map auth_spelling o)
 auth_shape n None = refl
 auth_shape n (Some h) = refl
 
 abbrev naming : ℕ → ℕ → Ipv6RoutingExtensions → Ipv6RoutingExtensions
-naming n last r = record { routing = raw_with_next n r.routing; final_destination_options = option_map (raw_with_next last) r.final_destination_options }
+naming n last r =
+    record {
+      routing = raw_with_next n r.routing;
+      final_destination_options = option_map (raw_with_next last) r.final_destination_options;
+    }
 
 routing_shape : (n last : ℕ) (o : Option Ipv6RoutingExtensions)
-    → Shape (option_map {T = Ipv6RoutingExtensions} (λ r. raw_spelling r.routing) (option_map (naming n last) o)) (option_map {T = Ipv6RoutingExtensions} (λ r. raw_spelling r.routing) o)
+    → Shape (option_map {T = Ipv6RoutingExtensions} (λ r. raw_spelling r.routing)
+    (option_map (naming n last) o))
+    (option_map {T = Ipv6RoutingExtensions} (λ r. raw_spelling r.routing) o)
 routing_shape n last None = refl
 routing_shape n last (Some r) = refl
 
 abbrev final_of : Ipv6RoutingExtensions → Option (List ℕ)
 final_of r = option_map raw_spelling r.final_destination_options
 
-final_shape : (n last : ℕ) (o : Option Ipv6RoutingExtensions) → Shape (option_and_then final_of (option_map (naming n last) o)) (option_and_then final_of o)
+final_shape : (n last : ℕ) (o : Option Ipv6RoutingExtensions)
+    → Shape (option_and_then final_of (option_map (naming n last) o)) (option_and_then final_of o)
 final_shape n last None = refl
 final_shape n last (Some r) = raw_shape last r.final_destination_options
 
-same_shape : (value : Ipv6Extensions) (last : ℕ) (place : Ipv6ExtPlace) → Shape (header_in (with_links value last) place) (header_in value place)
+same_shape : (value : Ipv6Extensions) (last : ℕ) (place : Ipv6ExtPlace)
+    → Shape (header_in (with_links value last) place) (header_in value place)
 same_shape value last HopByHop = raw_shape _ value.hop_by_hop_options
 same_shape value last Destination = raw_shape _ value.destination_options
 same_shape value last Routing = routing_shape _ last value.routing
 same_shape value last Fragment = fragment_shape _ value.fragment
 same_shape value last Authentication = auth_shape _ value.auth
-same_shape value last FinalDestination = final_shape (first_named value (Fragment ∷ Authentication ∷ FinalDestination ∷ []) last) last value.routing
+same_shape value last FinalDestination =
+    final_shape (first_named value (Fragment ∷ Authentication ∷ FinalDestination ∷ []) last)
+    last value.routing
 
 is_some_map : (o : Option (List ℕ)) → is_some (option_map length o) ≡ is_some o
 is_some_map None = refl
 is_some_map (Some h) = refl
 
 both_held : (new old : Option (List ℕ)) → Shape new old → is_some new ≡ is_some old
-both_held new old same = sym (is_some_map new) ∙ ap (λ (o : Option ℕ). is_some o) same ∙ is_some_map old
+both_held new old same = sym (is_some_map new)
+    ∙ ap (λ (o : Option ℕ). is_some o) same ∙ is_some_map old
 
-first_stays : (value : Ipv6Extensions) (last : ℕ) (places : List Ipv6ExtPlace) → first_named (with_links value last) places last ≡ first_named value places last
+first_stays : (value : Ipv6Extensions) (last : ℕ) (places : List Ipv6ExtPlace)
+    → first_named (with_links value last) places last ≡ first_named value places last
 first_stays value last [] = refl
 first_stays value last (p ∷ ps) =
-    λ i. cond (both_held (header_in (with_links value last) p) (header_in value p) (same_shape value last p) i) (number_of p) (first_stays value last ps i)
+    λ i. cond (both_held (header_in (with_links value last) p) (header_in value p)
+    (same_shape value last p) i) (number_of p) (first_stays value last ps i)
 
 -- the first number leads to the first header that is held
-pub first_linked : (value : Ipv6Extensions) (first last : ℕ) → Row place_of [] first (pieces_in (with_links value last) all_places) last
+pub first_linked : (value : Ipv6Extensions) (first last : ℕ)
+    → Row place_of [] first (pieces_in (with_links value last) all_places) last
     → first ≡ first_named value all_places last
 first_linked value first last row =
     first_of_row first (pieces_in (with_links value last) all_places) last row
@@ -123,11 +152,15 @@ first_linked value first last row =
     ∙ first_stays value last all_places
 
 -- the number that is named first leads through all headers that are held
-pub leads : (value new : Ipv6Extensions) (first last : ℕ) → new ≡ with_links value last → Follows new first (pieces_in new all_places) last
-    → Row place_of [] (first_named value all_places last) (pieces_in (with_links value last) all_places) last
+pub leads : (value new : Ipv6Extensions) (first last : ℕ) → new ≡ with_links value last
+    → Follows new first (pieces_in new all_places) last
+    → Row place_of [] (first_named value all_places last)
+    (pieces_in (with_links value last) all_places) last
 leads value new first last links follows =
-    let row = subst (λ (x : Ipv6Extensions). Row place_of [] first (pieces_in x all_places) last) links follows.row in
-    subst (λ (n : ℕ). Row place_of [] n (pieces_in (with_links value last) all_places) last) (first_linked value first last row) row
+    let row = subst (λ (x : Ipv6Extensions). Row place_of [] first (pieces_in x all_places) last)
+    links follows.row in
+    subst (λ (n : ℕ). Row place_of [] n (pieces_in (with_links value last) all_places) last)
+    (first_linked value first last row) row
 
 abbrev len_of : Option ℕ → ℕ
 len_of None = 0
@@ -137,40 +170,56 @@ bytes_len : (o : Option (List ℕ)) → length (unwrap_or o []) ≡ len_of (opti
 bytes_len None = refl
 bytes_len (Some h) = refl
 
-len_stays : (value : Ipv6Extensions) (last : ℕ) (place : Ipv6ExtPlace) → length (bytes_in (with_links value last) place) ≡ length (bytes_in value place)
+len_stays : (value : Ipv6Extensions) (last : ℕ) (place : Ipv6ExtPlace)
+    → length (bytes_in (with_links value last) place) ≡ length (bytes_in value place)
 len_stays value last place =
-    bytes_len (header_in (with_links value last) place) ∙ ap len_of (same_shape value last place) ∙ sym (bytes_len (header_in value place))
+    bytes_len (header_in (with_links value last) place) ∙ ap len_of (same_shape value last place)
+    ∙ sym (bytes_len (header_in value place))
 
-pub linked_len : (value : Ipv6Extensions) (last : ℕ) → header_len (with_links value last) ≡ header_len value
+pub linked_len : (value : Ipv6Extensions) (last : ℕ)
+    → header_len (with_links value last) ≡ header_len value
 linked_len value last =
-    λ i. len_stays value last HopByHop i + len_stays value last Destination i + len_stays value last Routing i
-    + len_stays value last Fragment i + len_stays value last Authentication i + len_stays value last FinalDestination i
+    λ i. len_stays value last HopByHop i + len_stays value last Destination
+    i + len_stays value last Routing i
+    + len_stays value last Fragment i + len_stays value last Authentication i + len_stays value
+    last FinalDestination i
 
 piece_len : (place : Ipv6ExtPlace) (o : Option (List ℕ)) (pieces : List Piece)
-    → length (bytes_of (piece_if place o pieces)) ≡ length (unwrap_or o []) + length (bytes_of pieces)
+    → length (bytes_of (piece_if place o pieces))
+    ≡ length (unwrap_or o []) + length (bytes_of pieces)
 piece_len place None pieces = omega arith
 piece_len place (Some h) pieces = length-append h (bytes_of pieces)
 
 -- all headers together are as long as their bytes
-pub pieces_len : (value : Ipv6Extensions) → length (bytes_of (pieces_in value all_places)) ≡ header_len value
+pub pieces_len : (value : Ipv6Extensions)
+    → length (bytes_of (pieces_in value all_places)) ≡ header_len value
 pieces_len value =
-    let a = piece_len HopByHop (header_in value HopByHop) (pieces_in value (Destination ∷ Routing ∷ Fragment ∷ Authentication ∷ FinalDestination ∷ [])) in
-    let b = piece_len Destination (header_in value Destination) (pieces_in value (Routing ∷ Fragment ∷ Authentication ∷ FinalDestination ∷ [])) in
-    let c = piece_len Routing (header_in value Routing) (pieces_in value (Fragment ∷ Authentication ∷ FinalDestination ∷ [])) in
-    let d = piece_len Fragment (header_in value Fragment) (pieces_in value (Authentication ∷ FinalDestination ∷ [])) in
-    let f = piece_len Authentication (header_in value Authentication) (pieces_in value (FinalDestination ∷ [])) in
+    let a = piece_len HopByHop (header_in value HopByHop)
+    (pieces_in value (Destination ∷ Routing ∷ Fragment ∷ Authentication ∷
+    FinalDestination ∷ [])) in
+    let b = piece_len Destination (header_in value Destination)
+    (pieces_in value (Routing ∷ Fragment ∷ Authentication ∷ FinalDestination ∷ [])) in
+    let c = piece_len Routing (header_in value Routing)
+    (pieces_in value (Fragment ∷ Authentication ∷ FinalDestination ∷ [])) in
+    let d = piece_len Fragment (header_in value Fragment)
+    (pieces_in value (Authentication ∷ FinalDestination ∷ [])) in
+    let f = piece_len Authentication (header_in value Authentication)
+    (pieces_in value (FinalDestination ∷ [])) in
     let g = piece_len FinalDestination (header_in value FinalDestination) [] in
     summed _ _ _ _ _ _ _ _ _ _ _ _ a b c d f g
   where
-    summed : (t a u b v c w d x f y g : ℕ) → t ≡ a + u → u ≡ b + v → v ≡ c + w → w ≡ d + x → x ≡ f + y → y ≡ g + 0 → t ≡ a + b + c + d + f + g
+    summed : (t a u b v c w d x f y g : ℕ) → t ≡ a + u → u ≡ b + v → v ≡ c + w → w ≡ d + x
+        → x ≡ f + y → y ≡ g + 0 → t ≡ a + b + c + d + f + g
     summed t a u b v c w d x f y g p q r s k l = omega arith
 
 auth_len : (n : ℕ) (o : Option IpAuthHeader)
-    → length (unwrap_or (option_map auth_spelling (option_map {T = IpAuthHeader} (λ h. record h { next_header = record { 0 = n } }) o)) [])
+    → length (unwrap_or (option_map auth_spelling
+    (option_map {T = IpAuthHeader} (λ h. record h { next_header = record { 0 = n } }) o)) [])
     ≡ length (unwrap_or (option_map auth_spelling o) [])
 auth_len n None = refl
 auth_len n (Some h) = refl
 
 -- the same of IPv4
-pub ipv4_linked_len : (value : Ipv4Extensions) (last : ℕ) → length (ipv4_exts_spelling (ipv4_with_link value last)) ≡ length (ipv4_exts_spelling value)
+pub ipv4_linked_len : (value : Ipv4Extensions) (last : ℕ)
+    → length (ipv4_exts_spelling (ipv4_with_link value last)) ≡ length (ipv4_exts_spelling value)
 ipv4_linked_len value last = auth_len last value.auth

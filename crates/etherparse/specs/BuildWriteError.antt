@@ -4,7 +4,12 @@ use Rattle.ep_base.specs.declared.err.value_too_big_error.ValueTooBigError.{Valu
 use Rattle.ep_ext.specs.declared.err.ipv4_exts.exts_walk_error.ExtsWalkError as ipv4
 use Rattle.ep_ext.specs.declared.err.ipv6_exts.exts_walk_error.ExtsWalkError as ipv6
 use Rattle.etherparse.specs.declared.err.packet.build_write_error.BuildWriteError.{BuildWriteError}
-use Rattle.etherparse.specs.declared.err.packet.build_write_error.BuildWriteError.TheVariants.{ArpHeaderNotMatch, Icmpv6InIpv4, Ipv4Exts, Ipv6Exts, Memory, PayloadLen}
+use Rattle.etherparse.specs.declared.err.packet.build_write_error.BuildWriteError.TheVariants.{ArpHeaderNotMatch}
+use Rattle.etherparse.specs.declared.err.packet.build_write_error.BuildWriteError.TheVariants.{Icmpv6InIpv4}
+use Rattle.etherparse.specs.declared.err.packet.build_write_error.BuildWriteError.TheVariants.{Ipv4Exts}
+use Rattle.etherparse.specs.declared.err.packet.build_write_error.BuildWriteError.TheVariants.{Ipv6Exts}
+use Rattle.etherparse.specs.declared.err.packet.build_write_error.BuildWriteError.TheVariants.{Memory}
+use Rattle.etherparse.specs.declared.err.packet.build_write_error.BuildWriteError.TheVariants.{PayloadLen}
 
 -- memory was missing
 abbrev pub is_memory : BuildWriteError → Bool

@@ -1,4 +1,5 @@
--- Headers of frames that are built at literals: those of the parts of a message in `Examples` of packets.
+-- Headers of frames that are built at literals: those of the parts of a message in `Examples` of
+-- packets.
 use Rattle.std.specs.Prelude.{[], ◌∷◌, Option, None, Some, true, false}
 use Rattle.ep_ext.specs.Ipv4Exts.{ipv4_exts_of}
 use Rattle.ep_ext.specs.Value.{value_of}

@@ -1,5 +1,6 @@
--- What an Ethernet II frame, a packet of a cooked capture or a packet alone is read as whose IP packet was
--- built: with the message that was put in, or a part of it (RFC 791; RFC 8200, section 4.5).
+-- What an Ethernet II frame, a packet of a cooked capture or a packet alone is read as whose IP
+-- packet was built: with the message that was put in, or a part of it (RFC 791; RFC 8200, section
+-- 4.5).
 use Rattle.std.specs.Prelude.{◌≡◌, ◌≢◌, ℕ, ◌≤◌, false, List, [], ◌∷◌, length, Option, Some, None, ⊤}
 use Rattle.std.specs.Option.{option_map}
 use Rattle.ep_ext.specs.Auth.{IsAuth, auth_spelling}
@@ -18,21 +19,22 @@ use Rattle.ep_link.specs.Ethernet as ethernet
 use Rattle.ep_link.specs.Sll.{greatest_packet_type}
 use Rattle.ep_link.specs.declared.link.ethernet2_header.Ethernet2Header.{Ethernet2Header}
 use Rattle.ep_link.specs.declared.link.link_header.LinkHeader.TheVariants.{Ethernet2}
-use Rattle.ep_packet.specs.Class.{Addresses, Class}
-use Rattle.ep_packet.specs.Class.Addresses.{V4, V6}
+use Rattle.ep_packet.specs.Class.{Class}
 use Rattle.ep_packet.specs.Class.Class.{Cut}
+use Rattle.ep_packet.specs.declared.addresses.Addresses.{Addresses}
+use Rattle.ep_packet.specs.declared.addresses.Addresses.TheVariants.{V4, V6}
 use Rattle.ep_packet.specs.declared.net.ip_headers.IpHeaders.{IpHeaders}
 use Rattle.ep_packet.specs.declared.net.ip_headers.IpHeaders.TheVariants.{Ipv4, Ipv6}
 use Rattle.ep_tag.specs.Vlan as vlan
 use Rattle.ep_tag.specs.declared.link.vlan_header.VlanHeader.{VlanHeader}
 use Rattle.ep_tag.specs.declared.link.vlan_header.VlanHeader.TheVariants as tag
 use Rattle.etherparse.specs.Built.{refusal_of}
-use Rattle.etherparse.specs.BuiltSteps.{cooked}
+use Rattle.etherparse.specs.BuiltSteps.{cooked_link_header}
 use Rattle.etherparse.specs.declared.packet_builder.packet_impl.PacketImpl.{PacketImpl}
 
 -- the headers of an IP packet in an Ethernet II frame
-abbrev pub framed : Ethernet2Header → Option VlanHeader → IpHeaders → PacketImpl
-framed link vlan ip = record {
+abbrev pub ethernet_packet : Ethernet2Header → Option VlanHeader → IpHeaders → PacketImpl
+ethernet_packet link vlan ip = record {
   link_header = Some (Ethernet2 link);
   vlan_header = vlan;
   ip_headers = Some ip;
@@ -52,14 +54,22 @@ addresses_in (Ipv6 h e) = V6 h.source h.destination
 
 -- what the headers tell of the message that the payload is a part of
 abbrev pub ipv6_fields : Ipv6FragmentHeader → FragmentFields
-ipv6_fields h = record { identification = h.identification; offset = h.fragment_offset; more = h.more_fragments }
+ipv6_fields h =
+    record {
+      identification = h.identification;
+      offset = h.fragment_offset;
+      more = h.more_fragments;
+    }
 
 abbrev pub fields_in : IpHeaders → Option FragmentFields
-fields_in (Ipv4 h e) = Some (record { identification = h.identification; offset = h.fragment_offset; more = h.more_fragments })
+fields_in (Ipv4 h e) =
+    Some (record
+    { identification = h.identification; offset = h.fragment_offset; more = h.more_fragments })
 fields_in (Ipv6 h e) = option_map ipv6_fields e.fragment
 
 -- the part that a frame with these headers is
-abbrev pub part_with : Option VlanHeader → IpHeaders → (number : ℕ) → (payload : List ℕ) → FragmentFields → Class
+abbrev pub part_with : Option VlanHeader → IpHeaders → (number : ℕ) → (payload : List ℕ)
+    → FragmentFields → Class
 part_with vlan ip number payload fields = Cut (record {
   vlan_ids = ids_in vlan;
   addresses = addresses_in ip;
@@ -91,19 +101,28 @@ abbrev pub IpFits : IpHeaders → (number : ℕ) → Type 0
 IpFits (Ipv4 h e) number = ipv4.Fits h × AuthFits e.auth
 IpFits (Ipv6 h e) number =
     ipv6.Fits h × FragmentFits e.fragment
-    × Row place_of [] (first_named e all_places number) (pieces_in (with_links e number) all_places) number
+    × Row place_of [] (first_named e all_places number)
+    (pieces_in (with_links e number) all_places) number
 
 -- a frame that a builder writes, with headers as their types hold them
-pub record Frames (link : Ethernet2Header) (vlan : Option VlanHeader) (ip : IpHeaders) (number len : ℕ) : Type 0 where
+pub record Frames (link : Ethernet2Header) (vlan : Option VlanHeader) (ip : IpHeaders)
+    (number len : ℕ) : Type 0 where
   pub link_fits : ethernet.Fits link
   pub tags_fit : TagsFit vlan
   pub ip_fits : IpFits ip number
   pub names_none : NamesNone ip number
-  pub written : refusal_of (framed link vlan ip) len ≡ None
+  pub written : refusal_of (ethernet_packet link vlan ip) len ≡ None
 
 -- the headers of an IP packet with no link header
 abbrev pub without_link : IpHeaders → PacketImpl
-without_link ip = record { link_header = None; vlan_header = None; ip_headers = Some ip; arp_packet = None; transport_header = None }
+without_link ip =
+    record {
+      link_header = None;
+      vlan_header = None;
+      ip_headers = Some ip;
+      arp_packet = None;
+      transport_header = None;
+    }
 
 -- a packet that a builder writes, with headers as their types hold them
 pub record Packets (ip : IpHeaders) (number len : ℕ) : Type 0 where
@@ -112,9 +131,10 @@ pub record Packets (ip : IpHeaders) (number len : ℕ) : Type 0 where
   pub written : refusal_of (without_link ip) len ≡ None
 
 -- the headers of one behind the header of a cooked capture
-abbrev pub behind_cooked : (packet_type address_len : ℕ) → (address : List ℕ) → Option VlanHeader → IpHeaders → PacketImpl
+abbrev pub behind_cooked : (packet_type address_len : ℕ) → (address : List ℕ) → Option VlanHeader
+    → IpHeaders → PacketImpl
 behind_cooked packet_type address_len address vlan ip = record {
-  link_header = Some (cooked packet_type address_len address);
+  link_header = Some (cooked_link_header packet_type address_len address);
   vlan_header = vlan;
   ip_headers = Some ip;
   arp_packet = None;
@@ -122,7 +142,8 @@ behind_cooked packet_type address_len address vlan ip = record {
 }
 
 -- the same of one behind such a header and tags
-pub record CookedPackets (packet_type : ℕ) (address : List ℕ) (vlan : Option VlanHeader) (ip : IpHeaders) (number len : ℕ) : Type 0 where
+pub record CookedPackets (packet_type : ℕ) (address : List ℕ) (vlan : Option VlanHeader)
+    (ip : IpHeaders) (number len : ℕ) : Type 0 where
   pub packet_type_fits : packet_type ≤ greatest_packet_type
   pub address_len : length address ≡ 8
   pub tags_fit : TagsFit vlan

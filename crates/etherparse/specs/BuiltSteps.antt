@@ -12,7 +12,10 @@ use Rattle.ep_link.specs.declared.link.linux_sll_protocol_type.LinuxSllProtocolT
 use Rattle.ep_packet.specs.declared.net.ip_headers.IpHeaders.{IpHeaders}
 use Rattle.ep_packet.specs.declared.net.ip_headers.IpHeaders.TheVariants as ip
 use Rattle.ep_packet.specs.declared.transport.transport_header.TransportHeader.{TransportHeader}
-use Rattle.ep_packet.specs.declared.transport.transport_header.TransportHeader.TheVariants.{Udp, Tcp, Icmpv4, Icmpv6}
+use Rattle.ep_packet.specs.declared.transport.transport_header.TransportHeader.TheVariants.{Udp}
+use Rattle.ep_packet.specs.declared.transport.transport_header.TransportHeader.TheVariants.{Tcp}
+use Rattle.ep_packet.specs.declared.transport.transport_header.TransportHeader.TheVariants.{Icmpv4}
+use Rattle.ep_packet.specs.declared.transport.transport_header.TransportHeader.TheVariants.{Icmpv6}
 use Rattle.ep_tag.specs.Vlan as vlan
 use Rattle.ep_tag.specs.declared.link.single_vlan_header.SingleVlanHeader.{SingleVlanHeader}
 use Rattle.ep_tcpudp.specs.declared.transport.tcp_header.TcpHeader.{TcpHeader}
@@ -20,15 +23,24 @@ use Rattle.etherparse.specs.declared.packet_builder.packet_impl.PacketImpl.{Pack
 
 -- no header
 abbrev pub no_headers : PacketImpl
-no_headers = record { link_header = None; vlan_header = None; ip_headers = None; arp_packet = None; transport_header = None }
+no_headers =
+    record {
+      link_header = None;
+      vlan_header = None;
+      ip_headers = None;
+      arp_packet = None;
+      transport_header = None;
+    }
 
 -- an Ethernet II header between these addresses
 abbrev pub ethernet_between : (source destination : List ℕ) → LinkHeader
-ethernet_between source destination = link.Ethernet2 (record { source = source; destination = destination; ether_type = record { 0 = 0 } })
+ethernet_between source destination =
+    link.Ethernet2
+    (record { source = source; destination = destination; ether_type = record { 0 = 0 } })
 
 -- the header of a cooked capture of a device of hardware type 1, Ethernet
-abbrev pub cooked : (packet_type address_len : ℕ) → (address : List ℕ) → LinkHeader
-cooked packet_type address_len address = link.LinuxSll (record {
+abbrev pub cooked_link_header : (packet_type address_len : ℕ) → (address : List ℕ) → LinkHeader
+cooked_link_header packet_type address_len address = link.LinuxSll (record {
   packet_type = packet_type;
   arp_hrd_type = record { 0 = 1 };
   sender_address_valid_length = address_len;
@@ -43,7 +55,8 @@ tag_of id = record vlan.default_header { vlan_id = id }
 -- the default headers between these addresses, for so many hops, with no extension headers
 abbrev pub ipv4_between : (source destination : List ℕ) → (hops : ℕ) → IpHeaders
 ipv4_between source destination hops =
-    ip.Ipv4 (record default_header { source = source; destination = destination; time_to_live = hops }) (ipv4_exts_of None)
+    ip.Ipv4 (record default_header
+    { source = source; destination = destination; time_to_live = hops }) (ipv4_exts_of None)
 
 abbrev pub ipv6_between : (source destination : List ℕ) → (hops : ℕ) → IpHeaders
 ipv6_between source destination hops = ip.Ipv6 (record {
@@ -59,7 +72,12 @@ ipv6_between source destination hops = ip.Ipv6 (record {
 -- transport headers whose length and checksum are still 0
 abbrev pub udp_between : (source_port destination_port : ℕ) → TransportHeader
 udp_between source_port destination_port =
-    Udp (record { source_port = source_port; destination_port = destination_port; length = 0; checksum = 0 })
+    Udp (record {
+      source_port = source_port;
+      destination_port = destination_port;
+      length = 0;
+      checksum = 0;
+    })
 
 abbrev pub icmpv4_of : Icmpv4Type → TransportHeader
 icmpv4_of kind = Icmpv4 (record { icmp_type = kind; checksum = 0 })

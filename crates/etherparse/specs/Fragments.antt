@@ -1,11 +1,16 @@
--- The fragments of one message, the oldest first (RFC 791, section 3.2; RFC 8200, section 4.5): where each ends,
--- which of them are accepted, and when the message is complete.
-use Rattle.std.specs.Prelude.{◌≡◌, zero, suc, is_some, ℕ, ◌+◌, ◌*◌, ◌%◌, ◌<◌, ◌≤◌, ◌==◌, nat_lt, nat_le, Bool, true, false, not, ◌&&◌, ◌||◌, if◌then◌else◌, max, Option, Some, None, IsSome, List, [], ◌∷◌, ◌++◌, length, All, Any}
+-- The fragments of one message, the oldest first (RFC 791, section 3.2; RFC 8200, section 4.5):
+-- where each ends, which of them are accepted, and when the message is complete.
+use Rattle.std.specs.Prelude.{◌≡◌, zero, suc, is_some, ℕ, ◌+◌, ◌*◌, ◌%◌, ◌<◌, ◌≤◌, ◌==◌, nat_lt}
+use Rattle.std.specs.Prelude.{nat_le, Bool, true, false, not, ◌&&◌, ◌||◌, if◌then◌else◌, max}
+use Rattle.std.specs.Prelude.{Option, Some, None, IsSome, List, [], ◌∷◌, ◌++◌, length, All, Any}
 use Rattle.std.specs.List.{list_any}
 use Rattle.etherparse.specs.declared.defrag.ip_defrag_error.IpDefragError.{IpDefragError}
-use Rattle.etherparse.specs.declared.defrag.ip_defrag_error.IpDefragError.TheVariants.{SegmentTooBig, UnalignedFragmentPayloadLen, ConflictingEnd}
+use Rattle.etherparse.specs.declared.defrag.ip_defrag_error.IpDefragError.TheVariants.{SegmentTooBig}
+use Rattle.etherparse.specs.declared.defrag.ip_defrag_error.IpDefragError.TheVariants.{UnalignedFragmentPayloadLen}
+use Rattle.etherparse.specs.declared.defrag.ip_defrag_error.IpDefragError.TheVariants.{ConflictingEnd}
 
--- a piece of a message: its offset in units of 8 bytes, whether more of the message follows, and its bytes
+-- a piece of a message: its offset in units of 8 bytes, whether more of the message follows, and
+-- its bytes
 pub record Fragment : Type 0 where
   pub offset : ℕ
   pub more : Bool
@@ -45,16 +50,20 @@ pub record Complete (fs : List Fragment) : Type 0 where
   pub ended : IsSome (named_end fs)
   pub covered : (p : ℕ) → p < greatest_end fs → Covered fs p
 
--- why a fragment doesn't agree with the end of the message: it ends behind it, or it is the last one and has another end
+-- why a fragment doesn't agree with the end of the message: it ends behind it, or it is the last
+-- one and has another end
 abbrev pub end_conflict : Option ℕ → Fragment → Option IpDefragError
 end_conflict None f = None
-end_conflict (Some end) f = (if nat_lt end (end_of f) || (not f.more && not (end_of f == end)) then Some (ConflictingEnd end (end_of f)) else None)
+end_conflict (Some end) f =
+    (if nat_lt end (end_of f) || (not f.more && not (end_of f == end))
+    then Some (ConflictingEnd end (end_of f)) else None)
 
 -- why a fragment is refused where this end of the message is named, if it is
 abbrev pub refusal_at : Option ℕ → Fragment → Option IpDefragError
 refusal_at named f =
     (if nat_lt 65535 (end_of f) then Some (SegmentTooBig f.offset (length f.bytes) 65535)
-    else (if f.more && not (length f.bytes % 8 == 0) then Some (UnalignedFragmentPayloadLen f.offset (length f.bytes))
+    else (if f.more && not (length f.bytes % 8 == 0)
+    then Some (UnalignedFragmentPayloadLen f.offset (length f.bytes))
     else end_conflict named f))
 
 -- why a fragment is refused behind these members, if it is
@@ -66,15 +75,16 @@ abbrev pub with_accepted : List Fragment → Fragment → List Fragment
 with_accepted fs f = (if is_some (refusal_of fs f) then fs else fs ++ f ∷ [])
 
 -- the members with those of the fragments that are accepted, each behind those before it
-abbrev pub accepted : List Fragment → List Fragment → List Fragment
-accepted fs [] = fs
-accepted fs (f ∷ rest) = accepted (with_accepted fs f) rest
+abbrev pub with_all_accepted : List Fragment → List Fragment → List Fragment
+with_all_accepted fs [] = fs
+with_all_accepted fs (f ∷ rest) = with_all_accepted (with_accepted fs f) rest
 
 -- each member was accepted behind those before it
 abbrev pub IsAccepted : List Fragment → Type 0
-IsAccepted fs = accepted [] fs ≡ fs
+IsAccepted fs = with_all_accepted [] fs ≡ fs
 
--- a member fits into the greatest message, more follows it only behind whole units of 8 bytes, and a last one names the end
+-- a member fits into the greatest message, more follows it only behind whole units of 8 bytes, and
+-- a last one names the end
 pub record AgreesWith (fs : List Fragment) (f : Fragment) : Type 0 where
   pub short : end_of f ≤ 65535
   pub whole_units : f.more ≡ true → length f.bytes % 8 ≡ 0
@@ -96,4 +106,5 @@ all_below test (suc n) = test n && all_below test n
 
 -- whether the message is complete
 abbrev pub is_complete : List Fragment → Bool
-is_complete fs = is_some (named_end fs) && all_below (λ p. list_any (λ f. holds f p) fs) (greatest_end fs)
+is_complete fs = is_some (named_end fs) && all_below
+    (λ p. list_any (λ f. holds f p) fs) (greatest_end fs)

@@ -1,10 +1,13 @@
 -- What a reassembly buffer holds, and which fragments it shows.
-use Rattle.std.specs.Prelude.{◌≡◌, ℕ, ◌+◌, ◌-◌, ◌<◌, ◌≤◌, ◌⊎◌, ◌↔◌, max, Bool, ◌&&◌, is_some, Option, Some, None, Result, Ok, Err, MatchResult, IsTrue, List, ◌∷◌, ◌++◌, length, slice_index, Any}
+use Rattle.std.specs.Prelude.{◌≡◌, ℕ, ◌+◌, ◌-◌, ◌<◌, ◌≤◌, ◌⊎◌, ◌↔◌, max, Bool, ◌&&◌, is_some}
+use Rattle.std.specs.Prelude.{Option, Some, None, Result, Ok, Err, MatchResult, IsTrue, List, ◌∷◌}
+use Rattle.std.specs.Prelude.{◌++◌, length, slice_index, Any}
 use Rattle.ep_base.specs.declared.net.ip_number.IpNumber.{IpNumber}
 use Rattle.etherparse.specs.declared.defrag.ip_defrag_error.IpDefragError.{IpDefragError}
 use Rattle.etherparse.specs.declared.defrag.ip_defrag_error.IpDefragError.TheVariants.{AllocationFailure}
 use Rattle.etherparse.specs.declared.defrag.ip_frag_range.IpFragRange.{IpFragRange}
-use Rattle.etherparse.specs.Fragments.{Fragment, end_of, named_end, refusal_of, accepted, IsAccepted, Covered, Complete}
+use Rattle.etherparse.specs.Fragments.{Fragment, end_of, named_end, refusal_of, with_all_accepted}
+use Rattle.etherparse.specs.Fragments.{IsAccepted, Covered, Complete}
 use Rattle.etherparse.specs.IpFragRange.{AreApart, HasNumber, HasPlace, is_one_from_zero}
 use Rattle.etherparse.specs.Picture.{kept_bytes, Touched}
 
@@ -36,28 +39,32 @@ abbrev pub AnswersAdd : {X : Type 0} → Option IpDefragError → ℕ → Result
 AnswersAdd refusal end result = MatchResult result (λ _. refusal ≡ None)
     (λ e. (refusal ≡ Some e) ⊎ (refusal ≡ None) × (e ≡ AllocationFailure end))
 
--- adding these fragments behind the members stopped at one that isn't refused but wants memory, and the buffer shows the
--- accepted ones before it
-pub record Stops (fs fragments : List Fragment) (buf : Contents) (error : IpDefragError) : Type 0 where
+-- adding these fragments behind the members stopped at one that isn't refused but wants memory, and
+-- the buffer shows the accepted ones before it
+pub record Stops (fs fragments : List Fragment) (buf : Contents)
+    (error : IpDefragError) : Type 0 where
   pub before : List Fragment
   pub next : Fragment
   pub behind : List Fragment
   pub in_order : fragments ≡ before ++ next ∷ behind
-  pub shown : Shows buf (accepted fs before)
-  pub unrefused : refusal_of (accepted fs before) next ≡ None
+  pub shown : Shows buf (with_all_accepted fs before)
+  pub unrefused : refusal_of (with_all_accepted fs before) next ≡ None
   pub memory : error ≡ AllocationFailure (end_of next)
 
 -- the bytes after some are written at a place, with 0 at each new place before it
 pub record Writes (old new : List ℕ) (start : ℕ) (bytes : List ℕ) : Type 0 where
   pub size : length new ≡ max (length old) (start + length bytes)
-  pub written : (p : ℕ) → start ≤ p → p < start + length bytes → slice_index new p ≡ slice_index bytes (p - start)
-  pub kept : (p : ℕ) → (p < start) ⊎ (start + length bytes ≤ p) → slice_index new p ≡ slice_index old p
+  pub written : (p : ℕ) → start ≤ p → p < start + length bytes
+      → slice_index new p ≡ slice_index bytes (p - start)
+  pub kept : (p : ℕ) → (p < start) ⊎ (start + length bytes ≤ p)
+      → slice_index new p ≡ slice_index old p
 
 -- a value, unless it is refused
 abbrev pub unless_refused : {X : Type 0} → Option IpDefragError → X → Result X IpDefragError
 unless_refused None x = Ok x
 unless_refused (Some e) x = Err e
 
--- of every buffer that shows fragments: an end is known and there is one section, from 0 on, exactly where they are complete
+-- of every buffer that shows fragments: an end is known and there is one section, from 0 on,
+-- exactly where they are complete
 abbrev pub Cover : Type 0
 Cover = (buf : Contents) (fs : List Fragment) → Shows buf fs → IsTrue (is_whole buf) ↔ Complete fs

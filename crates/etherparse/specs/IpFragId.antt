@@ -1,18 +1,20 @@
--- The names of fragmented messages (RFC 791, section 3.2; RFC 8200, section 4.5), and which part of one a packet is.
+-- The names of fragmented messages (RFC 791, section 3.2; RFC 8200, section 4.5), and which part of
+-- one a packet is.
 use Rattle.std.specs.Prelude.{ℕ, Bool, false, ◌&&◌, ◌==◌, ◌∷◌, nat_eq, List, Option, Some, None}
 use Rattle.std.specs.Cmp.Lexicographic.{pointwise}
 use Rattle.std.specs.Hash as fed
 use Rattle.ep_base.specs.declared.len_source.LenSource.{LenSource}
-use Rattle.ep_base.specs.declared.len_source.LenSource.TheVariants.{Ipv4HeaderTotalLen, Ipv6HeaderPayloadLen}
-use Rattle.ep_packet.specs.Class.{Addresses, Class, FragmentName}
-use Rattle.ep_packet.specs.Class.Addresses.{V4, V6}
+use Rattle.ep_base.specs.declared.len_source.LenSource.TheVariants.{Ipv4HeaderTotalLen}
+use Rattle.ep_base.specs.declared.len_source.LenSource.TheVariants.{Ipv6HeaderPayloadLen}
+use Rattle.ep_packet.specs.Class.{Class, FragmentName}
 use Rattle.ep_packet.specs.Class.Class.{Whole, Cut, Other, Refused}
+use Rattle.ep_packet.specs.declared.addresses.Addresses.{Addresses}
+use Rattle.ep_packet.specs.declared.addresses.Addresses.TheVariants.{V4, V6}
 use Rattle.etherparse.specs.declared.defrag.ip_frag_id.IpFragId.{IpFragId}
 use Rattle.etherparse.specs.declared.defrag.ip_frag_version_spec_id.IpFragVersionSpecId.{IpFragVersionSpecId}
-use Rattle.etherparse.specs.declared.defrag.ip_frag_version_spec_id.IpFragVersionSpecId.TheVariants.{Ipv4, Ipv6}
-use Rattle.etherparse.specs.declared.defrag.part.Part.{Part}
+use Rattle.etherparse.specs.declared.defrag.ip_frag_version_spec_id.IpFragVersionSpecId.TheVariants.{Ipv4}
+use Rattle.etherparse.specs.declared.defrag.ip_frag_version_spec_id.IpFragVersionSpecId.TheVariants.{Ipv6}
 use Rattle.etherparse.specs.Fragments.{Fragment, fragment}
-use Rattle.etherparse.specs.Streams.{fragment_of}
 
 abbrev pub spec_id : Addresses → ℕ → IpFragVersionSpecId
 spec_id (V4 source destination) identification = Ipv4 source destination identification
@@ -35,7 +37,9 @@ same_addresses (V6 s d) (V4 t e) = false
 
 -- the same tags, version, addresses, identification and number
 abbrev pub same_name : FragmentName → FragmentName → Bool
-same_name a b = pointwise nat_eq a.vlan_ids b.vlan_ids && (same_addresses a.addresses b.addresses && ((a.identification == b.identification) && (a.number == b.number)))
+same_name a b = pointwise nat_eq a.vlan_ids b.vlan_ids
+    && (same_addresses a.addresses b.addresses
+    && ((a.identification == b.identification) && (a.number == b.number)))
 
 -- what a hasher is given of an id: both addresses, each as one piece, and the identification
 abbrev pub hashed_as : IpFragVersionSpecId → fed.HashWrites
@@ -53,30 +57,3 @@ fragment_in (Whole addresses number bytes message) = None
 fragment_in (Cut name offset more bytes) = Some (name, fragment offset more bytes)
 fragment_in Other = None
 fragment_in Refused = None
-
-abbrev pub addresses_in : IpFragVersionSpecId → Addresses
-addresses_in (Ipv4 source destination identification) = V4 source destination
-addresses_in (Ipv6 source destination identification) = V6 source destination
-
-abbrev pub identification_in : IpFragVersionSpecId → ℕ
-identification_in (Ipv4 source destination identification) = identification
-identification_in (Ipv6 source destination identification) = identification
-
--- the name and the fragment that a part behind these tags is
-abbrev pub behind_tags : List ℕ → IpFragVersionSpecId × Part → FragmentName × Fragment
-behind_tags ids told = (
-  record {
-    vlan_ids = ids;
-    addresses = addresses_in told.0;
-    identification = identification_in told.0;
-    number = told.1.ip_number.0;
-  },
-  fragment_of told.1,
-)
-
--- the same, where the name is that of a stream
-abbrev pub named_part : {C : Type 0} → IpFragId C × Part → IpFragId C × Fragment
-named_part told = (told.0, fragment_of told.1)
-
-abbrev pub named_fragment : {C : Type 0} → C → FragmentName × Fragment → IpFragId C × Fragment
-named_fragment channel told = (id_named told.0 channel, told.1)

@@ -1,5 +1,6 @@
 -- Ranges of numbers, as the sections of a message are told.
-use Rattle.std.specs.Prelude.{ℕ, ◌<◌, ◌≤◌, ◌==◌, Bool, false, ◌||◌, ◌&&◌, if◌then◌else◌, min, max, nat_eq, nat_le, Option, Some, None, List, [], ◌∷◌, ◌⊎◌, ⊤, ◌↔◌, Any}
+use Rattle.std.specs.Prelude.{ℕ, ◌<◌, ◌≤◌, ◌==◌, Bool, false, ◌||◌, ◌&&◌, if◌then◌else◌, min, max}
+use Rattle.std.specs.Prelude.{nat_eq, nat_le, Option, Some, None, List, [], ◌∷◌, ◌⊎◌, ⊤, ◌↔◌, Any}
 use Rattle.std.specs.Ordering.{on, eq_of_both}
 use Rattle.std.specs.List.{AllByRecursion}
 use Rattle.etherparse.specs.declared.defrag.ip_frag_range.IpFragRange.{IpFragRange}
@@ -14,11 +15,12 @@ hull r s = record { start = min r.start s.start; end = max r.end s.end }
 
 -- whether start or end of one lies in the other
 abbrev pub touches : IpFragRange → IpFragRange → Bool
-touches r s = (has_number r s.start || has_number r s.end) || (has_number s r.start || has_number s r.end)
+touches r s = (has_number r s.start || has_number r s.end)
+    || (has_number s r.start || has_number s r.end)
 
 -- both as one, where they touch
-abbrev pub merged : IpFragRange → IpFragRange → Option IpFragRange
-merged r s = (if touches r s then Some (hull r s) else None)
+abbrev pub merge_of : IpFragRange → IpFragRange → Option IpFragRange
+merge_of r s = (if touches r s then Some (hull r s) else None)
 
 -- both fields are equal
 abbrev pub same_range : IpFragRange → IpFragRange → Bool
@@ -50,5 +52,6 @@ is_one_from_zero (r ∷ s ∷ rs) = false
 -- sections with a range added: they stay apart, and have its numbers and places besides their own
 pub record AddsRange (old new : List IpFragRange) (r : IpFragRange) : Type 0 where
   pub apart : AreApart new
-  pub numbers : (n : ℕ) → Any (λ s. HasNumber s n) new ↔ (Any (λ s. HasNumber s n) old ⊎ HasNumber r n)
+  pub numbers : (n : ℕ) → Any (λ s. HasNumber s n) new
+      ↔ (Any (λ s. HasNumber s n) old ⊎ HasNumber r n)
   pub places : (p : ℕ) → Any (λ s. HasPlace s p) new ↔ (Any (λ s. HasPlace s p) old ⊎ HasPlace r p)

@@ -10,6 +10,7 @@ pub mod IpDefragError
 pub mod IpDefragPool
 pub mod IpFragId
 pub mod IpFragRange
+pub mod Outcome
 pub mod Picture
 pub mod PoolCalls
 pub mod Processed

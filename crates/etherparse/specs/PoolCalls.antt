@@ -1,5 +1,7 @@
--- Lists of calls of a pool, and what is answered to each, by recursion: the list of a name is that of its message alone.
-use Rattle.std.specs.Prelude.{◌≡◌, ◌≢◌, ◌⊎◌, ℕ, ◌==◌, ◌&&◌, nat_lt, Bool, if◌then◌else◌, Option, Some, None, Result, Ok, Err, List, [], ◌∷◌, ◌++◌}
+-- Lists of calls of a pool, and what is answered to each, by recursion: the list of a name is that
+-- of its message alone.
+use Rattle.std.specs.Prelude.{◌≡◌, ◌⊎◌, ℕ, ◌==◌, ◌&&◌, nat_eq, nat_lt, Bool, if◌then◌else◌, Option}
+use Rattle.std.specs.Prelude.{Some, None, IfSome, option_map, Result, Ok, Err, List, [], ◌∷◌}
 use Rattle.ep_packet.specs.Class.{Class, FragmentName, class_of}
 use Rattle.ep_packet.specs.Class.Class.{Whole, Cut, Other, Refused as Faulty}
 use Rattle.ep_packet.specs.Sliced.{sliced_ethernet}
@@ -14,21 +16,20 @@ use Rattle.etherparse.specs.declared.defrag.pool_calls.PoolCall.TheVariants.{Fra
 use Rattle.etherparse.specs.declared.defrag.pool_calls.PoolReply.{PoolReply}
 use Rattle.etherparse.specs.declared.defrag.pool_calls.PoolReply.TheVariants as reply
 use Rattle.etherparse.specs.declared.defrag.stream.Stream.{Stream}
-use Rattle.etherparse.specs.Fragments.{Fragment, end_of, fragment, is_complete, refusal_of}
-use Rattle.etherparse.specs.IpDefragBuf.{Shows}
-use Rattle.etherparse.specs.IpDefragPool.{Payload, payload_of, payload_told}
-use Rattle.etherparse.specs.IpFragId.{id_named, same_name}
-use Rattle.etherparse.specs.Picture.{text_of}
-use Rattle.etherparse.specs.Streams.{Streams, stream_at}
-
--- the fragments of a name that were accepted since its list was empty last, and the time of the last one
-pub record Held : Type 0 where
-  pub fragments : List Fragment
-  pub time : ℕ
+use Rattle.etherparse.specs.Fragments.{Fragment, fragment}
+use Rattle.etherparse.specs.IpDefragPool.{Payload, payload_of, payload_told, same_id}
+use Rattle.etherparse.specs.IpFragId.{fragment_in, id_named, same_name}
+use Rattle.etherparse.specs.Outcome.{Held, Outcome, held_after, memory_error, outcome}
+use Rattle.etherparse.specs.Outcome.Outcome.{Completed, Refusal, Waiting}
+use Rattle.etherparse.specs.Streams.{Pool, ShowsStream, stream_at}
 
 -- the list of each name and channel
 abbrev pub Lists : Type 0
 Lists = FragmentName → ℕ → Held
+
+-- what becomes of a fragment of this name by its list
+abbrev pub outcome_at : Lists → FragmentName → (channel : ℕ) → Fragment → Outcome
+outcome_at lists name channel f = outcome (lists name channel).fragments f
 
 -- what a reply tells
 pub data Told : Type 0 where
@@ -39,13 +40,13 @@ pub data Told : Type 0 where
   Retained : Told
   NoMemory : Told
 
-abbrev pub told : PoolReply → Told
-told reply.Nothing = Nothing
-told (reply.Payload payload) = Delivered (payload_told payload)
-told (reply.Refused error) = Refused error
-told (reply.NotSliced error) = NotSliced (Some error)
-told reply.Retained = Retained
-told reply.NoMemory = NoMemory
+abbrev pub as_told : PoolReply → Told
+as_told reply.Nothing = Nothing
+as_told (reply.Payload payload) = Delivered (payload_told payload)
+as_told (reply.Refused error) = Refused error
+as_told (reply.NotSliced error) = NotSliced (Some error)
+as_told reply.Retained = Retained
+as_told reply.NoMemory = NoMemory
 
 -- what becomes of a packet, told
 abbrev pub told_outcome : Result (Option IpDefragPayloadVec) IpDefragError → Told
@@ -63,21 +64,18 @@ HasMemory (NotSliced error) = Unit {0}
 HasMemory Retained = Unit {0}
 HasMemory NoMemory = ⊥
 
--- a list with a fragment that isn't refused: empty again where the message is complete with it
-abbrev pub with_taken : List Fragment → Fragment → List Fragment
-with_taken fs f = if is_complete (fs ++ f ∷ []) then [] else fs ++ f ∷ []
+-- what a fragment that came at this time, if it is one, makes of the list of a name
+abbrev pub after_fragment : FragmentName → ℕ → Option (FragmentName × Fragment)
+    → ℕ → ℕ → Held → Held
+after_fragment name channel None time other_channel h = h
+after_fragment name channel (Some told) time other_channel h =
+    if same_name told.0 name && (other_channel == channel)
+    then held_after h time (outcome h.fragments told.1) else h
 
-abbrev pub held_with : Held → Fragment → ℕ → Option IpDefragError → Held
-held_with h f time (Some error) = h
-held_with h f time None = record { fragments = with_taken h.fragments f; time = time }
-
--- what a frame of a class makes of the list of a name
+-- what a frame of a class makes of it
 abbrev pub after_frame : FragmentName → ℕ → Class → ℕ → ℕ → Held → Held
-after_frame name channel (Cut other offset more bytes) time other_channel h =
-    let f = fragment offset more bytes in if same_name other name && (other_channel == channel) then held_with h f time (refusal_of h.fragments f) else h
-after_frame name channel (Whole addresses number bytes message) time other_channel h = h
-after_frame name channel Other time other_channel h = h
-after_frame name channel Faulty time other_channel h = h
+after_frame name channel class time other_channel h =
+    after_fragment name channel (fragment_in class) time other_channel h
 
 -- what is left of a list whose messages from a time on stay
 abbrev pub retained_from : ℕ → Held → Held
@@ -85,13 +83,15 @@ retained_from from h = if nat_lt h.time from then record { fragments = []; time 
 
 -- what a call makes of the list of a name
 abbrev pub after : FragmentName → ℕ → PoolCall → Held → Held
-after name channel (Frame frame time other_channel) h = after_frame name channel (class_of frame.now) time other_channel h
+after name channel (Frame frame time other_channel) h =
+    after_frame name channel (class_of frame.now) time other_channel h
 after name channel (RetainFrom from) h = retained_from from h
 
--- what is answered to a fragment of a message with this name
-abbrev pub told_of : IpFragId ℕ → List Fragment → Fragment → Option IpDefragError → Told
-told_of id fs f (Some error) = Refused error
-told_of id fs f None = if is_complete (fs ++ f ∷ []) then Delivered (payload_of id (text_of (fs ++ f ∷ []))) else Nothing
+-- what is answered to a fragment of a message with this name, by its outcome
+abbrev pub told_of : IpFragId ℕ → Outcome → Told
+told_of id (Refusal error) = Refused error
+told_of id (Waiting fs) = Nothing
+told_of id (Completed text) = Delivered (payload_of id text)
 
 -- the fault of a frame that isn't sliced
 abbrev pub fault_in : Result SlicedPacket SliceError → Option SliceError
@@ -101,61 +101,64 @@ fault_in (Err error) = Some error
 -- what is answered to a frame, by its class and the lists of all names
 abbrev pub answer_to_frame : Lists → Class → ℕ → Option SliceError → Told
 answer_to_frame lists (Cut name offset more bytes) channel fault =
-    let f = fragment offset more bytes in let fs = (lists name channel).fragments in told_of (id_named name channel) fs f (refusal_of fs f)
+    told_of (id_named name channel) (outcome_at lists name channel (fragment offset more bytes))
 answer_to_frame lists (Whole addresses number bytes message) channel fault = Nothing
 answer_to_frame lists Other channel fault = Nothing
 answer_to_frame lists Faulty channel fault = NotSliced fault
 
 abbrev pub answer_to : Lists → PoolCall → Told
-answer_to lists (Frame frame time channel) = answer_to_frame lists (class_of frame.now) channel (fault_in (sliced_ethernet frame.now))
+answer_to lists (Frame frame time channel) =
+    answer_to_frame lists (class_of frame.now) channel (fault_in (sliced_ethernet frame.now))
 answer_to lists (RetainFrom from) = Retained
 
 -- the lists after a frame of a class
 abbrev pub lists_with_frame : Lists → Class → ℕ → ℕ → Lists
-lists_with_frame lists class time channel name other = after_frame name other class time channel (lists name other)
+lists_with_frame lists class time channel name other =
+    after_frame name other class time channel (lists name other)
 
 -- the lists after a call
 abbrev pub lists_with : Lists → PoolCall → Lists
 lists_with lists call name channel = after name channel call (lists name channel)
 
--- the want of memory that may be told of a fragment with this end, unless it is refused
-abbrev pub want_unless : Option IpDefragError → ℕ → Option Told
-want_unless (Some error) end = None
-want_unless None end = Some (Refused (AllocationFailure end))
+-- the want of memory that a fragment, if it is one, may be answered
+abbrev pub want_at_fragment : Lists → Option (FragmentName × Fragment) → ℕ → Option Told
+want_at_fragment lists None channel = None
+want_at_fragment lists (Some told) channel =
+    option_map Refused (memory_error told.1 (outcome_at lists told.0 channel told.1))
 
 -- the want of memory that a frame of a class may be answered
 abbrev pub want_at_frame : Lists → Class → ℕ → Option Told
-want_at_frame lists (Cut name offset more bytes) channel =
-    let f = fragment offset more bytes in want_unless (refusal_of (lists name channel).fragments f) (end_of f)
-want_at_frame lists (Whole addresses number bytes message) channel = None
-want_at_frame lists Other channel = None
-want_at_frame lists Faulty channel = None
+want_at_frame lists class channel = want_at_fragment lists (fragment_in class) channel
 
 -- the want of memory that a call may be answered: to drop messages takes none
 abbrev pub want_at : Lists → PoolCall → Option Told
 want_at lists (Frame frame time channel) = want_at_frame lists (class_of frame.now) channel
 want_at lists (RetainFrom from) = None
 
--- what is told, and how the lists go on: the answer, and on as they are with it; or the want of memory that may be told
--- in its place, and on as they were
+-- what is told, and how the lists go on: the answer, and on as they are with it; or the want of
+-- memory that may be told in its place, and on as they were
 abbrev pub GoesOn : (Lists → Type 0) → (old new : Lists) → Told → Option Told → Told → Type 0
 GoesOn ends old new answer want told = (told ≡ answer) × ends new ⊎ (want ≡ Some told) × ends old
 
 -- what is told of a frame of a class
-abbrev pub FrameAnswered : (Lists → Type 0) → Lists → Class → ℕ → ℕ → Option SliceError → Told → Type 0
+abbrev pub FrameAnswered : (Lists → Type 0) → Lists → Class → ℕ → ℕ
+    → Option SliceError → Told → Type 0
 FrameAnswered ends lists class time channel fault told =
-    GoesOn ends lists (lists_with_frame lists class time channel) (answer_to_frame lists class channel fault) (want_at_frame lists class channel) told
+    GoesOn ends lists (lists_with_frame lists class time channel)
+    (answer_to_frame lists class channel fault) (want_at_frame lists class channel) told
 
 -- what is told of a call
 abbrev pub Answered : (Lists → Type 0) → Lists → PoolCall → Told → Type 0
-Answered ends lists call told = GoesOn ends lists (lists_with lists call) (answer_to lists call) (want_at lists call) told
+Answered ends lists call told = GoesOn ends lists (lists_with lists call) (answer_to lists call)
+    (want_at lists call) told
 
 -- what is told of all calls in turn; the lists behind the last one are said by `ends`
 abbrev pub Replies : (Lists → Type 0) → Lists → List PoolCall → List Told → Type 0
 Replies ends lists [] [] = ends lists
 Replies ends lists [] (told ∷ tolds) = ⊥
 Replies ends lists (call ∷ calls) [] = ⊥
-Replies ends lists (call ∷ calls) (told ∷ tolds) = Answered (λ next. Replies ends next calls tolds) lists call told
+Replies ends lists (call ∷ calls) (told ∷ tolds) =
+    Answered (λ next. Replies ends next calls tolds) lists call told
 
 -- the answers where no memory is wanting
 abbrev pub answers : Lists → List PoolCall → List Told
@@ -171,11 +174,11 @@ lists_after lists (call ∷ calls) = lists_after (lists_with lists call) calls
 abbrev pub no_lists : Lists
 no_lists name channel = record { fragments = []; time = 0 }
 
--- a stream is there exactly where the list has a fragment, and shows it
+-- a stream is there exactly where the list has a fragment, and shows its fragments and its time
 abbrev pub ShowsHeld : Option (Stream ℕ) → Held → Type 0
-ShowsHeld None h = h.fragments ≡ []
-ShowsHeld (Some s) h = Shows s.buf h.fragments × (h.fragments ≢ []) × (s.timestamp ≡ h.time)
+ShowsHeld stream h = ShowsStream stream h.fragments × IfSome stream (λ s. s.timestamp ≡ h.time)
 
 -- each stream shows the list of its name
-abbrev pub ShowsLists : (IpFragId ℕ → IpFragId ℕ → Bool) → Streams (IpFragId ℕ) ℕ → Lists → Type 0
-ShowsLists same streams lists = (name : FragmentName) (channel : ℕ) → ShowsHeld (stream_at same streams (id_named name channel)) (lists name channel)
+abbrev pub ShowsLists : Pool (IpFragId ℕ) ℕ → Lists → Type 0
+ShowsLists pool lists = (name : FragmentName) (channel : ℕ)
+    → ShowsHeld (stream_at (same_id nat_eq) pool (id_named name channel)) (lists name channel)

@@ -1,11 +1,12 @@
-//! Laws: functions that do nothing, and whose contracts are what the definitions promise. Those of the
-//! crates that this one stands on are modules of this one, each named as its crate.
+//! Laws: functions that do nothing, and whose contracts are what the definitions promise. Those of
+//! the crates that this one stands on are modules of this one, each named as its crate.
 
 ghost use Rattle.std.specs.Prelude.{◌≡◌, ◌↔◌, IsTrue, List};
 ghost use Rattle.etherparse.specs.Fragments.{Fragment, is_complete, Complete, MembersAgree};
 ghost use Rattle.etherparse.specs.IpDefragBuf.{Cover, IsPicture};
 ghost use Rattle.etherparse.specs.Picture.{LastByteCounts, OpenPlaceHasNone};
-ghost use Rattle.etherparse.specs.declared.defrag.TheConstants.{MAX_IP_DEFRAG_LEN, MAX_IP_DEFRAG_LEN_U16};
+ghost use Rattle.etherparse.specs.declared.defrag.TheConstants.{MAX_IP_DEFRAG_LEN};
+ghost use Rattle.etherparse.specs.declared.defrag.TheConstants.{MAX_IP_DEFRAG_LEN_U16};
 
 use crate::defrag::IpDefragBuf;
 
@@ -26,8 +27,9 @@ pub use ep_packet::laws as packet;
 pub use ep_tag::laws as tag;
 pub use ep_tcpudp::laws as tcpudp;
 
-/// Whatever fragments a buffer shows, empty, overlapping and late ones included: an end is known and there
-/// is one section, from 0 on, exactly where an end is named and no place below the greatest end is open.
+/// Whatever fragments a buffer shows, empty, overlapping and late ones included: an end is known
+/// and there is one section, from 0 on, exactly where an end is named and no place below the
+/// greatest end is open.
 pub fn cover()
     ensures { Cover }
 {}
@@ -40,14 +42,14 @@ pub fn every_buffer_is_a_picture(buf: &IpDefragBuf)
     let _whole = buf.is_complete();
 }
 
-/// In a list of accepted fragments each ends at 65535 at most, more follows only behind whole units of 8
-/// bytes, and all last ones name the same end (RFC 791, section 3.2).
+/// In a list of accepted fragments each ends at 65535 at most, more follows only behind whole units
+/// of 8 bytes, and all last ones name the same end (RFC 791, section 3.2).
 pub fn members_agree()
     ensures { MembersAgree }
 {}
 
-/// Wherever a fragment stands in a list: a place that it holds, and none behind it, has its byte. A place
-/// that none holds has no byte.
+/// Wherever a fragment stands in a list: a place that it holds, and none behind it, has its byte. A
+/// place that none holds has no byte.
 pub fn last_byte_counts()
     ensures last { LastByteCounts }
     ensures none { OpenPlaceHasNone }
@@ -58,7 +60,8 @@ pub fn complete_is_tested()
     ensures { (fs : List Fragment) → IsTrue (is_complete fs) ↔ Complete fs }
 {}
 
-/// The greatest length of a message, as IPv4's 16 bits for the length allow it (RFC 791, section 3.1).
+/// The greatest length of a message, as IPv4's 16 bits for the length allow it (RFC 791, section
+/// 3.1).
 pub fn greatest_lengths()
     ensures len { MAX_IP_DEFRAG_LEN ≡ 65535 }
     ensures len_u16 { MAX_IP_DEFRAG_LEN_U16 ≡ 65535 }

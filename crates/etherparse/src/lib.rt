@@ -1,5 +1,5 @@
-//! Network packets, sliced without copying them, read as values and written: every name of the crates that
-//! this one stands on, at one place; and what is made of several packets.
+//! Network packets, sliced without copying them, read as values and written: every name of the
+//! crates that this one stands on, at one place; and what is made of several packets.
 #![tactic(auto)]
 
 pub mod checksum;
@@ -71,15 +71,22 @@ pub use ep_link::LinuxSllPacketType;
 pub use ep_link::LinuxSllPayloadSlice;
 pub use ep_link::LinuxSllProtocolType;
 pub use ep_link::LinuxSllSlice;
+pub use ep_packet::Addresses;
+pub use ep_packet::Class;
+pub use ep_packet::CutMessage;
 pub use ep_packet::IpHeader;
 pub use ep_packet::IpHeaders;
+pub use ep_packet::Message;
 pub use ep_packet::NetHeaders;
 pub use ep_packet::NetSlice;
 pub use ep_packet::PacketHeaders;
+pub use ep_packet::Part;
 pub use ep_packet::PayloadSlice;
 pub use ep_packet::SlicedPacket;
 pub use ep_packet::TransportHeader;
 pub use ep_packet::TransportSlice;
+pub use ep_packet::WholeMessage;
+pub use ep_packet::read_message;
 pub use ep_tag::DoubleVlanHeader;
 pub use ep_tag::DoubleVlanSlice;
 pub use ep_tag::EtherPayloadSlice;

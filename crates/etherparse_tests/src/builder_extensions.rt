@@ -1,5 +1,5 @@
-//! Extension headers behind IP headers, whose numbers and lengths were others before. The bytes were worked
-//! out after RFC 791, 4302 and 8200.
+//! Extension headers behind IP headers, whose numbers and lengths were others before. The bytes
+//! were worked out after RFC 791, 4302 and 8200.
 
 use crate::builder_parts::{
     IPV4_DESTINATION, IPV4_SOURCE, IPV6_DESTINATION, IPV6_SOURCE, PAYLOAD, writes, writes_with,

@@ -1,4 +1,5 @@
-//! Every header in front of the network layer with every header of it. The bytes were worked out after IEEE
+//! Every header in front of the network layer with every header of it. The bytes were worked out
+//! after IEEE
 //! 802.3 and 802.1Q, libpcap's page on Linux cooked captures and RFC 791, 826 and 8200.
 
 use crate::builder_parts::{

@@ -1,5 +1,5 @@
-//! Parts of packets, as the tests of the builder take them. The functions have no contracts: tests alone call
-//! them, and are run.
+//! Parts of packets, as the tests of the builder take them. The functions have no contracts: tests
+//! alone call them, and are run.
 
 use ep_base::{EtherType, IpNumber};
 use ep_link::{

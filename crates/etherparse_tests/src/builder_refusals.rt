@@ -11,7 +11,8 @@ use std::alloc::{AllocError, Global};
 use std::process::Abort;
 use std::test::*;
 
-// The functions below end a test that finds no memory. They have no contracts, as tests alone call them.
+// The functions below end a test that finds no memory. They have no contracts, as tests alone call
+// them.
 
 fn held(rt: &impl Abort, alloc: Global) -> Vec<u8> {
     let mut buffer = Vec::new(alloc);

@@ -1,4 +1,5 @@
-//! Rows of frames. The bytes are from outside: they were worked out after RFC 768, 791 and 8200 and IEEE
+//! Rows of frames. The bytes are from outside: they were worked out after RFC 768, 791 and 8200 and
+//! IEEE
 //! 802.1Q.
 
 use crate::builder_parts::{IPV6_DESTINATION, IPV6_SOURCE, PAYLOAD, ipv4, writes, writes_with};

@@ -1,5 +1,5 @@
-//! Each step that adds a transport header, once. The messages were made by a program of its own after
-//! RFC 768, 792, 4443 and 9293.
+//! Each step that adds a transport header, once. The messages were made by a program of its own
+//! after RFC 768, 792, 4443 and 9293.
 
 use crate::builder_parts::{PAYLOAD, ipv4, ipv6};
 use ep_icmp::icmpv4::{RedirectCode, RedirectHeader};

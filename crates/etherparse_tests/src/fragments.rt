@@ -1,5 +1,5 @@
-//! Fragments and buffers, as the tests make them. The functions have no contracts: tests alone call them,
-//! and are run.
+//! Fragments and buffers, as the tests make them. The functions have no contracts: tests alone call
+//! them, and are run.
 
 use ep_base::{IpFragOffset, IpNumber};
 use etherparse::defrag::{IpDefragBuf, IpDefragError};
@@ -34,7 +34,8 @@ pub fn add_zeros(
     buf.add(offset(rt, units), more_fragments, &ZEROS[..len])
 }
 
-/// Takes a fragment of so many zero bytes, and tells whether the message is complete; no contract, as above.
+/// Takes a fragment of so many zero bytes, and tells whether the message is complete; no contract,
+/// as above.
 pub fn completes(
     rt: &impl Abort,
     buf: &mut IpDefragBuf,

@@ -1,5 +1,5 @@
-//! Frames with the two halves of a UDP message, as the tests hand them in. The functions have no contracts:
-//! tests alone call them, and are run.
+//! Frames with the two halves of a UDP message, as the tests hand them in. The functions have no
+//! contracts: tests alone call them, and are run.
 
 use ep_packet::SlicedPacket;
 use etherparse::defrag::{

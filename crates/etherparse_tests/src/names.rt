@@ -8,8 +8,8 @@ use std::alloc::Global;
 use std::process::Abort;
 use std::test::*;
 
-// Whether the second half, changed in one byte, completes the message all the same; it has no contract, as
-// tests alone call it.
+// Whether the second half, changed in one byte, completes the message all the same; it has no
+// contract, as tests alone call it.
 fn completes_with(
     rt: &impl Abort,
     alloc: Global,
@@ -44,7 +44,8 @@ fn ipv4_names(rt: HostRuntime) {
 
 #[test]
 fn ipv6_names(rt: HostRuntime) {
-    // Both addresses and the protocol in their first and last bytes, and each byte of the identification.
+    // Both addresses and the protocol in their first and last bytes, and each byte of the
+    // identification.
     for changed in [22, 37, 38, 53, 54, 58, 59, 60, 61] {
         assert!(rt; !completes_with(&rt, rt.alloc(), &IPV6_FIRST, &IPV6_SECOND, changed));
     }

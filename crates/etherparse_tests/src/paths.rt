@@ -130,9 +130,15 @@ type IcmpKinds = (
 );
 
 type Packets<'a> = (
+    etherparse::Addresses,
+    etherparse::Class<'a>,
+    etherparse::CutMessage<'a>,
+    etherparse::Message<'a>,
     etherparse::PacketHeaders<'a>,
+    etherparse::Part<'a>,
     etherparse::PayloadSlice<'a>,
     etherparse::SlicedPacket<'a>,
+    etherparse::WholeMessage<'a>,
     etherparse::defrag::IpDefragBuf,
     etherparse::defrag::IpDefragError,
     etherparse::defrag::IpDefragPayloadVec,
@@ -225,7 +231,8 @@ fn sums(rt: HostRuntime) {
     assert!(rt; u64_16bit_word::ones_complement(u64_16bit_word::add_slice(0, &text)) == checksum);
 }
 
-/// The sum of a pseudo header is that of its words: 10.0.0.1, 10.0.0.2, 17 and 16; and over IPv6 so too.
+/// The sum of a pseudo header is that of its words: 10.0.0.1, 10.0.0.2, 17 and 16; and over IPv6 so
+/// too.
 #[test]
 fn pseudo_sums(rt: HostRuntime) {
     let over_ipv4 = checksum::pseudo_sum_v4([10, 0, 0, 1], [10, 0, 0, 2], IpNumber::UDP, 16);
@@ -239,11 +246,11 @@ fn pseudo_sums(rt: HostRuntime) {
 fn laws_of_members() {
     laws::base::fold_of_pieces();
     laws::ext::chain_is_alone();
-    laws::icmp::traits::equals_are_same();
-    laws::ip::traits::equals_are_same();
-    laws::ipslice::traits::equals_are_same();
-    laws::link::traits::equals_are_same();
-    laws::packet::traits::equals_are_same();
-    laws::tag::traits::equals_are_same();
-    laws::tcpudp::traits::equals_are_same();
+    laws::icmp::traits::types_are_plain_data();
+    laws::ip::traits::types_are_plain_data();
+    laws::ipslice::traits::types_are_plain_data();
+    laws::link::traits::types_are_plain_data();
+    laws::packet::traits::types_are_plain_data();
+    laws::tag::traits::types_are_plain_data();
+    laws::tcpudp::traits::types_are_plain_data();
 }

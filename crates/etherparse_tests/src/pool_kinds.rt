@@ -1,5 +1,5 @@
-//! What a pool makes of packets that are no fragments, and of frames that aren't sliced: nothing. The frames
-//! were put together by hand after the RFCs that the comments name.
+//! What a pool makes of packets that are no fragments, and of frames that aren't sliced: nothing.
+//! The frames were put together by hand after the RFCs that the comments name.
 
 use crate::frames::{FIRST, MESSAGE, SECOND, delivers, replies};
 use ep_base::LenSource;

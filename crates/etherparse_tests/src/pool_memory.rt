@@ -1,5 +1,5 @@
-//! Want of memory in a pool. To be run with each allocation failing in turn, too: then one of the calls
-//! wants memory and leaves the pool as it was, and the next one gets it.
+//! Want of memory in a pool. To be run with each allocation failing in turn, too: then one of the
+//! calls wants memory and leaves the pool as it was, and the next one gets it.
 
 use crate::frames::{FIRST, IPV6_FIRST, IPV6_SECOND, MESSAGE, SECOND, delivers, process};
 use etherparse::defrag::{IpDefragError, IpDefragPool, PoolCall, PoolReply, run_calls};
@@ -45,8 +45,8 @@ fn a_list_of_calls_wants_memory(rt: HostRuntime) {
     }
 }
 
-// Hands a frame in until it finds memory, and tells whether it completes a message. One that finds none tells
-// where it ends. It has no contract, as tests alone call it.
+// Hands a frame in until it finds memory, and tells whether it completes a message. One that finds
+// none tells where it ends. It has no contract, as tests alone call it.
 fn delivers_at_last(
     rt: &impl Abort,
     pool: &mut IpDefragPool<u64, u32>,

@@ -47,7 +47,8 @@ fn refused_over_ipv4(rt: HostRuntime) {
     assert!(rt; delivers(&rt, &mut pool, &FIRST, 1, 0));
 }
 
-/// To be run with each allocation failing in turn, too: a message's first fragment is refused then as ever.
+/// To be run with each allocation failing in turn, too: a message's first fragment is refused then
+/// as ever.
 #[test]
 fn refused_without_memory(rt: HostRuntime) {
     let mut pool = IpDefragPool::new(rt.alloc());
@@ -67,8 +68,8 @@ fn refused_without_memory(rt: HostRuntime) {
     }
 }
 
-/// Offset and flag stand in the fragment header's third and fourth bytes, the length in the fifth and sixth
-/// of the IPv6 header (RFC 8200, sections 3 and 4.5).
+/// Offset and flag stand in the fragment header's third and fourth bytes, the length in the fifth
+/// and sixth of the IPv6 header (RFC 8200, sections 3 and 4.5).
 #[test]
 fn refused_over_ipv6(rt: HostRuntime) {
     let mut pool = IpDefragPool::new(rt.alloc());

@@ -4,10 +4,13 @@ use crate::frames::{
     FIRST, IPV6_FIRST, IPV6_MESSAGE, IPV6_SECOND, MESSAGE, SECOND, delivers, process, replies,
 };
 use ep_base::{IpNumber, LenSource};
+use ep_packet::Class;
 use etherparse::defrag::{IpDefragError, IpDefragPayloadVec, IpDefragPool, PoolCall, PoolReply};
+use std::process::Abort;
 use std::test::*;
 
-// Whether this is the message over UDP, bounded by such a length. It has no contract, as tests alone call it.
+// Whether this is the message over UDP, bounded by such a length. It has no contract, as tests
+// alone call it.
 fn is_udp(message: &IpDefragPayloadVec, len_source: LenSource, bytes: &[u8]) -> bool {
     message.ip_number == IpNumber::UDP
         && message.len_source == len_source
@@ -24,6 +27,28 @@ fn two_fragments(rt: HostRuntime) {
     assert!(rt; is_udp(&message, LenSource::Ipv4HeaderTotalLen, &MESSAGE));
     assert!(rt; pool.return_buf(message).is_ok());
     assert!(rt; !delivers(&rt, &mut pool, &SECOND, 3, 0));
+}
+
+// Hands in a part by its class; no contract, as above.
+fn process_part(
+    rt: &impl Abort,
+    pool: &mut IpDefragPool<u64, u32>,
+    frame: &[u8],
+) -> Result<Option<IpDefragPayloadVec>, IpDefragError> {
+    let Class::Cut(message) = Class::from_ethernet(frame) else {
+        panic!(rt; "a frame has no part");
+    };
+    pool.process_cut_message(message, 1, 0)
+}
+
+#[test]
+fn two_parts_by_their_class(rt: HostRuntime) {
+    let mut pool = IpDefragPool::new(rt.alloc());
+    assert!(rt; process_part(&rt, &mut pool, &FIRST) == Ok(None));
+    let Ok(Some(message)) = process_part(&rt, &mut pool, &SECOND) else {
+        panic!(rt; "the second half doesn't complete the message");
+    };
+    assert!(rt; is_udp(&message, LenSource::Ipv4HeaderTotalLen, &MESSAGE));
 }
 
 #[test]

@@ -1,5 +1,8 @@
 -- Fragments that came in the order of their message, each from where the one before it ends.
-use Rattle.std.proofs.Common.{◌≡◌, ◌∙◌, sym, ap, refl, inl, inr, ℕ, ◌-◌, ◌%◌, ◌<◌, ◌≤◌, ◌==◌, ◌&&◌, Bool, true, false, cond, not, if◌then◌else◌, List, [], ◌∷◌, ◌++◌, length, get_or, unwrap_or, map, Option, Some, None, arith, length-append}
+use Rattle.std.proofs.Common.{◌≡◌, ◌∙◌, sym, ap, refl, inl, inr, ℕ, ◌-◌, ◌%◌, ◌<◌, ◌≤◌, ◌==◌, ◌&&◌}
+use Rattle.std.proofs.Common.{Bool, true, false, cond, not, if◌then◌else◌, List, [], ◌∷◌, ◌++◌}
+use Rattle.std.proofs.Common.{length, get_or, unwrap_or, map, Option, Some, None, arith}
+use Rattle.std.proofs.Common.{length-append}
 use Rattle.std.specs.List.{range_with_len}
 use Rattle.std.specs.Option.{option_or}
 use Rattle.std.proofs.lemmas.Bool.{cases_lt, eq-eqb, le-ltb}
@@ -7,11 +10,13 @@ use Rattle.std.proofs.lemmas.Bool.Decides.{nat_tests}
 use Rattle.std.proofs.lemmas.List.{get_or-append_right, get_or_append_left}
 use Rattle.std.proofs.lemmas.List.FromFn.{fill_by_all}
 use Rattle.etherparse.specs.declared.defrag.ip_defrag_error.IpDefragError.{IpDefragError}
-use Rattle.etherparse.specs.Fragments.{Fragment, Holds, end_of, greatest_end, is_complete, named_end, refusal_at, refusal_of, start_of}
+use Rattle.etherparse.specs.Fragments.{Fragment, Holds, end_of, greatest_end, is_complete}
+use Rattle.etherparse.specs.Fragments.{named_end, refusal_at, refusal_of, start_of}
 use Rattle.etherparse.specs.Picture.{byte_at, byte_of, text_of}
 use Rattle.etherparse.proofs.Complete.{complete_Decides}
 use Rattle.etherparse.proofs.Members.{Any-from_AnyOf, AnyOf, AnyOf-left, AnyOf-right}
-use Rattle.etherparse.proofs.Push.{byte_at-push, byte_of-here, greatest_end-push, named_end-push, own_end}
+use Rattle.etherparse.proofs.Push.{byte_at-push, byte_of-here, greatest_end-push, named_end-push}
+use Rattle.etherparse.proofs.Push.{own_end}
 
 -- these fragments hold the first bytes of a message, whose end isn't named
 pub record AreFront (fs : List Fragment) (text : List ℕ) : Type 0 where
@@ -21,36 +26,48 @@ pub record AreFront (fs : List Fragment) (text : List ℕ) : Type 0 where
   pub covered : (p : ℕ) → p < length text → AnyOf (λ f. Holds f p) fs
 
 pub no_front : AreFront [] []
-no_front = record { unended = refl; top = refl; bytes = λ p below. absurd (omega arith); covered = λ p below. absurd (omega arith) }
+no_front = record {
+  unended = refl;
+  top = refl;
+  bytes = λ p below. absurd (omega arith);
+  covered = λ p below. absurd (omega arith);
+}
 
 byte_before : (f : Fragment) (p : ℕ) → p < start_of f → byte_of f p ≡ None
 byte_before f p before = grind (arith, nat_tests)
 
 -- one more fragment, from where they end
-module _ (fs : List Fragment) (text : List ℕ) (front : AreFront fs text) (f : Fragment) (follows : start_of f ≡ length text) where
+module _ (fs : List Fragment) (text : List ℕ) (front : AreFront fs text) (f : Fragment)
+    (follows : start_of f ≡ length text) where
   joined_len : length (text ++ f.bytes) ≡ end_of f
   joined_len = omega (arith, length-append text f.bytes)
 
   top_with : greatest_end (fs ++ f ∷ []) ≡ length (text ++ f.bytes)
   top_with = greatest_end-push fs f ∙ omega (arith, front.top, joined_len)
 
-  bytes_with : (p : ℕ) → p < length (text ++ f.bytes) → byte_at (fs ++ f ∷ []) p ≡ Some (get_or (text ++ f.bytes) p 0)
+  bytes_with : (p : ℕ) → p < length (text ++ f.bytes)
+      → byte_at (fs ++ f ∷ []) p ≡ Some (get_or (text ++ f.bytes) p 0)
   bytes_with p below =
       byte_at-push fs f p
-      ∙ elim (cases_lt p (length text)) as (λ _. option_or (byte_of f p) (byte_at fs p) ≡ Some (get_or (text ++ f.bytes) p 0)) [
+      ∙ elim (cases_lt p (length text)) as
+      (λ _. option_or (byte_of f p) (byte_at fs p) ≡ Some (get_or (text ++ f.bytes) p 0)) [
         | inl in_front ↦
-            ap (λ o. option_or o (byte_at fs p)) (byte_before f p (omega arith)) ∙ front.bytes p in_front
+            ap (λ o. option_or o (byte_at fs p)) (byte_before f p (omega arith))
+            ∙ front.bytes p in_front
             ∙ ap Some (sym (get_or_append_left text f.bytes 0 p in_front))
         | inr behind ↦
-            let here : byte_of f p ≡ Some (get_or f.bytes (p - start_of f) 0) = byte_of-here f p (omega arith) (omega (arith, joined_len)) in
+            let here : byte_of f p ≡ Some (get_or f.bytes (p - start_of f) 0) =
+            byte_of-here f p (omega arith) (omega (arith, joined_len)) in
             ap (λ o. option_or o (byte_at fs p)) here
-            ∙ ap Some (ap (λ k. get_or f.bytes (p - k) 0) follows ∙ sym (get_or-append_right text f.bytes (length text) p 0 refl behind))
+            ∙ ap Some (ap (λ k. get_or f.bytes (p - k) 0) follows
+            ∙ sym (get_or-append_right text f.bytes (length text) p 0 refl behind))
       ]
 
   covered_with : (p : ℕ) → p < length (text ++ f.bytes) → AnyOf (λ g. Holds g p) (fs ++ f ∷ [])
   covered_with p below = elim (cases_lt p (length text)) [
     | inl in_front ↦ AnyOf-left (λ g. Holds g p) fs (f ∷ []) (front.covered p in_front)
-    | inr behind ↦ AnyOf-right (λ g. Holds g p) fs (f ∷ []) (inl (omega arith, omega (arith, joined_len)))
+    | inr behind ↦ AnyOf-right (λ g. Holds g p) fs (f ∷ [])
+        (inl (omega arith, omega (arith, joined_len)))
   ]
 
   ended_with : named_end (fs ++ f ∷ []) ≡ own_end f
@@ -76,20 +93,27 @@ module _ (fs : List Fragment) (text : List ℕ) (front : AreFront fs text) (f : 
     pub complete_with : is_complete (fs ++ f ∷ []) ≡ true
     complete_with = (complete_Decides (fs ++ f ∷ [])).1 (record {
       ended = rw end_is refl;
-      covered = λ p below. Any-from_AnyOf (λ g. Holds g p) (fs ++ f ∷ []) (covered_with p (omega (arith, top_with)));
+      covered = λ p below. Any-from_AnyOf (λ g. Holds g p) (fs ++ f ∷ [])
+          (covered_with p (omega (arith, top_with)));
     })
 
     pub text_with : text_of (fs ++ f ∷ []) ≡ text ++ f.bytes
     text_with =
-        ap (λ (o : Option ℕ). map (λ p. unwrap_or (byte_at (fs ++ f ∷ []) p) 0) (range_with_len 0 (unwrap_or o 0))) end_is
-        ∙ sym (fill_by_all (λ p. unwrap_or (byte_at (fs ++ f ∷ []) p) 0) (text ++ f.bytes) (end_of f) 0 joined_len
-        (λ p below. sym (ap (λ (o : Option ℕ). unwrap_or o 0) (bytes_with p (omega (arith, joined_len))))))
+        ap (λ (o : Option ℕ). map (λ p. unwrap_or (byte_at (fs ++ f ∷ []) p) 0)
+        (range_with_len 0 (unwrap_or o 0))) end_is
+        ∙ sym (fill_by_all (λ p. unwrap_or (byte_at (fs ++ f ∷ []) p) 0) (text ++ f.bytes)
+        (end_of f) 0 joined_len
+        (λ p below. sym (ap (λ (o : Option ℕ). unwrap_or o 0)
+        (bytes_with p (omega (arith, joined_len))))))
 
-aligned : (more : Bool) (n : ℕ) (e : IpDefragError) → (more ≡ true → n % 8 ≡ 0) → (if more && not (n % 8 == 0) then Some e else None) ≡ None
+aligned : (more : Bool) (n : ℕ) (e : IpDefragError) → (more ≡ true → n % 8 ≡ 0)
+    → (if more && not (n % 8 == 0) then Some e else None) ≡ None
 aligned true n e is = rw (eq-eqb (n % 8) 0 (is refl)) refl
 aligned false n e is = refl
 
 -- none is refused that fits and is of whole units where more follows
-pub taken_with : (fs : List Fragment) (f : Fragment) → named_end fs ≡ None → end_of f ≤ 65535 → (f.more ≡ true → length f.bytes % 8 ≡ 0) → refusal_of fs f ≡ None
+pub taken_with : (fs : List Fragment) (f : Fragment) → named_end fs ≡ None → end_of f ≤ 65535
+    → (f.more ≡ true → length f.bytes % 8 ≡ 0) → refusal_of fs f ≡ None
 taken_with fs f unended short units =
-    ap (λ o. refusal_at o f) unended ∙ rw (le-ltb 65535 (end_of f) short) (aligned f.more (length f.bytes) _ units)
+    ap (λ o. refusal_at o f) unended ∙ rw (le-ltb 65535 (end_of f) short)
+    (aligned f.more (length f.bytes) _ units)

@@ -1,26 +1,25 @@
-pub mod AnswerLemmas
-pub mod CallLemmas
-pub mod ChangedMessage
-pub mod ChangedWordLemmas
-pub mod CommandLaws
-pub mod CommandLemmas
-pub mod Feeding
-pub mod FrameLemmas
-pub mod Going
-pub mod HexFrameLemmas
-pub mod InOrder
-pub mod KnownLemmas
-pub mod LineLemmas
-pub mod MemoryLemmas
-pub mod PartLemmas
-pub mod PostLemmas
-pub mod PostedAnswer
-pub mod PostedFrames
-pub mod PostedPieces
-pub mod ReadLemmas
-pub mod RepliesLemmas
-pub mod SealedLemmas
-pub mod SplitLaws
-pub mod SplitLemmas
-pub mod UnrefusedLemmas
-pub mod WriteLemmas
+mod AnswerLemmas
+mod ArrivalLemmas
+mod ChangedMessage
+mod ChangedWordLemmas
+mod CommandLaws
+mod CommandLemmas
+mod Feeding
+mod FrameLemmas
+mod Going
+mod HexFrameLemmas
+mod InOrder
+mod LineLemmas
+mod MemoryLemmas
+mod PartLemmas
+mod PostLemmas
+mod PostedAnswer
+mod PostedFrames
+mod PostedPieces
+mod ReadLemmas
+mod RepliesLemmas
+mod SealedLemmas
+mod SplitLaws
+mod SplitLemmas
+mod UnrefusedLemmas
+mod WriteLemmas

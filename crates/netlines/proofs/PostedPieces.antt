@@ -1,33 +1,41 @@
 -- What the frames of a message in pieces are read as.
-use Rattle.std.proofs.Common.{◌≡◌, ◌∙◌, sym, ap, refl, ℕ, ◌+◌, ◌-◌, ◌*◌, ◌/◌, ◌%◌, ◌≤◌, ◌<◌, ◌&&◌, ◌==◌, Bool, true, false, if◌then◌else◌, List, [], ◌∷◌, length, take, drop, map, Option, Some, None, arith}
+use Rattle.std.proofs.Common.{◌≡◌, ◌∙◌, sym, ap, refl, ℕ, ◌+◌, ◌-◌, ◌*◌, ◌/◌, ◌%◌, ◌≤◌, ◌<◌, ◌&&◌}
+use Rattle.std.proofs.Common.{◌==◌, Bool, true, false, if◌then◌else◌, List, [], ◌∷◌, length, take}
+use Rattle.std.proofs.Common.{drop, map, Option, Some, None, arith}
 use Rattle.std.specs.Prelude.{nat_lt}
 use Rattle.std.proofs.lemmas.List.{length-take, length-drop}
 use Rattle.std.proofs.lemmas.Bool.{and_parts, eqb-true, eq-eqb, ne_eqb, ltb-true, ltb-false, lt-ltb}
 use Rattle.etherparse.specs.BuiltFrames.{IpFits}
 use Rattle.etherparse.specs.declared.defrag.ip_frag_version_spec_id.IpFragVersionSpecId.{IpFragVersionSpecId}
-use Rattle.etherparse.specs.declared.defrag.ip_frag_version_spec_id.IpFragVersionSpecId.TheVariants.{Ipv4, Ipv6}
+use Rattle.etherparse.specs.declared.defrag.ip_frag_version_spec_id.IpFragVersionSpecId.TheVariants.{Ipv4}
+use Rattle.etherparse.specs.declared.defrag.ip_frag_version_spec_id.IpFragVersionSpecId.TheVariants.{Ipv6}
 use Rattle.etherparse.specs.ext.declared.net.ipv6_fragment_header.Ipv6FragmentHeader.{Ipv6FragmentHeader}
 use Rattle.etherparse.specs.ip.Ipv4.{is_fragmenting}
 use Rattle.etherparse.specs.packet.Class.{class_of}
 use Rattle.netlines.specs.Letter.{HeadersFit, piece_class}
-use Rattle.netlines.specs.Posted.{Piece, frame, is_cut, pieces_from, posted}
-use Rattle.netlines.specs.PostRefusal.{bad_cut_from, is_good_cut, long_piece_from, names_extension, post_refusal, room}
+use Rattle.netlines.specs.Posted.{Piece, frame, is_cut, pieces_from, posted_frames}
+use Rattle.netlines.specs.PostRefusal.{bad_cut_from, is_good_cut, long_piece_from, names_extension}
+use Rattle.netlines.specs.PostRefusal.{post_refusal, room}
 use Rattle.netlines.specs.PostedHeaders.{ip_headers_of}
-use Rattle.netlines.specs.declared.letter.Letter.{Letter}
+use Rattle.netlines.specs.declared.messages.letter.Letter.{Letter}
 use Rattle.netlines.proofs.PostedFrames.{PartIsRead, frame_is_part}
 use Rattle.netlines.proofs.UnrefusedLemmas.{unrefused}
 
 -- headers that fit at the front of a message fit at every place of it
 offset_is : (more : Bool) (offset : ℕ) → offset < 8192
-    → (256 * ((8 * offset + (if more then 1 else 0)) / 256 % 256) + (8 * offset + (if more then 1 else 0)) % 256) / 8 ≡ offset
+    → (256 * ((8 * offset + (if more then 1 else 0)) / 256 % 256) +
+    (8 * offset + (if more then 1 else 0)) % 256) / 8 ≡ offset
 offset_is true offset small = omega arith
 offset_is false offset small = omega arith
 
-flag_is : (more : Bool) (offset : ℕ) → offset < 8192 → ((8 * offset + (if more then 1 else 0)) % 256 % 2 == 1) ≡ more
+flag_is : (more : Bool) (offset : ℕ) → offset < 8192
+    → ((8 * offset + (if more then 1 else 0)) % 256 % 2 == 1) ≡ more
 flag_is true offset small = eq-eqb _ 1 (omega arith)
 flag_is false offset small = ne_eqb _ 1 (λ is. absurd (omega arith))
 
-fits_at : (stream : IpFragVersionSpecId) (number offset : ℕ) (more : Bool) → offset < 8192 → IpFits (ip_headers_of stream true 0 false) number → IpFits (ip_headers_of stream true offset more) number
+fits_at : (stream : IpFragVersionSpecId) (number offset : ℕ) (more : Bool) → offset < 8192
+    → IpFits (ip_headers_of stream true 0 false) number
+    → IpFits (ip_headers_of stream true offset more) number
 fits_at (Ipv4 source destination identification) number offset more small fits = (
   record {
     dscp = fits.0.dscp;
@@ -52,7 +60,8 @@ fits_at (Ipv6 source destination identification) number offset more small fits =
   (refl, record { whole = refl }, refl),
 )
 
-pub all_fit : (letter : Letter) (offset : ℕ) (more : Bool) → offset < 8192 → HeadersFit letter true 0 false → HeadersFit letter true offset more
+pub all_fit : (letter : Letter) (offset : ℕ) (more : Bool) → offset < 8192
+    → HeadersFit letter true 0 false → HeadersFit letter true offset more
 all_fit letter offset more small fit = record {
   link = fit.link;
   tags = fit.tags;
@@ -60,7 +69,8 @@ all_fit letter offset more small fit = record {
   ip = fits_at letter.stream letter.number.0 offset more small fit.ip;
 }
 
-fragmenting : (more : Bool) (offset : ℕ) → (more ≡ false → 0 < offset) → is_fragmenting more offset ≡ true
+fragmenting : (more : Bool) (offset : ℕ) → (more ≡ false → 0 < offset)
+    → is_fragmenting more offset ≡ true
 fragmenting true offset some = refl
 fragmenting false offset some = lt-ltb 0 offset (some refl)
 
@@ -74,18 +84,24 @@ good_cut : (len before cut : ℕ) → is_good_cut len before cut ≡ true → Is
 good_cut len before cut is =
     let behind = and_parts ((cut % 8 == 0) && nat_lt before cut) (nat_lt cut len) is in
     let parts = and_parts (cut % 8 == 0) (nat_lt before cut) behind.0 in
-    record { units = eqb-true (cut % 8) 0 parts.0; behind = ltb-true before cut parts.1; within = ltb-true cut len behind.1 }
+    record {
+      units = eqb-true (cut % 8) 0 parts.0;
+      behind = ltb-true before cut parts.1;
+      within = ltb-true cut len behind.1;
+    }
 
-goes_on : (b : Bool) (n : ℕ) (o : Option ℕ) → (if b then o else Some n) ≡ None → (b ≡ true) × (o ≡ None)
+goes_on : (b : Bool) (n : ℕ) (o : Option ℕ) → (if b then o else Some n) ≡ None
+    → (b ≡ true) × (o ≡ None)
 goes_on true n o is = (refl, is)
 goes_on false n o is = cc
 
-passes : (b : Bool) (n : ℕ) (o : Option ℕ) → (if b then Some n else o) ≡ None → (b ≡ false) × (o ≡ None)
+passes : (b : Bool) (n : ℕ) (o : Option ℕ) → (if b then Some n else o) ≡ None
+    → (b ≡ false) × (o ≡ None)
 passes true n o is = cc
 passes false n o is = (refl, is)
 
--- the rest of a message of so many bytes, from this place on, can be sent with these cuts: in pieces for which there
--- is this room, and in more than one of them
+-- the rest of a message of so many bytes, from this place on, can be sent with these cuts: in
+-- pieces for which there is this room, and in more than one of them
 pub record Goes (room len start : ℕ) (later rest : List ℕ) : Type 0 where
   pub index : ℕ
   pub place : ℕ
@@ -98,7 +114,8 @@ pub record Goes (room len start : ℕ) (later rest : List ℕ) : Type 0 where
 
 module _ (room len start : ℕ) where
   pub last_fits : (rest : List ℕ) → Goes room len start [] rest → length rest ≤ room
-  last_fits rest goes = ltb-false room (length rest) (passes (nat_lt room (length rest)) goes.place None goes.fits).0
+  last_fits rest goes = ltb-false room (length rest)
+      (passes (nat_lt room (length rest)) goes.place None goes.fits).0
 
   module _ (cut : ℕ) (later rest : List ℕ) (goes : Goes room len start (cut ∷ later) rest) where
     abbrev text : List ℕ
@@ -107,17 +124,22 @@ module _ (room len start : ℕ) where
     abbrev behind : List ℕ
     behind = drop (cut - start) rest
 
-    next_cut : (is_good_cut len start cut ≡ true) × (bad_cut_from len cut (goes.index + 1) later ≡ None)
-    next_cut = goes_on (is_good_cut len start cut) goes.index (bad_cut_from len cut (goes.index + 1) later) goes.good
+    next_cut : (is_good_cut len start cut ≡ true)
+        × (bad_cut_from len cut (goes.index + 1) later ≡ None)
+    next_cut = goes_on (is_good_cut len start cut) goes.index
+        (bad_cut_from len cut (goes.index + 1) later) goes.good
 
-    next_piece : (nat_lt room (length text) ≡ false) × (long_piece_from room (goes.place + 1) (pieces_from cut later behind) ≡ None)
-    next_piece = passes (nat_lt room (length text)) goes.place (long_piece_from room (goes.place + 1) (pieces_from cut later behind)) goes.fits
+    next_piece : (nat_lt room (length text) ≡ false)
+        × (long_piece_from room (goes.place + 1) (pieces_from cut later behind) ≡ None)
+    next_piece = passes (nat_lt room (length text)) goes.place
+        (long_piece_from room (goes.place + 1) (pieces_from cut later behind)) goes.fits
 
     pub is_good : IsGoodCut len start cut
     is_good = good_cut len start cut next_cut.0
 
     pub text_len : length text ≡ cut - start
-    text_len = let good = is_good in omega (arith, length-take (cut - start) rest, good.within, good.behind, goes.all)
+    text_len = let good = is_good in
+        omega (arith, length-take (cut - start) rest, good.within, good.behind, goes.all)
 
     pub text_fits : length text ≤ room
     text_fits = ltb-false room (length text) next_piece.0
@@ -138,7 +160,9 @@ some_cut : (cuts : List ℕ) → is_cut cuts ≡ true → 0 < length cuts
 some_cut [] some = cc
 some_cut (cut ∷ cuts) some = omega arith
 
-pub goes_from_start : (letter : Letter) (message cuts : List ℕ) → post_refusal letter message cuts ≡ None → is_cut cuts ≡ true → Goes (room letter.stream true) (length message) 0 cuts message
+pub goes_from_start : (letter : Letter) (message cuts : List ℕ)
+    → post_refusal letter message cuts ≡ None → is_cut cuts ≡ true
+    → Goes (room letter.stream true) (length message) 0 cuts message
 goes_from_start letter message cuts sent cut =
     let holds = unrefused letter message cuts sent in
     let some = some_cut cuts cut in
@@ -150,35 +174,56 @@ goes_from_start letter message cuts sent cut =
       units = refl;
       several = omega (arith, some);
       good = holds.good;
-      fits = ap (λ b. long_piece_from (room letter.stream b) 0 (pieces_from 0 cuts message)) (sym cut) ∙ holds.fits;
+      fits = ap (λ b. long_piece_from (room letter.stream b) 0 (pieces_from 0 cuts message))
+          (sym cut) ∙ holds.fits;
     }
 
-module _ (letter : Letter) (law : PartIsRead) (fit : HeadersFit letter true 0 false) (number : names_extension letter.stream letter.number.0 ≡ false) where
-  pub piece_is_read : (piece : Piece) → length piece.text ≤ room letter.stream true → piece.offset < 8192 → (piece.more ≡ false → 0 < piece.offset)
+module _ (letter : Letter) (law : PartIsRead) (fit : HeadersFit letter true 0 false)
+    (number : names_extension letter.stream letter.number.0 ≡ false) where
+  pub piece_is_read : (piece : Piece) → length piece.text ≤ room letter.stream true
+      → piece.offset < 8192 → (piece.more ≡ false → 0 < piece.offset)
       → class_of (frame letter true piece) ≡ piece_class letter piece
   piece_is_read piece short small some =
-      frame_is_part letter law piece.offset piece.more (all_fit letter piece.offset piece.more small fit) piece.text (record { number = number; fits = short }) (fragmenting piece.more piece.offset some)
+      frame_is_part letter law piece.offset piece.more
+      (all_fit letter piece.offset piece.more small fit) piece.text
+      (record { number = number; fits = short }) (fragmenting piece.more piece.offset some)
 
-  pub last_is_read : (len start : ℕ) (rest : List ℕ) → Goes (room letter.stream true) len start [] rest
-      → class_of (frame letter true (record { offset = start / 8; more = false; text = rest })) ≡ piece_class letter (record { offset = start / 8; more = false; text = rest })
+  pub last_is_read : (len start : ℕ) (rest : List ℕ)
+      → Goes (room letter.stream true) len start [] rest
+      → class_of (frame letter true (record { offset = start / 8; more = false; text = rest }))
+      ≡ piece_class letter (record { offset = start / 8; more = false; text = rest })
   last_is_read len start rest goes =
-      piece_is_read (record { offset = start / 8; more = false; text = rest }) (last_fits (room letter.stream true) len start rest goes) (omega (arith, goes.all, goes.short)) (λ last. omega (arith, goes.several))
+      piece_is_read (record { offset = start / 8; more = false; text = rest })
+      (last_fits (room letter.stream true) len start rest goes)
+      (omega (arith, goes.all, goes.short)) (λ last. omega (arith, goes.several))
 
-  pub first_is_read : (len start cut : ℕ) (later rest : List ℕ) → Goes (room letter.stream true) len start (cut ∷ later) rest
-      → class_of (frame letter true (record { offset = start / 8; more = true; text = take (cut - start) rest })) ≡ piece_class letter (record { offset = start / 8; more = true; text = take (cut - start) rest })
+  pub first_is_read : (len start cut : ℕ) (later rest : List ℕ)
+      → Goes (room letter.stream true) len start (cut ∷ later) rest
+      → class_of (frame letter true
+      (record { offset = start / 8; more = true; text = take (cut - start) rest }))
+      ≡ piece_class letter
+      (record { offset = start / 8; more = true; text = take (cut - start) rest })
   first_is_read len start cut later rest goes =
-      piece_is_read (record { offset = start / 8; more = true; text = take (cut - start) rest }) (text_fits (room letter.stream true) len start cut later rest goes) (omega (arith, goes.all, goes.short)) (λ last. absurd (cc))
+      piece_is_read (record { offset = start / 8; more = true; text = take (cut - start) rest })
+      (text_fits (room letter.stream true) len start cut later rest goes)
+      (omega (arith, goes.all, goes.short)) (λ last. absurd (cc))
 
-  classes_from : (len start : ℕ) (later rest : List ℕ) → Goes (room letter.stream true) len start later rest
-      → map class_of (map (frame letter true) (pieces_from start later rest)) ≡ map (piece_class letter) (pieces_from start later rest)
+  classes_from : (len start : ℕ) (later rest : List ℕ)
+      → Goes (room letter.stream true) len start later rest
+      → map class_of (map (frame letter true) (pieces_from start later rest))
+      ≡ map (piece_class letter) (pieces_from start later rest)
   classes_from len start [] rest goes = ap (λ class. class ∷ []) (last_is_read len start rest goes)
   classes_from len start (cut ∷ later) rest goes =
       let first = first_is_read len start cut later rest goes in
-      let behind = classes_from len cut later (drop (cut - start) rest) (goes_behind (room letter.stream true) len start cut later rest goes) in
+      let behind = classes_from len cut later (drop (cut - start) rest)
+      (goes_behind (room letter.stream true) len start cut later rest goes) in
       λ i. first i ∷ behind i
 
-pub posted_cut : (letter : Letter) → PartIsRead → HeadersFit letter true 0 false → (message cuts : List ℕ) → post_refusal letter message cuts ≡ None → is_cut cuts ≡ true
-    → map class_of (posted letter message cuts) ≡ map (piece_class letter) (pieces_from 0 cuts message)
+pub posted_cut : (letter : Letter) → PartIsRead → HeadersFit letter true 0 false
+    → (message cuts : List ℕ) → post_refusal letter message cuts ≡ None → is_cut cuts ≡ true
+    → map class_of (posted_frames letter message cuts)
+    ≡ map (piece_class letter) (pieces_from 0 cuts message)
 posted_cut letter law fit message cuts sent cut =
     (λ i. map class_of (map (frame letter (cut i)) (pieces_from 0 cuts message)))
-    ∙ classes_from letter law fit (unrefused letter message cuts sent).number (length message) 0 cuts message (goes_from_start letter message cuts sent cut)
+    ∙ classes_from letter law fit (unrefused letter message cuts sent).number
+    (length message) 0 cuts message (goes_from_start letter message cuts sent cut)

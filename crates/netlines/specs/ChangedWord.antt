@@ -1,10 +1,11 @@
--- Two texts that differ in one 16-bit word, as a checksum counts words (RFC 1071, section 1): an odd
--- last byte is a word with a zero byte behind it.
-use Rattle.std.specs.Prelude.{◌≡◌, ◌≢◌, ◌⊎◌, ℕ, ◌%◌, ◌==◌, ◌&&◌, ◌||◌, not, Bool, if◌then◌else◌, List, [], ◌++◌, length}
+-- Two texts that differ in one 16-bit word, as a checksum counts words (RFC 1071, section 1): an
+-- odd last byte is a word with a zero byte behind it.
+use Rattle.std.specs.Prelude.{◌≡◌, ◌≢◌, ◌⊎◌, ℕ, ◌%◌, ◌==◌, ◌&&◌, ◌||◌, not, Bool, if◌then◌else◌}
+use Rattle.std.specs.Prelude.{List, [], ◌++◌, length}
 use Rattle.etherparse.specs.base.Bytes.{IsBytes}
 use Rattle.etherparse.specs.base.Sum.{total}
-use Rattle.netlines.specs.declared.verdict.Verdict.{Verdict}
-use Rattle.netlines.specs.declared.verdict.Verdict.TheVariants as verdict
+use Rattle.netlines.specs.declared.frames.verdict.Verdict.{Verdict}
+use Rattle.netlines.specs.declared.frames.verdict.Verdict.TheVariants as verdict
 
 pub record DifferInOneWord (old new : List ℕ) : Type 0 where
   pub front : List ℕ
@@ -30,4 +31,5 @@ is_exchange old new = ((old == 0) && (new == 65535)) || ((old == 65535) && (new 
 -- ones-complement sum can't tell apart leave it as it was, but where nothing but zeros is summed
 abbrev pub verdict_after : (old_word new_word text : List ℕ) → Verdict
 verdict_after old_word new_word text =
-    if is_exchange (total old_word) (total new_word) && not (total text == 0) then verdict.Good else verdict.Bad
+    if is_exchange (total old_word) (total new_word) && not (total text == 0)
+    then verdict.Good else verdict.Bad

@@ -1,14 +1,14 @@
 pub mod Answers
-pub mod Calls
+pub mod Arrivals
 pub mod ChangedWord
-pub mod FrameClass
+pub mod Endings
 pub mod Known
 pub mod Letter
 pub mod Lines
+pub mod PoolAnswers
 pub mod PostRefusal
 pub mod Posted
 pub mod PostedHeaders
-pub mod ReadMessage
 pub mod Replies
 pub mod Request
 pub mod Runs

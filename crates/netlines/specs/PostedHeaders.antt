@@ -2,7 +2,8 @@
 use Rattle.std.specs.Prelude.{ℕ, Bool, true, false, List, [], ◌∷◌, Option, Some, None}
 use Rattle.etherparse.specs.BuiltSteps.{ethernet_between, no_headers, tag_of}
 use Rattle.etherparse.specs.declared.defrag.ip_frag_version_spec_id.IpFragVersionSpecId.{IpFragVersionSpecId}
-use Rattle.etherparse.specs.declared.defrag.ip_frag_version_spec_id.IpFragVersionSpecId.TheVariants.{Ipv4, Ipv6}
+use Rattle.etherparse.specs.declared.defrag.ip_frag_version_spec_id.IpFragVersionSpecId.TheVariants.{Ipv4}
+use Rattle.etherparse.specs.declared.defrag.ip_frag_version_spec_id.IpFragVersionSpecId.TheVariants.{Ipv6}
 use Rattle.etherparse.specs.declared.packet_builder.packet_impl.PacketImpl.{PacketImpl}
 use Rattle.etherparse.specs.ext.Ipv4Exts.{ipv4_exts_of}
 use Rattle.etherparse.specs.ext.declared.net.ipv6_fragment_header.Ipv6FragmentHeader.{Ipv6FragmentHeader}
@@ -11,25 +12,33 @@ use Rattle.etherparse.specs.packet.declared.net.ip_headers.IpHeaders.{IpHeaders}
 use Rattle.etherparse.specs.packet.declared.net.ip_headers.IpHeaders.TheVariants as ip
 use Rattle.etherparse.specs.tag.declared.link.vlan_header.VlanHeader.{VlanHeader}
 use Rattle.etherparse.specs.tag.declared.link.vlan_header.VlanHeader.TheVariants.{Single, Double}
-use Rattle.netlines.specs.declared.letter.Letter.{Letter}
+use Rattle.netlines.specs.declared.messages.letter.Letter.{Letter}
 
 -- the fragment header of a message that is cut
-abbrev pub fragment_of : (cut : Bool) → (offset : ℕ) → (more : Bool) → (identification : ℕ) → Option Ipv6FragmentHeader
+abbrev pub fragment_of : (cut : Bool) → (offset : ℕ) → (more : Bool) → (identification : ℕ)
+    → Option Ipv6FragmentHeader
 fragment_of false offset more identification = None
 fragment_of true offset more identification =
-    Some (record { next_header = record { 0 = 0 }; fragment_offset = offset; more_fragments = more; identification = identification })
+    Some (record {
+      next_header = record { 0 = 0 };
+      fragment_offset = offset;
+      more_fragments = more;
+      identification = identification;
+    })
 
 -- the IP headers of a piece, whose lengths, numbers and checksum the builder sets
-abbrev pub ip_headers_of : IpFragVersionSpecId → (cut : Bool) → (offset : ℕ) → (more : Bool) → IpHeaders
-ip_headers_of (Ipv4 source destination identification) cut offset more = ip.Ipv4 (record default_header {
-  identification = identification;
-  dont_fragment = false;
-  more_fragments = more;
-  fragment_offset = offset;
-  time_to_live = 64;
-  source = source;
-  destination = destination;
-}) (ipv4_exts_of None)
+abbrev pub ip_headers_of : IpFragVersionSpecId → (cut : Bool) → (offset : ℕ)
+    → (more : Bool) → IpHeaders
+ip_headers_of (Ipv4 source destination identification) cut offset more =
+    ip.Ipv4 (record default_header {
+      identification = identification;
+      dont_fragment = false;
+      more_fragments = more;
+      fragment_offset = offset;
+      time_to_live = 64;
+      source = source;
+      destination = destination;
+    }) (ipv4_exts_of None)
 ip_headers_of (Ipv6 source destination identification) cut offset more = ip.Ipv6 (record {
   traffic_class = 0;
   flow_label = 0;
@@ -50,7 +59,8 @@ ip_headers_of (Ipv6 source destination identification) cut offset more = ip.Ipv6
 abbrev pub tags_of : List ℕ → Option VlanHeader
 tags_of [] = None
 tags_of (id ∷ []) = Some (Single (tag_of id))
-tags_of (outer ∷ inner ∷ others) = Some (Double (record { outer = tag_of outer; inner = tag_of inner }))
+tags_of (outer ∷ inner ∷ others) =
+    Some (Double (record { outer = tag_of outer; inner = tag_of inner }))
 
 -- all headers of a frame
 abbrev pub headers_of : Letter → IpHeaders → PacketImpl

@@ -2,9 +2,10 @@
 use Rattle.std.specs.Prelude.{◌≡◌, ℕ, ◌+◌, Bool, true, false, List, [], ◌∷◌, ◌++◌, length, take}
 use Rattle.std.specs.Io.Iter.{u64_saturate}
 use Rattle.netlines.specs.Lines.{HasNoNewline, lines_of, ended_lines_of}
-use Rattle.netlines.specs.declared.limits.TheConstants.{LINE_ROOM}
+use Rattle.netlines.specs.declared.lines.limits.TheConstants.{LINE_ROOM}
 
--- what lines mean: the reply to a line after those before it, and whether memory may be wanting for it there
+-- what lines mean: the reply to a line after those before it, and whether memory may be wanting for
+-- it there
 pub record Meaning : Type 0 where
   pub reply : List (List ℕ) → List ℕ → List ℕ
   pub takes_memory : List (List ℕ) → List ℕ → Bool
@@ -12,7 +13,8 @@ pub record Meaning : Type 0 where
 -- the replies to lines, in order, after these earlier ones
 abbrev pub replies_after : Meaning → List (List ℕ) → List (List ℕ) → List ℕ
 replies_after meaning earlier [] = []
-replies_after meaning earlier (line ∷ lines) = meaning.reply earlier line ++ replies_after meaning (earlier ++ line ∷ []) lines
+replies_after meaning earlier (line ∷ lines) =
+    meaning.reply earlier line ++ replies_after meaning (earlier ++ line ∷ []) lines
 
 -- the replies to all lines of these bytes
 abbrev pub replies_to : Meaning → List ℕ → List ℕ
@@ -28,7 +30,8 @@ whole_lines_of true bytes = lines_of bytes
 whole_lines_of false bytes = ended_lines_of bytes
 
 -- these are the replies to the lines before one for which memory may be wanting
-pub record EndsBefore (meaning : Meaning) (earlier lines : List (List ℕ)) (replies : List ℕ) : Type 0 where
+pub record EndsBefore (meaning : Meaning) (earlier lines : List (List ℕ))
+    (replies : List ℕ) : Type 0 where
   pub before : List (List ℕ)
   pub line : List ℕ
   pub later : List (List ℕ)
@@ -36,7 +39,8 @@ pub record EndsBefore (meaning : Meaning) (earlier lines : List (List ℕ)) (rep
   pub takes : meaning.takes_memory (earlier ++ before) line ≡ true
   pub same : replies ≡ replies_after meaning earlier before
 
--- the number of the line behind so many, from 1 on; the greatest number of 64 bits is that of all lines from there on
+-- the number of the line behind so many, from 1 on; the greatest number of 64 bits is that of all
+-- lines from there on
 abbrev pub number_behind : ℕ → ℕ
 number_behind count = u64_saturate (count + 1)
 
@@ -45,13 +49,16 @@ number_after earlier = number_behind (length earlier)
 
 -- an answerer that has answered the earlier lines is asked for the next one, by its number,
 -- and by a line that is its first bytes, as far as they matter
-pub record Asks (shown : List (List ℕ) → Type 0) (earlier : List (List ℕ)) (number : ℕ) (line whole : List ℕ) : Type 0 where
+pub record Asks (shown : List (List ℕ) → Type 0) (earlier : List (List ℕ)) (number : ℕ)
+    (line whole : List ℕ) : Type 0 where
   pub shows : shown earlier
   pub numbered : number ≡ number_after earlier
   pub first : take LINE_ROOM line ≡ take LINE_ROOM whole
 
--- the earlier lines are answered and counted, a line has begun with these bytes, and of them the first are kept
-pub record Kept (shown : List (List ℕ) → Type 0) (count : ℕ) (line : List ℕ) (earlier : List (List ℕ)) (begun : List ℕ) : Type 0 where
+-- the earlier lines are answered and counted, a line has begun with these bytes, and of them the
+-- first are kept
+pub record Kept (shown : List (List ℕ) → Type 0) (count : ℕ) (line : List ℕ)
+    (earlier : List (List ℕ)) (begun : List ℕ) : Type 0 where
   pub shows : shown earlier
   pub counted : count ≡ u64_saturate (length earlier)
   pub kept : line ≡ take LINE_ROOM begun

@@ -3,8 +3,8 @@ use Rattle.std.specs.Prelude.{ℕ, length}
 use Rattle.hex.specs.Hex.{decode_of}
 use Rattle.netlines.specs.Lines.{Command, frame_on}
 use Rattle.netlines.specs.Lines.Command.{Forget, Bad}
-use Rattle.netlines.specs.declared.command.Request.{Request}
-use Rattle.netlines.specs.declared.command.Request.TheVariants as asked
+use Rattle.netlines.specs.declared.frames.command.Request.{Request}
+use Rattle.netlines.specs.declared.frames.command.Request.TheVariants as asked
 
 -- what the line asks for, where digits that are not hex ask for nothing
 abbrev pub as_command : Request → Command

@@ -2,42 +2,22 @@
 //! lines hold.
 #![tactic(auto)]
 
-mod addresses;
-mod answer;
-mod answerer;
-mod command;
-pub mod device;
-mod frame;
-mod frame_answerer;
-mod in_memory;
+mod frames;
 pub mod laws;
-mod letter;
-mod limits;
-mod line_answerer;
-mod message;
-mod output;
-mod post_error;
-mod post_message;
-mod posted_frame;
-mod reply_buffer;
-mod run_error;
-mod run_lines;
-mod seal_error;
-mod sealed_message;
-mod verdict;
+mod lines;
+mod messages;
 
-pub use addresses::Addresses;
-pub use answerer::Answerer;
-pub use etherparse::VlanId;
 pub use etherparse::defrag::IpFragVersionSpecId;
-pub use in_memory::answers;
-pub use letter::Letter;
-pub use limits::{LINE_LIMIT, LINE_ROOM, READ_COUNT_LIMIT, READ_SIZE_LIMIT, REPLY_ROOM};
-pub use message::{Message, read_message};
-pub use post_error::PostError;
-pub use post_message::post;
-pub use run_error::RunError;
-pub use run_lines::{run, run_over, run_with};
-pub use seal_error::SealError;
-pub use sealed_message::seal_message;
-pub use verdict::{Verdict, judge};
+pub use etherparse::{Addresses, Message, VlanId, read_message};
+pub use frames::verdict::{Verdict, judge};
+pub use lines::answerer::Answerer;
+pub use lines::in_memory::answers;
+pub use lines::limits::{LINE_LIMIT, LINE_ROOM, READ_COUNT_LIMIT, READ_SIZE_LIMIT, REPLY_ROOM};
+pub use lines::run_error::RunError;
+pub use lines::run_lines::{run, run_over, run_with};
+pub use messages::letter::Letter;
+pub use messages::post_error::PostError;
+pub use messages::post_message::post;
+pub use messages::seal_error::SealError;
+pub use messages::sealed_message::seal_message;
+pub use runs::device;

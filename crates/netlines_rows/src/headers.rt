@@ -14,8 +14,8 @@ pub struct Frames {
     pub same: usize,
     /// Frames that both refuse, with the same error.
     pub refused: usize,
-    /// Frames of which they tell different things: those where the length field of UDP counts other bytes
-    /// than the payload's, and those with an extension header that has no place among values.
+    /// Frames of which they tell different things: those where the length field of UDP counts other
+    /// bytes than the payload's, and those with an extension header that has no place among values.
     pub apart: usize,
 }
 

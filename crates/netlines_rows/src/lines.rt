@@ -5,9 +5,9 @@ use bstr::ByteSlice;
 use hex::FromHexError;
 use std::alloc::Global;
 
-/// The frame of each line `frame`, whatever its channel. A line whose last word isn't whole bytes in hex has
-/// none. The only error is want of memory.
-/// It has no contract: what the program prints is compared with what is stored.
+/// The frame of each line `frame`, whatever its channel. A line whose last word isn't whole bytes
+/// in hex has none. The only error is want of memory. It has no contract: what the program prints
+/// is compared with what is stored.
 pub fn count_frames(alloc: Global, text: &[u8], frames: &mut Frames) -> Result<(), FromHexError> {
     for line in text.split_str(b"\n") {
         if line.starts_with(b"frame ") {

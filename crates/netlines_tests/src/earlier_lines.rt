@@ -19,7 +19,8 @@ struct Marker {
 impl Answerer for Marker {
     ghost meaning = { record {
       reply = λ earlier line. if length line == 0
-          then (if list_any (λ line. length line == 0) earlier then codes "again\n" else codes "first\n")
+          then (if list_any (λ line. length line == 0) earlier then codes "again\n"
+          else codes "first\n")
           else (if number_after earlier % 2 == 0 then codes "even\n" else codes "odd\n");
       takes_memory = λ earlier line. length line == 0;
     } };

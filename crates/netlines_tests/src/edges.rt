@@ -1,5 +1,5 @@
-//! Lines at the edges of the grammar and of the formats, with their answers. They were worked out by
-//! a program that is independent of this project.
+//! Lines at the edges of the grammar and of the formats, with their answers. They were worked out
+//! by a program that is independent of this project.
 use netlines::answers;
 use std::test::Fail;
 

@@ -35,7 +35,8 @@ pub struct ByteReader<'a> {
     fault: Option<(usize, Fault)>,
 }
 
-/// A reader of these bytes, with a fault at a call. It has no contract: tests alone call it, and are run.
+/// A reader of these bytes, with a fault at a call. It has no contract: tests alone call it, and
+/// are run.
 pub fn reader_of(bytes: &[u8], fault: Option<(usize, Fault)>) -> ByteReader<'_> {
     ByteReader {
         rest: bytes,
@@ -72,7 +73,8 @@ pub struct ByteWriter {
     fault: Option<(usize, Fault)>,
 }
 
-/// A writer that took nothing so far, with a fault at a call. It has no contract: tests alone call it, and are run.
+/// A writer that took nothing so far, with a fault at a call. It has no contract: tests alone call
+/// it, and are run.
 pub fn writer_of(alloc: Global, fault: Option<(usize, Fault)>) -> ByteWriter {
     ByteWriter {
         taken: Vec::new(alloc),

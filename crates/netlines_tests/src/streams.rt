@@ -1,12 +1,13 @@
-//! Runs in which messages are put together, over readers and writers that fail while one is on its way, and
-//! without memory.
+//! Runs in which messages are put together, over readers and writers that fail while one is on its
+//! way, and without memory.
 use crate::faults::{Fault, reader_of, writer_of};
 use netlines::{RunError, run};
 use std::alloc::{AllocError, Global};
 use std::test::Fail;
 
-// Two halves of a UDP message with another message between them, the first half on a channel of its own,
-// and lines that forget: the rows `two_fragments`, `uncut_udp` and `forget_keeps_stream` in one.
+// Two halves of a UDP message with another message between them, the first half on a channel of its
+// own, and lines that forget: the rows `two_fragments`, `uncut_udp` and `forget_keeps_stream` in
+// one.
 const LINES: [(&str, &str); 8] = [
     (
         "frame 0 02000000000202000000000108004500001c00072000401146c80a0000010a000002000100020010dbb4",

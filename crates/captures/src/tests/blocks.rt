@@ -1,4 +1,5 @@
-//! Pcapng files. The first was written by scapy 2.5.0, the second by hand from the format's description.
+//! Pcapng files. The first was written by scapy 2.5.0, the second by hand from the format's
+//! description.
 ghost use Rattle.std.specs.Prelude.{◌+◌, ◌≤◌, length};
 
 use super::{LINES, lines_of};
@@ -20,8 +21,8 @@ const SCAPY: &[u8; 208] = b"\
     \x00\x02\x00\x00\x4c\x00\x00\x00\
 ";
 
-// A section of either byte order, each with two interfaces. The first has a block of another kind and a packet
-// with options, the second a comment and a simple packet that its interface cut.
+// A section of either byte order, each with two interfaces. The first has a block of another kind
+// and a packet with options, the second a comment and a simple packet that its interface cut.
 pub(super) const TWO_SECTIONS: &[u8; 320] = b"\
     \x0a\x0d\x0d\x0a\x1c\x00\x00\x00\x4d\x3c\x2b\x1a\x01\x00\x00\x00\xff\xff\xff\xff\
     \xff\xff\xff\xff\x1c\x00\x00\x00\x01\x00\x00\x00\x14\x00\x00\x00\x01\x00\x00\x00\

@@ -1,4 +1,5 @@
-//! Blocks of least and greatest lengths, in a section with one Ethernet interface that cuts nothing.
+//! Blocks of least and greatest lengths, in a section with one Ethernet interface that cuts
+//! nothing.
 use super::lines_of;
 use crate::{CaptureError, RunError};
 use std::alloc::{AllocError, Global};
@@ -34,7 +35,8 @@ fn each_length(rt: HostRuntime) -> Result<(), Fail> {
     let too_long = Err(RunError::Capture(CaptureError::FrameTooLong(99_992)));
     let block_too_long = Err(RunError::Capture(CaptureError::BlockTooLong(262_148)));
     for (kind, len, words, wanted, line_len) in [
-        // The least that each kind has: 12 of any, 20 of an interface, 32 and 16 of packets; and 4 bytes less.
+        // The least that each kind has: 12 of any, 20 of an interface, 32 and 16 of packets; and 4
+        // bytes less.
         (5, 12, [0u32, 0, 0, 0].as_slice(), Ok(()), 0),
         (1, 16, [1].as_slice(), bad, 0),
         (6, 32, [0, 0, 0, 0, 0].as_slice(), Ok(()), 0),

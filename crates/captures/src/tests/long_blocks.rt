@@ -1,5 +1,5 @@
-//! Blocks that are skipped and longer than what a run holds, in a section with one Ethernet interface. The
-//! files are made by hand from the format's description.
+//! Blocks that are skipped and longer than what a run holds, in a section with one Ethernet
+//! interface. The files are made by hand from the format's description.
 use crate::{CaptureError, RunError, run};
 use std::alloc::{AllocError, Global};
 use std::io::{self, Read};
@@ -79,8 +79,8 @@ fn long_blocks_are_skipped(rt: HostRuntime) -> Result<(), Fail> {
     Ok(())
 }
 
-// The kinds that are read are refused, and so are lengths of no whole words and ends with another length. The
-// packet in front of each is told.
+// The kinds that are read are refused, and so are lengths of no whole words and ends with another
+// length. The packet in front of each is told.
 #[test]
 fn long_blocks_that_are_refused(rt: HostRuntime) -> Result<(), Fail> {
     let too_long = CaptureError::BlockTooLong(262_148);

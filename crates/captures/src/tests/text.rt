@@ -5,7 +5,8 @@ use crate::{RunError, write_capture};
 use std::alloc::{AllocError, Global};
 use std::test::Fail;
 
-// The file header, by the draft: low byte first, microseconds, version 2.4, snap length 262,144, Ethernet.
+// The file header, by the draft: low byte first, microseconds, version 2.4, snap length 262,144,
+// Ethernet.
 const HEADER: &[u8; 24] = b"\
     \xd4\xc3\xb2\xa1\x02\x00\x04\x00\x00\x00\x00\x00\x00\x00\x00\x00\x00\x00\x04\x00\x01\x00\x00\x00";
 
@@ -92,8 +93,8 @@ fn each_line(rt: HostRuntime) -> Result<(), Fail> {
     Ok(())
 }
 
-// The lines end at 17 and 28. What is left of a line at the end is one too, where it hands a frame in: behind
-// each pair of digits, or a whole time.
+// The lines end at 17 and 28. What is left of a line at the end is one too, where it hands a frame
+// in: behind each pair of digits, or a whole time.
 const TWO_LINES: &[u8; 28] = b"frame 7 0aff 5 6\nframe 0 01\n";
 
 // The result for a front of the two lines, and what follows the file header.

@@ -1,5 +1,5 @@
-//! Runs of which one write fails, takes nothing or takes one byte, whichever it is. All other writes take 50
-//! bytes at most.
+//! Runs of which one write fails, takes nothing or takes one byte, whichever it is. All other
+//! writes take 50 bytes at most.
 use super::LINES;
 use super::classic::LITTLE_MICROSECONDS;
 use super::pieces::ByteReader;
@@ -64,8 +64,8 @@ fn ended_by(odd: Odd) -> Result<(), RunError> {
     }
 }
 
-// The lines have 109 and 93 bytes, and reads of one byte let each be written by itself: so the writes begin
-// at these places, and there is no sixth.
+// The lines have 109 and 93 bytes, and reads of one byte let each be written by itself: so the
+// writes begin at these places, and there is no sixth.
 #[test]
 fn each_write_of_a_run(rt: HostRuntime) -> Result<(), Fail> {
     for odd in [Odd::Fails, Odd::TakesNothing, Odd::TakesOne] {

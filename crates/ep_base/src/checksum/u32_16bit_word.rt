@@ -1,7 +1,7 @@
 //! The sum of 16-bit words in a number of 32 bits, whose carry is added back.
 //!
-//! Such a number stands for the sum `accumulator_sum`, high byte first, of its words, which are added
-//! to it low byte first. It may begin at any number.
+//! Such a number stands for the sum `accumulator_sum`, high byte first, of its words, which are
+//! added to it low byte first. It may begin at any number.
 
 ghost use Rattle.std.specs.Prelude.{◌≡◌, ◌+◌, ◌-◌};
 ghost use Rattle.std.specs.Int.{swap_bytes, w16};

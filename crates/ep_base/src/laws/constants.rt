@@ -63,7 +63,8 @@ pub fn flow_label_constants() -> [Ipv6FlowLabel; 1]
 /// The constants of [`IpEcn`] are these notifications.
 pub fn ecn_constants()
     ensures greatest { IpEcn.MAX_U8 ≡ 3 }
-    ensures constants { map ecn_number (IpEcn.ZERO ∷ IpEcn.ONE ∷ IpEcn.TWO ∷ IpEcn.THREE ∷ IpEcn.TRHEE ∷ []) ≡
+    ensures constants { map ecn_number
+        (IpEcn.ZERO ∷ IpEcn.ONE ∷ IpEcn.TWO ∷ IpEcn.THREE ∷ IpEcn.TRHEE ∷ []) ≡
         0 ∷ 1 ∷ 2 ∷ 3 ∷ 3 ∷ [] }
 {}
 

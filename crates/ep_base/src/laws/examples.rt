@@ -1,5 +1,5 @@
-//! The definitions and laws at values from outside: each clause is what a standard or a hand gives, so
-//! that a definition can't change with the code.
+//! The definitions and laws at values from outside: each clause is what a standard or a hand gives,
+//! so that a definition can't change with the code.
 
 ghost use Rattle.std.specs.Prelude.{◌≡◌, ◌==◌, ◌%◌, ℕ, ⊤, [], ◌∷◌, true, false, Ok, Err};
 ghost use Rattle.std.specs.List.{flat_map};
@@ -7,15 +7,20 @@ ghost use Rattle.std.specs.Ordering.{nat_cmp};
 ghost use Rattle.ep_base.specs.Bounded.{IsBounded};
 ghost use Rattle.ep_base.specs.Bytes.{num, IsBytes};
 ghost use Rattle.ep_base.specs.declared.err.layer.Layer.TheVariants as layer;
+ghost use Rattle.ep_base.specs.declared.err.len_error.LenError.{LenError};
+ghost use Rattle.ep_base.specs.declared.err.slice_error.SliceError.TheVariants as error;
 ghost use Rattle.ep_base.specs.declared.err.value_type.ValueType.TheVariants as kind;
 ghost use Rattle.ep_base.specs.declared.len_source.LenSource.TheVariants as source;
 ghost use Rattle.ep_base.specs.declared.net.ip_dscp_known.IpDscpKnown.TheVariants as name;
 ghost use Rattle.ep_base.specs.declared.net.ip_ecn.IpEcn.TheVariants as notification;
 ghost use Rattle.ep_base.specs.IpDscpKnown.{IsKnown};
 ghost use Rattle.ep_base.specs.IpEcn.{IsEcn};
-ghost use Rattle.ep_base.specs.Moved.{CanMove, moved};
-ghost use Rattle.ep_base.specs.Traits.{CopyIsValue, CopyNeverFails, EqualIsSame, OrderIsOf};
-ghost use Rattle.ep_base.specs.Sum.{IsCutAtWords, accumulator_sum, all_ones, checksum, fold, no_zero, total, whole_words};
+ghost use Rattle.ep_base.specs.LenError.{CanMove, offset_by, too_few_bytes};
+ghost use Rattle.ep_base.specs.SliceError as slice_error;
+ghost use Rattle.ep_base.specs.Traits.{CopyIsValue, CopyNeverFails, EqualIsSame, HashIsOf};
+ghost use Rattle.ep_base.specs.Traits.{OrderIsOf};
+ghost use Rattle.ep_base.specs.Sum.{IsCutAtWords, accumulator_sum, all_ones, checksum, fold};
+ghost use Rattle.ep_base.specs.Sum.{no_zero, total, whole_words};
 
 use super::{fold_of_pieces, one_changed_byte};
 
@@ -32,39 +37,87 @@ pub fn numbers_by_place()
 /// A number is taken up to the greatest one, and refused above it with all three fields.
 pub fn bounded_numbers()
     ensures greatest { IsBounded kind.IpDscp 63 63 (Ok 63) }
-    ensures refused { IsBounded kind.IpDscp 63 64 (Err (record { actual = 64; max_allowed = 63; value_type = kind.IpDscp })) }
-    ensures not_refused { ¬ (IsBounded kind.IpDscp 63 63 (Err (record { actual = 63; max_allowed = 63; value_type = kind.IpDscp }))) }
+    ensures refused { IsBounded kind.IpDscp 63 64
+        (Err (record { actual = 64; max_allowed = 63; value_type = kind.IpDscp })) }
+    ensures not_refused { ¬
+        (IsBounded kind.IpDscp 63 63
+        (Err (record { actual = 63; max_allowed = 63; value_type = kind.IpDscp }))) }
     ensures ecn { IsEcn 3 (Ok notification.CongestionExperienced) }
     ensures ect_0 { IsEcn 2 (Ok notification.Ect0) }
-    ensures ecn_refused { IsEcn 4 (Err (record { actual = 4; max_allowed = 3; value_type = kind.IpEcn })) }
+    ensures ecn_refused { IsEcn 4
+        (Err (record { actual = 4; max_allowed = 3; value_type = kind.IpEcn })) }
     ensures known { IsKnown 44 (Ok name.VoiceAdmit) }
 {}
 
-/// A want of bytes further on: from byte 14 as far as to the last place that a `usize` names.
+/// A want of bytes at the front, and further on: from byte 14 as far as to the last place that a
+/// `usize` names. A fault of the content is at no place.
 pub fn places_further_on()
-    ensures moved { moved (record { required_len = 20; len = 19; len_source = source.Slice; layer = layer.Ipv4Header; layer_start_offset = 14 }) 4
-        ≡ record { required_len = 20; len = 19; len_source = source.Slice; layer = layer.Ipv4Header; layer_start_offset = 18 } }
-    ensures greatest { CanMove (record { required_len = 20; len = 19; len_source = source.Slice; layer = layer.Ipv4Header; layer_start_offset = 14 }) 18446744073709551601 }
-    ensures too_great { ¬ (CanMove (record { required_len = 20; len = 19; len_source = source.Slice; layer = layer.Ipv4Header; layer_start_offset = 14 }) 18446744073709551602) }
+    ensures front { too_few_bytes layer.Ipv4Header 20 19
+        ≡ record {
+          required_len = 20;
+          len = 19;
+          len_source = source.Slice;
+          layer = layer.Ipv4Header;
+          layer_start_offset = 0;
+        } }
+    ensures moved { offset_by
+        (record {
+          required_len = 20;
+          len = 19;
+          len_source = source.Slice;
+          layer = layer.Ipv4Header;
+          layer_start_offset = 14;
+        }) 4
+        ≡ record {
+          required_len = 20;
+          len = 19;
+          len_source = source.Slice;
+          layer = layer.Ipv4Header;
+          layer_start_offset = 18;
+        } }
+    ensures greatest { CanMove
+        (record {
+          required_len = 20;
+          len = 19;
+          len_source = source.Slice;
+          layer = layer.Ipv4Header;
+          layer_start_offset = 14;
+        }) 18446744073709551601 }
+    ensures too_great { ¬
+        (CanMove (record {
+          required_len = 20;
+          len = 19;
+          len_source = source.Slice;
+          layer = layer.Ipv4Header;
+          layer_start_offset = 14;
+        }) 18446744073709551602) }
+    ensures len { (e : LenError) → slice_error.offset_by {C = ℕ} (error.Len e) 4
+        ≡ error.Len (offset_by e 4) }
+    ensures content { slice_error.offset_by {C = ℕ} (error.Content 7) 4 ≡ error.Content 7 }
+    ensures len_place { slice_error.content_offset {C = ℕ}
+        (error.Len (offset_by (too_few_bytes layer.Ipv4Header 20 19) 14)) ≡ 14 }
+    ensures content_place { slice_error.content_offset {C = ℕ} (error.Content 7) ≡ 0 }
 {}
 
-/// What the words on traits rule out: a copy of every value, equality modulo 2, the order turned round,
-/// and copies of 0 alone.
+/// What the words on traits rule out: a copy of every value, equality modulo 2, the order turned
+/// round, copies of 0 alone, and a hasher that is fed nothing.
 pub fn traits_ruled_out()
     ensures copies { ¬ (CopyIsValue (λ (value copy : ℕ). ⊤)) }
     ensures equals { ¬ (EqualIsSame (λ (a b : ℕ). a % 2 == b % 2)) }
     ensures order { ¬ (OrderIsOf (λ (n : ℕ). n) (λ a b. nat_cmp b a)) }
     ensures fails { ¬ (CopyNeverFails (λ (n : ℕ). n ≡ 0)) }
+    ensures hash { ¬ (HashIsOf (λ (n : ℕ). (n ∷ []) ∷ []) (λ n. [])) }
 {}
 
-/// The eight bytes of RFC 1071, section 3, sum to 2ddf0, and so to ddf2. An odd last byte is the high
-/// one of its word. An IPv4 header without its checksum has the checksum b861.
+/// The eight bytes of RFC 1071, section 3, sum to 2ddf0, and so to ddf2. An odd last byte is the
+/// high one of its word. An IPv4 header without its checksum has the checksum b861.
 #[tactic(auto, unfolding(crate::specs::Sum::total, crate::specs::Sum::fold))]
 pub fn sums_of_words()
     ensures rfc_1071 { total (0 ∷ 1 ∷ 242 ∷ 3 ∷ 244 ∷ 245 ∷ 246 ∷ 247 ∷ []) ≡ 187888 }
     ensures rfc_1071_checksum { checksum (0 ∷ 1 ∷ 242 ∷ 3 ∷ 244 ∷ 245 ∷ 246 ∷ 247 ∷ []) ≡ 8717 }
     ensures odd { total (1 ∷ 2 ∷ 3 ∷ []) ≡ 1026 }
-    ensures header { checksum (69 ∷ 0 ∷ 0 ∷ 115 ∷ 0 ∷ 0 ∷ 64 ∷ 0 ∷ 64 ∷ 17 ∷ 0 ∷ 0 ∷ 192 ∷ 168 ∷ 0 ∷ 1 ∷ 192 ∷ 168 ∷ 0 ∷ 199 ∷ []) ≡ 47201 }
+    ensures header { checksum (69 ∷ 0 ∷ 0 ∷ 115 ∷ 0 ∷ 0 ∷ 64 ∷ 0 ∷ 64 ∷ 17 ∷ 0 ∷ 0 ∷ 192 ∷ 168 ∷ 0 ∷
+        1 ∷ 192 ∷ 168 ∷ 0 ∷ 199 ∷ []) ≡ 47201 }
     ensures none { checksum [] ≡ 65535 }
     ensures all { checksum (255 ∷ 255 ∷ []) ≡ 0 }
 {}
@@ -85,8 +138,10 @@ pub fn folds()
 /// A text sums to all ones with the right checksum in it, and a text of zeros doesn't.
 #[tactic(auto, unfolding(crate::specs::Sum::total))]
 pub fn texts_of_all_ones()
-    ensures right { all_ones (69 ∷ 0 ∷ 0 ∷ 115 ∷ 0 ∷ 0 ∷ 64 ∷ 0 ∷ 64 ∷ 17 ∷ 184 ∷ 97 ∷ 192 ∷ 168 ∷ 0 ∷ 1 ∷ 192 ∷ 168 ∷ 0 ∷ 199 ∷ []) ≡ true }
-    ensures wrong { all_ones (69 ∷ 0 ∷ 0 ∷ 115 ∷ 0 ∷ 0 ∷ 64 ∷ 0 ∷ 64 ∷ 17 ∷ 184 ∷ 96 ∷ 192 ∷ 168 ∷ 0 ∷ 1 ∷ 192 ∷ 168 ∷ 0 ∷ 199 ∷ []) ≡ false }
+    ensures right { all_ones (69 ∷ 0 ∷ 0 ∷ 115 ∷ 0 ∷ 0 ∷ 64 ∷ 0 ∷ 64 ∷ 17 ∷ 184 ∷ 97 ∷ 192 ∷ 168 ∷
+        0 ∷ 1 ∷ 192 ∷ 168 ∷ 0 ∷ 199 ∷ []) ≡ true }
+    ensures wrong { all_ones (69 ∷ 0 ∷ 0 ∷ 115 ∷ 0 ∷ 0 ∷ 64 ∷ 0 ∷ 64 ∷ 17 ∷ 184 ∷ 96 ∷ 192 ∷ 168 ∷
+        0 ∷ 1 ∷ 192 ∷ 168 ∷ 0 ∷ 199 ∷ []) ≡ false }
     ensures zeros { all_ones (0 ∷ 0 ∷ []) ≡ false }
     ensures none { all_ones [] ≡ false }
 {}
@@ -109,7 +164,8 @@ pub fn pieces_of_words()
 
 /// [`fold_of_pieces`] where the last piece is odd and comes first.
 pub fn odd_last_piece_comes_first()
-    ensures { fold (total (flat_map whole_words ((3 ∷ 4 ∷ 5 ∷ []) ∷ (1 ∷ 2 ∷ []) ∷ []))) ≡ fold (total (1 ∷ 2 ∷ 3 ∷ 4 ∷ 5 ∷ [])) }
+    ensures { fold (total (flat_map whole_words ((3 ∷ 4 ∷ 5 ∷ []) ∷ (1 ∷ 2 ∷ []) ∷ [])))
+        ≡ fold (total (1 ∷ 2 ∷ 3 ∷ 4 ∷ 5 ∷ [])) }
 {
     fold_of_pieces();
 }
@@ -117,7 +173,8 @@ pub fn odd_last_piece_comes_first()
 /// [`one_changed_byte`] where 00 becomes ff, and ff 00.
 #[tactic(auto, unfolding(crate::specs::Sum::total))]
 pub fn bytes_changed_to_the_other_end()
-    ensures up { all_ones (69 ∷ 255 ∷ 0 ∷ 115 ∷ 0 ∷ 0 ∷ 64 ∷ 0 ∷ 64 ∷ 17 ∷ 184 ∷ 97 ∷ 192 ∷ 168 ∷ 0 ∷ 1 ∷ 192 ∷ 168 ∷ 0 ∷ 199 ∷ []) ≡ false }
+    ensures up { all_ones (69 ∷ 255 ∷ 0 ∷ 115 ∷ 0 ∷ 0 ∷ 64 ∷ 0 ∷ 64 ∷ 17 ∷ 184 ∷ 97 ∷ 192 ∷ 168 ∷
+        0 ∷ 1 ∷ 192 ∷ 168 ∷ 0 ∷ 199 ∷ []) ≡ false }
     ensures down { all_ones (255 ∷ 0 ∷ []) ≡ false }
 {
     one_changed_byte();

@@ -1,75 +1,47 @@
 //! What `Clone`, `PartialEq`, `Ord` and `Hash` of the types here mean. Each clause is about the
 //! relation that the type's own impl names and that its calls keep.
 
-ghost use Rattle.std.specs.Prelude.{◌≡◌, ◌++◌};
+ghost use Rattle.std.specs.Prelude.{◌≡◌, ◌++◌, pos};
 ghost use Rattle.std.specs.Hash as fed;
 ghost use Rattle.ep_base.specs.declared.err.len_error.LenError.{LenError};
+ghost use Rattle.ep_base.specs.declared.err.slice_error.SliceError.TheVariants as slice_error;
 ghost use Rattle.ep_base.specs.IpDscpKnown.{code_point};
 ghost use Rattle.ep_base.specs.IpEcn.{ecn_number};
 ghost use Rattle.ep_base.specs.LenSource.{source_place};
-ghost use Rattle.ep_base.specs.Traits.{CopyIsValue, CopyNeverFails, EqualIsSame, OrderIsOf};
+ghost use Rattle.ep_base.specs.Traits.{CopyIsValue, CopyNeverFails, EqualIsSame, HashIsOf};
+ghost use Rattle.ep_base.specs.Traits.{IsPlainData, OrderIsOf};
 
 use crate::checksum::Sum16BitWords;
-use crate::err::{Layer, LenError, SliceWriteSpaceError, ValueTooBigError, ValueType};
+use crate::err::{Layer, LenError, SliceError, SliceWriteSpaceError, ValueTooBigError, ValueType};
 use crate::{
     EtherType, IpDscp, IpDscpKnown, IpDscpUnknownValueError, IpEcn, IpFragOffset, IpNumber,
     Ipv6FlowLabel, LenSource,
 };
 use std::hash::Hash;
 
-/// A copy is the value.
-pub fn copies_are_values()
-    ensures ip_dscp { CopyIsValue ⟦<IpDscp as Clone>⟧.is_clone }
-    ensures ip_dscp_known { CopyIsValue ⟦<IpDscpKnown as Clone>⟧.is_clone }
-    ensures ip_ecn { CopyIsValue ⟦<IpEcn as Clone>⟧.is_clone }
-    ensures ip_frag_offset { CopyIsValue ⟦<IpFragOffset as Clone>⟧.is_clone }
-    ensures ip_number { CopyIsValue ⟦<IpNumber as Clone>⟧.is_clone }
-    ensures ipv6_flow_label { CopyIsValue ⟦<Ipv6FlowLabel as Clone>⟧.is_clone }
-    ensures ether_type { CopyIsValue ⟦<EtherType as Clone>⟧.is_clone }
-    ensures sum_16_bit_words { CopyIsValue ⟦<Sum16BitWords as Clone>⟧.is_clone }
-    ensures len_source { CopyIsValue ⟦<LenSource as Clone>⟧.is_clone }
-    ensures layer { CopyIsValue ⟦<Layer as Clone>⟧.is_clone }
-    ensures value_type { CopyIsValue ⟦<ValueType as Clone>⟧.is_clone }
-    ensures len_error { CopyIsValue ⟦<LenError as Clone>⟧.is_clone }
-    ensures slice_write_space_error { CopyIsValue ⟦<SliceWriteSpaceError as Clone>⟧.is_clone }
-    ensures unknown_value_error { CopyIsValue ⟦<IpDscpUnknownValueError as Clone>⟧.is_clone }
-{}
+/// What is copied and compared. In a clause, `⟦<VlanId as Value>⟧` names what `Clone` and
+/// `PartialEq` of the type mean.
+pub trait Value: Clone + PartialEq {}
 
-/// To copy one of these takes no memory and doesn't fail.
-pub fn copies_never_fail()
-    ensures ip_dscp { CopyNeverFails ⟦<IpDscp as Clone>⟧.is_infallible }
-    ensures ip_dscp_known { CopyNeverFails ⟦<IpDscpKnown as Clone>⟧.is_infallible }
-    ensures ip_ecn { CopyNeverFails ⟦<IpEcn as Clone>⟧.is_infallible }
-    ensures ip_frag_offset { CopyNeverFails ⟦<IpFragOffset as Clone>⟧.is_infallible }
-    ensures ip_number { CopyNeverFails ⟦<IpNumber as Clone>⟧.is_infallible }
-    ensures ipv6_flow_label { CopyNeverFails ⟦<Ipv6FlowLabel as Clone>⟧.is_infallible }
-    ensures ether_type { CopyNeverFails ⟦<EtherType as Clone>⟧.is_infallible }
-    ensures sum_16_bit_words { CopyNeverFails ⟦<Sum16BitWords as Clone>⟧.is_infallible }
-    ensures len_source { CopyNeverFails ⟦<LenSource as Clone>⟧.is_infallible }
-    ensures layer { CopyNeverFails ⟦<Layer as Clone>⟧.is_infallible }
-    ensures value_type { CopyNeverFails ⟦<ValueType as Clone>⟧.is_infallible }
-    ensures len_error { CopyNeverFails ⟦<LenError as Clone>⟧.is_infallible }
-    ensures slice_write_space_error { CopyNeverFails ⟦<SliceWriteSpaceError as Clone>⟧.is_infallible }
-    ensures unknown_value_error { CopyNeverFails ⟦<IpDscpUnknownValueError as Clone>⟧.is_infallible }
-{}
+impl<T: Clone + PartialEq> Value for T {}
 
-/// Equal are the values that are the same: numbers, names, and all fields of an error. Sums are equal
-/// where their folds are.
-pub fn equals_are_same()
-    ensures ip_dscp { EqualIsSame ⟦<IpDscp as PartialEq>⟧.eq }
-    ensures ip_dscp_known { EqualIsSame ⟦<IpDscpKnown as PartialEq>⟧.eq }
-    ensures ip_ecn { EqualIsSame ⟦<IpEcn as PartialEq>⟧.eq }
-    ensures ip_frag_offset { EqualIsSame ⟦<IpFragOffset as PartialEq>⟧.eq }
-    ensures ip_number { EqualIsSame ⟦<IpNumber as PartialEq>⟧.eq }
-    ensures ipv6_flow_label { EqualIsSame ⟦<Ipv6FlowLabel as PartialEq>⟧.eq }
-    ensures ether_type { EqualIsSame ⟦<EtherType as PartialEq>⟧.eq }
-    ensures sum_16_bit_words { EqualIsSame ⟦<Sum16BitWords as PartialEq>⟧.eq }
-    ensures len_source { EqualIsSame ⟦<LenSource as PartialEq>⟧.eq }
-    ensures layer { EqualIsSame ⟦<Layer as PartialEq>⟧.eq }
-    ensures value_type { EqualIsSame ⟦<ValueType as PartialEq>⟧.eq }
-    ensures len_error { EqualIsSame ⟦<LenError as PartialEq>⟧.eq }
-    ensures slice_write_space_error { EqualIsSame ⟦<SliceWriteSpaceError as PartialEq>⟧.eq }
-    ensures unknown_value_error { EqualIsSame ⟦<IpDscpUnknownValueError as PartialEq>⟧.eq }
+/// A copy is the value and takes no memory. Equal are the values that are the same: numbers, names,
+/// and all fields of an error. Sums are equal where their folds are.
+pub fn types_are_plain_data()
+    ensures ip_dscp { IsPlainData ⟦<IpDscp as Value>⟧ }
+    ensures ip_dscp_known { IsPlainData ⟦<IpDscpKnown as Value>⟧ }
+    ensures ip_ecn { IsPlainData ⟦<IpEcn as Value>⟧ }
+    ensures ip_frag_offset { IsPlainData ⟦<IpFragOffset as Value>⟧ }
+    ensures ip_number { IsPlainData ⟦<IpNumber as Value>⟧ }
+    ensures ipv6_flow_label { IsPlainData ⟦<Ipv6FlowLabel as Value>⟧ }
+    ensures ether_type { IsPlainData ⟦<EtherType as Value>⟧ }
+    ensures sum_16_bit_words { IsPlainData ⟦<Sum16BitWords as Value>⟧ }
+    ensures len_source { IsPlainData ⟦<LenSource as Value>⟧ }
+    ensures layer { IsPlainData ⟦<Layer as Value>⟧ }
+    ensures value_type { IsPlainData ⟦<ValueType as Value>⟧ }
+    ensures len_error { IsPlainData ⟦<LenError as Value>⟧ }
+    ensures slice_write_space_error { IsPlainData ⟦<SliceWriteSpaceError as Value>⟧ }
+    ensures unknown_value_error { IsPlainData ⟦<IpDscpUnknownValueError as Value>⟧ }
 {}
 
 /// A refusal of a number of any type is copied and compared by all its fields.
@@ -80,8 +52,23 @@ pub fn value_too_big_errors<T: Clone + PartialEq>()
     ensures equals { EqualIsSame ⟦<ValueTooBigError<T> as PartialEq>⟧.eq }
 {}
 
-/// Numbers are ordered as numbers, named code points by their number, and sources of lengths as they
-/// are declared.
+/// An error of a slice is copied, compared and hashed as what it holds is, whatever the format: a
+/// want of bytes comes as 0, what is wrong with the content as 1.
+pub fn slice_errors<C: Clone + PartialEq + Hash>()
+    requires copies { CopyIsValue C.is_clone }
+    requires never_fails { CopyNeverFails C.is_infallible }
+    requires equals { EqualIsSame C.eq }
+    ensures copies { CopyIsValue ⟦<SliceError<C> as Clone>⟧.is_clone }
+    ensures never_fails { CopyNeverFails ⟦<SliceError<C> as Clone>⟧.is_infallible }
+    ensures equals { EqualIsSame ⟦<SliceError<C> as PartialEq>⟧.eq }
+    ensures len { (e : LenError) → ⟦<SliceError<C> as Hash>⟧.hash_input (slice_error.Len e)
+        ≡ fed.isize (pos 0) ++ ⟦<LenError as Hash>⟧.hash_input e }
+    ensures content { (e : C) → ⟦<SliceError<C> as Hash>⟧.hash_input (slice_error.Content e)
+        ≡ fed.isize (pos 1) ++ C.hash_input e }
+{}
+
+/// Numbers are ordered as numbers, named code points by their number, and sources of lengths as
+/// they are declared.
 pub fn orders_are_of_numbers()
     ensures ip_dscp { OrderIsOf (λ n. n) ⟦<IpDscp as Ord>⟧.cmp }
     ensures ip_dscp_known { OrderIsOf code_point ⟦<IpDscpKnown as Ord>⟧.cmp }
@@ -95,7 +82,7 @@ pub fn orders_are_of_numbers()
 
 /// A want of bytes feeds a hasher all its fields.
 pub fn len_errors_hash_all_fields()
-    ensures { (e : LenError) → ⟦<LenError as Hash>⟧.hash_input e
-        ≡ fed.usize e.required_len ++ fed.usize e.len ++ ⟦<LenSource as Hash>⟧.hash_input e.len_source
-        ++ ⟦<Layer as Hash>⟧.hash_input e.layer ++ fed.usize e.layer_start_offset }
+    ensures { HashIsOf (λ (e : LenError). fed.usize e.required_len ++ fed.usize e.len
+        ++ ⟦<LenSource as Hash>⟧.hash_input e.len_source ++ ⟦<Layer as Hash>⟧.hash_input e.layer
+        ++ fed.usize e.layer_start_offset) ⟦<LenError as Hash>⟧.hash_input }
 {}

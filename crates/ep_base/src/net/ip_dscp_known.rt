@@ -153,7 +153,8 @@ impl Ord for IpDscpKnown {
 impl PartialOrd for IpDscpKnown {
     ghost partial_cmp = { as_partial_cmp (on code_point nat_cmp) };
 
-    ghost laws = { partial_order_from_own_ties (Prim.search (comparing, rules)) (λ a b. unsigned_ties (code_point a) (code_point b)) };
+    ghost laws = { partial_order_from_own_ties (Prim.search (comparing, rules))
+        (λ a b. unsigned_ties (code_point a) (code_point b)) };
 
     fn partial_cmp(&self, other: &Self) -> Option<Ordering> {
         Some(self.cmp(other))

@@ -35,9 +35,7 @@ fn examples_and_traits_are_called(rt: HostRuntime) {
     examples::pieces_of_words();
     examples::odd_last_piece_comes_first();
     examples::bytes_changed_to_the_other_end();
-    traits::copies_are_values();
-    traits::copies_never_fail();
-    traits::equals_are_same();
+    traits::types_are_plain_data();
     traits::value_too_big_errors::<u8>();
     traits::value_too_big_errors::<usize>();
     traits::orders_are_of_numbers();

@@ -55,7 +55,8 @@ fn checksums_that_are_not_zero(rt: HostRuntime) {
     assert!(rt; sum.to_ones_complement_with_no_zero().swap_bytes() == 0xb861);
 }
 
-// A start of 1234 and of words in the upper halves, read low byte first, and what they sum to by hand.
+// A start of 1234 and of words in the upper halves, read low byte first, and what they sum to by
+// hand.
 #[test]
 fn sums_from_another_start(rt: HostRuntime) {
     let narrow = u32_16bit_word::add_2bytes(0x3412, [0, 1]);
@@ -111,8 +112,8 @@ fn both_widths_agree(rt: HostRuntime) {
     assert!(rt; u64_16bit_word::ones_complement(u64_16bit_word::add_8bytes(0, RFC_1071)) == 0x0d22);
 }
 
-// The UDP datagram of ports 1 and 2 with the payload 1 to 8, from 10.0.0.1 to 10.0.0.2: its checksum
-// is dbb4.
+// The UDP datagram of ports 1 and 2 with the payload 1 to 8, from 10.0.0.1 to 10.0.0.2: its
+// checksum is dbb4.
 #[test]
 fn sum_of_a_message(rt: HostRuntime) {
     let pseudo = Sum16BitWords::new()

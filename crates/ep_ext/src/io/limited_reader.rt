@@ -1,5 +1,5 @@
 ghost use Rattle.std.specs.Prelude.{◌≡◌, ℕ, ◌+◌, ◌<◌, ◌≤◌, ◌^◌, length, MatchResult};
-ghost use Rattle.ep_ext.specs.Limited.{Limited, started, Takes, Refuses};
+ghost use Rattle.ep_ext.specs.Limited.{Limited, at_next_layer, Takes, Refuses};
 
 use crate::err::io::LimitedReadError;
 use ep_base::LenSource;
@@ -25,7 +25,14 @@ pub struct LimitedReader<T> {
 impl<T> Model for LimitedReader<T> {
     ghost Value = { Limited T };
 
-    ghost view = { λ r. record { reader = r.reader; max_len = r.max_len; len_source = r.len_source; layer = r.layer; layer_offset = r.layer_offset; read_len = r.read_len } };
+    ghost view = { λ r. record {
+      reader = r.reader;
+      max_len = r.max_len;
+      len_source = r.len_source;
+      layer = r.layer;
+      layer_offset = r.layer_offset;
+      read_len = r.read_len;
+    } };
 
     ghost invariant = { λ r. (r.read_len ≤ r.max_len) × (r.layer_offset + r.max_len < 2 ^ 64) };
 }
@@ -41,7 +48,15 @@ impl<T> LimitedReader<T> {
         layer: Layer,
     ) -> LimitedReader<T>
         requires { layer_offset + max_len < 2 ^ 64 }
-        ensures { result ≡ record { reader = reader; max_len = max_len; len_source = len_source; layer = layer; layer_offset = layer_offset; read_len = 0 } }
+        ensures { result
+            ≡ record {
+              reader = reader;
+              max_len = max_len;
+              len_source = len_source;
+              layer = layer;
+              layer_offset = layer_offset;
+              read_len = 0;
+            } }
     {
         LimitedReader {
             reader,
@@ -92,7 +107,7 @@ impl<T> LimitedReader<T> {
 
     /// Begins a layer behind the bytes that were read. The limit goes down by them, the place up.
     pub fn start_layer(&mut self, layer: Layer)
-        ensures { self.new ≡ started self.old layer }
+        ensures { self.new ≡ at_next_layer self.old layer }
     {
         self.layer_offset += self.read_len;
         self.max_len -= self.read_len;

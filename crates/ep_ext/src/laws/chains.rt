@@ -1,15 +1,16 @@
 //! Laws of headers in a row, under any order of places.
-ghost use Rattle.std.specs.Prelude.{◌≡◌, ◌≤◌, ◌<◌, ◌+◌, ◌^◌, ℕ, List, [], ◌∷◌, ◌++◌, length, Some, None, Ok, Err, IsOkAnd, false};
+ghost use Rattle.std.specs.Prelude.{◌≡◌, ◌≤◌, ◌<◌, ◌+◌, ◌^◌, ℕ, List, [], ◌∷◌, ◌++◌, length, Some};
+ghost use Rattle.std.specs.Prelude.{None, Ok, Err, IsOkAnd, false};
 ghost use Rattle.ep_ip.specs.Skip.{is_skipped};
 ghost use Rattle.ep_base.specs.Bytes.{num};
 ghost use Rattle.ep_ext.specs.Auth.{auth_at};
-ghost use Rattle.ep_ext.specs.AuthFault as auth;
 ghost use Rattle.ep_ext.specs.Chain.{Chain, Fault, IsEnd, IsPiece, Row, fault_of, front_of};
-ghost use Rattle.ep_ext.specs.Moved.{CanMove};
+ghost use Rattle.ep_base.specs.SliceError.{CanMove};
 ghost use Rattle.ep_ext.specs.Place.{KeepsNumbers, Order, place_of};
 ghost use Rattle.ep_ext.specs.Value.{Piece, bytes_of, places};
-ghost use Rattle.ep_ext.specs.declared.err.ip_auth.header_slice_error.HeaderSliceError.{HeaderSliceError as AuthError};
-ghost use Rattle.ep_ext.specs.declared.err.ipv6_exts.header_slice_error.HeaderSliceError.{HeaderSliceError};
+ghost use Rattle.ep_base.specs.declared.err.slice_error.SliceError.{SliceError};
+ghost use Rattle.ep_ext.specs.declared.err.ip_auth.header_error.HeaderError.{HeaderError as AuthError};
+ghost use Rattle.ep_ext.specs.declared.err.ipv6_exts.header_error.HeaderError.{HeaderError};
 ghost use Rattle.ep_ext.specs.declared.net.ipv6_ext_place.Ipv6ExtPlace.{Ipv6ExtPlace};
 
 use ep_base::IpNumber;
@@ -18,14 +19,18 @@ use ep_ip::Ipv6Header;
 
 /// Bytes are headers in a row and a rest in one way alone.
 pub fn chain_is_alone()
-    ensures { (order : Order) (first : ℕ) (bytes : List ℕ) (p q : List Piece) (m n : ℕ) (r s : List ℕ)
-        → Chain order first bytes p m r → Chain order first bytes q n s → (p ≡ q) × (m ≡ n) × (r ≡ s) }
+    ensures { (order : Order) (first : ℕ) (bytes : List ℕ) (p q : List Piece)
+        (m n : ℕ) (r s : List ℕ)
+        → Chain order first bytes p m r → Chain order first bytes q n s
+        → (p ≡ q) × (m ≡ n) × (r ≡ s) }
 {}
 
 /// A whole header of the number that a row names last makes the row longer.
 pub fn row_grows_by_a_header()
-    ensures row { (order : Order) (first : ℕ) (pieces : List Piece) (last : ℕ) (place : Ipv6ExtPlace) (header : List ℕ)
-        → Row order [] first pieces last → order (places pieces) last ≡ Some place → IsPiece place header
+    ensures row { (order : Order) (first : ℕ) (pieces : List Piece) (last : ℕ)
+        (place : Ipv6ExtPlace) (header : List ℕ)
+        → Row order [] first pieces last → order (places pieces) last ≡ Some place
+        → IsPiece place header
         → Row order [] first (pieces ++ (place, header) ∷ []) (num header 0 1) }
     ensures places { (pieces : List Piece) (place : Ipv6ExtPlace) (header : List ℕ)
         → places (pieces ++ (place, header) ∷ []) ≡ places pieces ++ place ∷ [] }
@@ -38,29 +43,35 @@ pub fn row_grows_by_a_header()
 pub fn row_ends_where_none_is_taken()
     ensures closed { (order : Order) (passed : List Ipv6ExtPlace) (last : ℕ) (rest : List ℕ)
         → order passed last ≡ None → IsEnd order passed last rest }
-    ensures fault { (order : Order) (passed : List Ipv6ExtPlace) (last : ℕ) (rest : List ℕ) (place : Ipv6ExtPlace)
-        (error : HeaderSliceError) → order passed last ≡ Some place → front_of place rest ≡ Err error
+    ensures fault { (order : Order) (passed : List Ipv6ExtPlace) (last : ℕ)
+        (rest : List ℕ) (place : Ipv6ExtPlace)
+        (error : SliceError HeaderError) → order passed last ≡ Some place
+        → front_of place rest ≡ Err error
         → IsEnd order passed last rest }
 {}
 
-/// A whole header at the front of some bytes is found, whatever follows it, and has 8 bytes at least.
+/// A whole header at the front of some bytes is found, whatever follows it, and has 8 bytes at
+/// least.
 pub fn whole_header_is_found()
     ensures found { (place : Ipv6ExtPlace) (header rest : List ℕ)
         → IsPiece place header → front_of place (header ++ rest) ≡ Ok header }
-    ensures least { (place : Ipv6ExtPlace) (header : List ℕ) → IsPiece place header → 8 ≤ length header }
+    ensures least { (place : Ipv6ExtPlace) (header : List ℕ)
+        → IsPiece place header → 8 ≤ length header }
 {}
 
-/// The place of a fault is within the bytes, so that it can be moved by what stands in front of them:
-/// of a header at the front, alone and as an authentication header, the place is 0; of headers in a
-/// row it is that of the header at which the row stops.
+/// The place of a fault is within the bytes, so that it can be moved by what stands in front of
+/// them: of a header at the front, alone and as an authentication header, the place is 0; of
+/// headers in a row it is that of the header at which the row stops.
 pub fn faults_can_be_moved()
-    ensures front { (place : Ipv6ExtPlace) (bytes : List ℕ) (error : HeaderSliceError) (n : ℕ)
+    ensures front { (place : Ipv6ExtPlace) (bytes : List ℕ) (error : SliceError HeaderError) (n : ℕ)
         → front_of place bytes ≡ Err error → n < 2 ^ 64 → CanMove error n }
-    ensures row { (order : Order) (first : ℕ) (bytes : List ℕ) (pieces : List Piece) (last : ℕ) (rest : List ℕ)
+    ensures row { (order : Order) (first : ℕ) (bytes : List ℕ) (pieces : List Piece)
+        (last : ℕ) (rest : List ℕ)
         (fault : Fault) (n : ℕ) → Chain order first bytes pieces last rest
-        → fault_of order pieces last rest ≡ Some fault → length bytes + n < 2 ^ 64 → CanMove fault.0 n }
-    ensures auth { (bytes : List ℕ) (error : AuthError) (n : ℕ)
-        → auth_at bytes ≡ Err error → n < 2 ^ 64 → auth.CanMove error n }
+        → fault_of order pieces last rest ≡ Some fault
+        → length bytes + n < 2 ^ 64 → CanMove fault.0 n }
+    ensures auth { (bytes : List ℕ) (error : SliceError AuthError) (n : ℕ)
+        → auth_at bytes ≡ Err error → n < 2 ^ 64 → CanMove error n }
 {}
 
 /// Where bytes are headers in a row and a rest, behind a number that the walk over all skipped
@@ -71,7 +82,8 @@ pub fn skip_agrees_with_chain(first: IpNumber, slice: &[u8]) -> Result<(IpNumber
         → IsOkAnd result (λ r. (r.0.0 ≡ last) × (r.1.now ≡ rest)) }
     // The same under any order in which headers take places of their own numbers.
     ensures any { (order : Order) (pieces : List Piece) (last : ℕ) (rest : List ℕ)
-        → KeepsNumbers order → Chain order first.0 slice.now pieces last rest → is_skipped last ≡ false
+        → KeepsNumbers order → Chain order first.0 slice.now pieces last rest
+        → is_skipped last ≡ false
         → IsOkAnd result (λ r. (r.0.0 ≡ last) × (r.1.now ≡ rest)) }
 {
     Ipv6Header::skip_all_header_extensions_in_slice(slice, first)

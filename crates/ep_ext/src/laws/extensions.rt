@@ -1,5 +1,6 @@
 //! Laws of the extension headers that one value holds.
-ghost use Rattle.std.specs.Prelude.{◌≡◌, ◌≢◌, Ok, ℕ, List, ◌∷◌, ◌++◌, IsOkAnd, false, None, [], length};
+ghost use Rattle.std.specs.Prelude.{◌≡◌, ◌≢◌, Ok, ℕ, List, ◌∷◌, ◌++◌, IsOkAnd, false, None, []};
+ghost use Rattle.std.specs.Prelude.{length};
 ghost use Rattle.ep_ext.specs.Follow.{Follows, has_place, walk_fault};
 ghost use Rattle.ep_ext.specs.Place.{place_of};
 ghost use Rattle.ep_ext.specs.Ipv4Exts.{NamesBehind, auth_number, ipv4_exts_of, ipv4_exts_spelling};
@@ -60,15 +61,16 @@ pub fn set_next_headers_names_every_header(
     headers.next_header(first)
 }
 
-/// What `Ipv4Extensions::write` appends from a first number is read again from that number, whatever
-/// follows it. Where no header is held the first number must name none.
+/// What `Ipv4Extensions::write` appends from a first number is read again from that number,
+/// whatever follows it. Where no header is held the first number must name none.
 pub fn written_ipv4_chain_reads_back<'a>(
     headers: &Ipv4Extensions,
     first: IpNumber,
     slice: &'a [u8],
 ) -> Result<(Ipv4Extensions, IpNumber, &'a [u8]), ip_auth::HeaderSliceError>
     ensures { (number : IpNumber) (rest : List ℕ) → NamesBehind headers.now first.0 (Ok number)
-        → (headers.now.auth ≡ None → first.0 ≢ auth_number) → slice.now ≡ ipv4_exts_spelling headers.now ++ rest
+        → (headers.now.auth ≡ None → first.0 ≢ auth_number)
+        → slice.now ≡ ipv4_exts_spelling headers.now ++ rest
         → IsOkAnd result (λ r. (r.0 ≡ headers.now) × (r.1.0 ≡ number.0) × (r.2.now ≡ rest)) }
 {
     headers.has_whole_header();
@@ -83,8 +85,8 @@ pub fn default_holds_no_header() -> (Ipv4Extensions, Ipv6Extensions)
     (Ipv4Extensions::default(), Ipv6Extensions::default())
 }
 
-/// The least and the greatest length in bytes: of the extension headers of IPv4, of those of IPv6, and
-/// of a routing header with the options behind it.
+/// The least and the greatest length in bytes: of the extension headers of IPv4, of those of IPv6,
+/// and of a routing header with the options behind it.
 pub fn chain_lengths() -> [usize; 6]
     ensures { result ≡ 0 ∷ 1028 ∷ 0 ∷ 9228 ∷ 8 ∷ 4096 ∷ [] }
 {

@@ -1,10 +1,15 @@
 //! Laws of single extension headers, and of the reader with a limit.
-ghost use Rattle.std.specs.Prelude.{◌≡◌, ◌+◌, ℕ, true, false, List, [], ◌∷◌, ◌++◌, map, Some, None, IsOkAnd, Ok, Err};
+ghost use Rattle.std.specs.Prelude.{◌≡◌, ◌+◌, ℕ, true, false, List, [], ◌∷◌, ◌++◌, map, Some, None};
+ghost use Rattle.std.specs.Prelude.{IsOkAnd, Ok, Err};
 ghost use Rattle.ep_base.specs.Bytes.{IsBytes};
-ghost use Rattle.ep_ext.specs.Auth.{IsAuth, auth_of, auth_at, auth_spelling, auth_cleared, icv_fault};
-ghost use Rattle.ep_ext.specs.Fragment.{IsFragment, fragment_of, fragment_spelling, fragment_cleared, fragment_at};
-ghost use Rattle.ep_ext.specs.Raw.{IsRawExt, raw_of, raw_at, raw_spelling, is_raw_number, payload_fault};
-ghost use Rattle.ep_ext.specs.Want.{too_short};
+ghost use Rattle.ep_ext.specs.Auth.{IsAuth, auth_of, auth_at, auth_spelling, auth_cleared};
+ghost use Rattle.ep_ext.specs.Auth.{icv_fault};
+ghost use Rattle.ep_ext.specs.Fragment.{IsFragment, fragment_of, fragment_spelling};
+ghost use Rattle.ep_ext.specs.Fragment.{fragment_cleared, fragment_at};
+ghost use Rattle.ep_ext.specs.Raw.{IsRawExt, raw_of, raw_at, raw_spelling, is_raw_number};
+ghost use Rattle.ep_ext.specs.Raw.{payload_fault};
+ghost use Rattle.ep_base.specs.LenError.{too_few_bytes};
+ghost use Rattle.ep_base.specs.declared.err.slice_error.SliceError.TheVariants as slice_error;
 
 use crate::err::ip_auth::{HeaderError, HeaderSliceError, IcvLenError};
 use crate::err::ipv6_exts::ExtPayloadLenError;
@@ -12,8 +17,8 @@ use crate::io::LimitedReader;
 use crate::{IpAuthHeader, Ipv6FragmentHeader, Ipv6RawExtHeader};
 use ep_base::err::{Layer, LenError};
 
-/// The lengths in bytes: of a raw extension header and its payload, the least and the greatest; of a
-/// fragment header; of an authentication header, and the greatest of its check value.
+/// The lengths in bytes: of a raw extension header and its payload, the least and the greatest; of
+/// a fragment header; of an authentication header, and the greatest of its check value.
 pub fn header_lengths() -> [usize; 8]
     ensures { result ≡ 8 ∷ 2048 ∷ 6 ∷ 2046 ∷ 8 ∷ 12 ∷ 1028 ∷ 1016 ∷ [] }
 {
@@ -96,43 +101,58 @@ pub fn auth_header_is_read_again<'a>(
 
 /// A layer that begins doesn't move the place at which a reader's limit lies.
 pub fn new_layer_keeps_the_end<T>(reader: &mut LimitedReader<T>, layer: Layer)
-    ensures { reader.new.layer_offset + reader.new.max_len ≡ reader.old.layer_offset + reader.old.max_len }
+    ensures { reader.new.layer_offset + reader.new.max_len
+        ≡ reader.old.layer_offset + reader.old.max_len }
 {
     let _within = reader.read_len();
     reader.start_layer(layer);
 }
 
-/// Worked values: a routing header, a fragment header and an authentication header of some bytes, and
-/// what fewer bytes want (RFC 8200, sections 4.4 and 4.5; RFC 4302, section 2).
+/// Worked values: a routing header, a fragment header and an authentication header of some bytes,
+/// and what fewer bytes want (RFC 8200, sections 4.4 and 4.5; RFC 4302, section 2).
 pub fn worked_headers()
     ensures raw { raw_of (17 ∷ 0 ∷ 1 ∷ 4 ∷ 2 ∷ 3 ∷ 5 ∷ 6 ∷ [])
         ≡ record { next_header = record { 0 = 17 }; payload = 1 ∷ 4 ∷ 2 ∷ 3 ∷ 5 ∷ 6 ∷ [] } }
     ensures raw_front { raw_at (17 ∷ 0 ∷ 1 ∷ 4 ∷ 2 ∷ 3 ∷ 5 ∷ 6 ∷ 170 ∷ [])
         ≡ Ok (17 ∷ 0 ∷ 1 ∷ 4 ∷ 2 ∷ 3 ∷ 5 ∷ 6 ∷ []) }
     ensures raw_want { raw_at (17 ∷ 1 ∷ 1 ∷ 4 ∷ 2 ∷ 3 ∷ 5 ∷ 6 ∷ [])
-        ≡ Err (too_short Layer.Ipv6ExtHeader 16 8) }
+        ≡ Err (too_few_bytes Layer.Ipv6ExtHeader 16 8) }
     ensures fragment { fragment_of (58 ∷ 255 ∷ 171 ∷ 205 ∷ 18 ∷ 52 ∷ 86 ∷ 120 ∷ [])
-        ≡ record { next_header = record { 0 = 58 }; fragment_offset = 5497; more_fragments = true; identification = 305419896 } }
+        ≡ record {
+          next_header = record { 0 = 58 };
+          fragment_offset = 5497;
+          more_fragments = true;
+          identification = 305419896;
+        } }
     ensures fragment_spelled { fragment_cleared (58 ∷ 255 ∷ 171 ∷ 205 ∷ 18 ∷ 52 ∷ 86 ∷ 120 ∷ [])
         ≡ 58 ∷ 0 ∷ 171 ∷ 201 ∷ 18 ∷ 52 ∷ 86 ∷ 120 ∷ [] }
-    ensures fragment_want { fragment_at (58 ∷ 0 ∷ []) ≡ Err (too_short Layer.Ipv6FragHeader 8 2) }
-    ensures auth { auth_of (6 ∷ 2 ∷ 255 ∷ 238 ∷ 1 ∷ 2 ∷ 3 ∷ 4 ∷ 5 ∷ 6 ∷ 7 ∷ 8 ∷ 9 ∷ 10 ∷ 11 ∷ 12 ∷ [])
-        ≡ record { next_header = record { 0 = 6 }; spi = 16909060; sequence_number = 84281096; icv = 9 ∷ 10 ∷ 11 ∷ 12 ∷ [] } }
+    ensures fragment_want { fragment_at (58 ∷ 0 ∷ [])
+        ≡ Err (too_few_bytes Layer.Ipv6FragHeader 8 2) }
+    ensures auth { auth_of (6 ∷ 2 ∷ 255 ∷ 238 ∷ 1 ∷ 2 ∷ 3 ∷ 4 ∷ 5 ∷ 6 ∷ 7 ∷
+        8 ∷ 9 ∷ 10 ∷ 11 ∷ 12 ∷ [])
+        ≡ record {
+          next_header = record { 0 = 6 };
+          spi = 16909060;
+          sequence_number = 84281096;
+          icv = 9 ∷ 10 ∷ 11 ∷ 12 ∷ [];
+        } }
     ensures auth_spelled { auth_cleared (6 ∷ 1 ∷ 255 ∷ 238 ∷ 1 ∷ 2 ∷ 3 ∷ 4 ∷ 5 ∷ 6 ∷ 7 ∷ 8 ∷ [])
         ≡ 6 ∷ 1 ∷ 0 ∷ 0 ∷ 1 ∷ 2 ∷ 3 ∷ 4 ∷ 5 ∷ 6 ∷ 7 ∷ 8 ∷ [] }
     ensures auth_want { auth_at (6 ∷ 2 ∷ 0 ∷ 0 ∷ 1 ∷ 2 ∷ 3 ∷ 4 ∷ 5 ∷ 6 ∷ 7 ∷ 8 ∷ [])
-        ≡ Err (HeaderSliceError.Len (too_short Layer.IpAuthHeader 16 12)) }
+        ≡ Err (slice_error.Len (too_few_bytes Layer.IpAuthHeader 16 12)) }
     ensures auth_zero { auth_at (6 ∷ 0 ∷ 0 ∷ 0 ∷ 1 ∷ 2 ∷ 3 ∷ 4 ∷ 5 ∷ 6 ∷ 7 ∷ 8 ∷ [])
-        ≡ Err (HeaderSliceError.Content HeaderError.ZeroPayloadLen) }
+        ≡ Err (slice_error.Content HeaderError.ZeroPayloadLen) }
 {}
 
 /// Worked lengths: of payloads of raw extension headers and of check values, those taken and those
 /// beside them; and which numbers have the raw layout.
 pub fn worked_lengths()
     ensures payloads { map payload_fault (5 ∷ 6 ∷ 7 ∷ 14 ∷ 2046 ∷ 2054 ∷ [])
-        ≡ Some (ExtPayloadLenError.TooSmall 5) ∷ None ∷ Some (ExtPayloadLenError.Unaligned 7) ∷ None ∷ None ∷ Some (ExtPayloadLenError.TooBig 2054) ∷ [] }
+        ≡ Some (ExtPayloadLenError.TooSmall 5) ∷ None ∷ Some (ExtPayloadLenError.Unaligned 7) ∷
+        None ∷ None ∷ Some (ExtPayloadLenError.TooBig 2054) ∷ [] }
     ensures check_values { map icv_fault (0 ∷ 3 ∷ 4 ∷ 1016 ∷ 1017 ∷ 1020 ∷ [])
-        ≡ None ∷ Some (IcvLenError.Unaligned 3) ∷ None ∷ None ∷ Some (IcvLenError.TooBig 1017) ∷ Some (IcvLenError.TooBig 1020) ∷ [] }
+        ≡ None ∷ Some (IcvLenError.Unaligned 3) ∷ None ∷ None ∷ Some (IcvLenError.TooBig 1017) ∷
+        Some (IcvLenError.TooBig 1020) ∷ [] }
     ensures numbers { map is_raw_number (0 ∷ 43 ∷ 44 ∷ 51 ∷ 60 ∷ 135 ∷ 139 ∷ 140 ∷ 17 ∷ [])
         ≡ true ∷ true ∷ false ∷ false ∷ true ∷ true ∷ true ∷ true ∷ false ∷ [] }
 {}

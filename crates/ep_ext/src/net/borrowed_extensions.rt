@@ -1,7 +1,7 @@
 ghost use Rattle.std.specs.Prelude.{◌≡◌, ℕ, List, [], ◌++◌, IfOk, IfErr, OnErr, Err, Some, None};
 ghost use Rattle.std.specs.Option.{option_map};
 ghost use Rattle.ep_base.specs.Bytes.{num};
-ghost use Rattle.ep_ext.specs.Borrowed.{Finds, Holds, hold};
+ghost use Rattle.ep_ext.specs.Borrowed.{Finds, Holds, with_slice_at};
 ghost use Rattle.ep_ext.specs.Chain.{Chain, IsPiece, fault_at, front_of, of_auth, of_len};
 ghost use Rattle.ep_ext.specs.Place.{place_of};
 ghost use Rattle.ep_ext.specs.Auth.{IsAuth, auth_at, auth_of};
@@ -87,7 +87,7 @@ impl<'a> BorrowedExtensions<'a> {
     ) -> Result<(IpNumber, &'a [u8]), HeaderSliceError>
         ensures found { IfOk result (λ r. (header : List ℕ) × IsPiece place header
             × (slice.now ≡ header ++ r.1.now) × (r.0.0 ≡ num header 0 1)
-            × (self.new ≡ hold self.old place header)) }
+            × (self.new ≡ with_slice_at self.old place header)) }
         ensures err { IfErr result (λ e. front_of place slice.now ≡ Err e) }
         ensures kept { OnErr result (self.new ≡ self.old) }
     {
@@ -128,7 +128,8 @@ impl<'a> BorrowedExtensions<'a> {
     }
 }
 
-// Takes the header at the front of the slice, and gives the number that it names and what follows it.
+// Takes the header at the front of the slice, and gives the number that it names and what follows
+// it.
 fn take_raw<'a>(
     place: &mut Option<Ipv6RawExtHeaderSlice<'a>>,
     slice: &'a [u8],
@@ -219,7 +220,11 @@ fn put_routing(
     header: &Ipv6RawExtHeaderSlice,
     options: &Option<Ipv6RawExtHeaderSlice>,
 )
-    ensures { place.new ≡ Some (record { routing = raw_of header.now; final_destination_options = option_map raw_of options.now }) }
+    ensures { place.new
+        ≡ Some (record {
+          routing = raw_of header.now;
+          final_destination_options = option_map raw_of options.now;
+        }) }
 {
     *place = Some(Ipv6RoutingExtensions {
         routing: header.to_header(),

@@ -1,9 +1,10 @@
 //! An authentication header from a reader.
 
-ghost use Rattle.std.specs.Prelude.{◌≡◌, ℕ, List, ◌++◌, IfOk, IfErr, MatchResult, Some, length, take, ◌≤◌, ◌-◌};
+ghost use Rattle.std.specs.Prelude.{◌≡◌, ℕ, List, ◌++◌, IfOk, IfErr, MatchResult, Some, length};
+ghost use Rattle.std.specs.Prelude.{take, ◌≤◌, ◌-◌};
 ghost use Rattle.std.specs.Io.KnownBytes.{Consumes};
 ghost use Rattle.ep_ext.specs.Auth.{IsAuth, auth_of};
-ghost use Rattle.ep_ext.specs.Limited.{started, Takes};
+ghost use Rattle.ep_ext.specs.Limited.{at_next_layer, Takes};
 ghost use Rattle.ep_ext.specs.Reads.{RefusesAuth, RefusesAuthWithin, IsAuthIo, IsAuthLimitedIo};
 
 use super::{IpAuthHeader, IpAuthHeaderSlice};
@@ -19,12 +20,16 @@ impl IpAuthHeader {
     pub fn read<R: Read>(reader: &mut R) -> Result<IpAuthHeader, HeaderReadError>
         // The reader gave a header, and it is read so.
         ensures found { IfOk result (λ h. (header : List ℕ) × IsAuth header
-            × Consumes (R.remaining reader.old) (R.remaining reader.new) header × (h ≡ auth_of header)) }
+            × Consumes (R.remaining reader.old) (R.remaining reader.new) header
+            × (h ≡ auth_of header)) }
         // Where a header is next, it is read, or a read failed.
-        ensures only { (header rest : List ℕ) → IsAuth header → R.remaining reader.old ≡ Some (header ++ rest)
-            → MatchResult result (λ h. (h ≡ auth_of header) × (R.remaining reader.new ≡ Some rest)) IsAuthIo }
+        ensures only { (header rest : List ℕ) → IsAuth header
+            → R.remaining reader.old ≡ Some (header ++ rest)
+            → MatchResult result (λ h. (h ≡ auth_of header)
+            × (R.remaining reader.new ≡ Some rest)) IsAuthIo }
         // Else a read failed, or what was read is no header.
-        ensures err { IfErr result (λ e. RefusesAuth (R.remaining reader.old) e (R.remaining reader.new)) }
+        ensures err { IfErr result
+            (λ e. RefusesAuth (R.remaining reader.old) e (R.remaining reader.new)) }
     {
         let mut bytes = [0; Self::MAX_LEN];
         match read_bytes(reader, &mut bytes) {
@@ -41,13 +46,17 @@ impl IpAuthHeader {
         reader: &mut LimitedReader<R>,
     ) -> Result<IpAuthHeader, HeaderLimitedReadError>
         ensures found { IfOk result (λ h. (header : List ℕ) × IsAuth header
-            × Takes R.remaining (started reader.old Layer.IpAuthHeader) header reader.new × (h ≡ auth_of header)) }
-        ensures only { (header rest : List ℕ) → IsAuth header → R.remaining reader.old.reader ≡ Some (header ++ rest)
+            × Takes R.remaining (at_next_layer reader.old Layer.IpAuthHeader) header reader.new
+            × (h ≡ auth_of header)) }
+        ensures only { (header rest : List ℕ) → IsAuth header
+            → R.remaining reader.old.reader ≡ Some (header ++ rest)
             → length header ≤ reader.old.max_len - reader.old.read_len
-            → MatchResult result (λ h. (h ≡ auth_of header) × (R.remaining reader.new.reader ≡ Some rest)) IsAuthLimitedIo }
+            → MatchResult result (λ h. (h ≡ auth_of header)
+            × (R.remaining reader.new.reader ≡ Some rest)) IsAuthLimitedIo }
         // Else a read failed, the limit is too low, or what was read is no header.
         ensures err { IfErr result (λ e.
-            RefusesAuthWithin R.remaining (started reader.old Layer.IpAuthHeader) e reader.new) }
+            RefusesAuthWithin R.remaining (at_next_layer reader.old Layer.IpAuthHeader) e
+            reader.new) }
     {
         reader.start_layer(Layer::IpAuthHeader);
         let mut bytes = [0; Self::MAX_LEN];
@@ -63,7 +72,8 @@ fn read_bytes<R: Read>(reader: &mut R, bytes: &mut [u8]) -> Result<usize, Header
     requires { length bytes.old ≡ 1028 }
     ensures found { IfOk result (λ len. (len ≤ 1028) × IsAuth (take len bytes.new)
         × Consumes (R.remaining reader.old) (R.remaining reader.new) (take len bytes.new)) }
-    ensures err { IfErr result (λ e. RefusesAuth (R.remaining reader.old) e (R.remaining reader.new)) }
+    ensures err { IfErr result
+        (λ e. RefusesAuth (R.remaining reader.old) e (R.remaining reader.new)) }
 {
     match reader.read_exact(&mut bytes[..12]) {
         Ok(()) => {}

@@ -3,13 +3,12 @@ ghost use Rattle.std.specs.Cmp.Lexicographic.{pointwise};
 ghost use Rattle.std.specs.Cmp.Rules.{comparing};
 ghost use Rattle.std.proofs.Common.{rules};
 ghost use Rattle.ep_ext.specs.Auth.{IsAuth, auth_of, auth_at};
-ghost use Rattle.ep_ext.specs.Want.{too_short};
 
 use super::IpAuthHeader;
 use super::auth_icv::AuthIcv;
 use crate::err::ip_auth::{HeaderError, HeaderSliceError};
+use ep_base::IpNumber;
 use ep_base::err::{Layer, LenError};
-use ep_base::{IpNumber, LenSource};
 use std::marker::Model;
 
 /// The bytes of an authentication header (RFC 4302, section 2), borrowed. They were tested when the
@@ -53,14 +52,22 @@ impl<'a> IpAuthHeaderSlice<'a> {
         ensures err { IfErr result (λ e. auth_at slice.now ≡ Err e) }
     {
         if slice.len() < IpAuthHeader::MIN_LEN {
-            return Err(HeaderSliceError::Len(want(IpAuthHeader::MIN_LEN, slice.len())));
+            return Err(HeaderSliceError::Len(LenError::too_few_bytes(
+                Layer::IpAuthHeader,
+                IpAuthHeader::MIN_LEN,
+                slice.len(),
+            )));
         }
         if slice[1] == 0 {
             return Err(HeaderSliceError::Content(HeaderError::ZeroPayloadLen));
         }
         let len = IpAuthHeader::len_by(slice[1]);
         if slice.len() < len {
-            return Err(HeaderSliceError::Len(want(len, slice.len())));
+            return Err(HeaderSliceError::Len(LenError::too_few_bytes(
+                Layer::IpAuthHeader,
+                len,
+                slice.len(),
+            )));
         }
         let (front, rest) = slice.split_at(len);
         Ok((Self::of_bytes(front), rest))
@@ -136,16 +143,4 @@ impl<'a> PartialEq for IpAuthHeaderSlice<'a> {
 
 impl<'a> Eq for IpAuthHeaderSlice<'a> {
     ghost laws = { Prim.search (comparing, rules) };
-}
-
-fn want(required_len: usize, len: usize) -> LenError
-    ensures { result ≡ too_short Layer.IpAuthHeader required_len len }
-{
-    LenError {
-        required_len,
-        len,
-        len_source: LenSource::Slice,
-        layer: Layer::IpAuthHeader,
-        layer_start_offset: 0,
-    }
 }

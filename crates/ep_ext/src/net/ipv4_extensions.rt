@@ -1,8 +1,12 @@
-ghost use Rattle.std.specs.Prelude.{◌≡◌, ◌+◌, ◌≤◌, ◌<◌, ◌^◌, ℕ, List, IfOk, IfErr, IsOkAnd, MatchOption, Err, Ok, None, Some, Option, is_some, is_none, if◌then◌else◌, length, vec_len, vec_capacity};
+ghost use Rattle.std.specs.Prelude.{◌≡◌, ◌+◌, ◌≤◌, ◌<◌, ◌^◌, ℕ, List, IfOk, IfErr, IsOkAnd};
+ghost use Rattle.std.specs.Prelude.{MatchOption, Err, Ok, None, Some, Option, is_some, is_none};
+ghost use Rattle.std.specs.Prelude.{if◌then◌else◌, length, vec_len, vec_capacity};
 ghost use Rattle.ep_ext.specs.Auth.{IsAuth, auth_of, auth_spelling};
-ghost use Rattle.ep_ext.specs.AuthFault.{CanMove};
+ghost use Rattle.ep_base.specs.SliceError.{CanMove};
 ghost use Rattle.ep_ext.specs.declared.net.ip_auth_header.IpAuthHeader.{IpAuthHeader};
-ghost use Rattle.ep_ext.specs.Ipv4Exts.{Ipv4Chain, auth_behind, ipv4_exts_of, number_behind, ipv4_exts_spelling, ipv4_with_link, ipv4_walk_fault, NamesBehind, AppendsNamed};
+ghost use Rattle.ep_ext.specs.Ipv4Exts.{Ipv4Chain, auth_behind, ipv4_exts_of, number_behind};
+ghost use Rattle.ep_ext.specs.Ipv4Exts.{ipv4_exts_spelling, ipv4_with_link, ipv4_walk_fault};
+ghost use Rattle.ep_ext.specs.Ipv4Exts.{NamesBehind, AppendsNamed};
 ghost use Rattle.ep_ext.specs.declared.err.ipv4_exts.header_write_error.HeaderWriteError.TheVariants.{Memory};
 
 use super::IpAuthHeader;
@@ -35,10 +39,13 @@ impl Ipv4Extensions {
         first: IpNumber,
         slice: &[u8],
     ) -> Result<(Ipv4Extensions, IpNumber, &[u8]), HeaderSliceError>
-        ensures found { IfOk result (λ r. (auth : Option (List ℕ)) × Ipv4Chain first.0 slice.now auth r.2.now
+        ensures found { IfOk result (λ r. (auth : Option (List ℕ))
+            × Ipv4Chain first.0 slice.now auth r.2.now
             × (r.0 ≡ ipv4_exts_of auth) × (r.1.0 ≡ number_behind first.0 auth)) }
-        ensures only { (auth : Option (List ℕ)) (rest : List ℕ) → Ipv4Chain first.0 slice.now auth rest
-            → IsOkAnd result (λ r. (r.0 ≡ ipv4_exts_of auth) × (r.1.0 ≡ number_behind first.0 auth) × (r.2.now ≡ rest)) }
+        ensures only { (auth : Option (List ℕ)) (rest : List ℕ)
+            → Ipv4Chain first.0 slice.now auth rest
+            → IsOkAnd result (λ r. (r.0 ≡ ipv4_exts_of auth)
+            × (r.1.0 ≡ number_behind first.0 auth) × (r.2.now ≡ rest)) }
         ensures err { IfErr result (λ e. auth_behind first.0 slice.now ≡ Err e) }
         // A want of bytes is that of a header at the start of the slice.
         ensures place { IfErr result (λ e. (n : ℕ) → n < 2 ^ 64 → CanMove e n) }
@@ -66,7 +73,8 @@ impl Ipv4Extensions {
             × (result.0 ≡ ipv4_exts_of auth) × (result.1.0 ≡ number_behind first.0 auth))
             (λ e. (auth_behind first.0 slice.now ≡ Err e)
             × (result.0 ≡ ipv4_exts_of None) × (result.1 ≡ first) × (result.2.now ≡ slice.now)) }
-        ensures only { (auth : Option (List ℕ)) (rest : List ℕ) → Ipv4Chain first.0 slice.now auth rest
+        ensures only { (auth : Option (List ℕ)) (rest : List ℕ)
+            → Ipv4Chain first.0 slice.now auth rest
             → (result.0 ≡ ipv4_exts_of auth) × (result.1.0 ≡ number_behind first.0 auth)
             × (result.2.now ≡ rest) × (result.3 ≡ None) }
     {

@@ -1,8 +1,10 @@
 //! The extension headers of an IPv4 packet from a reader.
 
-ghost use Rattle.std.specs.Prelude.{◌≡◌, ◌≤◌, ◌-◌, ℕ, List, ◌++◌, length, IfOk, IfErr, MatchResult, Option, Some};
-ghost use Rattle.ep_ext.specs.Ipv4Exts.{IsAuthBehind, auth_bytes, auth_number, ipv4_exts_of, number_behind};
-ghost use Rattle.ep_ext.specs.Limited.{started};
+ghost use Rattle.std.specs.Prelude.{◌≡◌, ◌≤◌, ◌-◌, ℕ, List, ◌++◌, length, IfOk, IfErr, MatchResult};
+ghost use Rattle.std.specs.Prelude.{Option, Some};
+ghost use Rattle.ep_ext.specs.Ipv4Exts.{IsAuthBehind, auth_bytes, auth_number, ipv4_exts_of};
+ghost use Rattle.ep_ext.specs.Ipv4Exts.{number_behind};
+ghost use Rattle.ep_ext.specs.Limited.{at_next_layer};
 ghost use Rattle.ep_ext.specs.Reads.{IsAuthIo, IsAuthLimitedIo, RefusesAuth, RefusesAuthWithin};
 ghost use Rattle.ep_ext.specs.ReadsIpv4Exts.{ReadsAuthBehind, ReadsAuthWithin};
 
@@ -21,11 +23,13 @@ impl Ipv4Extensions {
         reader: &mut R,
         first: IpNumber,
     ) -> Result<(Ipv4Extensions, IpNumber), HeaderReadError>
-        ensures found { IfOk result (ReadsAuthBehind first.0 (R.remaining reader.old) (R.remaining reader.new)) }
+        ensures found { IfOk result
+            (ReadsAuthBehind first.0 (R.remaining reader.old) (R.remaining reader.new)) }
         // Where a header is next, or none is named, it is read, or a read failed.
         ensures only { (auth : Option (List ℕ)) (rest : List ℕ) → IsAuthBehind first.0 auth
             → R.remaining reader.old ≡ Some (auth_bytes auth ++ rest)
-            → MatchResult result (λ r. (r.0 ≡ ipv4_exts_of auth) × (r.1.0 ≡ number_behind first.0 auth)
+            → MatchResult result (λ r. (r.0 ≡ ipv4_exts_of auth)
+            × (r.1.0 ≡ number_behind first.0 auth)
             × (R.remaining reader.new ≡ Some rest)) IsAuthIo }
         // Else a read failed, or what was read is no header.
         ensures err { IfErr result (λ e. (first.0 ≡ auth_number)
@@ -48,15 +52,18 @@ impl Ipv4Extensions {
         first: IpNumber,
     ) -> Result<(Ipv4Extensions, IpNumber), HeaderLimitedReadError>
         ensures found { IfOk result (ReadsAuthWithin R.remaining first.0 reader.old reader.new) }
-        // Where a header is next and within the limit, or none is named, it is read, or a read failed.
+        // Where a header is next and within the limit, or none is named, it is read, or a read
+        // failed.
         ensures only { (auth : Option (List ℕ)) (rest : List ℕ) → IsAuthBehind first.0 auth
             → R.remaining reader.old.reader ≡ Some (auth_bytes auth ++ rest)
             → length (auth_bytes auth) ≤ reader.old.max_len - reader.old.read_len
-            → MatchResult result (λ r. (r.0 ≡ ipv4_exts_of auth) × (r.1.0 ≡ number_behind first.0 auth)
+            → MatchResult result (λ r. (r.0 ≡ ipv4_exts_of auth)
+            × (r.1.0 ≡ number_behind first.0 auth)
             × (R.remaining reader.new.reader ≡ Some rest)) IsAuthLimitedIo }
         // Else a read failed, the limit is too low, or what was read is no header.
         ensures err { IfErr result (λ e. (first.0 ≡ auth_number)
-            × RefusesAuthWithin R.remaining (started reader.old Layer.IpAuthHeader) e reader.new) }
+            × RefusesAuthWithin R.remaining (at_next_layer reader.old Layer.IpAuthHeader) e
+            reader.new) }
     {
         if first != IpNumber::AUTHENTICATION_HEADER {
             return Ok((Ipv4Extensions { auth: None }, first));

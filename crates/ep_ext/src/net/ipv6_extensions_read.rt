@@ -5,7 +5,7 @@ ghost use Rattle.std.specs.Io.KnownBytes.{Consumes};
 ghost use Rattle.ep_base.specs.Bytes.{num};
 ghost use Rattle.ep_ext.specs.Chain.{IsPiece};
 ghost use Rattle.ep_ext.specs.ReadsExts.{IsExtsIo, IsWholeRow, ReadsRow, RefusesExt, RefusesRow};
-ghost use Rattle.ep_ext.specs.Value.{Piece, bytes_of, put, value_of};
+ghost use Rattle.ep_ext.specs.Value.{Piece, bytes_of, with_header_in_place, value_of};
 
 use super::passed::Passed;
 use super::{IpAuthHeader, Ipv6ExtPlace, Ipv6Extensions, Ipv6FragmentHeader, Ipv6RawExtHeader};
@@ -27,13 +27,17 @@ impl Ipv6Extensions {
         first: IpNumber,
     ) -> Result<(Ipv6Extensions, IpNumber), HeaderReadError>
         // The reader gave headers in a row, and they are read so.
-        ensures found { IfOk result (ReadsRow first.0 (R.remaining reader.old) (R.remaining reader.new)) }
+        ensures found { IfOk result
+            (ReadsRow first.0 (R.remaining reader.old) (R.remaining reader.new)) }
         // Where headers in a row are next, they are read, or a read failed.
-        ensures only { (pieces : List Piece) (last : ℕ) (rest : List ℕ) → IsWholeRow first.0 pieces last
+        ensures only { (pieces : List Piece) (last : ℕ) (rest : List ℕ)
+            → IsWholeRow first.0 pieces last
             → R.remaining reader.old ≡ Some (bytes_of pieces ++ rest)
-            → MatchResult result (λ r. (r.0 ≡ value_of pieces) × (r.1.0 ≡ last) × (R.remaining reader.new ≡ Some rest)) IsExtsIo }
+            → MatchResult result (λ r. (r.0 ≡ value_of pieces) × (r.1.0 ≡ last)
+            × (R.remaining reader.new ≡ Some rest)) IsExtsIo }
         // Else a read failed, or the next is no header.
-        ensures err { IfErr result (λ e. RefusesRow first.0 (R.remaining reader.old) e (R.remaining reader.new)) }
+        ensures err { IfErr result
+            (λ e. RefusesRow first.0 (R.remaining reader.old) e (R.remaining reader.new)) }
     {
         Self::read_row(reader, first)
     }
@@ -42,8 +46,10 @@ impl Ipv6Extensions {
         reader: &mut R,
         first: IpNumber,
     ) -> Result<(Ipv6Extensions, IpNumber), HeaderReadError>
-        ensures found { IfOk result (ReadsRow first.0 (R.remaining reader.old) (R.remaining reader.new)) }
-        ensures err { IfErr result (λ e. RefusesRow first.0 (R.remaining reader.old) e (R.remaining reader.new)) }
+        ensures found { IfOk result
+            (ReadsRow first.0 (R.remaining reader.old) (R.remaining reader.new)) }
+        ensures err { IfErr result
+            (λ e. RefusesRow first.0 (R.remaining reader.old) e (R.remaining reader.new)) }
     {
         let mut extensions = Ipv6Extensions::default();
         match extensions.fill_from(reader, first) {
@@ -59,8 +65,11 @@ impl Ipv6Extensions {
         first: IpNumber,
     ) -> Result<IpNumber, HeaderReadError>
         requires { self.old ≡ value_of [] }
-        ensures found { IfOk result (λ n. ReadsRow first.0 (R.remaining reader.old) (R.remaining reader.new) (self.new, n)) }
-        ensures err { IfErr result (λ e. RefusesRow first.0 (R.remaining reader.old) e (R.remaining reader.new)) }
+        ensures found { IfOk result
+            (λ n. ReadsRow first.0 (R.remaining reader.old)
+            (R.remaining reader.new) (self.new, n)) }
+        ensures err { IfErr result
+            (λ e. RefusesRow first.0 (R.remaining reader.old) e (R.remaining reader.new)) }
     {
         let mut passed = Passed::nothing();
         let mut number = first;
@@ -87,7 +96,7 @@ impl Ipv6Extensions {
     ) -> Result<IpNumber, HeaderReadError>
         ensures found { IfOk result (λ n. (header : List ℕ) × IsPiece place header
             × Consumes (R.remaining reader.old) (R.remaining reader.new) header
-            × (n.0 ≡ num header 0 1) × (self.new ≡ put self.old place header)) }
+            × (n.0 ≡ num header 0 1) × (self.new ≡ with_header_in_place self.old place header)) }
         ensures err { IfErr result (λ e. (number : ℕ)
             → RefusesExt (Some place) number (R.remaining reader.old) e (R.remaining reader.new)) }
     {

@@ -1,11 +1,14 @@
 //! The extension headers of an IPv6 packet from a reader with a limit.
 
-ghost use Rattle.std.specs.Prelude.{◌≡◌, ◌≤◌, ◌-◌, ℕ, List, [], ◌++◌, IfOk, IfErr, MatchResult, Some, length};
+ghost use Rattle.std.specs.Prelude.{◌≡◌, ◌≤◌, ◌-◌, ℕ, List, [], ◌++◌, IfOk, IfErr, MatchResult};
+ghost use Rattle.std.specs.Prelude.{Some, length};
 ghost use Rattle.ep_base.specs.Bytes.{num};
 ghost use Rattle.ep_ext.specs.Chain.{IsPiece};
-ghost use Rattle.ep_ext.specs.Limited.{started, Takes};
-ghost use Rattle.ep_ext.specs.ReadsExts.{IsExtsLimitedIo, IsWholeRow, ReadsRowWithin, RefusesExtWithin, RefusesRowWithin, auth_exts_error, bytes_error, read_layer};
-ghost use Rattle.ep_ext.specs.Value.{Piece, bytes_of, put, value_of};
+ghost use Rattle.ep_ext.specs.Limited.{at_next_layer, Takes};
+ghost use Rattle.ep_ext.specs.ReadsExts.{IsExtsLimitedIo, IsWholeRow, ReadsRowWithin};
+ghost use Rattle.ep_ext.specs.ReadsExts.{RefusesExtWithin, RefusesRowWithin, auth_exts_error};
+ghost use Rattle.ep_ext.specs.ReadsExts.{bytes_error, read_layer};
+ghost use Rattle.ep_ext.specs.Value.{Piece, bytes_of, with_header_in_place, value_of};
 
 use super::passed::Passed;
 use super::{IpAuthHeader, Ipv6ExtPlace, Ipv6Extensions, Ipv6FragmentHeader, Ipv6RawExtHeader};
@@ -30,13 +33,15 @@ impl Ipv6Extensions {
         // The reader gave headers in a row within its limit, and they are read so.
         ensures found { IfOk result (ReadsRowWithin R.remaining first.0 reader.old reader.new) }
         // Where headers in a row are next and within the limit, they are read, or a read failed.
-        ensures only { (pieces : List Piece) (last : ℕ) (rest : List ℕ) → IsWholeRow first.0 pieces last
+        ensures only { (pieces : List Piece) (last : ℕ) (rest : List ℕ)
+            → IsWholeRow first.0 pieces last
             → R.remaining reader.old.reader ≡ Some (bytes_of pieces ++ rest)
             → length (bytes_of pieces) ≤ reader.old.max_len - reader.old.read_len
             → MatchResult result (λ r. (r.0 ≡ value_of pieces) × (r.1.0 ≡ last)
             × (R.remaining reader.new.reader ≡ Some rest)) IsExtsLimitedIo }
         // Else a read failed, the limit is too low, or the next is no header.
-        ensures err { IfErr result (λ e. RefusesRowWithin R.remaining first.0 reader.old e reader.new) }
+        ensures err { IfErr result
+            (λ e. RefusesRowWithin R.remaining first.0 reader.old e reader.new) }
     {
         Self::read_row_within(reader, first)
     }
@@ -46,7 +51,8 @@ impl Ipv6Extensions {
         first: IpNumber,
     ) -> Result<(Ipv6Extensions, IpNumber), HeaderLimitedReadError>
         ensures found { IfOk result (ReadsRowWithin R.remaining first.0 reader.old reader.new) }
-        ensures err { IfErr result (λ e. RefusesRowWithin R.remaining first.0 reader.old e reader.new) }
+        ensures err { IfErr result
+            (λ e. RefusesRowWithin R.remaining first.0 reader.old e reader.new) }
     {
         let mut extensions = Ipv6Extensions::default();
         match extensions.fill_within(reader, first) {
@@ -62,8 +68,10 @@ impl Ipv6Extensions {
         first: IpNumber,
     ) -> Result<IpNumber, HeaderLimitedReadError>
         requires { self.old ≡ value_of [] }
-        ensures found { IfOk result (λ n. ReadsRowWithin R.remaining first.0 reader.old reader.new (self.new, n)) }
-        ensures err { IfErr result (λ e. RefusesRowWithin R.remaining first.0 reader.old e reader.new) }
+        ensures found { IfOk result
+            (λ n. ReadsRowWithin R.remaining first.0 reader.old reader.new (self.new, n)) }
+        ensures err { IfErr result
+            (λ e. RefusesRowWithin R.remaining first.0 reader.old e reader.new) }
     {
         let mut passed = Passed::nothing();
         let mut number = first;
@@ -90,8 +98,8 @@ impl Ipv6Extensions {
         place: Ipv6ExtPlace,
     ) -> Result<IpNumber, HeaderLimitedReadError>
         ensures found { IfOk result (λ n. (header : List ℕ) × IsPiece place header
-            × Takes R.remaining (started reader.old (read_layer place)) header reader.new
-            × (n.0 ≡ num header 0 1) × (self.new ≡ put self.old place header)) }
+            × Takes R.remaining (at_next_layer reader.old (read_layer place)) header reader.new
+            × (n.0 ≡ num header 0 1) × (self.new ≡ with_header_in_place self.old place header)) }
         ensures err { IfErr result (λ e. (number : ℕ)
             → RefusesExtWithin R.remaining (Some place) number reader.old e reader.new) }
     {

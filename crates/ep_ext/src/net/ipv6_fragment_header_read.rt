@@ -3,7 +3,7 @@
 ghost use Rattle.std.specs.Prelude.{◌≡◌, ℕ, List, ◌++◌, IfOk, IfErr, MatchResult, Some, ◌≤◌, ◌-◌};
 ghost use Rattle.std.specs.Io.KnownBytes.{Consumes};
 ghost use Rattle.ep_ext.specs.Fragment.{IsFragment, fragment_of};
-ghost use Rattle.ep_ext.specs.Limited.{started, Takes, Refuses};
+ghost use Rattle.ep_ext.specs.Limited.{at_next_layer, Takes, Refuses};
 ghost use Rattle.ep_ext.specs.Reads.{IsIo};
 
 use super::{Ipv6FragmentHeader, Ipv6FragmentHeaderSlice};
@@ -19,9 +19,11 @@ impl Ipv6FragmentHeader {
     pub fn read<R: Read>(reader: &mut R) -> io::Result<Ipv6FragmentHeader>
         // The reader gave a header, and it is read so.
         ensures found { IfOk result (λ h. (header : List ℕ) × IsFragment header
-            × Consumes (R.remaining reader.old) (R.remaining reader.new) header × (h ≡ fragment_of header)) }
+            × Consumes (R.remaining reader.old) (R.remaining reader.new) header
+            × (h ≡ fragment_of header)) }
         // Where a header is next, it is read, or a read failed.
-        ensures only { (header rest : List ℕ) → IsFragment header → R.remaining reader.old ≡ Some (header ++ rest)
+        ensures only { (header rest : List ℕ) → IsFragment header
+            → R.remaining reader.old ≡ Some (header ++ rest)
             → IfOk result (λ h. (h ≡ fragment_of header) × (R.remaining reader.new ≡ Some rest)) }
     {
         let mut bytes = [0; Self::LEN];
@@ -31,18 +33,22 @@ impl Ipv6FragmentHeader {
         }
     }
 
-    /// Reads a header as the next layer, `Ipv6FragHeader`, of a reader with a limit, and leaves what
-    /// is behind it. A limit below 8 bytes is refused with nothing read; `Io` is as in `read`.
+    /// Reads a header as the next layer, `Ipv6FragHeader`, of a reader with a limit, and leaves
+    /// what is behind it. A limit below 8 bytes is refused with nothing read; `Io` is as in `read`.
     pub fn read_limited<R: Read>(
         reader: &mut LimitedReader<R>,
     ) -> Result<Ipv6FragmentHeader, LimitedReadError>
         ensures found { IfOk result (λ h. (header : List ℕ) × IsFragment header
-            × Takes R.remaining (started reader.old Layer.Ipv6FragHeader) header reader.new × (h ≡ fragment_of header)) }
-        ensures only { (header rest : List ℕ) → IsFragment header → R.remaining reader.old.reader ≡ Some (header ++ rest)
+            × Takes R.remaining (at_next_layer reader.old Layer.Ipv6FragHeader) header reader.new
+            × (h ≡ fragment_of header)) }
+        ensures only { (header rest : List ℕ) → IsFragment header
+            → R.remaining reader.old.reader ≡ Some (header ++ rest)
             → 8 ≤ reader.old.max_len - reader.old.read_len
-            → MatchResult result (λ h. (h ≡ fragment_of header) × (R.remaining reader.new.reader ≡ Some rest)) IsIo }
+            → MatchResult result (λ h. (h ≡ fragment_of header)
+            × (R.remaining reader.new.reader ≡ Some rest)) IsIo }
         // Else a read failed, or the limit is too low.
-        ensures err { IfErr result (λ e. Refuses (started reader.old Layer.Ipv6FragHeader) 8 e reader.new) }
+        ensures err { IfErr result
+            (λ e. Refuses (at_next_layer reader.old Layer.Ipv6FragHeader) 8 e reader.new) }
     {
         reader.start_layer(Layer::Ipv6FragHeader);
         let mut bytes = [0; Self::LEN];

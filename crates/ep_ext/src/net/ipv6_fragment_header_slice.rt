@@ -6,7 +6,7 @@ ghost use Rattle.ep_ext.specs.Fragment.{IsFragment, fragment_of, fragment_at, fr
 
 use super::Ipv6FragmentHeader;
 use ep_base::err::{Layer, LenError};
-use ep_base::{IpFragOffset, IpNumber, LenSource};
+use ep_base::{IpFragOffset, IpNumber};
 use std::marker::Model;
 
 /// The 8 bytes of a fragment header (RFC 8200, section 4.5), borrowed. They were tested when the
@@ -51,13 +51,11 @@ impl<'a> Ipv6FragmentHeaderSlice<'a> {
         ensures err { IfErr result (λ e. fragment_at slice.now ≡ Err e) }
     {
         if slice.len() < Ipv6FragmentHeader::LEN {
-            return Err(LenError {
-                required_len: Ipv6FragmentHeader::LEN,
-                len: slice.len(),
-                len_source: LenSource::Slice,
-                layer: Layer::Ipv6FragHeader,
-                layer_start_offset: 0,
-            });
+            return Err(LenError::too_few_bytes(
+                Layer::Ipv6FragHeader,
+                Ipv6FragmentHeader::LEN,
+                slice.len(),
+            ));
         }
         let (front, rest) = slice.split_at(Ipv6FragmentHeader::LEN);
         Ok((Self::of_bytes(front), rest))

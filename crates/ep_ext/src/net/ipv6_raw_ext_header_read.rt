@@ -1,8 +1,9 @@
 //! A raw extension header from a reader.
 
-ghost use Rattle.std.specs.Prelude.{◌≡◌, ℕ, List, ◌++◌, IfOk, IfErr, Some, length, take, ◌≤◌, ◌-◌, MatchResult};
+ghost use Rattle.std.specs.Prelude.{◌≡◌, ℕ, List, ◌++◌, IfOk, IfErr, Some, length, take, ◌≤◌, ◌-◌};
+ghost use Rattle.std.specs.Prelude.{MatchResult};
 ghost use Rattle.std.specs.Io.KnownBytes.{Consumes};
-ghost use Rattle.ep_ext.specs.Limited.{started, Takes};
+ghost use Rattle.ep_ext.specs.Limited.{at_next_layer, Takes};
 ghost use Rattle.ep_ext.specs.Raw.{IsRawExt, raw_of, raw_len};
 ghost use Rattle.ep_ext.specs.Reads.{RefusesHeader, IsIo};
 
@@ -19,9 +20,11 @@ impl Ipv6RawExtHeader {
     pub fn read<R: Read>(reader: &mut R) -> io::Result<Ipv6RawExtHeader>
         // The reader gave a header, and it is read so.
         ensures found { IfOk result (λ h. (header : List ℕ) × IsRawExt header
-            × Consumes (R.remaining reader.old) (R.remaining reader.new) header × (h ≡ raw_of header)) }
+            × Consumes (R.remaining reader.old) (R.remaining reader.new) header
+            × (h ≡ raw_of header)) }
         // Where a header is next, it is read, or a read failed.
-        ensures only { (header rest : List ℕ) → IsRawExt header → R.remaining reader.old ≡ Some (header ++ rest)
+        ensures only { (header rest : List ℕ) → IsRawExt header
+            → R.remaining reader.old ≡ Some (header ++ rest)
             → IfOk result (λ h. (h ≡ raw_of header) × (R.remaining reader.new ≡ Some rest)) }
     {
         let mut bytes = [0; Self::MAX_LEN];
@@ -36,13 +39,17 @@ impl Ipv6RawExtHeader {
         reader: &mut LimitedReader<R>,
     ) -> Result<Ipv6RawExtHeader, LimitedReadError>
         ensures found { IfOk result (λ h. (header : List ℕ) × IsRawExt header
-            × Takes R.remaining (started reader.old Layer.Ipv6ExtHeader) header reader.new × (h ≡ raw_of header)) }
-        ensures only { (header rest : List ℕ) → IsRawExt header → R.remaining reader.old.reader ≡ Some (header ++ rest)
+            × Takes R.remaining (at_next_layer reader.old Layer.Ipv6ExtHeader) header reader.new
+            × (h ≡ raw_of header)) }
+        ensures only { (header rest : List ℕ) → IsRawExt header
+            → R.remaining reader.old.reader ≡ Some (header ++ rest)
             → length header ≤ reader.old.max_len - reader.old.read_len
-            → MatchResult result (λ h. (h ≡ raw_of header) × (R.remaining reader.new.reader ≡ Some rest)) IsIo }
+            → MatchResult result (λ h. (h ≡ raw_of header)
+            × (R.remaining reader.new.reader ≡ Some rest)) IsIo }
         // Else a read failed, or the limit is too low.
         ensures err { IfErr result (λ e.
-            RefusesHeader R.remaining 8 raw_len (started reader.old Layer.Ipv6ExtHeader) e reader.new) }
+            RefusesHeader R.remaining 8 raw_len (at_next_layer reader.old Layer.Ipv6ExtHeader) e
+            reader.new) }
     {
         reader.start_layer(Layer::Ipv6ExtHeader);
         let mut bytes = [0; Self::MAX_LEN];

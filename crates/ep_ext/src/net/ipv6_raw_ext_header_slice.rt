@@ -10,8 +10,8 @@ use ep_base::IpNumber;
 use ep_base::err::LenError;
 use std::marker::Model;
 
-/// The bytes of a raw extension header (see `Ipv6RawExtHeader`), borrowed. They were tested when the
-/// value was made, so that getters test nothing. A contract sees the value as those bytes.
+/// The bytes of a raw extension header (see `Ipv6RawExtHeader`), borrowed. They were tested when
+/// the value was made, so that getters test nothing. A contract sees the value as those bytes.
 #[derive(Clone, Debug, Drop)]
 pub struct Ipv6RawExtHeaderSlice<'a> {
     slice: &'a [u8],

@@ -1,14 +1,16 @@
-//! The definitions at values from outside: each clause is what a standard or a hand gives, so that a
-//! definition can't change with the code.
+//! The definitions at values from outside: each clause is what a standard or a hand gives, so that
+//! a definition can't change with the code.
 
 ghost use Rattle.std.specs.Prelude.{◌≡◌, [], ◌∷◌, ◌++◌, replicate, true, false, Ok, Err};
+ghost use Rattle.ep_base.specs.LenError.{too_few_bytes};
 ghost use Rattle.ep_base.specs.declared.err.layer.Layer.TheVariants as layer;
-ghost use Rattle.ep_icmp.specs.Examples.{destination, letters, ping, source, three_bytes, timestamp, too_big};
+ghost use Rattle.ep_icmp.specs.Examples.{destination, letters, ping, source, three_bytes};
+ghost use Rattle.ep_icmp.specs.Examples.{timestamp, too_big};
 ghost use Rattle.ep_icmp.specs.Icmpv4 as v4;
 ghost use Rattle.ep_icmp.specs.Icmpv4Fault as v4_fault;
 ghost use Rattle.ep_icmp.specs.Icmpv6 as v6;
 ghost use Rattle.ep_icmp.specs.Icmpv6Fault as v6_fault;
-ghost use Rattle.ep_icmp.specs.Layout.{cleared, want_of_bytes};
+ghost use Rattle.ep_icmp.specs.Layout.{with_unused_bytes_zero};
 ghost use Rattle.ep_icmp.specs.declared.transport.icmpv4.dest_unreachable_header.DestUnreachableHeader.TheVariants as unreachable_4;
 ghost use Rattle.ep_icmp.specs.declared.transport.icmpv4_type.Icmpv4Type.TheVariants as kind_4;
 ghost use Rattle.ep_icmp.specs.declared.transport.icmpv6_type.Icmpv6Type.TheVariants as kind_6;
@@ -16,7 +18,7 @@ ghost use Rattle.ep_icmp.specs.declared.transport.icmpv6_type.Icmpv6Type.TheVari
 /// ICMPv4 headers by their bytes, both ways (RFC 792).
 #[tactic(auto, unfolding(crate::specs::Icmpv4::kind_at))]
 pub fn icmpv4_headers()
-    ensures echo { v4.header_of (ping ++ letters) ≡ record {
+    ensures echo { v4.icmpv4_header_of (ping ++ letters) ≡ record {
       icmp_type = kind_4.EchoRequest (record { id = 1; seq = 1 });
       checksum = 19802;
     } }
@@ -27,12 +29,15 @@ pub fn icmpv4_headers()
       receive_timestamp = 84281096;
       transmit_timestamp = 151653132;
     }) }
-    ensures unknown { v4.type_of (3 ∷ 16 ∷ 0 ∷ 0 ∷ 1 ∷ 2 ∷ 3 ∷ 4 ∷ []) ≡ kind_4.Unknown 3 16 (1 ∷ 2 ∷ 3 ∷ 4 ∷ []) }
+    ensures unknown { v4.type_of (3 ∷ 16 ∷ 0 ∷ 0 ∷ 1 ∷ 2 ∷ 3 ∷ 4 ∷ [])
+        ≡ kind_4.Unknown 3 16 (1 ∷ 2 ∷ 3 ∷ 4 ∷ []) }
     ensures spelled { v4.spelling (record {
       icmp_type = kind_4.DestinationUnreachable (unreachable_4.FragmentationNeeded 1500);
       checksum = 258;
     }) ≡ 3 ∷ 4 ∷ 1 ∷ 2 ∷ 0 ∷ 0 ∷ 5 ∷ 220 ∷ [] }
-    ensures unused { cleared (v4.layout_of (kind_4.DestinationUnreachable unreachable_4.Host)) (3 ∷ 1 ∷ 5 ∷ 6 ∷ 1 ∷ 2 ∷ 3 ∷ 4 ∷ [])
+    ensures unused { with_unused_bytes_zero (v4.layout_of (kind_4.DestinationUnreachable
+        unreachable_4.Host))
+        (3 ∷ 1 ∷ 5 ∷ 6 ∷ 1 ∷ 2 ∷ 3 ∷ 4 ∷ [])
         ≡ 3 ∷ 1 ∷ 5 ∷ 6 ∷ 0 ∷ 0 ∷ 0 ∷ 0 ∷ [] }
 {}
 
@@ -47,30 +52,37 @@ pub fn icmpv4_numbers()
 
 /// Where ICMPv4 messages end: a timestamp message, which carries no data, has 20 bytes.
 pub fn icmpv4_lengths()
-    ensures front { v4_fault.message_at (replicate 7 8) ≡ Err (want_of_bytes 8 7 layer.Icmpv4) }
+    ensures front { v4_fault.message_at (replicate 7 8) ≡ Err (too_few_bytes layer.Icmpv4 8 7) }
     ensures whole { v4_fault.message_at ping ≡ Ok ping }
-    ensures request { v4_fault.message_at (13 ∷ replicate 7 0) ≡ Err (want_of_bytes 20 8 layer.Icmpv4Timestamp) }
-    ensures reply { v4_fault.message_at (14 ∷ replicate 20 0) ≡ Err (want_of_bytes 20 21 layer.Icmpv4TimestampReply) }
+    ensures request { v4_fault.message_at (13 ∷ replicate 7 0)
+        ≡ Err (too_few_bytes layer.Icmpv4Timestamp 20 8) }
+    ensures reply { v4_fault.message_at (14 ∷ replicate 20 0)
+        ≡ Err (too_few_bytes layer.Icmpv4TimestampReply 20 21) }
     ensures timestamp { v4_fault.message_at timestamp ≡ Ok timestamp }
-    ensures other_code { v4_fault.message_at (13 ∷ 1 ∷ replicate 6 0) ≡ Ok (13 ∷ 1 ∷ replicate 6 0) }
+    ensures other_code { v4_fault.message_at (13 ∷ 1 ∷ replicate 6 0)
+        ≡ Ok (13 ∷ 1 ∷ replicate 6 0) }
 {}
 
 /// Checksums of ICMPv4 messages: the header and data of an echo request, and a reply of zeros.
 #[tactic(auto, unfolding(ep_base::specs::Sum::total, ep_base::specs::Sum::fold))]
 pub fn icmpv4_checksums()
-    ensures ping { v4.right_checksum (kind_4.EchoRequest (record { id = 1; seq = 1 })) letters ≡ 19802 }
+    ensures ping { v4.right_checksum (kind_4.EchoRequest (record { id = 1; seq = 1 })) letters
+        ≡ 19802 }
     ensures zeros { v4.right_checksum (kind_4.EchoReply (record { id = 0; seq = 0 })) [] ≡ 65535 }
 {}
 
 /// ICMPv6 headers by their bytes, both ways, and their numbers (RFC 4443).
 #[tactic(auto, unfolding(crate::specs::Icmpv6::kind_at, crate::specs::Icmpv6::is_listed))]
 pub fn icmpv6_headers()
-    ensures too_big { v6.header_of (too_big ++ three_bytes) ≡ record { icmp_type = kind_6.PacketTooBig 1500; checksum = 38999 } }
-    ensures spelled { v6.spelling (record { icmp_type = kind_6.PacketTooBig 1500; checksum = 38999 }) ≡ too_big }
-    ensures unknown { v6.type_of (135 ∷ 0 ∷ 0 ∷ 0 ∷ 1 ∷ 2 ∷ 3 ∷ 4 ∷ []) ≡ kind_6.Unknown 135 0 (1 ∷ 2 ∷ 3 ∷ 4 ∷ []) }
+    ensures too_big { v6.icmpv6_header_of (too_big ++ three_bytes)
+        ≡ record { icmp_type = kind_6.PacketTooBig 1500; checksum = 38999 } }
+    ensures spelled { v6.spelling
+        (record { icmp_type = kind_6.PacketTooBig 1500; checksum = 38999 }) ≡ too_big }
+    ensures unknown { v6.type_of (135 ∷ 0 ∷ 0 ∷ 0 ∷ 1 ∷ 2 ∷ 3 ∷ 4 ∷ [])
+        ≡ kind_6.Unknown 135 0 (1 ∷ 2 ∷ 3 ∷ 4 ∷ []) }
     ensures last_problem { v6.is_listed 4 10 ≡ true }
     ensures beyond { v6.is_listed 4 11 ≡ false }
-    ensures short { v6_fault.message_at (replicate 7 128) ≡ Err (want_of_bytes 8 7 layer.Icmpv6) }
+    ensures short { v6_fault.message_at (replicate 7 128) ≡ Err (too_few_bytes layer.Icmpv6 8 7) }
 {}
 
 /// The checksum of an ICMPv6 message between two addresses, with a payload of an odd length.

@@ -2,8 +2,10 @@
 ghost use Rattle.std.specs.Prelude.{◌≡◌, ◌+◌, ℕ, List, [], ◌∷◌, ◌++◌, IsOkAnd, IsTrue, length};
 ghost use Rattle.ep_base.specs.Bytes.{IsBytes};
 ghost use Rattle.ep_base.specs.Sum.{all_ones};
-ghost use Rattle.ep_icmp.specs.Icmpv6.{IsSpelledOut, ReadableIcmpv6, checked, header_of, layout_of, pseudo, spelling, type_of};
-ghost use Rattle.ep_icmp.specs.Layout.{cleared};
+ghost use Rattle.ep_icmp.specs.Icmpv6.{IsSpelledOut, ReadableIcmpv6, icmpv6_with_checksum};
+ghost use Rattle.ep_icmp.specs.Icmpv6.{icmpv6_header_of, layout_of};
+ghost use Rattle.ep_icmp.specs.Icmpv6.{pseudo, spelling, type_of};
+ghost use Rattle.ep_icmp.specs.Layout.{with_unused_bytes_zero};
 ghost use Rattle.ep_icmp.specs.declared.transport.icmpv6_type.Icmpv6Type.{Icmpv6Type};
 
 use crate::Icmpv6Header;
@@ -16,13 +18,14 @@ pub fn lengths() -> [usize; 2]
     [Icmpv6Header::MIN_LEN, Icmpv6Header::MAX_LEN]
 }
 
-/// What `to_bytes` gives is read again, whatever follows it, but for an `Unknown` of a type and code
-/// for which another variant stands.
+/// What `to_bytes` gives is read again, whatever follows it, but for an `Unknown` of a type and
+/// code for which another variant stands.
 pub fn header_is_read_again<'a>(
     header: &Icmpv6Header,
     slice: &'a [u8],
 ) -> Result<(Icmpv6Header, &'a [u8]), LenError>
-    ensures { (rest : List ℕ) → slice.now ≡ spelling header.now ++ rest → IsSpelledOut header.now.icmp_type
+    ensures { (rest : List ℕ) → slice.now ≡ spelling header.now ++ rest
+        → IsSpelledOut header.now.icmp_type
         → IsOkAnd result (λ r. (r.0 ≡ header.now) × (r.1.now ≡ rest)) }
 {
     let _bytes = header.to_bytes();
@@ -33,15 +36,17 @@ pub fn header_is_read_again<'a>(
 /// kind leaves unused as 0.
 pub fn header_is_written_back()
     ensures { (bytes : List ℕ) → ReadableIcmpv6 bytes → IsBytes bytes
-        → spelling (header_of bytes) ≡ cleared (layout_of (type_of bytes)) bytes }
+        → spelling (icmpv6_header_of bytes) ≡ with_unused_bytes_zero (layout_of (type_of bytes))
+        bytes }
 {}
 
 /// A pseudo header, a header with the checksum that belongs to these addresses and a payload, and
 /// that payload sum to all ones, which is what `is_checksum_valid` tests.
 pub fn checksums_sum_to_all_ones()
-    ensures { (kind : Icmpv6Type) (source destination payload : List ℕ) → length source ≡ 16 → length destination ≡ 16
+    ensures { (kind : Icmpv6Type) (source destination payload : List ℕ) → length source ≡ 16
+        → length destination ≡ 16
         → IsTrue (all_ones (pseudo source destination (8 + length payload)
-        ++ spelling (checked source destination kind payload) ++ payload)) }
+        ++ spelling (icmpv6_with_checksum source destination kind payload) ++ payload)) }
 {
     ep_base::laws::checksum_sums_to_all_ones();
 }

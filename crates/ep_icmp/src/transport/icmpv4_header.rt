@@ -1,6 +1,11 @@
 //! The header of an ICMPv4 message.
-ghost use Rattle.std.specs.Prelude.{◌≡◌, ◌+◌, ◌≤◌, ◌++◌, length, IfOk, IfErr, IsOk, OnOk, OnErr, Err, vec_len, vec_capacity};
-ghost use Rattle.ep_icmp.specs.Icmpv4.{HeaderFits, IsRead, IsSpelledOut, ReadableIcmpv4, checked, fixed_payload_size, header_len, header_of, right_checksum, spelling};
+ghost use Rattle.std.specs.Prelude.{◌≡◌, ◌+◌, ◌≤◌, ◌++◌, length, IfOk, IfErr, IsOk, OnOk, OnErr};
+ghost use Rattle.std.specs.Prelude.{Err, vec_len, vec_capacity};
+ghost use Rattle.ep_icmp.specs.Icmpv4.{HeaderFits, IsRead, IsSpelledOut, ReadableIcmpv4};
+ghost use Rattle.ep_icmp.specs.Icmpv4.{icmpv4_with_checksum};
+ghost use Rattle.ep_icmp.specs.Icmpv4.{fixed_payload_size, header_len, icmpv4_header_of};
+ghost use Rattle.ep_icmp.specs.Icmpv4.{right_checksum};
+ghost use Rattle.ep_icmp.specs.Icmpv4.{spelling};
 ghost use Rattle.ep_icmp.specs.Icmpv4Fault.{message_at};
 
 use super::{Icmpv4Slice, Icmpv4Type};
@@ -37,7 +42,7 @@ impl Icmpv4Header {
 
     /// The header of this kind with the checksum that belongs to this payload.
     pub fn with_checksum(icmp_type: Icmpv4Type, payload: &[u8]) -> Icmpv4Header
-        ensures { result ≡ checked icmp_type payload.now }
+        ensures { result ≡ icmpv4_with_checksum icmp_type payload.now }
     {
         let checksum = icmp_type.calc_checksum(payload);
         Icmpv4Header {
@@ -78,7 +83,7 @@ impl Icmpv4Header {
 
     /// Sets the checksum to the one that belongs to this payload.
     pub fn update_checksum(&mut self, payload: &[u8])
-        ensures { self.new ≡ checked self.old.icmp_type payload.now }
+        ensures { self.new ≡ icmpv4_with_checksum self.old.icmp_type payload.now }
     {
         self.checksum = self.icmp_type.calc_checksum(payload);
     }
@@ -100,10 +105,12 @@ impl Icmpv4Header {
     /// Where no memory is left for them, the buffer keeps its bytes.
     pub fn write(&self, buffer: &mut Vec<u8>) -> Result<(), AllocError>
         ensures ok { OnOk result (buffer.new.items ≡ buffer.old.items ++ spelling self.now) }
-        ensures len { OnOk result (vec_len buffer.new ≡ vec_len buffer.old + header_len self.now.icmp_type) }
+        ensures len { OnOk result (vec_len buffer.new
+            ≡ vec_len buffer.old + header_len self.now.icmp_type) }
         ensures err { OnErr result (buffer.new.items ≡ buffer.old.items) }
         // It fails only where room was missing, and room never shrinks.
-        ensures succeeds { vec_len buffer.old + header_len self.now.icmp_type ≤ vec_capacity buffer.old → IsOk result }
+        ensures succeeds { vec_len buffer.old + header_len self.now.icmp_type
+            ≤ vec_capacity buffer.old → IsOk result }
         ensures capacity { vec_capacity buffer.old ≤ vec_capacity buffer.new }
     {
         buffer.extend_from_slice(self.to_bytes().as_slice())

@@ -1,19 +1,19 @@
 //! An ICMPv4 message, borrowed.
-ghost use Rattle.std.specs.Prelude.{◌≡◌, ◌≤◌, ℕ, List, ◌++◌, length, drop, slice_range, IfOk, IsTrue, Ok, nat_eq};
+ghost use Rattle.std.specs.Prelude.{◌≡◌, ◌≤◌, ℕ, false, List, ◌++◌, length, drop, slice_range};
+ghost use Rattle.std.specs.Prelude.{IfOk, IsTrue, Ok, nat_eq};
 ghost use Rattle.std.specs.Cmp.Lexicographic.{pointwise};
 ghost use Rattle.std.specs.Cmp.Rules.{comparing};
 ghost use Rattle.std.proofs.Common.{rules};
 ghost use Rattle.ep_base.specs.Bytes.{num};
-ghost use Rattle.ep_icmp.specs.Icmpv4.{ReadableIcmpv4, header_len, header_of, is_timestamp, type_of};
+ghost use Rattle.ep_icmp.specs.Icmpv4.{ReadableIcmpv4, header_len, icmpv4_header_of, is_listed};
+ghost use Rattle.ep_icmp.specs.Icmpv4.{is_timestamp, type_of};
 ghost use Rattle.ep_icmp.specs.Icmpv4Fault.{message_at};
 ghost use Rattle.ep_icmp.specs.Fields.{echo_in, timestamp_in};
-ghost use Rattle.ep_icmp.specs.declared.transport.icmpv4_type.Icmpv4Type.TheVariants as kind;
 
 use super::icmpv4::{
     DestUnreachableHeader, ParameterProblemHeader, RedirectCode, RedirectHeader, TimeExceededCode,
     TimestampMessage,
 };
-use super::len_errors::want_of_bytes;
 use super::{IcmpEchoHeader, Icmpv4Header, Icmpv4Type};
 use ep_base::err::{Layer, LenError};
 use std::marker::Model;
@@ -34,6 +34,7 @@ impl<'a> Model for Icmpv4Slice<'a> {
     ghost invariant = { λ message. ReadableIcmpv4 message.slice.now };
 }
 
+#[tactic(auto, using(crate::proofs::Icmpv4Kinds::unknown_at, crate::proofs::Icmpv4Kinds::no_unreachable, crate::proofs::Icmpv4Kinds::no_redirect, crate::proofs::Icmpv4Kinds::no_time_exceeded, crate::proofs::Icmpv4Kinds::no_problem))]
 impl<'a> Icmpv4Slice<'a> {
     /// The message that is this slice. Refused are, in this order, a slice of fewer than 8 bytes
     /// (layer `Icmpv4`), and a timestamp request or reply, which carries no data, of other than 20
@@ -53,7 +54,7 @@ impl<'a> Icmpv4Slice<'a> {
         ensures { result ≡ message_at slice.now }
     {
         if slice.len() < Icmpv4Header::MIN_LEN {
-            return Err(want_of_bytes(Icmpv4Header::MIN_LEN, slice.len(), Layer::Icmpv4));
+            return Err(LenError::too_few_bytes(Layer::Icmpv4, Icmpv4Header::MIN_LEN, slice.len()));
         }
         let layer = match (slice[0], slice[1]) {
             (13, 0) => Layer::Icmpv4Timestamp,
@@ -61,7 +62,7 @@ impl<'a> Icmpv4Slice<'a> {
             _ => return Ok(Icmpv4Slice { slice }),
         };
         if slice.len() != TimestampMessage::LEN {
-            return Err(want_of_bytes(TimestampMessage::LEN, slice.len(), layer));
+            return Err(LenError::too_few_bytes(layer, TimestampMessage::LEN, slice.len()));
         }
         Ok(Icmpv4Slice { slice })
     }
@@ -178,7 +179,8 @@ impl<'a> Icmpv4Slice<'a> {
     }
 
     fn unknown(&self) -> Icmpv4Type
-        ensures { result ≡ kind.Unknown (num self.now 0 1) (num self.now 1 1) (slice_range self.now 4 8) }
+        requires { is_listed (num self.now 0 1) (num self.now 1 1) ≡ false }
+        ensures { result ≡ type_of self.now }
     {
         Icmpv4Type::Unknown {
             type_u8: self.type_u8(),
@@ -215,7 +217,7 @@ impl<'a> Icmpv4Slice<'a> {
 
     /// The kind and the checksum.
     pub fn header(&self) -> Icmpv4Header
-        ensures { result ≡ header_of self.now }
+        ensures { result ≡ icmpv4_header_of self.now }
     {
         Icmpv4Header {
             icmp_type: self.icmp_type(),

@@ -2,8 +2,9 @@
 ghost use Rattle.std.specs.Prelude.{◌≡◌, ◌++◌, length, take};
 ghost use Rattle.std.specs.Option.{option_copied};
 ghost use Rattle.ep_base.specs.Sum.{fold, total};
-ghost use Rattle.ep_icmp.specs.Icmpv4.{FieldsFit, Fits, fixed_payload_size, header_len, layout_of, right_checksum, timestamp_of};
-ghost use Rattle.ep_icmp.specs.Layout.{front, spelled, written};
+ghost use Rattle.ep_icmp.specs.Icmpv4.{FieldsFit, Fits, fixed_payload_size, header_len, layout_of};
+ghost use Rattle.ep_icmp.specs.Icmpv4.{right_checksum, timestamp_of};
+ghost use Rattle.ep_icmp.specs.Layout.{front, bytes_of_layout, bytes_of_fields};
 
 use super::icmpv4::{
     DestUnreachableHeader, ParameterProblemHeader, RedirectHeader, TimeExceededCode,
@@ -78,7 +79,7 @@ impl Icmpv4Type {
 
     // The sum of the message with this payload, its checksum as 0.
     fn sum_with(&self, payload: &[u8]) -> Sum16BitWords
-        ensures { result ≡ fold (total (spelled (layout_of self.now) 0 ++ payload.now)) }
+        ensures { result ≡ fold (total (bytes_of_layout (layout_of self.now) 0 ++ payload.now)) }
     {
         let front = self.front_with(0);
         match self.timestamp() {
@@ -103,7 +104,7 @@ impl Icmpv4Type {
 
     // The header with this checksum.
     pub(crate) fn spelled_with(&self, checksum: u16) -> ArrayVec<u8, 20>
-        ensures bytes { result.items ≡ spelled (layout_of self.now) checksum }
+        ensures bytes { result.items ≡ bytes_of_layout (layout_of self.now) checksum }
         ensures len { length result.items ≡ header_len self.now }
         ensures fits { Fits self.now }
     {
@@ -163,7 +164,7 @@ impl Icmpv4Type {
     }
 
     fn bytes5to8(&self) -> [u8; 4]
-        ensures bytes { result ≡ take 4 (written (layout_of self.now).fields) }
+        ensures bytes { result ≡ take 4 (bytes_of_fields (layout_of self.now).fields) }
         ensures fits { FieldsFit self.now }
     {
         match self {

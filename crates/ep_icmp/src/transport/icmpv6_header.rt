@@ -1,7 +1,9 @@
 //! The header of an ICMPv6 message.
-ghost use Rattle.std.specs.Prelude.{◌≡◌, ◌+◌, ◌≤◌, ◌++◌, ◌<◌, length, IfOk, IfErr, IsOk, MatchResult, None, OnOk, OnErr, Err, vec_len, vec_capacity};
+ghost use Rattle.std.specs.Prelude.{◌≡◌, ◌+◌, ◌≤◌, ◌++◌, ◌<◌, length, IfOk, IfErr, IsOk};
+ghost use Rattle.std.specs.Prelude.{MatchResult, None, OnOk, OnErr, Err, vec_len, vec_capacity};
 ghost use Rattle.ep_base.specs.Bounded.{too_big};
-ghost use Rattle.ep_icmp.specs.Icmpv6.{HeaderFits, IsRead, ReadableIcmpv6, checked, spelling};
+ghost use Rattle.ep_icmp.specs.Icmpv6.{HeaderFits, IsRead, ReadableIcmpv6, icmpv6_with_checksum};
+ghost use Rattle.ep_icmp.specs.Icmpv6.{spelling};
 ghost use Rattle.ep_icmp.specs.Icmpv6Fault.{message_at};
 ghost use Rattle.ep_icmp.specs.Limit.{IsWithin, greatest_payload};
 
@@ -45,7 +47,8 @@ impl Icmpv6Header {
         destination: [u8; 16],
         payload: &[u8],
     ) -> Result<Icmpv6Header, ValueTooBigError<usize>>
-        ensures { IsWithin (checked source destination icmp_type payload.now) (length payload.now) result }
+        ensures { IsWithin (icmpv6_with_checksum source destination icmp_type payload.now)
+            (length payload.now) result }
     {
         let checksum = icmp_type.calc_checksum(source, destination, payload)?;
         Ok(Icmpv6Header {
@@ -89,7 +92,8 @@ impl Icmpv6Header {
         destination: [u8; 16],
         payload: &[u8],
     ) -> Result<(), ValueTooBigError<usize>>
-        ensures ok { OnOk result (self.new ≡ checked source destination self.old.icmp_type payload.now) }
+        ensures ok { OnOk result
+            (self.new ≡ icmpv6_with_checksum source destination self.old.icmp_type payload.now) }
         ensures err { OnErr result (self.new ≡ self.old) }
         ensures outcome { MatchResult result (λ _. length payload.now ≤ greatest_payload)
             (λ e. (greatest_payload < length payload.now)

@@ -1,19 +1,19 @@
 //! An ICMPv6 message, borrowed.
-ghost use Rattle.std.specs.Prelude.{◌≡◌, ℕ, List, ◌++◌, length, drop, slice_range, IfOk, Ok, nat_eq};
+ghost use Rattle.std.specs.Prelude.{◌≡◌, ℕ, false, List, ◌++◌, length, drop, slice_range, IfOk, Ok};
+ghost use Rattle.std.specs.Prelude.{nat_eq};
 ghost use Rattle.std.specs.Cmp.Lexicographic.{pointwise};
 ghost use Rattle.std.specs.Cmp.Rules.{comparing};
 ghost use Rattle.std.proofs.Common.{rules};
 ghost use Rattle.ep_base.specs.Bytes.{num};
 ghost use Rattle.ep_base.specs.Sum.{all_ones};
 ghost use Rattle.ep_icmp.specs.Fields.{echo_in};
-ghost use Rattle.ep_icmp.specs.Icmpv6.{ReadableIcmpv6, header_of, pseudo, type_of};
+ghost use Rattle.ep_icmp.specs.Icmpv6.{ReadableIcmpv6, icmpv6_header_of, is_listed, pseudo};
+ghost use Rattle.ep_icmp.specs.Icmpv6.{type_of};
 ghost use Rattle.ep_icmp.specs.Icmpv6Fault.{message_at};
-ghost use Rattle.ep_icmp.specs.declared.transport.icmpv6_type.Icmpv6Type.TheVariants as kind;
 
 use super::icmpv6::{
     DestUnreachableCode, ParameterProblemCode, ParameterProblemHeader, TimeExceededCode,
 };
-use super::len_errors::want_of_bytes;
 use super::{IcmpEchoHeader, Icmpv6Header, Icmpv6Type};
 use ep_base::checksum::message_sum;
 use ep_base::err::{Layer, LenError};
@@ -21,8 +21,8 @@ use ep_base::ip_number;
 use ep_ip::checksum::pseudo_sum_v6;
 use std::marker::Model;
 
-/// An ICMPv6 message (RFC 4443, section 2.1): a header of 8 bytes and what follows it, borrowed. Its
-/// length was tested when the value was made, so that getters test nothing. A contract sees the
+/// An ICMPv6 message (RFC 4443, section 2.1): a header of 8 bytes and what follows it, borrowed.
+/// Its length was tested when the value was made, so that getters test nothing. A contract sees the
 /// value as those bytes.
 #[derive(Clone, Debug, Drop)]
 pub struct Icmpv6Slice<'a> {
@@ -37,6 +37,7 @@ impl<'a> Model for Icmpv6Slice<'a> {
     ghost invariant = { λ message. ReadableIcmpv6 message.slice.now };
 }
 
+#[tactic(auto, using(crate::proofs::Icmpv6Kinds::unknown_at, crate::proofs::Icmpv6Kinds::no_unreachable, crate::proofs::Icmpv6Kinds::no_time_exceeded, crate::proofs::Icmpv6Kinds::no_problem))]
 impl<'a> Icmpv6Slice<'a> {
     /// The message that is this slice. A slice of fewer than 8 bytes is refused (layer `Icmpv6`).
     pub fn from_slice(slice: &'a [u8]) -> Result<Icmpv6Slice<'a>, LenError>
@@ -54,7 +55,7 @@ impl<'a> Icmpv6Slice<'a> {
         ensures { result ≡ message_at slice.now }
     {
         if slice.len() < Icmpv6Header::MIN_LEN {
-            return Err(want_of_bytes(Icmpv6Header::MIN_LEN, slice.len(), Layer::Icmpv6));
+            return Err(LenError::too_few_bytes(Layer::Icmpv6, Icmpv6Header::MIN_LEN, slice.len()));
         }
         Ok(Icmpv6Slice { slice })
     }
@@ -89,8 +90,8 @@ impl<'a> Icmpv6Slice<'a> {
     }
 
     /// Whether the message between these addresses has a right checksum: pseudo header and message
-    /// sum to all ones (RFC 4443, section 2.3; RFC 1071, section 1). The length in the pseudo header
-    /// is the message's modulo 2 to the 32.
+    /// sum to all ones (RFC 4443, section 2.3; RFC 1071, section 1). The length in the pseudo
+    /// header is the message's modulo 2 to the 32.
     pub fn is_checksum_valid(&self, source: [u8; 16], destination: [u8; 16]) -> bool
         ensures { result ≡ all_ones (pseudo source destination (length self.now) ++ self.now) }
     {
@@ -170,7 +171,8 @@ impl<'a> Icmpv6Slice<'a> {
     }
 
     fn unknown(&self) -> Icmpv6Type
-        ensures { result ≡ kind.Unknown (num self.now 0 1) (num self.now 1 1) (slice_range self.now 4 8) }
+        requires { is_listed (num self.now 0 1) (num self.now 1 1) ≡ false }
+        ensures { result ≡ type_of self.now }
     {
         Icmpv6Type::Unknown {
             type_u8: self.type_u8(),
@@ -195,7 +197,7 @@ impl<'a> Icmpv6Slice<'a> {
 
     /// The kind and the checksum.
     pub fn header(&self) -> Icmpv6Header
-        ensures { result ≡ header_of self.now }
+        ensures { result ≡ icmpv6_header_of self.now }
     {
         Icmpv6Header {
             icmp_type: self.icmp_type(),

@@ -3,8 +3,9 @@ ghost use Rattle.std.specs.Prelude.{◌≡◌, ℕ, ◌++◌, List, MatchResult,
 ghost use Rattle.ep_base.specs.Bounded.{too_big};
 ghost use Rattle.ep_base.specs.MessageSum.{SumsWords};
 ghost use Rattle.ep_base.specs.Sum.{fold, total};
-ghost use Rattle.ep_icmp.specs.Icmpv6.{FieldsFit, Fits, checked, layout_of, pseudo, right_checksum};
-ghost use Rattle.ep_icmp.specs.Layout.{spelled, written};
+ghost use Rattle.ep_icmp.specs.Icmpv6.{FieldsFit, Fits, icmpv6_with_checksum, layout_of, pseudo};
+ghost use Rattle.ep_icmp.specs.Icmpv6.{right_checksum};
+ghost use Rattle.ep_icmp.specs.Layout.{bytes_of_layout, bytes_of_fields};
 ghost use Rattle.ep_icmp.specs.Limit.{IsWithin};
 
 use super::icmpv6::{DestUnreachableCode, ParameterProblemHeader, TimeExceededCode};
@@ -101,7 +102,8 @@ impl Icmpv6Type {
         destination: [u8; 16],
         payload: &[u8],
     ) -> Result<u16, ValueTooBigError<usize>>
-        ensures { IsWithin (right_checksum source destination self.now payload.now) (length payload.now) result }
+        ensures { IsWithin (right_checksum source destination self.now payload.now)
+            (length payload.now) result }
     {
         let max_allowed = u32::MAX as usize - self.header_len();
         if payload.len() > max_allowed {
@@ -121,14 +123,15 @@ impl Icmpv6Type {
     // sum.
     fn sum_behind(&self, pseudo: Sum16BitWords, payload: &[u8]) -> Sum16BitWords
         ensures { (front : List ℕ) → SumsWords pseudo front
-            → result ≡ fold (total (front ++ spelled (layout_of self.now) 0 ++ payload.now)) }
+            → result ≡ fold (total (front ++ bytes_of_layout (layout_of self.now) 0
+            ++ payload.now)) }
     {
         message_sum(pseudo, &self.spelled_with(0), payload)
     }
 
     // The header with this checksum.
     pub(crate) fn spelled_with(&self, checksum: u16) -> [u8; 8]
-        ensures bytes { result ≡ spelled (layout_of self.now) checksum }
+        ensures bytes { result ≡ bytes_of_layout (layout_of self.now) checksum }
         ensures fits { Fits self.now }
     {
         let [c0, c1] = checksum.to_be_bytes();
@@ -144,14 +147,15 @@ impl Icmpv6Type {
         destination: [u8; 16],
         payload: &[u8],
     ) -> Result<Icmpv6Header, ValueTooBigError<usize>>
-        ensures { IsWithin (checked source destination self payload.now) (length payload.now) result }
+        ensures { IsWithin (icmpv6_with_checksum source destination self payload.now)
+            (length payload.now) result }
     {
         Icmpv6Header::with_checksum(self, source, destination, payload)
     }
 
     // What stands behind the checksum.
     fn bytes5to8(&self) -> [u8; 4]
-        ensures bytes { result ≡ written (layout_of self.now).fields }
+        ensures bytes { result ≡ bytes_of_fields (layout_of self.now).fields }
         ensures fits { FieldsFit self.now }
     {
         match self {

@@ -1,15 +1,16 @@
-//! The definitions and laws at values from outside: each clause is what a standard or a hand gives, so
-//! that a definition can't change with the code.
+//! The definitions and laws at values from outside: each clause is what a standard or a hand gives,
+//! so that a definition can't change with the code.
 
-ghost use Rattle.std.specs.Prelude.{◌≡◌, [], ◌∷◌, ◌++◌, replicate, take, length, true, false, Ok, Err};
+ghost use Rattle.std.specs.Prelude.{◌≡◌, [], ◌∷◌, ◌++◌, replicate, take, length, true, false, Ok};
+ghost use Rattle.std.specs.Prelude.{Err};
 ghost use Rattle.ep_base.specs.declared.err.layer.Layer.TheVariants as layer;
 ghost use Rattle.ep_base.specs.declared.len_source.LenSource.TheVariants as source;
 ghost use Rattle.ep_base.specs.declared.net.ip_ecn.IpEcn.TheVariants as notification;
 ghost use Rattle.ep_ip.specs.declared.err.ipv4.header_error.HeaderError.TheVariants as fault_4;
-ghost use Rattle.ep_ip.specs.declared.err.ipv4.header_slice_error.HeaderSliceError.TheVariants as error_4;
+ghost use Rattle.ep_base.specs.declared.err.slice_error.SliceError.TheVariants as slice_error;
 ghost use Rattle.ep_ip.specs.declared.err.ipv6.header_error.HeaderError.TheVariants as fault_6;
-ghost use Rattle.ep_ip.specs.declared.err.ipv6.header_slice_error.HeaderSliceError.TheVariants as error_6;
-ghost use Rattle.ep_ip.specs.Examples.{ipv4_with_options, ipv4_with_reserved_bit, ipv4_of_all_ones, ipv6_example, two_headers};
+ghost use Rattle.ep_ip.specs.Examples.{ipv4_with_options, ipv4_with_reserved_bit, ipv4_of_all_ones};
+ghost use Rattle.ep_ip.specs.Examples.{ipv6_example, two_headers};
 ghost use Rattle.ep_ip.specs.Ipv4 as v4;
 ghost use Rattle.ep_ip.specs.Ipv4Checksum.{right_checksum, HasRightChecksum};
 ghost use Rattle.ep_ip.specs.Ipv4Fault as v4_fault;
@@ -22,20 +23,23 @@ ghost use Rattle.ep_ip.specs.Skip as walk;
 use super::ipv4::same_fields_from_same_bytes;
 use super::ipv6::skip_follows_every_walk;
 
-/// An IPv4 header is found whatever follows it, and each fault has its fields and its place in the order:
-/// fewer than 20 bytes, the version, the length field, fewer bytes than it says.
+/// An IPv4 header is found whatever follows it, and each fault has its fields and its place in the
+/// order: fewer than 20 bytes, the version, the length field, fewer bytes than it says.
 pub fn ipv4_headers_found()
-    ensures found { v4_fault.header_at (ipv4_with_options ++ 170 ∷ 187 ∷ []) ≡ Ok ipv4_with_options }
-    ensures short { v4_fault.header_at (replicate 19 99) ≡ Err (error_4.Len (record {
+    ensures found { v4_fault.header_at (ipv4_with_options ++ 170 ∷ 187 ∷ [])
+        ≡ Ok ipv4_with_options }
+    ensures short { v4_fault.header_at (replicate 19 99) ≡ Err (slice_error.Len (record {
       required_len = 20;
       len = 19;
       len_source = source.Slice;
       layer = layer.Ipv4Header;
       layer_start_offset = 0;
     })) }
-    ensures version { v4_fault.header_at (replicate 20 99) ≡ Err (error_4.Content (fault_4.UnexpectedVersion 6)) }
-    ensures ihl { v4_fault.header_at (replicate 20 68) ≡ Err (error_4.Content (fault_4.HeaderLengthSmallerThanHeader 4)) }
-    ensures cut_off { v4_fault.header_at (replicate 20 79) ≡ Err (error_4.Len (record {
+    ensures version { v4_fault.header_at (replicate 20 99)
+        ≡ Err (slice_error.Content (fault_4.UnexpectedVersion 6)) }
+    ensures ihl { v4_fault.header_at (replicate 20 68)
+        ≡ Err (slice_error.Content (fault_4.HeaderLengthSmallerThanHeader 4)) }
+    ensures cut_off { v4_fault.header_at (replicate 20 79) ≡ Err (slice_error.Len (record {
       required_len = 60;
       len = 20;
       len_source = source.Slice;
@@ -46,7 +50,7 @@ pub fn ipv4_headers_found()
 
 /// The fields of an IPv4 header, and its bytes again.
 pub fn ipv4_fields()
-    ensures fields { v4.header_of ipv4_with_options ≡ record {
+    ensures fields { v4.ipv4_header_of ipv4_with_options ≡ record {
       dscp = 8;
       ecn = notification.Ect1;
       total_len = 30;
@@ -61,16 +65,17 @@ pub fn ipv4_fields()
       destination = 10 ∷ 0 ∷ 0 ∷ 2 ∷ [];
       options = 1 ∷ 1 ∷ 1 ∷ 0 ∷ [];
     } }
-    ensures bytes { v4.spelling (v4.header_of ipv4_with_options) ≡ ipv4_with_options }
+    ensures bytes { v4.spelling (v4.ipv4_header_of ipv4_with_options) ≡ ipv4_with_options }
     ensures reserved { v4.with_reserved_bit_zero ipv4_with_reserved_bit ≡ ipv4_with_options }
 {}
 
 /// The checksum of an IPv4 header, and ffff in the field where it is 0.
 #[tactic(auto, unfolding(ep_base::specs::Sum::total, ep_base::specs::Sum::fold))]
 pub fn ipv4_checksums()
-    ensures value { right_checksum (v4.header_of ipv4_with_options) ≡ 17311 }
-    ensures zero { right_checksum (v4.header_of ipv4_of_all_ones) ≡ 0 }
-    ensures other_zero { HasRightChecksum (record (v4.header_of ipv4_of_all_ones) { header_checksum = 65535 }) }
+    ensures value { right_checksum (v4.ipv4_header_of ipv4_with_options) ≡ 17311 }
+    ensures zero { right_checksum (v4.ipv4_header_of ipv4_of_all_ones) ≡ 0 }
+    ensures other_zero { HasRightChecksum
+        (record (v4.ipv4_header_of ipv4_of_all_ones) { header_checksum = 65535 }) }
 {}
 
 /// A packet is one of several fragments where more follow or its offset isn't 0.
@@ -81,8 +86,8 @@ pub fn fragments()
     ensures middle { v4.is_fragmenting true 8191 ≡ true }
 {}
 
-/// The length of a payload is what the total length leaves behind the header, if only 0; a total length
-/// below the header's is refused with both.
+/// The length of a payload is what the total length leaves behind the header, if only 0; a total
+/// length below the header's is refused with both.
 pub fn ipv4_payload_lengths()
     ensures some { v4_fault.IsPayloadLen 24 30 (Ok 6) }
     ensures none { v4_fault.IsPayloadLen 20 20 (Ok 0) }
@@ -106,20 +111,21 @@ pub fn ipv4_options()
 /// An IPv6 header is found whatever follows it, and the length is tested before the version.
 pub fn ipv6_headers_found()
     ensures found { v6_fault.header_at (ipv6_example ++ 170 ∷ 187 ∷ []) ≡ Ok ipv6_example }
-    ensures short { v6_fault.header_at (replicate 39 64) ≡ Err (error_6.Len (record {
+    ensures short { v6_fault.header_at (replicate 39 64) ≡ Err (slice_error.Len (record {
       required_len = 40;
       len = 39;
       len_source = source.Slice;
       layer = layer.Ipv6Header;
       layer_start_offset = 0;
     })) }
-    ensures version { v6_fault.header_at (replicate 40 64) ≡ Err (error_6.Content (fault_6.UnexpectedVersion 4)) }
+    ensures version { v6_fault.header_at (replicate 40 64)
+        ≡ Err (slice_error.Content (fault_6.UnexpectedVersion 4)) }
 {}
 
 /// The fields of an IPv6 header, and its bytes again. Traffic class ab is the code point 42 and the
 /// notification 3.
 pub fn ipv6_fields()
-    ensures fields { v6.header_of ipv6_example ≡ record {
+    ensures fields { v6.ipv6_header_of ipv6_example ≡ record {
       traffic_class = 171;
       flow_label = 843505;
       payload_length = 4660;
@@ -128,25 +134,27 @@ pub fn ipv6_fields()
       source = 253 ∷ (replicate 14 0 ++ 1 ∷ []);
       destination = 253 ∷ (replicate 14 0 ++ 2 ∷ []);
     } }
-    ensures bytes { v6.spelling (v6.header_of ipv6_example) ≡ ipv6_example }
+    ensures bytes { v6.spelling (v6.ipv6_header_of ipv6_example) ≡ ipv6_example }
     ensures code_point { v6.dscp_in 171 ≡ 42 }
     ensures notification { v6.ecn_in 171 ≡ notification.CongestionExperienced }
     ensures other_notification { v6.ecn_in 169 ≡ notification.Ect1 }
 {}
 
-/// The layout of pseudo headers: over IPv4 (RFC 768) a zero byte, the number and a length of 2 bytes
-/// behind the addresses, over IPv6 (RFC 8200, section 8.1) a length of 4 bytes, three zero bytes and the
-/// number.
+/// The layout of pseudo headers: over IPv4 (RFC 768) a zero byte, the number and a length of 2
+/// bytes behind the addresses, over IPv6 (RFC 8200, section 8.1) a length of 4 bytes, three zero
+/// bytes and the number.
 pub fn pseudo_headers()
     ensures v4 { pseudo_v4 (10 ∷ 0 ∷ 0 ∷ 1 ∷ []) (10 ∷ 0 ∷ 0 ∷ 2 ∷ []) 17 4660
         ≡ 10 ∷ 0 ∷ 0 ∷ 1 ∷ 10 ∷ 0 ∷ 0 ∷ 2 ∷ 0 ∷ 17 ∷ 18 ∷ 52 ∷ [] }
-    ensures v6 { pseudo_v6 (253 ∷ (replicate 14 0 ++ 1 ∷ [])) (253 ∷ (replicate 14 0 ++ 2 ∷ [])) 58 305419896
-        ≡ 253 ∷ (replicate 14 0 ++ 1 ∷ 253 ∷ (replicate 14 0 ++ 2 ∷ 18 ∷ 52 ∷ 86 ∷ 120 ∷ 0 ∷ 0 ∷ 0 ∷ 58 ∷ [])) }
+    ensures v6 { pseudo_v6 (253 ∷ (replicate 14 0 ++ 1 ∷ []))
+        (253 ∷ (replicate 14 0 ++ 2 ∷ [])) 58 305419896
+        ≡ 253 ∷ (replicate 14 0 ++ 1 ∷ 253 ∷
+        (replicate 14 0 ++ 2 ∷ 18 ∷ 52 ∷ 86 ∷ 120 ∷ 0 ∷ 0 ∷ 0 ∷ 58 ∷ [])) }
 {}
 
 /// How long the header of a number is: a fragment header has 8 bytes whatever its second one, an
-/// authentication header words of 4 behind the first 8 bytes, every other words of 8. Without a second
-/// byte two are needed.
+/// authentication header words of 4 behind the first 8 bytes, every other words of 8. Without a
+/// second byte two are needed.
 pub fn lengths_of_skipped_headers()
     ensures fragment { walk.skipped_len 44 (17 ∷ 255 ∷ []) ≡ 8 }
     ensures authentication { walk.skipped_len 51 (17 ∷ 4 ∷ []) ≡ 24 }
@@ -156,12 +164,14 @@ pub fn lengths_of_skipped_headers()
     ensures known { walk.required_len 44 (17 ∷ 0 ∷ []) ≡ 8 }
 {}
 
-/// The walk over two headers: its end, where the second is cut off, where a header has no second byte,
-/// and at a number of an extension header that isn't skipped.
+/// The walk over two headers: its end, where the second is cut off, where a header has no second
+/// byte, and at a number of an extension header that isn't skipped.
 #[tactic(auto, unfolding(crate::specs::Skip::headers_within, crate::specs::Skip::named_behind))]
 pub fn walks()
-    ensures headers { walk.skipped_headers 0 (60 ∷ (replicate 7 0 ++ 17 ∷ (replicate 7 0 ++ 170 ∷ 187 ∷ []))) ≡ two_headers }
-    ensures ended { walk.skip 0 (60 ∷ (replicate 7 0 ++ 17 ∷ (replicate 7 0 ++ 170 ∷ 187 ∷ []))) ≡ Ok (17, 170 ∷ 187 ∷ []) }
+    ensures headers { walk.skipped_headers 0
+        (60 ∷ (replicate 7 0 ++ 17 ∷ (replicate 7 0 ++ 170 ∷ 187 ∷ []))) ≡ two_headers }
+    ensures ended { walk.skip 0 (60 ∷ (replicate 7 0 ++ 17 ∷ (replicate 7 0 ++ 170 ∷ 187 ∷ [])))
+        ≡ Ok (17, 170 ∷ 187 ∷ []) }
     ensures cut_off { walk.skip 0 (60 ∷ (replicate 7 0 ++ 6 ∷ 1 ∷ 0 ∷ [])) ≡ Err (record {
       required_len = 16;
       len = 3;
@@ -182,15 +192,17 @@ pub fn walks()
 
 /// [`same_fields_from_same_bytes`] at two headers that only the reserved bit tells apart.
 pub fn fields_without_the_reserved_bit()
-    ensures { v4.header_of ipv4_with_reserved_bit ≡ v4.header_of ipv4_with_options }
+    ensures { v4.ipv4_header_of ipv4_with_reserved_bit ≡ v4.ipv4_header_of ipv4_with_options }
 {
     same_fields_from_same_bytes();
 }
 
 /// [`skip_follows_every_walk`] at a row of two headers.
 pub fn walk_over_two_headers()
-    ensures row { walk.Walk 0 (60 ∷ (replicate 7 0 ++ 17 ∷ (replicate 7 0 ++ 170 ∷ 187 ∷ []))) two_headers 17 (170 ∷ 187 ∷ []) }
-    ensures answer { walk.skip 0 (60 ∷ (replicate 7 0 ++ 17 ∷ (replicate 7 0 ++ 170 ∷ 187 ∷ []))) ≡ walk.outcome 16 17 (170 ∷ 187 ∷ []) }
+    ensures row { walk.Walk 0 (60 ∷ (replicate 7 0 ++ 17 ∷ (replicate 7 0 ++ 170 ∷ 187 ∷ [])))
+        two_headers 17 (170 ∷ 187 ∷ []) }
+    ensures answer { walk.skip 0 (60 ∷ (replicate 7 0 ++ 17 ∷ (replicate 7 0 ++ 170 ∷ 187 ∷ [])))
+        ≡ walk.outcome 16 17 (170 ∷ 187 ∷ []) }
 {
     skip_follows_every_walk();
 }

@@ -4,7 +4,8 @@ ghost use Rattle.std.specs.Hash as fed;
 ghost use Rattle.std.specs.Ordering.{nat_cmp};
 ghost use Rattle.std.specs.Cmp.Lexicographic.{slice_cmp};
 ghost use Rattle.ep_base.specs.Bytes.{IsBytes};
-ghost use Rattle.ep_ip.specs.Ipv4.{IsIpv4Header, header_of, ihl_of, total_len_of, spelling, with_reserved_bit_zero};
+ghost use Rattle.ep_ip.specs.Ipv4.{IsIpv4Header, ipv4_header_of, ihl_of, total_len_of, spelling};
+ghost use Rattle.ep_ip.specs.Ipv4.{with_reserved_bit_zero};
 ghost use Rattle.ep_ip.specs.Ipv4Fault.{IsPayloadLen};
 
 use crate::err::ipv4::HeaderSliceError;
@@ -44,7 +45,8 @@ pub fn header_is_read_again<'a>(
 /// bit, the top one of byte 6.
 pub fn same_fields_from_same_bytes()
     ensures { (a b : List ℕ) → IsIpv4Header a → IsBytes a → IsIpv4Header b → IsBytes b
-        → (header_of a ≡ header_of b) ↔ (with_reserved_bit_zero a ≡ with_reserved_bit_zero b) }
+        → (ipv4_header_of a ≡ ipv4_header_of b) ↔ (with_reserved_bit_zero a
+        ≡ with_reserved_bit_zero b) }
 {}
 
 /// A header's bytes and its fields have the same payload length, or the same refusal.

@@ -1,10 +1,11 @@
 //! Laws of IPv6 headers and of the walk over extension headers (RFC 8200, sections 3 and 4).
-ghost use Rattle.std.specs.Prelude.{◌≡◌, ℕ, ◌+◌, ◌*◌, List, [], ◌∷◌, ◌++◌, ◌||◌, ◌==◌, length, ◌↔◌, IsTrue, IsOkAnd};
+ghost use Rattle.std.specs.Prelude.{◌≡◌, ℕ, ◌+◌, ◌*◌, List, [], ◌∷◌, ◌++◌, ◌||◌, ◌==◌, length, ◌↔◌};
+ghost use Rattle.std.specs.Prelude.{IsTrue, IsOkAnd};
 ghost use Rattle.std.specs.List.{concat, list_any};
 ghost use Rattle.ep_base.specs.Bytes.{IsBytes};
 ghost use Rattle.ep_base.specs.IpEcn.{ecn_number};
 ghost use Rattle.ep_base.specs.IpNumber.{ext_header_numbers};
-ghost use Rattle.ep_ip.specs.Ipv6.{IsIpv6Header, header_of, spelling, dscp_in, ecn_in};
+ghost use Rattle.ep_ip.specs.Ipv6.{IsIpv6Header, ipv6_header_of, spelling, dscp_in, ecn_in};
 ghost use Rattle.ep_ip.specs.Skip.{Walk, is_skipped, skipped_headers, outcome, skip};
 
 use crate::err::ipv6::HeaderSliceError;
@@ -22,9 +23,9 @@ pub fn header_lengths() -> [usize; 2]
 /// such a list, which spells the header, and such a list spells a header whose bytes it is.
 pub fn headers_are_their_bytes(header: &Ipv6Header)
     ensures header { IsIpv6Header (spelling header.now) }
-    ensures fields { header_of (spelling header.now) ≡ header.now }
+    ensures fields { ipv6_header_of (spelling header.now) ≡ header.now }
     ensures again { (bytes : List ℕ) → IsIpv6Header bytes → IsBytes bytes
-        → spelling (header_of bytes) ≡ bytes }
+        → spelling (ipv6_header_of bytes) ≡ bytes }
 {
     // For the proof alone, which reads its contract.
     let _bytes = header.to_bytes();
@@ -43,13 +44,15 @@ pub fn header_is_read_again<'a>(
     Ipv6Header::from_slice(slice)
 }
 
-/// A traffic class is its differentiated services code point and its explicit congestion notification.
+/// A traffic class is its differentiated services code point and its explicit congestion
+/// notification.
 pub fn traffic_class_has_two_parts()
     ensures { (class : ℕ) → 4 * dscp_in class + ecn_number (ecn_in class) ≡ class }
 {}
 
-/// The numbers of extension headers are those that the walk skips, and 50, 253 and 254: an encrypted
-/// payload (RFC 4303) and headers of experiments (RFC 3692) don't begin with a number and a length.
+/// The numbers of extension headers are those that the walk skips, and 50, 253 and 254: an
+/// encrypted payload (RFC 4303) and headers of experiments (RFC 3692) don't begin with a number and
+/// a length.
 pub fn skipped_numbers_are_ext_headers()
     ensures { (n : ℕ) → list_any (λ number. n == number) ext_header_numbers
         ≡ (is_skipped n || ((n == 50) || ((n == 253) || (n == 254)))) }
@@ -58,9 +61,11 @@ pub fn skipped_numbers_are_ext_headers()
 /// However bytes are headers in a row and a rest that begins with no whole header, the walk skips
 /// those headers.
 pub fn skip_follows_every_walk()
-    ensures headers { (number : ℕ) (bytes : List ℕ) (headers : List (List ℕ)) (last : ℕ) (rest : List ℕ)
+    ensures headers { (number : ℕ) (bytes : List ℕ) (headers : List (List ℕ))
+        (last : ℕ) (rest : List ℕ)
         → Walk number bytes headers last rest → skipped_headers number bytes ≡ headers }
-    ensures answer { (number : ℕ) (bytes : List ℕ) (headers : List (List ℕ)) (last : ℕ) (rest : List ℕ)
+    ensures answer { (number : ℕ) (bytes : List ℕ) (headers : List (List ℕ))
+        (last : ℕ) (rest : List ℕ)
         → Walk number bytes headers last rest
         → skip number bytes ≡ outcome (length (concat headers)) last rest }
 {}

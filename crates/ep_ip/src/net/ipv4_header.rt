@@ -1,7 +1,11 @@
 //! IPv4 headers as values.
 
-ghost use Rattle.std.specs.Prelude.{◌≡◌, ℕ, ◌+◌, ◌-◌, ◌^◌, ◌<◌, ◌≤◌, ◌↔◌, List, ◌++◌, length, IfOk, IfErr, IsOkAnd, OnOk, OnErr, IsOk, IsTrue, Ok, Err, vec_len, vec_capacity};
-ghost use Rattle.ep_ip.specs.Ipv4.{IsIpv4Header, IsRead, default_header, header_of, header_len, ihl, flags_and_offset, spelling, Fits, is_fragmenting};
+ghost use Rattle.std.specs.Prelude.{◌≡◌, ℕ, ◌+◌, ◌-◌, ◌^◌, ◌<◌, ◌≤◌, ◌↔◌, List, ◌++◌, length, IfOk};
+ghost use Rattle.std.specs.Prelude.{IfErr, IsOkAnd, OnOk, OnErr, IsOk, IsTrue, Ok, Err, vec_len};
+ghost use Rattle.std.specs.Prelude.{vec_capacity};
+ghost use Rattle.ep_ip.specs.Ipv4.{IsIpv4Header, IsRead, default_header, ipv4_header_of};
+ghost use Rattle.ep_ip.specs.Ipv4.{header_len};
+ghost use Rattle.ep_ip.specs.Ipv4.{ihl, flags_and_offset, spelling, Fits, is_fragmenting};
 ghost use Rattle.ep_base.specs.Bounded.{too_big};
 ghost use Rattle.ep_base.specs.Sum.{all_ones};
 ghost use Rattle.ep_ip.specs.Ipv4Checksum.{right_checksum, HasRightChecksum};
@@ -83,7 +87,8 @@ impl Ipv4Header {
           source = source;
           destination = destination;
         }) }
-        ensures refused { 65515 < payload_len → result ≡ Err (too_big ValueType.Ipv4PayloadLength 65515 payload_len) }
+        ensures refused { 65515 < payload_len
+            → result ≡ Err (too_big ValueType.Ipv4PayloadLength 65515 payload_len) }
     {
         let max_allowed = u16::MAX - Ipv4Header::MIN_LEN_U16;
         if payload_len > max_allowed {
@@ -112,7 +117,7 @@ impl Ipv4Header {
         ensures found { IfOk result (λ r. IsRead slice.now r.0 r.1.now) }
         // A front that is a header is read.
         ensures only { (front rest : List ℕ) → IsIpv4Header front → slice.now ≡ front ++ rest
-            → IsOkAnd result (λ r. (r.0 ≡ header_of front) × (r.1.now ≡ rest)) }
+            → IsOkAnd result (λ r. (r.0 ≡ ipv4_header_of front) × (r.1.now ≡ rest)) }
         // Else it is the first fault.
         ensures err { IfErr result (λ e. header_at slice.now ≡ Err e) }
     {
@@ -125,7 +130,7 @@ impl Ipv4Header {
     pub fn read_from_slice(slice: &[u8]) -> Result<(Ipv4Header, &[u8]), HeaderSliceError>
         ensures found { IfOk result (λ r. IsRead slice.now r.0 r.1.now) }
         ensures only { (front rest : List ℕ) → IsIpv4Header front → slice.now ≡ front ++ rest
-            → IsOkAnd result (λ r. (r.0 ≡ header_of front) × (r.1.now ≡ rest)) }
+            → IsOkAnd result (λ r. (r.0 ≡ ipv4_header_of front) × (r.1.now ≡ rest)) }
         ensures err { IfErr result (λ e. header_at slice.now ≡ Err e) }
     {
         Ipv4Header::from_slice(slice)
@@ -140,8 +145,9 @@ impl Ipv4Header {
         ensures len { length result.items ≡ header_len self.now }
         // They are a header, with these fields.
         ensures header { IsIpv4Header result.items }
-        ensures fields { header_of result.items ≡ self.now }
-        // They sum to all ones exactly where the checksum is the right one, or ffff where that is 0.
+        ensures fields { ipv4_header_of result.items ≡ self.now }
+        // They sum to all ones exactly where the checksum is the right one, or ffff where that is
+        // 0.
         ensures checked { IsTrue (all_ones result.items) ↔ HasRightChecksum self.now }
     {
         self.bytes_with_checksum(self.header_checksum)
@@ -149,7 +155,8 @@ impl Ipv4Header {
 
     // The bytes of the header with this checksum.
     fn bytes_with_checksum(&self, header_checksum: u16) -> ArrayVec<u8, 60>
-        ensures bytes { result.items ≡ spelling (record self.now { header_checksum = header_checksum }) }
+        ensures bytes { result.items ≡ spelling
+            (record self.now { header_checksum = header_checksum }) }
         ensures len { length result.items ≡ header_len self.now }
         ensures fits { Fits (record self.now { header_checksum = header_checksum }) }
     {
@@ -214,7 +221,8 @@ impl Ipv4Header {
         ensures len { OnOk result (vec_len buffer.new ≡ vec_len buffer.old + header_len self.now) }
         ensures err { OnErr result (buffer.new.items ≡ buffer.old.items) }
         // It fails only where room was missing, and room never shrinks.
-        ensures succeeds { vec_len buffer.old + header_len self.now ≤ vec_capacity buffer.old → IsOk result }
+        ensures succeeds { vec_len buffer.old + header_len self.now ≤ vec_capacity buffer.old
+            → IsOk result }
         ensures capacity { vec_capacity buffer.old ≤ vec_capacity buffer.new }
     {
         let bytes = self.bytes_with_checksum(self.calc_header_checksum());
@@ -229,7 +237,8 @@ impl Ipv4Header {
         ensures len { OnOk result (vec_len buffer.new ≡ vec_len buffer.old + header_len self.now) }
         ensures err { OnErr result (buffer.new.items ≡ buffer.old.items) }
         // It fails only where room was missing, and room never shrinks.
-        ensures succeeds { vec_len buffer.old + header_len self.now ≤ vec_capacity buffer.old → IsOk result }
+        ensures succeeds { vec_len buffer.old + header_len self.now ≤ vec_capacity buffer.old
+            → IsOk result }
         ensures capacity { vec_capacity buffer.old ≤ vec_capacity buffer.new }
     {
         buffer.extend_from_slice(self.to_bytes().as_slice())
@@ -267,9 +276,11 @@ impl Ipv4Header {
     /// A length above [`Ipv4Header::max_payload_len`] is refused, and the header is unchanged.
     pub fn set_payload_len(&mut self, value: usize) -> Result<(), ValueTooBigError<usize>>
         ensures fits { IsOk result ↔ (header_len self.old + value ≤ 65535) }
-        ensures ok { OnOk result (self.new ≡ record self.old { total_len = header_len self.old + value }) }
+        ensures ok { OnOk result
+            (self.new ≡ record self.old { total_len = header_len self.old + value }) }
         ensures err { OnErr result (self.new ≡ self.old) }
-        ensures refused { IfErr result (λ e. e ≡ too_big ValueType.Ipv4PayloadLength (65535 - header_len self.old) value) }
+        ensures refused { IfErr result
+            (λ e. e ≡ too_big ValueType.Ipv4PayloadLength (65535 - header_len self.old) value) }
     {
         let max_allowed = usize::from(self.max_payload_len());
         if value > max_allowed {

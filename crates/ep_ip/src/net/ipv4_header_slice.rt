@@ -4,8 +4,12 @@ ghost use Rattle.std.specs.Prelude.{◌≡◌, ℕ, ◌+◌, ◌*◌, List, ◌+
 ghost use Rattle.std.specs.Cmp.Lexicographic.{pointwise};
 ghost use Rattle.std.specs.Cmp.Rules.{comparing};
 ghost use Rattle.std.proofs.Common.{rules};
-ghost use Rattle.ep_ip.specs.Ipv4.{IsIpv4Header, version_of, ihl_of, dscp_of, ecn_of, total_len_of, identification_of, dont_fragment_of, more_fragments_of, fragment_offset_of, time_to_live_of, protocol_of, header_checksum_of, source_of, destination_of, options_of, header_of, header_len, ihl, is_fragmenting};
-ghost use Rattle.ep_ip.specs.Ipv4Fault.{header_at, too_short, IsPayloadLen};
+ghost use Rattle.ep_ip.specs.Ipv4.{IsIpv4Header, version_of, ihl_of, dscp_of, ecn_of, total_len_of};
+ghost use Rattle.ep_ip.specs.Ipv4.{identification_of, dont_fragment_of, more_fragments_of};
+ghost use Rattle.ep_ip.specs.Ipv4.{fragment_offset_of, time_to_live_of, protocol_of};
+ghost use Rattle.ep_ip.specs.Ipv4.{header_checksum_of, source_of, destination_of, options_of};
+ghost use Rattle.ep_ip.specs.Ipv4.{ipv4_header_of, header_len, ihl, is_fragmenting};
+ghost use Rattle.ep_ip.specs.Ipv4Fault.{header_at, IsPayloadLen};
 ghost use Rattle.ep_ip.specs.Ipv4Options.{IsIpv4Options};
 
 use super::payload_len::payload_len_of;
@@ -41,9 +45,11 @@ impl<'a> Ipv4HeaderSlice<'a> {
     /// 4 bytes are there as it says (`Len`).
     pub fn from_slice(slice: &'a [u8]) -> Result<Ipv4HeaderSlice<'a>, HeaderSliceError>
         // What is taken is a header, and a front of the slice.
-        ensures found { IfOk result (λ header. IsIpv4Header header × ((rest : List ℕ) × (slice.now ≡ header ++ rest))) }
+        ensures found { IfOk result (λ header. IsIpv4Header header
+            × ((rest : List ℕ) × (slice.now ≡ header ++ rest))) }
         // A front that is a header is taken.
-        ensures only { (header rest : List ℕ) → IsIpv4Header header → slice.now ≡ header ++ rest → result ≡ Ok header }
+        ensures only { (header rest : List ℕ) → IsIpv4Header header
+            → slice.now ≡ header ++ rest → result ≡ Ok header }
         // Else it is the first fault.
         ensures exact { result ≡ header_at slice.now }
     {
@@ -55,7 +61,7 @@ impl<'a> Ipv4HeaderSlice<'a> {
         ensures { result ≡ header_at slice.now }
     {
         if slice.len() < 20 {
-            return Err(too_short(20, slice.len()).into());
+            return Err(LenError::too_few_bytes(Layer::Ipv4Header, 20, slice.len()).into());
         }
         let version_number = slice[0] >> 4;
         if version_number != 4 {
@@ -67,7 +73,7 @@ impl<'a> Ipv4HeaderSlice<'a> {
         }
         let header_len = 4 * usize::from(ihl);
         if slice.len() < header_len {
-            return Err(too_short(header_len, slice.len()).into());
+            return Err(LenError::too_few_bytes(Layer::Ipv4Header, header_len, slice.len()).into());
         }
         Ok(Ipv4HeaderSlice {
             slice: &slice[..header_len],
@@ -163,7 +169,8 @@ impl<'a> Ipv4HeaderSlice<'a> {
 
     /// Whether the payload is a part of a message: more fragments follow, or the offset is not 0.
     pub fn is_fragmenting_payload(&self) -> bool
-        ensures { result ≡ is_fragmenting (more_fragments_of self.now) (fragment_offset_of self.now) }
+        ensures { result ≡ is_fragmenting (more_fragments_of self.now)
+            (fragment_offset_of self.now) }
     {
         self.more_fragments() || self.fragments_offset().value() > 0
     }
@@ -223,7 +230,7 @@ impl<'a> Ipv4HeaderSlice<'a> {
 
     /// The fields. The reserved bit is dropped.
     pub fn to_header(&self) -> Ipv4Header
-        ensures fields { result ≡ header_of self.now }
+        ensures fields { result ≡ ipv4_header_of self.now }
         ensures ihl { ihl result ≡ ihl_of self.now }
         ensures len { header_len result ≡ length self.now }
     {
@@ -260,16 +267,4 @@ impl<'a> PartialEq for Ipv4HeaderSlice<'a> {
 
 impl<'a> Eq for Ipv4HeaderSlice<'a> {
     ghost laws = { Prim.search (comparing, rules) };
-}
-
-fn too_short(required_len: usize, len: usize) -> LenError
-    ensures { result ≡ too_short required_len len }
-{
-    LenError {
-        required_len,
-        len,
-        len_source: LenSource::Slice,
-        layer: Layer::Ipv4Header,
-        layer_start_offset: 0,
-    }
 }

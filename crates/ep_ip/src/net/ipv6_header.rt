@@ -1,17 +1,20 @@
 //! IPv6 headers as values, and the walk over the extension headers behind them.
 
-ghost use Rattle.std.specs.Prelude.{◌≡◌, ℕ, ◌+◌, ◌*◌, ◌^◌, ◌/◌, ◌<◌, ◌≤◌, List, ◌++◌, length, IfOk, IfErr, IsOkAnd, OnOk, OnErr, IsOk, MatchResult, Err, vec_len, vec_capacity};
+ghost use Rattle.std.specs.Prelude.{◌≡◌, ℕ, ◌+◌, ◌*◌, ◌^◌, ◌/◌, ◌<◌, ◌≤◌, List, ◌++◌, length, IfOk};
+ghost use Rattle.std.specs.Prelude.{IfErr, IsOkAnd, OnOk, OnErr, IsOk, MatchResult, Err, vec_len};
+ghost use Rattle.std.specs.Prelude.{vec_capacity};
 ghost use Rattle.std.specs.List.{concat};
 ghost use Rattle.ep_base.specs.Bounded.{too_big};
 ghost use Rattle.ep_base.specs.Bytes.{num};
 ghost use Rattle.ep_ip.specs.Ipv6Fault.{header_at};
-ghost use Rattle.ep_ip.specs.Ipv6.{IsIpv6Header, IsRead, header_of, spelling, Fits, dscp_in, ecn_in};
+ghost use Rattle.ep_ip.specs.Ipv6.{IsIpv6Header, IsRead, ipv6_header_of, spelling, Fits, dscp_in};
+ghost use Rattle.ep_ip.specs.Ipv6.{ecn_in};
 ghost use Rattle.ep_ip.specs.Skip as walk;
 
 use crate::Ipv6HeaderSlice;
 use crate::err::ipv6::HeaderSliceError;
 use ep_base::err::{Layer, LenError, ValueTooBigError, ValueType};
-use ep_base::{IpDscp, IpEcn, IpNumber, Ipv6FlowLabel, LenSource};
+use ep_base::{IpDscp, IpEcn, IpNumber, Ipv6FlowLabel};
 use std::alloc::AllocError;
 
 /// An IPv6 header (RFC 8200, section 3). In its 40 bytes numbers stand high byte first.
@@ -48,7 +51,7 @@ impl Ipv6Header {
         ensures found { IfOk result (λ r. IsRead slice.now r.0 r.1.now) }
         // A front that is a header is read.
         ensures only { (front rest : List ℕ) → IsIpv6Header front → slice.now ≡ front ++ rest
-            → IsOkAnd result (λ r. (r.0 ≡ header_of front) × (r.1.now ≡ rest)) }
+            → IsOkAnd result (λ r. (r.0 ≡ ipv6_header_of front) × (r.1.now ≡ rest)) }
         // Else it is the first fault.
         ensures err { IfErr result (λ e. header_at slice.now ≡ Err e) }
     {
@@ -61,7 +64,7 @@ impl Ipv6Header {
     pub fn read_from_slice(slice: &[u8]) -> Result<(Ipv6Header, &[u8]), HeaderSliceError>
         ensures found { IfOk result (λ r. IsRead slice.now r.0 r.1.now) }
         ensures only { (front rest : List ℕ) → IsIpv6Header front → slice.now ≡ front ++ rest
-            → IsOkAnd result (λ r. (r.0 ≡ header_of front) × (r.1.now ≡ rest)) }
+            → IsOkAnd result (λ r. (r.0 ≡ ipv6_header_of front) × (r.1.now ≡ rest)) }
         ensures err { IfErr result (λ e. header_at slice.now ≡ Err e) }
     {
         Ipv6Header::from_slice(slice)
@@ -82,7 +85,8 @@ impl Ipv6Header {
         IpDscp::try_new(self.traffic_class >> 2).unwrap()
     }
 
-    /// Explicit congestion notification, the lower 2 bits of the traffic class (RFC 3168, section 5).
+    /// Explicit congestion notification, the lower 2 bits of the traffic class (RFC 3168, section
+    /// 5).
     pub fn ecn(&self) -> IpEcn
         ensures { result ≡ ecn_in self.now.traffic_class }
     {
@@ -130,7 +134,7 @@ impl Ipv6Header {
         ensures bytes { result ≡ spelling self.now }
         // They are a header, with these fields.
         ensures header { IsIpv6Header result }
-        ensures fields { header_of result ≡ self.now }
+        ensures fields { ipv6_header_of result ≡ self.now }
     {
         self.field_bytes()
     }
@@ -153,7 +157,8 @@ impl Ipv6Header {
 
     // Version, traffic class and flow label, as the first 4 bytes spell them.
     fn first_word(&self) -> u32
-        ensures value { result ≡ 6 * 2 ^ 28 + self.now.traffic_class * 2 ^ 20 + self.now.flow_label }
+        ensures value { result ≡ 6 * 2 ^ 28 + self.now.traffic_class * 2 ^
+            20 + self.now.flow_label }
         ensures class { self.now.traffic_class < 2 ^ 8 }
         ensures label { self.now.flow_label < 2 ^ 20 }
     {
@@ -196,13 +201,7 @@ impl Ipv6Header {
     {
         let required_len = required_len(slice, next_header);
         if slice.len() < required_len {
-            return Err(LenError {
-                required_len,
-                len: slice.len(),
-                len_source: LenSource::Slice,
-                layer: Layer::Ipv6ExtHeader,
-                layer_start_offset: 0,
-            });
+            return Err(LenError::too_few_bytes(Layer::Ipv6ExtHeader, required_len, slice.len()));
         }
         Ok((IpNumber(slice[0]), &slice[required_len..]))
     }

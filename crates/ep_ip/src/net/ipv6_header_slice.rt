@@ -4,13 +4,15 @@ ghost use Rattle.std.specs.Prelude.{◌≡◌, ℕ, List, ◌++◌, length, IfOk
 ghost use Rattle.std.specs.Cmp.Lexicographic.{pointwise};
 ghost use Rattle.std.specs.Cmp.Rules.{comparing};
 ghost use Rattle.std.proofs.Common.{rules};
-ghost use Rattle.ep_ip.specs.Ipv6.{IsIpv6Header, version_of, traffic_class_of, flow_label_of, payload_length_of, next_header_of, hop_limit_of, source_of, destination_of, header_of, dscp_in, ecn_in};
+ghost use Rattle.ep_ip.specs.Ipv6.{IsIpv6Header, version_of, traffic_class_of, flow_label_of};
+ghost use Rattle.ep_ip.specs.Ipv6.{payload_length_of, next_header_of, hop_limit_of, source_of};
+ghost use Rattle.ep_ip.specs.Ipv6.{destination_of, ipv6_header_of, dscp_in, ecn_in};
 ghost use Rattle.ep_ip.specs.Ipv6Fault.{header_at};
 
 use crate::Ipv6Header;
 use crate::err::ipv6::{HeaderError, HeaderSliceError};
 use ep_base::err::{Layer, LenError};
-use ep_base::{IpDscp, IpEcn, IpNumber, Ipv6FlowLabel, LenSource};
+use ep_base::{IpDscp, IpEcn, IpNumber, Ipv6FlowLabel};
 use std::marker::Model;
 
 /// The 40 bytes of an IPv6 header (RFC 8200, section 3), borrowed. They were tested when the value
@@ -50,14 +52,11 @@ impl<'a> Ipv6HeaderSlice<'a> {
         ensures { result ≡ header_at slice.now }
     {
         if slice.len() < Ipv6Header::LEN {
-            return Err(LenError {
-                required_len: Ipv6Header::LEN,
-                len: slice.len(),
-                len_source: LenSource::Slice,
-                layer: Layer::Ipv6Header,
-                layer_start_offset: 0,
-            }
-            .into());
+            return Err(LenError::too_few_bytes(
+                Layer::Ipv6Header,
+                Ipv6Header::LEN,
+                slice.len(),
+            ).into());
         }
         let version_number = slice[0] >> 4;
         if version_number != 6 {
@@ -107,7 +106,8 @@ impl<'a> Ipv6HeaderSlice<'a> {
         IpDscp::try_new(self.traffic_class() >> 2).unwrap()
     }
 
-    /// Explicit congestion notification, the lower 2 bits of the traffic class (RFC 3168, section 5).
+    /// Explicit congestion notification, the lower 2 bits of the traffic class (RFC 3168, section
+    /// 5).
     pub fn ecn(&self) -> IpEcn
         ensures { result ≡ ecn_in (traffic_class_of self.now) }
     {
@@ -160,7 +160,7 @@ impl<'a> Ipv6HeaderSlice<'a> {
 
     /// The fields.
     pub fn to_header(&self) -> Ipv6Header
-        ensures { result ≡ header_of self.now }
+        ensures { result ≡ ipv6_header_of self.now }
     {
         Ipv6Header {
             traffic_class: self.traffic_class(),

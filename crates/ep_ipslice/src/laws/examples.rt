@@ -1,10 +1,13 @@
-//! The definitions at packets from outside, by the RFCs' layouts, so that a definition can't change with
-//! the code.
+//! The definitions at packets from outside, by the RFCs' layouts, so that a definition can't change
+//! with the code.
 ghost use Rattle.std.specs.Prelude.{◌≡◌, true, false, Ok, Some};
 ghost use Rattle.ep_base.specs.declared.len_source.LenSource.TheVariants as source;
-ghost use Rattle.ep_ipslice.specs.Examples.{example_header, example_ipv4, example_ipv4_packet, example_ipv6, example_ipv6_packet, example_pieces, fragment_header};
+ghost use Rattle.ep_ipslice.specs.Examples.{example_header, example_ipv4, example_ipv4_packet};
+ghost use Rattle.ep_ipslice.specs.Examples.{example_ipv6, example_ipv6_packet, example_pieces};
+ghost use Rattle.ep_ipslice.specs.Examples.{fragment_header};
 ghost use Rattle.ep_ipslice.specs.Ipv4Packet.{ipv4_packet_at};
-ghost use Rattle.ep_ipslice.specs.Packet.{IsIpv4Packet, IsIpv6Packet, ipv4_fragment_fields, ipv4_payload, ipv6_fragment_fields, is_ipv4_fragment};
+ghost use Rattle.ep_ipslice.specs.Packet.{IsIpv4Packet, IsIpv6Packet, ipv4_fragment_fields};
+ghost use Rattle.ep_ipslice.specs.Packet.{ipv4_payload, ipv6_fragment_fields, is_ipv4_fragment};
 
 /// The parts of one IPv4 packet with an authentication header and padding, and what it tells of its
 /// payload.
@@ -17,8 +20,10 @@ pub fn ipv4_packet_at_a_literal()
       len_source = source.Ipv4HeaderTotalLen;
       payload = example_ipv4_packet.payload;
     } }
-    ensures unfragmented { ipv4_fragment_fields example_header ≡ record { identification = 7; offset = 0; more = false } }
-    ensures fragment { ipv4_fragment_fields fragment_header ≡ record { identification = 258; offset = 5; more = true } }
+    ensures unfragmented { ipv4_fragment_fields example_header
+        ≡ record { identification = 7; offset = 0; more = false } }
+    ensures fragment { ipv4_fragment_fields fragment_header
+        ≡ record { identification = 258; offset = 5; more = true } }
     ensures is_fragment { is_ipv4_fragment fragment_header ≡ true }
 {}
 
@@ -26,5 +31,6 @@ pub fn ipv4_packet_at_a_literal()
 /// tells of the message that its payload is a part of.
 pub fn ipv6_packet_at_a_literal()
     ensures packet { IsIpv6Packet example_ipv6 example_ipv6_packet }
-    ensures fragment { ipv6_fragment_fields example_pieces ≡ Some (record { identification = 16909060; offset = 1; more = true }) }
+    ensures fragment { ipv6_fragment_fields example_pieces
+        ≡ Some (record { identification = 16909060; offset = 1; more = true }) }
 {}

@@ -1,5 +1,6 @@
 //! Laws of the definitions of IP packets.
-ghost use Rattle.std.specs.Prelude.{◌≡◌, ◌↔◌, ◌<◌, ◌≤◌, ◌+◌, ◌^◌, ℕ, List, [], ◌∷◌, ◌++◌, length, None, Some, Ok, Err, IsOkAnd, false, replicate};
+ghost use Rattle.std.specs.Prelude.{◌≡◌, ◌↔◌, ◌<◌, ◌≤◌, ◌+◌, ◌^◌, ℕ, List, [], ◌∷◌, ◌++◌, length};
+ghost use Rattle.std.specs.Prelude.{None, Some, Ok, Err, IsOkAnd, false, replicate};
 ghost use Rattle.std.specs.Option.{option_map, option_map_or};
 ghost use Rattle.ep_ip.specs.Ipv6.{next_header_of};
 ghost use Rattle.ep_ip.specs.Skip.{is_skipped};
@@ -19,7 +20,9 @@ ghost use Rattle.ep_ipslice.specs.declared.err.ip.slice_error.SliceError.{SliceE
 ghost use Rattle.ep_ipslice.specs.declared.err.ipv4.slice_error.SliceError.{SliceError as Ipv4Fault};
 ghost use Rattle.ep_ipslice.specs.declared.err.ipv6.slice_error.SliceError.{SliceError as Ipv6Fault};
 ghost use Rattle.ep_ipslice.specs.Ipv6Exts.{is_any_fragmenting, view_order};
-ghost use Rattle.ep_ipslice.specs.Packet.{Ipv4Packet, Ipv6Packet, IsIpv4Packet, IsIpv6Body, IsIpv6Packet, body_len, fragment_fields, ipv4_fragment_fields, ipv6_fragment_fields};
+ghost use Rattle.ep_ipslice.specs.Packet.{Ipv4Packet, Ipv6Packet, IsIpv4Packet, IsIpv6Body};
+ghost use Rattle.ep_ipslice.specs.Packet.{IsIpv6Packet, body_len, fragment_fields};
+ghost use Rattle.ep_ipslice.specs.Packet.{ipv4_fragment_fields, ipv6_fragment_fields};
 
 use crate::{IpSlice, Ipv4Slice, Ipv6Slice};
 use ep_base::err::LenError;
@@ -42,8 +45,8 @@ pub fn ipv6_packet_is_alone(slice: &[u8])
     let _packet = Ipv6Slice::from_slice(slice);
 }
 
-/// Bytes that begin with no IPv6 packet have one first fault, and so have those that begin with no IP
-/// packet, whatever the order in which extension headers stand.
+/// Bytes that begin with no IPv6 packet have one first fault, and so have those that begin with no
+/// IP packet, whatever the order in which extension headers stand.
 pub fn faults_are_alone()
     ensures ipv6 { (order : Order) (bytes : List ℕ) (e f : Ipv6Fault)
         → IsFaultIn order bytes e → IsFaultIn order bytes f → e ≡ f }
@@ -53,22 +56,26 @@ pub fn faults_are_alone()
     laws::chain_is_alone();
 }
 
-/// What a header's payload length gives it lies within the bytes, and a fault at which extension headers
-/// in it end, under whatever order, is one of the bytes.
+/// What a header's payload length gives it lies within the bytes, and a fault at which extension
+/// headers in it end, under whatever order, is one of the bytes.
 pub fn bodies_lie_within()
     ensures within { (bytes header : List ℕ) (source : LenSource) (body : List ℕ)
         → IsIpv6Body bytes header source body → 40 + length body ≤ length bytes }
     ensures fault { (order : Order) (bytes header : List ℕ) (source : LenSource) (body : List ℕ)
-        (pieces : List Piece) (last : ℕ) (rest : List ℕ) (fault : Fault) → IsIpv6Body bytes header source body
-        → Chain order (next_header_of header) body pieces last rest → fault_of order pieces last rest ≡ Some fault
+        (pieces : List Piece) (last : ℕ) (rest : List ℕ) (fault : Fault)
+        → IsIpv6Body bytes header source body
+        → Chain order (next_header_of header) body pieces last rest
+        → fault_of order pieces last rest ≡ Some fault
         → IsRowFault order bytes header (of_exts_fault source fault.0) }
 {}
 
-/// The packet that is found at the front of bytes is one that they begin with, and one that they begin
-/// with is found.
+/// The packet that is found at the front of bytes is one that they begin with, and one that they
+/// begin with is found.
 pub fn packets_are_their_parts(slice: &[u8])
-    ensures ipv4 { (packet : Ipv4Packet) → (ipv4_packet_at slice.now ≡ Ok packet) ↔ IsIpv4Packet slice.now packet }
-    ensures ipv6 { (packet : Ipv6Packet) → (ipv6_packet_at slice.now ≡ Ok packet) ↔ IsIpv6Packet slice.now packet }
+    ensures ipv4 { (packet : Ipv4Packet) → (ipv4_packet_at slice.now ≡ Ok packet)
+        ↔ IsIpv4Packet slice.now packet }
+    ensures ipv6 { (packet : Ipv6Packet) → (ipv6_packet_at slice.now ≡ Ok packet)
+        ↔ IsIpv6Packet slice.now packet }
 {
     // For the proof alone.
     let _ipv4 = Ipv4Slice::from_slice(slice);
@@ -77,22 +84,25 @@ pub fn packets_are_their_parts(slice: &[u8])
 
 /// The IPv6 packet that is found at the front of bytes is one that they begin with.
 pub fn ipv6_packet_found_is_there()
-    ensures { (bytes : List ℕ) (packet : Ipv6Packet) → ipv6_packet_at bytes ≡ Ok packet → IsIpv6Packet bytes packet }
+    ensures { (bytes : List ℕ) (packet : Ipv6Packet) → ipv6_packet_at bytes ≡ Ok packet
+        → IsIpv6Packet bytes packet }
 {}
 
-/// Headers in a row, each at a place of its own, are headers in a row of a view, with the same bytes. One
-/// of these is that of a part of a message where the fragment header of a value is.
+/// Headers in a row, each at a place of its own, are headers in a row of a view, with the same
+/// bytes. One of these is that of a part of a message where the fragment header of a value is.
 pub fn placed_rows_are_views()
     ensures { (first : ℕ) (pieces : List Piece) (last : ℕ) → Row place_of [] first pieces last
         → (q : List Piece) × Row view_order [] first q last × (bytes_of q ≡ bytes_of pieces)
         × (is_any_fragmenting q ≡ option_map_or fragments (value_of pieces).fragment false) }
 {}
 
-/// Headers in a row in front of a rest, as far as the order has a place for one, are those that are found
-/// one by one.
+/// Headers in a row in front of a rest, as far as the order has a place for one, are those that are
+/// found one by one.
 pub fn rows_are_found()
-    ensures { (order : Order) (first : ℕ) (bytes : List ℕ) (pieces : List Piece) (last : ℕ) (rest : List ℕ)
-        → Chain order first bytes pieces last rest → pieces_within (length bytes) order [] first bytes ≡ pieces }
+    ensures { (order : Order) (first : ℕ) (bytes : List ℕ) (pieces : List Piece)
+        (last : ℕ) (rest : List ℕ)
+        → Chain order first bytes pieces last rest
+        → pieces_within (length bytes) order [] first bytes ≡ pieces }
 {
     laws::whole_header_is_found();
 }
@@ -118,9 +128,12 @@ pub fn faults_can_be_moved()
 /// Where an IPv6 packet's extension headers end at a number that the walk over all skipped headers
 /// doesn't skip, that walk gives the number and the payload of the view.
 pub fn skip_agrees_with_view(first: IpNumber, body: &[u8]) -> Result<(IpNumber, &[u8]), LenError>
-    ensures { (bytes : List ℕ) (packet : Ipv6Packet) → IsIpv6Packet bytes packet → first.0 ≡ next_header_of packet.header
-        → body.now ≡ packet.exts.slice ++ packet.payload.payload → is_skipped packet.payload.ip_number.0 ≡ false
-        → IsOkAnd result (λ r. (r.0 ≡ packet.payload.ip_number) × (r.1.now ≡ packet.payload.payload)) }
+    ensures { (bytes : List ℕ) (packet : Ipv6Packet) → IsIpv6Packet bytes packet
+        → first.0 ≡ next_header_of packet.header
+        → body.now ≡ packet.exts.slice ++ packet.payload.payload
+        → is_skipped packet.payload.ip_number.0 ≡ false
+        → IsOkAnd result (λ r. (r.0 ≡ packet.payload.ip_number)
+        × (r.1.now ≡ packet.payload.payload)) }
 {
     laws::row_ends_where_none_is_taken();
     laws::skip_agrees_with_chain(first, body)
@@ -157,7 +170,8 @@ pub fn ip_packet_is_whole(packet: &IpSlice)
 
 /// The extension headers in an IPv6 packet's own bytes are those of its row.
 pub fn extensions_of_a_packet()
-    ensures { (bytes : List ℕ) (packet : Ipv6Packet) (is : IsIpv6Packet bytes packet) → extensions_in packet ≡ is.pieces }
+    ensures { (bytes : List ℕ) (packet : Ipv6Packet) (is : IsIpv6Packet bytes packet)
+        → extensions_in packet ≡ is.pieces }
 {
     laws::whole_header_is_found();
 }

@@ -76,7 +76,8 @@ impl<'a> Ord for IpPayloadSlice<'a> {
 impl<'a> PartialOrd for IpPayloadSlice<'a> {
     ghost partial_cmp = { as_partial_cmp (on ordered_as (slice_cmp nat_cmp)) };
 
-    ghost laws = { partial_order_from_own_ties (Prim.search (comparing, rules)) (Prim.search (comparing, rules)) };
+    ghost laws = { partial_order_from_own_ties (Prim.search (comparing, rules))
+        (Prim.search (comparing, rules)) };
 
     fn partial_cmp(&self, other: &Self) -> Option<Ordering> {
         Some(self.cmp(other))

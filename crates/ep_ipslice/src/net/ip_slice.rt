@@ -4,12 +4,14 @@ ghost use Rattle.std.specs.Prelude.{◌≡◌, IfOk, IfErr, Ok};
 ghost use Rattle.std.specs.Option.{option_map};
 ghost use Rattle.ep_ipslice.specs.declared.net.ip_slice.IpSlice.{IpSlice};
 ghost use Rattle.ep_ipslice.specs.declared.net.ip_slice.IpSlice.TheVariants as view;
-ghost use Rattle.ep_ipslice.specs.IpSlice.{IsAddress, IsIpFault, IsIpPacket, destination_of, fragmented_of, ip_packet_at, ipv4_of, ipv6_of, payload_of, source_of};
+ghost use Rattle.ep_ipslice.specs.IpSlice.{IsAddress, IsIpFault, IsIpPacket, destination_of};
+ghost use Rattle.ep_ipslice.specs.IpSlice.{fragmented_of, ip_packet_at, ipv4_of, ipv6_of};
+ghost use Rattle.ep_ipslice.specs.IpSlice.{payload_of, source_of};
 
 use super::{IpPayloadSlice, Ipv4Slice, Ipv6Slice};
 use crate::err::ip::{HeaderError, HeadersError, SliceError};
+use ep_base::IpNumber;
 use ep_base::err::{Layer, LenError};
-use ep_base::{IpNumber, LenSource};
 use std::net::{IpAddr, Ipv4Addr, Ipv6Addr};
 
 /// An IP packet of either version (RFC 791; RFC 8200), borrowed.
@@ -23,8 +25,8 @@ pub enum IpSlice<'a> {
 
 impl<'a> IpSlice<'a> {
     /// The packet at the front of the slice, of the version that the upper half of its first byte
-    /// tells. Refused are, in this order, a slice of no bytes, a version that is neither 4 nor 6, and
-    /// what [`Ipv4Slice::from_slice`] or [`Ipv6Slice::from_slice`] refuses.
+    /// tells. Refused are, in this order, a slice of no bytes, a version that is neither 4 nor 6,
+    /// and what [`Ipv4Slice::from_slice`] or [`Ipv6Slice::from_slice`] refuses.
     pub fn from_slice(slice: &'a [u8]) -> Result<IpSlice<'a>, SliceError>
         // The slice begins with what is taken.
         ensures found { IfOk result (λ packet. IsIpPacket slice.now packet) }
@@ -35,13 +37,7 @@ impl<'a> IpSlice<'a> {
         ensures exact { result ≡ ip_packet_at slice.now }
     {
         if slice.is_empty() {
-            return Err(SliceError::Len(LenError {
-                required_len: 1,
-                len: 0,
-                len_source: LenSource::Slice,
-                layer: Layer::IpHeader,
-                layer_start_offset: 0,
-            }));
+            return Err(SliceError::Len(LenError::too_few_bytes(Layer::IpHeader, 1, 0)));
         }
         let version_number = slice[0] >> 4;
         if version_number == 4 {

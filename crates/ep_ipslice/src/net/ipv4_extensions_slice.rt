@@ -1,6 +1,7 @@
 //! The extension header of an IPv4 packet.
 
-ghost use Rattle.std.specs.Prelude.{◌≡◌, ℕ, List, ◌++◌, IfOk, IsOkAnd, MatchResult, Option, Ok, Err, is_none};
+ghost use Rattle.std.specs.Prelude.{◌≡◌, ℕ, List, ◌++◌, IfOk, IsOkAnd, MatchResult, Option, Ok};
+ghost use Rattle.std.specs.Prelude.{Err, is_none};
 ghost use Rattle.std.specs.Option.{option_map};
 ghost use Rattle.ep_ext.specs.Auth.{auth_of};
 ghost use Rattle.ep_ipslice.specs.Ipv4Lax.{IsLaxAnswer};
@@ -19,18 +20,20 @@ pub struct Ipv4ExtensionsSlice<'a> {
 }
 
 impl<'a> Ipv4ExtensionsSlice<'a> {
-    /// The extension header at the front of the slice, if the number names one, the number behind it
-    /// and the bytes behind it. The errors are those of [`IpAuthHeaderSlice::from_slice`].
+    /// The extension header at the front of the slice, if the number names one, the number behind
+    /// it and the bytes behind it. The errors are those of [`IpAuthHeaderSlice::from_slice`].
     pub fn from_slice(
         first: IpNumber,
         slice: &'a [u8],
     ) -> Result<(Ipv4ExtensionsSlice<'a>, IpNumber, &'a [u8]), HeaderSliceError>
         // What is taken stands at the front of the slice.
         ensures found { IfOk result (λ r. IsAuthBehind first.0 r.0.auth
-            × (slice.now ≡ auth_bytes r.0.auth ++ r.2.now) × (r.1.0 ≡ number_behind first.0 r.0.auth)) }
+            × (slice.now ≡ auth_bytes r.0.auth ++ r.2.now)
+            × (r.1.0 ≡ number_behind first.0 r.0.auth)) }
         // Where one stands there, or none is named, it is taken.
         ensures only { (auth : Option (List ℕ)) (rest : List ℕ) → IsAuthBehind first.0 auth
-            → slice.now ≡ auth_bytes auth ++ rest → IsOkAnd result (λ r. (r.0.auth ≡ auth) × (r.2.now ≡ rest)) }
+            → slice.now ≡ auth_bytes auth ++ rest
+            → IsOkAnd result (λ r. (r.0.auth ≡ auth) × (r.2.now ≡ rest)) }
         // Else it is the fault of the header.
         ensures exact { MatchResult result (λ r. auth_behind first.0 slice.now ≡ Ok r.0.auth)
             (λ e. auth_behind first.0 slice.now ≡ Err e) }

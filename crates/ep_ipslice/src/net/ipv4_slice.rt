@@ -1,7 +1,8 @@
 //! The IPv4 packet.
 
 ghost use Rattle.std.specs.Prelude.{◌≡◌, ℕ, List, ◌++◌, IfOk, Ok};
-ghost use Rattle.ep_ipslice.specs.Packet.{Ipv4Packet, IsIpv4Packet, IsWholeIpv4, is_ipv4_fragment, ipv4_payload};
+ghost use Rattle.ep_ipslice.specs.Packet.{Ipv4Packet, IsIpv4Packet, IsWholeIpv4, is_ipv4_fragment};
+ghost use Rattle.ep_ipslice.specs.Packet.{ipv4_payload};
 ghost use Rattle.ep_ipslice.specs.Ipv4Packet.{in_total_len, ipv4_packet_at, packet_with};
 ghost use Rattle.std.specs.Prelude.{◌&&◌, nat_eq};
 ghost use Rattle.std.specs.Cmp.Lexicographic.{pointwise};
@@ -9,7 +10,7 @@ ghost use Rattle.std.specs.Cmp.Rules.{comparing};
 ghost use Rattle.std.specs.Ordering.{on};
 ghost use Rattle.std.proofs.Common.{rules};
 ghost use Rattle.ep_ipslice.specs.Compared.{auth_code};
-ghost use Rattle.ep_base.specs.Moved.{CanMove};
+ghost use Rattle.ep_base.specs.LenError.{CanMove};
 
 use super::{IpPayloadSlice, Ipv4ExtensionsSlice};
 use crate::err::ipv4::SliceError;
@@ -38,15 +39,16 @@ impl<'a> Model for Ipv4Slice<'a> {
 
     ghost view = { λ p. record { header = p.header; auth = p.exts.auth; payload = p.payload.payload } };
 
-    ghost invariant = { λ p. let packet : Ipv4Packet = record { header = p.header; auth = p.exts.auth; payload = p.payload.payload } in
+    ghost invariant = { λ p. let packet : Ipv4Packet =
+        record { header = p.header; auth = p.exts.auth; payload = p.payload.payload } in
         (p.payload ≡ ipv4_payload packet) × IsWholeIpv4 packet };
 }
 
 impl<'a> Ipv4Slice<'a> {
     /// The packet at the front of the slice. Refused are, in this order, what
-    /// [`Ipv4HeaderSlice::from_slice`] refuses, a total length below the header's own, one above the
-    /// bytes that are there, and an authentication header that isn't whole within the total length or
-    /// breaks its format.
+    /// [`Ipv4HeaderSlice::from_slice`] refuses, a total length below the header's own, one above
+    /// the bytes that are there, and an authentication header that isn't whole within the total
+    /// length or breaks its format.
     #[inline(always)]
     pub fn from_slice(slice: &'a [u8]) -> Result<Ipv4Slice<'a>, SliceError>
         // The slice begins with what is taken.
@@ -87,13 +89,11 @@ impl<'a> Ipv4Slice<'a> {
             }));
         }
         if slice.len() < total_len {
-            return Err(SliceError::Len(LenError {
-                required_len: total_len,
-                len: slice.len(),
-                len_source: LenSource::Slice,
-                layer: Layer::Ipv4Packet,
-                layer_start_offset: 0,
-            }));
+            return Err(SliceError::Len(LenError::too_few_bytes(
+                Layer::Ipv4Packet,
+                total_len,
+                slice.len(),
+            )));
         }
         let (whole, _padding) = slice.split_at(total_len);
         let (_, body) = whole.split_at(header_len);
@@ -125,8 +125,8 @@ impl<'a> Ipv4Slice<'a> {
         &self.header
     }
 
-    /// The authentication header, which is there exactly where the header's protocol number is 51, as in
-    /// every packet.
+    /// The authentication header, which is there exactly where the header's protocol number is 51,
+    /// as in every packet.
     pub fn extensions(&self) -> &Ipv4ExtensionsSlice<'a>
         ensures value { result.now.auth ≡ self.now.auth }
         ensures whole { IsWholeIpv4 self.now }
@@ -157,7 +157,8 @@ impl<'a> Ipv4Slice<'a> {
 }
 
 impl<'a> PartialEq for Ipv4Slice<'a> {
-    ghost eq = { λ a b. on (λ p. p.header) (pointwise nat_eq) a b && on (λ p. auth_code p.auth) (pointwise nat_eq) a b
+    ghost eq = { λ a b. on (λ p. p.header) (pointwise nat_eq) a b
+        && on (λ p. auth_code p.auth) (pointwise nat_eq) a b
         && on (λ p. p.payload) (pointwise nat_eq) a b };
 
     ghost laws = { Prim.search (comparing, rules) depth 9 };

@@ -79,7 +79,8 @@ impl<'a> Default for Ipv6ExtensionSliceIter<'a> {
 fn first_header(number: IpNumber, rest: &[u8]) -> Option<(Ipv6ExtensionSlice<'_>, IpNumber, &[u8])>
     requires { IsLeft number.0 rest.now }
     ensures { MatchOption result (pieces_left number.0 rest.now ≡ [])
-        (λ r. (pieces_left number.0 rest.now ≡ piece_of r.0 ∷ pieces_left r.1.0 r.2.now) × IsLeft r.1.0 r.2.now) }
+        (λ r. (pieces_left number.0 rest.now ≡ piece_of r.0 ∷ pieces_left r.1.0 r.2.now)
+        × IsLeft r.1.0 r.2.now) }
 {
     laws::whole_header_is_found();
     if rest.is_empty() {

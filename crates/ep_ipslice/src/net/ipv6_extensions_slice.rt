@@ -1,16 +1,18 @@
 //! The extension headers of an IPv6 packet.
 
-ghost use Rattle.std.specs.Prelude.{◌≡◌, ◌<◌, ◌+◌, ◌^◌, ℕ, List, [], ◌==◌, length, nat_eq, IfErr, None};
+ghost use Rattle.std.specs.Prelude.{◌≡◌, ◌<◌, ◌+◌, ◌^◌, ℕ, List, [], ◌==◌, length, nat_eq, IfErr};
+ghost use Rattle.std.specs.Prelude.{None};
 ghost use Rattle.std.specs.Cmp.Lexicographic.{pointwise};
 ghost use Rattle.std.specs.Cmp.Rules.{comparing};
 ghost use Rattle.std.specs.Ordering.{on};
 ghost use Rattle.std.proofs.Common.{rules};
 ghost use Rattle.ep_ipslice.specs.Compared.{compared_as};
 ghost use Rattle.ep_ext.specs.Chain.{Chain, Row, fault_at};
-ghost use Rattle.ep_ext.specs.Moved.{CanMove};
+ghost use Rattle.ep_base.specs.SliceError.{CanMove};
 ghost use Rattle.ep_ext.specs.Value.{Piece, bytes_of, piece_at};
 ghost use Rattle.ep_ext.specs.declared.net.ipv6_ext_place.Ipv6ExtPlace.TheVariants as place;
-ghost use Rattle.ep_ipslice.specs.Ipv6Exts.{Answers, Ipv6Exts, IsView, IsViewOf, Stops, exts_of, is_any_fragmenting, is_begun, place_behind, view_order};
+ghost use Rattle.ep_ipslice.specs.Ipv6Exts.{Answers, Ipv6Exts, IsView, IsViewOf, Stops, exts_of};
+ghost use Rattle.ep_ipslice.specs.Ipv6Exts.{is_any_fragmenting, is_begun, place_behind, view_order};
 
 use super::{Ipv6ExtensionSlice, Ipv6ExtensionSliceIter};
 use ep_base::IpNumber;
@@ -19,9 +21,9 @@ use ep_ext::err::ipv6_exts::{HeaderError, HeaderSliceError};
 use ep_ext::{Ipv6ExtPlace, Ipv6FragmentHeaderSlice, laws};
 use std::marker::Model;
 
-/// The extension headers behind an IPv6 header (RFC 8200, section 4), borrowed: hop-by-hop options in
-/// first place, routing, fragment, authentication headers and destination options in any order and
-/// number. They were tested when the value was made.
+/// The extension headers behind an IPv6 header (RFC 8200, section 4), borrowed: hop-by-hop options
+/// in first place, routing, fragment, authentication headers and destination options in any order
+/// and number. They were tested when the value was made.
 ///
 /// A contract sees the value as the number of its first header, whether one of them is the fragment
 /// header of a part of a message, and the bytes of all.
@@ -35,14 +37,16 @@ pub struct Ipv6ExtensionsSlice<'a> {
 impl<'a> Model for Ipv6ExtensionsSlice<'a> {
     ghost Value = { Ipv6Exts };
 
-    ghost view = { λ e. record { first_header = e.first_header; fragmented = e.fragmented; slice = e.slice.now } };
+    ghost view = { λ e. record
+        { first_header = e.first_header; fragmented = e.fragmented; slice = e.slice.now } };
 
-    ghost invariant = { λ e. IsView (record { first_header = e.first_header; fragmented = e.fragmented; slice = e.slice.now }) };
+    ghost invariant = { λ e. IsView
+        (record { first_header = e.first_header; fragmented = e.fragmented; slice = e.slice.now }) };
 }
 
 impl<'a> Ipv6ExtensionsSlice<'a> {
-    /// The extension headers in a row at the front of the slice, of which the first has this number,
-    /// the number behind them and the bytes behind them.
+    /// The extension headers in a row at the front of the slice, of which the first has this
+    /// number, the number behind them and the bytes behind them.
     ///
     /// Refused is the first header that isn't whole, or breaks its format, and hop-by-hop options
     /// behind another header.
@@ -55,7 +59,8 @@ impl<'a> Ipv6ExtensionsSlice<'a> {
             × Chain view_order first.0 slice.now pieces last rest × Answers first.0 pieces last rest result }
         // However the slice is headers in a row and a rest, the answer is theirs.
         ensures only { (pieces : List Piece) (last : ℕ) (rest : List ℕ)
-            → Chain view_order first.0 slice.now pieces last rest → Answers first.0 pieces last rest result }
+            → Chain view_order first.0 slice.now pieces last rest
+            → Answers first.0 pieces last rest result }
         // The place of a want of bytes lies within the slice.
         ensures place { IfErr result (λ e. (n : ℕ) → length slice.now + n < 2 ^ 64 → CanMove e n) }
     {
@@ -80,7 +85,8 @@ impl<'a> Ipv6ExtensionsSlice<'a> {
         ensures found { (pieces : List Piece) × (last : ℕ) × (rest : List ℕ)
             × Chain view_order first.0 slice.now pieces last rest × Stops first.0 pieces last rest result }
         ensures only { (pieces : List Piece) (last : ℕ) (rest : List ℕ)
-            → Chain view_order first.0 slice.now pieces last rest → Stops first.0 pieces last rest result }
+            → Chain view_order first.0 slice.now pieces last rest
+            → Stops first.0 pieces last rest result }
     {
         laws::chain_is_alone();
         Self::walk(first, slice)
@@ -149,7 +155,8 @@ impl<'a> Ipv6ExtensionsSlice<'a> {
     pub fn iter(&self) -> Ipv6ExtensionSliceIter<'a>
         // They are the headers of some row, of which the view shows the bytes.
         ensures view { IsView self.now }
-        ensures headers { (first : ℕ) (pieces : List Piece) (last : ℕ) → Row view_order [] first pieces last
+        ensures headers { (first : ℕ) (pieces : List Piece) (last : ℕ)
+            → Row view_order [] first pieces last
             → self.now ≡ exts_of first pieces → result ≡ pieces }
     {
         laws::whole_header_is_found();
@@ -172,8 +179,8 @@ impl<'a> Ipv6ExtensionsSlice<'a> {
         None
     }
 
-    /// Whether one of the headers is the fragment header of a part of a message: more fragments follow,
-    /// or its offset isn't 0.
+    /// Whether one of the headers is the fragment header of a part of a message: more fragments
+    /// follow, or its offset isn't 0.
     pub fn is_fragmenting_payload(&self) -> bool
         ensures { result ≡ self.now.fragmented }
     {

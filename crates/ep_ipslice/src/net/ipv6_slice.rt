@@ -9,7 +9,8 @@ ghost use Rattle.std.proofs.Common.{rules};
 ghost use Rattle.ep_base.specs.declared.len_source.LenSource.{LenSource};
 ghost use Rattle.ep_ip.specs.Ipv6Fault.{header_at};
 ghost use Rattle.ep_ipslice.specs.Compared.{compared_as, ordered_as};
-ghost use Rattle.ep_ipslice.specs.Packet.{Ipv6Packet, IsIpv6Body, IsIpv6Packet, IsWholeIpv6, body_len, body_source};
+ghost use Rattle.ep_ipslice.specs.Packet.{Ipv6Packet, IsIpv6Body, IsIpv6Packet, IsWholeIpv6};
+ghost use Rattle.ep_ipslice.specs.Packet.{body_len, body_source};
 ghost use Rattle.ep_ipslice.specs.Ipv6Fault.{IsCutOff, IsFrontFault, IsIpv6Fault};
 ghost use Rattle.ep_ipslice.specs.Ipv6Packet.{ipv6_packet_at};
 
@@ -21,12 +22,12 @@ use ep_ext::laws;
 use ep_ip::{Ipv6Header, Ipv6HeaderSlice};
 use std::marker::Model;
 
-/// An IPv6 packet (RFC 8200, section 3): its header, the extension headers behind it and the payload,
-/// borrowed.
+/// An IPv6 packet (RFC 8200, section 3): its header, the extension headers behind it and the
+/// payload, borrowed.
 ///
-/// Where the payload length is 0 and bytes stand behind the header, the packet takes all of them (RFC
-/// 2675, section 3, leaves the length to others). Else what stands behind the payload length is no
-/// part of it.
+/// Where the payload length is 0 and bytes stand behind the header, the packet takes all of them
+/// (RFC 2675, section 3, leaves the length to others). Else what stands behind the payload length
+/// is no part of it.
 #[derive(Clone, Debug, Drop)]
 pub struct Ipv6Slice<'a> {
     header: Ipv6HeaderSlice<'a>,
@@ -39,14 +40,15 @@ impl<'a> Model for Ipv6Slice<'a> {
 
     ghost view = { λ p. record { header = p.header; exts = p.exts; payload = p.payload } };
 
-    ghost invariant = { λ p. IsWholeIpv6 (record { header = p.header; exts = p.exts; payload = p.payload }) };
+    ghost invariant = { λ p. IsWholeIpv6
+        (record { header = p.header; exts = p.exts; payload = p.payload }) };
 }
 
 impl<'a> Ipv6Slice<'a> {
     /// The packet at the front of the slice. Refused are, in this order, what
-    /// [`Ipv6HeaderSlice::from_slice`] refuses, a payload length above the bytes that are there, and
-    /// the first extension header that isn't whole within that length, breaks its format or stands out
-    /// of its place.
+    /// [`Ipv6HeaderSlice::from_slice`] refuses, a payload length above the bytes that are there,
+    /// and the first extension header that isn't whole within that length, breaks its format or
+    /// stands out of its place.
     #[inline(always)]
     pub fn from_slice(slice: &'a [u8]) -> Result<Ipv6Slice<'a>, SliceError>
         // The slice begins with what is taken.
@@ -83,7 +85,8 @@ impl<'a> Ipv6Slice<'a> {
 
     /// The header at the front of the slice, and the bytes behind it that are extension headers and
     /// payload, with what their length came from. Refused are, in this order, what
-    /// [`Ipv6HeaderSlice::from_slice`] refuses, and a payload length above the bytes that are there.
+    /// [`Ipv6HeaderSlice::from_slice`] refuses, and a payload length above the bytes that are
+    /// there.
     pub fn header_and_body(
         slice: &'a [u8],
     ) -> Result<(Ipv6HeaderSlice<'a>, LenSource, &'a [u8]), SliceError>
@@ -91,7 +94,8 @@ impl<'a> Ipv6Slice<'a> {
         ensures found { IfOk result (λ r. IsIpv6Body slice.now r.0 r.1 r.2.now) }
         ensures header { IfOk result (λ r. header_at slice.now ≡ Ok r.0) }
         // A header and a body that the slice begins with are taken.
-        ensures only { (header body : List ℕ) (source : LenSource) → IsIpv6Body slice.now header source body
+        ensures only { (header body : List ℕ) (source : LenSource)
+            → IsIpv6Body slice.now header source body
             → IsOkAnd result (λ r. (r.0 ≡ header) × (r.1 ≡ source) × (r.2.now ≡ body)) }
         // Else it is the first fault.
         ensures refused { IfErr result (λ e. IsFrontFault slice.now e) }
@@ -108,7 +112,8 @@ impl<'a> Ipv6Slice<'a> {
         slice: &'a [u8],
     ) -> Result<(Ipv6HeaderSlice<'a>, LenSource, &'a [u8]), SliceError>
         requires { (rest : List ℕ) × (slice.now ≡ header ++ rest) }
-        ensures found { IfOk result (λ r. (r.0 ≡ header.entry) × IsIpv6Body slice.now header.entry r.1 r.2.now) }
+        ensures found { IfOk result (λ r. (r.0 ≡ header.entry)
+            × IsIpv6Body slice.now header.entry r.1 r.2.now) }
         ensures refused { IfErr result (λ e. IsCutOff slice.now header.entry e) }
     {
         // The header that begins the slice has its 40 bytes.
@@ -116,13 +121,11 @@ impl<'a> Ipv6Slice<'a> {
         let (_, behind) = slice.split_at(header_len);
         let (len_source, body_len) = body(&header, behind.len());
         if behind.len() < body_len {
-            return Err(SliceError::Len(LenError {
-                required_len: Ipv6Header::LEN + body_len,
-                len: slice.len(),
-                len_source: LenSource::Slice,
-                layer: Layer::Ipv6Packet,
-                layer_start_offset: 0,
-            }));
+            return Err(SliceError::Len(LenError::too_few_bytes(
+                Layer::Ipv6Packet,
+                Ipv6Header::LEN + body_len,
+                slice.len(),
+            )));
         }
         let (body, _padding) = behind.split_at(body_len);
         Ok((header, len_source, body))
@@ -135,8 +138,8 @@ impl<'a> Ipv6Slice<'a> {
         &self.header
     }
 
-    /// The extension headers. They are a row from the number that the header names to the payload's,
-    /// as in every packet.
+    /// The extension headers. They are a row from the number that the header names to the
+    /// payload's, as in every packet.
     pub fn extensions(&self) -> &Ipv6ExtensionsSlice<'a>
         ensures value { result.now ≡ self.now.exts }
         ensures whole { IsWholeIpv6 self.now }
@@ -158,8 +161,8 @@ impl<'a> Ipv6Slice<'a> {
         self.payload.ip_number
     }
 
-    /// Whether the payload is a part of a message: one of the extension headers is the fragment header
-    /// of one.
+    /// Whether the payload is a part of a message: one of the extension headers is the fragment
+    /// header of one.
     pub fn is_payload_fragmented(&self) -> bool
         ensures { result ≡ self.now.payload.fragmented }
     {
@@ -168,7 +171,8 @@ impl<'a> Ipv6Slice<'a> {
 }
 
 impl<'a> PartialEq for Ipv6Slice<'a> {
-    ghost eq = { λ a b. on (λ p. p.header) (pointwise nat_eq) a b && on (λ p. compared_as p.exts) (pointwise nat_eq) a b
+    ghost eq = { λ a b. on (λ p. p.header) (pointwise nat_eq) a b
+        && on (λ p. compared_as p.exts) (pointwise nat_eq) a b
         && on (λ p. ordered_as p.payload) (pointwise nat_eq) a b };
 
     ghost laws = { Prim.search (comparing, rules) depth 9 };

@@ -3,7 +3,7 @@ ghost use Rattle.std.specs.Prelude.{◌≡◌, ℕ, List, [], ◌∷◌, ◌++�
 ghost use Rattle.ep_base.specs.Bytes.{IsBytes};
 ghost use Rattle.ep_base.specs.declared.err.layer.Layer.TheVariants as layer;
 ghost use Rattle.ep_link.specs.Arp.{IsArpPacket, addresses_cut, fields_of, packet_at, spelling};
-ghost use Rattle.ep_tag.specs.Front.{too_short};
+ghost use Rattle.ep_base.specs.LenError.{too_few_bytes};
 
 use crate::{ArpHardwareId, ArpOperation, ArpPacket};
 use ep_base::err::LenError;
@@ -17,9 +17,12 @@ pub fn packet_lengths() -> [usize; 1]
 
 /// The constants of [`ArpHardwareId`] and [`ArpOperation`].
 pub fn arp_constants()
-    ensures hardware { map (λ id. id.0) (ArpHardwareId.ETHERNET ∷ ArpHardwareId.FRAD ∷ ArpHardwareId.IPGRE
-        ∷ ArpHardwareId.IEEE80211_RADIOTAP ∷ ArpHardwareId.NETLINK ∷ []) ≡ 1 ∷ 770 ∷ 778 ∷ 803 ∷ 824 ∷ [] }
-    ensures operation { map (λ operation. operation.0) (ArpOperation.REQUEST ∷ ArpOperation.REPLY ∷ [])
+    ensures hardware { map (λ id. id.0)
+        (ArpHardwareId.ETHERNET ∷ ArpHardwareId.FRAD ∷ ArpHardwareId.IPGRE
+        ∷ ArpHardwareId.IEEE80211_RADIOTAP ∷ ArpHardwareId.NETLINK ∷ []) ≡ 1 ∷
+        770 ∷ 778 ∷ 803 ∷ 824 ∷ [] }
+    ensures operation { map (λ operation. operation.0)
+        (ArpOperation.REQUEST ∷ ArpOperation.REPLY ∷ [])
         ≡ 1 ∷ 2 ∷ [] }
 {}
 
@@ -28,7 +31,8 @@ pub fn arp_constants()
 pub fn packets_are_their_bytes(packet: &ArpPacket)
     ensures packet { IsArpPacket (spelling packet.now) }
     ensures fields { fields_of (spelling packet.now) ≡ packet.now }
-    ensures again { (bytes : List ℕ) → IsArpPacket bytes → IsBytes bytes → spelling (fields_of bytes) ≡ bytes }
+    ensures again { (bytes : List ℕ) → IsArpPacket bytes → IsBytes bytes
+        → spelling (fields_of bytes) ≡ bytes }
 {
     let _bytes = packet.to_bytes();
 }
@@ -41,18 +45,19 @@ pub fn packet_is_read_again(packet: &ArpPacket, slice: &[u8]) -> Result<ArpPacke
     ArpPacket::from_slice(slice)
 }
 
-/// A reply with hardware addresses of two bytes and protocol addresses of one, with a byte behind it;
-/// and the two wants of bytes.
+/// A reply with hardware addresses of two bytes and protocol addresses of one, with a byte behind
+/// it; and the two wants of bytes.
 pub fn fields_by_hand()
-    ensures fields { fields_of (0 ∷ 1 ∷ 8 ∷ 0 ∷ 2 ∷ 1 ∷ 0 ∷ 2 ∷ 11 ∷ 12 ∷ 13 ∷ 14 ∷ 15 ∷ 16 ∷ 17 ∷ []) ≡ record {
-      hw_addr_type = record { 0 = 1 };
-      proto_addr_type = record { 0 = 0x0800 };
-      operation = record { 0 = 2 };
-      sender_hw_addr = 11 ∷ 12 ∷ [];
-      sender_protocol_addr = 13 ∷ [];
-      target_hw_addr = 14 ∷ 15 ∷ [];
-      target_protocol_addr = 16 ∷ [];
-    } }
-    ensures short { packet_at (0 ∷ 1 ∷ 8 ∷ 0 ∷ 2 ∷ 1 ∷ 0 ∷ []) ≡ Err (too_short layer.Arp 8 7) }
+    ensures fields { fields_of (0 ∷ 1 ∷ 8 ∷ 0 ∷ 2 ∷ 1 ∷ 0 ∷ 2 ∷ 11 ∷ 12 ∷ 13 ∷ 14 ∷ 15 ∷
+        16 ∷ 17 ∷ []) ≡ record {
+          hw_addr_type = record { 0 = 1 };
+          proto_addr_type = record { 0 = 0x0800 };
+          operation = record { 0 = 2 };
+          sender_hw_addr = 11 ∷ 12 ∷ [];
+          sender_protocol_addr = 13 ∷ [];
+          target_hw_addr = 14 ∷ 15 ∷ [];
+          target_protocol_addr = 16 ∷ [];
+        } }
+    ensures short { packet_at (0 ∷ 1 ∷ 8 ∷ 0 ∷ 2 ∷ 1 ∷ 0 ∷ []) ≡ Err (too_few_bytes layer.Arp 8 7) }
     ensures cut { packet_at (0 ∷ 1 ∷ 8 ∷ 0 ∷ 2 ∷ 1 ∷ 0 ∷ 2 ∷ 11 ∷ []) ≡ Err (addresses_cut 14 9) }
 {}

@@ -1,7 +1,7 @@
 //! Laws of Ethernet II headers (RFC 894).
 ghost use Rattle.std.specs.Prelude.{◌≡◌, ℕ, List, [], ◌∷◌, ◌++◌, length, IsOkAnd};
 ghost use Rattle.ep_base.specs.Bytes.{IsBytes};
-ghost use Rattle.ep_link.specs.Ethernet.{ethernet_len, header_of, spelling, payload_of};
+ghost use Rattle.ep_link.specs.Ethernet.{ethernet_len, ethernet_header_of, spelling, payload_of};
 
 use crate::Ethernet2Header;
 use ep_base::err::LenError;
@@ -13,12 +13,12 @@ pub fn header_lengths() -> [usize; 1]
     [Ethernet2Header::LEN]
 }
 
-/// Headers and lists of 14 bytes are each other's: a header's bytes are such a list, which spells the
-/// header, and such a list spells a header whose bytes it is.
+/// Headers and lists of 14 bytes are each other's: a header's bytes are such a list, which spells
+/// the header, and such a list spells a header whose bytes it is.
 pub fn headers_are_their_bytes(header: &Ethernet2Header)
-    ensures fields { header_of (spelling header.now) ≡ header.now }
+    ensures fields { ethernet_header_of (spelling header.now) ≡ header.now }
     ensures again { (frame : List ℕ) → length frame ≡ ethernet_len → IsBytes frame
-        → spelling (header_of frame) ≡ frame }
+        → spelling (ethernet_header_of frame) ≡ frame }
 {
     let _bytes = header.to_bytes();
 }
@@ -37,10 +37,12 @@ pub fn header_is_read_again<'a>(
 
 /// The destination first, then the source, then an ether type of 0800, with two bytes behind it.
 pub fn fields_by_hand()
-    ensures fields { header_of (1 ∷ 2 ∷ 3 ∷ 4 ∷ 5 ∷ 6 ∷ 7 ∷ 8 ∷ 9 ∷ 10 ∷ 11 ∷ 12 ∷ 8 ∷ 0 ∷ 21 ∷ 22 ∷ []) ≡ record {
-      source = 7 ∷ 8 ∷ 9 ∷ 10 ∷ 11 ∷ 12 ∷ [];
-      destination = 1 ∷ 2 ∷ 3 ∷ 4 ∷ 5 ∷ 6 ∷ [];
-      ether_type = record { 0 = 0x0800 };
-    } }
-    ensures payload { (payload_of (1 ∷ 2 ∷ 3 ∷ 4 ∷ 5 ∷ 6 ∷ 7 ∷ 8 ∷ 9 ∷ 10 ∷ 11 ∷ 12 ∷ 8 ∷ 0 ∷ 21 ∷ 22 ∷ [])).payload ≡ 21 ∷ 22 ∷ [] }
+    ensures fields { ethernet_header_of (1 ∷ 2 ∷ 3 ∷ 4 ∷ 5 ∷ 6 ∷ 7 ∷ 8 ∷ 9 ∷ 10 ∷ 11 ∷ 12 ∷ 8 ∷ 0 ∷
+        21 ∷ 22 ∷ []) ≡ record {
+          source = 7 ∷ 8 ∷ 9 ∷ 10 ∷ 11 ∷ 12 ∷ [];
+          destination = 1 ∷ 2 ∷ 3 ∷ 4 ∷ 5 ∷ 6 ∷ [];
+          ether_type = record { 0 = 0x0800 };
+        } }
+    ensures payload { (payload_of (1 ∷ 2 ∷ 3 ∷ 4 ∷ 5 ∷ 6 ∷ 7 ∷ 8 ∷ 9 ∷ 10 ∷ 11 ∷ 12 ∷ 8 ∷ 0 ∷ 21 ∷ 22 ∷
+        [])).payload ≡ 21 ∷ 22 ∷ [] }
 {}

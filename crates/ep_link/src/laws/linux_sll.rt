@@ -3,7 +3,9 @@ ghost use Rattle.std.specs.Prelude.{◌≡◌, ℕ, List, [], ◌∷◌, ◌++�
 ghost use Rattle.ep_base.specs.Bytes.{IsBytes};
 ghost use Rattle.ep_link.specs.declared.link.arp_hardware_id.ArpHardwareId.{ArpHardwareId};
 ghost use Rattle.ep_link.specs.declared.link.linux_sll_protocol_type.LinuxSllProtocolType.TheVariants as protocol;
-ghost use Rattle.ep_link.specs.Sll.{IsSllHeader, NamesProtocol, header_of, number_of, protocol_of, spelling, with_number};
+ghost use Rattle.ep_link.specs.Sll.{IsSllHeader, NamesProtocol, sll_header_of, number_of};
+ghost use Rattle.ep_link.specs.Sll.{protocol_of};
+ghost use Rattle.ep_link.specs.Sll.{spelling, with_number};
 
 use crate::err::linux_sll::HeaderSliceError;
 use crate::{LinuxSllHeader, LinuxSllPacketType};
@@ -15,8 +17,8 @@ pub fn header_lengths() -> [usize; 1]
     [LinuxSllHeader::LEN]
 }
 
-/// The constants of [`LinuxSllPacketType`]: to this machine, broadcast, multicast, to another machine,
-/// from this one.
+/// The constants of [`LinuxSllPacketType`]: to this machine, broadcast, multicast, to another
+/// machine, from this one.
 pub fn packet_type_constants() -> [LinuxSllPacketType; 5]
     ensures greatest { LinuxSllPacketType.MAX_VAL ≡ 4 }
     ensures constants { result ≡ 0 ∷ 1 ∷ 2 ∷ 3 ∷ 4 ∷ [] }
@@ -34,14 +36,15 @@ pub fn packet_type_constants() -> [LinuxSllPacketType; 5]
 /// the bytes of a header spell fields that spell it again.
 pub fn headers_are_their_bytes(header: &LinuxSllHeader)
     ensures header { IsSllHeader (spelling header.now) }
-    ensures fields { NamesProtocol header.now → header_of (spelling header.now) ≡ header.now }
-    ensures again { (bytes : List ℕ) → IsSllHeader bytes → IsBytes bytes → spelling (header_of bytes) ≡ bytes }
+    ensures fields { NamesProtocol header.now → sll_header_of (spelling header.now) ≡ header.now }
+    ensures again { (bytes : List ℕ) → IsSllHeader bytes → IsBytes bytes
+        → spelling (sll_header_of bytes) ≡ bytes }
 {
     let _bytes = header.to_bytes();
 }
 
-/// What `to_bytes` gives is read again, whatever follows it, where hardware type and number name the
-/// protocol.
+/// What `to_bytes` gives is read again, whatever follows it, where hardware type and number name
+/// the protocol.
 pub fn header_is_read_again<'a>(
     header: &LinuxSllHeader,
     slice: &'a [u8],
@@ -60,12 +63,17 @@ pub fn number_stays()
 
 /// What hardware types make of a number, and the number set anew.
 pub fn protocols_by_hand()
-    ensures netlink { protocol_of (record { 0 = 824 }) 0x0800 ≡ protocol.NetlinkProtocolType 0x0800 }
-    ensures encapsulation { protocol_of (record { 0 = 778 }) 0x0800 ≡ protocol.GenericRoutingEncapsulationProtocolType 0x0800 }
+    ensures netlink { protocol_of (record { 0 = 824 }) 0x0800
+        ≡ protocol.NetlinkProtocolType 0x0800 }
+    ensures encapsulation { protocol_of (record { 0 = 778 }) 0x0800
+        ≡ protocol.GenericRoutingEncapsulationProtocolType 0x0800 }
     ensures radiotap { protocol_of (record { 0 = 803 }) 0x0800 ≡ protocol.Ignored 0x0800 }
     ensures frame_relay { protocol_of (record { 0 = 770 }) 0x0800 ≡ protocol.Ignored 0x0800 }
-    ensures least_ether_type { protocol_of (record { 0 = 1 }) 0x0600 ≡ protocol.EtherType (record { 0 = 0x0600 }) }
-    ensures below { protocol_of (record { 0 = 1 }) 0x05ff ≡ protocol.LinuxNonstandardEtherType 0x05ff }
+    ensures least_ether_type { protocol_of (record { 0 = 1 }) 0x0600
+        ≡ protocol.EtherType (record { 0 = 0x0600 }) }
+    ensures below { protocol_of (record { 0 = 1 }) 0x05ff
+        ≡ protocol.LinuxNonstandardEtherType 0x05ff }
     ensures set { with_number (protocol.Ignored 1) 2 ≡ protocol.Ignored 2 }
-    ensures set_below { with_number (protocol.EtherType (record { 0 = 0x0800 })) 4 ≡ protocol.LinuxNonstandardEtherType 4 }
+    ensures set_below { with_number (protocol.EtherType (record { 0 = 0x0800 })) 4
+        ≡ protocol.LinuxNonstandardEtherType 4 }
 {}

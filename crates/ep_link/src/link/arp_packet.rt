@@ -1,6 +1,8 @@
-ghost use Rattle.std.specs.Prelude.{◌≡◌, ◌+◌, ◌*◌, ◌≤◌, ℕ, List, ◌++◌, length, Ok, Err, OnOk, OnErr, IsOk, IfOk, IfErr, IsOkAnd, vec_len, vec_capacity};
+ghost use Rattle.std.specs.Prelude.{◌≡◌, ◌+◌, ◌*◌, ◌≤◌, ℕ, List, ◌++◌, length, Ok, Err, OnOk};
+ghost use Rattle.std.specs.Prelude.{OnErr, IsOk, IfOk, IfErr, IsOkAnd, vec_len, vec_capacity};
 ghost use Rattle.arrayvec.specs.ArrayVec.{array_vec_len};
-ghost use Rattle.ep_link.specs.Arp.{ArpFields, IsArp, IsArpPacket, Fits, fields_of, fixed_spelling, packet_at, packet_len_in, spelling, IsRead};
+ghost use Rattle.ep_link.specs.Arp.{ArpFields, IsArp, IsArpPacket, Fits, fields_of, fixed_spelling};
+ghost use Rattle.ep_link.specs.Arp.{packet_at, packet_len_in, spelling, IsRead};
 ghost use Rattle.ep_link.specs.ArpNew.{new_at};
 
 use super::{ArpHardwareId, ArpOperation, ArpPacketSlice};
@@ -264,10 +266,12 @@ impl ArpPacket {
     /// Appends the bytes of the packet.
     pub fn write(&self, buffer: &mut Vec<u8>) -> Result<(), AllocError>
         ensures ok { OnOk result (buffer.new.items ≡ buffer.old.items ++ spelling self.now) }
-        ensures len { OnOk result (vec_len buffer.new ≡ vec_len buffer.old + packet_len_in self.now) }
+        ensures len { OnOk result (vec_len buffer.new
+            ≡ vec_len buffer.old + packet_len_in self.now) }
         ensures err { OnErr result (buffer.new.items ≡ buffer.old.items) }
         // It fails only where room was missing, and room never shrinks.
-        ensures succeeds { vec_len buffer.old + packet_len_in self.now ≤ vec_capacity buffer.old → IsOk result }
+        ensures succeeds { vec_len buffer.old + packet_len_in self.now ≤ vec_capacity buffer.old
+            → IsOk result }
         ensures capacity { vec_capacity buffer.old ≤ vec_capacity buffer.new }
     {
         let bytes = self.to_bytes();

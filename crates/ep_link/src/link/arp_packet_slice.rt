@@ -1,18 +1,22 @@
-ghost use Rattle.std.specs.Prelude.{◌≡◌, ◌≤◌, ◌+◌, ◌*◌, ℕ, List, ◌++◌, length, drop, IfOk, IfErr, Ok, nat_eq};
+ghost use Rattle.std.specs.Prelude.{◌≡◌, ◌≤◌, ◌+◌, ◌*◌, ℕ, List, length, drop, IfErr, nat_eq};
 ghost use Rattle.std.specs.Cmp.Lexicographic.{pointwise};
 ghost use Rattle.std.specs.Cmp.Rules.{comparing};
 ghost use Rattle.std.proofs.Common.{rules};
-ghost use Rattle.ep_link.specs.Arp.{IsArpPacket, packet_at, packet_len_of, hw_len_of, proto_len_of, hw_type_of, proto_type_of, operation_of, addresses_of, behind_sender_hw, behind_sender, behind_target_hw, sender_hw_of, sender_proto_of, target_hw_of, target_proto_of, addresses_cut, fields_of};
+ghost use Rattle.ep_link.specs.Arp.{IsArpPacket, packet_at, packet_len_of, hw_len_of, proto_len_of};
+ghost use Rattle.ep_link.specs.Arp.{hw_type_of, proto_type_of, operation_of, addresses_of};
+ghost use Rattle.ep_link.specs.Arp.{behind_sender_hw, behind_sender, behind_target_hw};
+ghost use Rattle.ep_link.specs.Arp.{sender_hw_of, sender_proto_of, target_hw_of, target_proto_of};
+ghost use Rattle.ep_link.specs.Arp.{addresses_cut, fields_of};
+ghost use Rattle.ep_base.specs.Fronts.{TakesFront};
 
-use super::front::too_short;
 use super::{ArpHardwareId, ArpOperation, ArpPacket};
 use ep_base::err::{Layer, LenError};
 use ep_base::{EtherType, LenSource};
 use std::marker::Model;
 
-/// The bytes of an ARP packet (RFC 826), borrowed: 8, and two hardware and two protocol addresses as
-/// long as the packet says. They were tested when the value was made. A contract sees the value as
-/// those bytes.
+/// The bytes of an ARP packet (RFC 826), borrowed: 8, and two hardware and two protocol addresses
+/// as long as the packet says. They were tested when the value was made. A contract sees the value
+/// as those bytes.
 #[derive(Clone, Debug, Drop)]
 pub struct ArpPacketSlice<'a> {
     slice: &'a [u8],
@@ -31,12 +35,8 @@ impl<'a> ArpPacketSlice<'a> {
     /// 8 bytes, and one that the four addresses don't fit, whose length is then bounded by
     /// `ArpAddrLengths`.
     pub fn from_slice(slice: &'a [u8]) -> Result<ArpPacketSlice<'a>, LenError>
-        // What is taken is a packet, and a front of the slice.
-        ensures found { IfOk result (λ packet. IsArpPacket packet
-            × ((rest : List ℕ) × (slice.now ≡ packet ++ rest))) }
-        // A front that is a packet is taken.
-        ensures only { (packet rest : List ℕ) → IsArpPacket packet → slice.now ≡ packet ++ rest
-            → result ≡ Ok packet }
+        // What is taken is a packet at the front of the slice, and one that stands there is taken.
+        ensures takes { TakesFront IsArpPacket slice.now result }
         // Else it is the first want of bytes.
         ensures exact { result ≡ packet_at slice.now }
         ensures place { IfErr result (λ e. e.layer_start_offset ≡ 0) }
@@ -49,7 +49,7 @@ impl<'a> ArpPacketSlice<'a> {
         ensures place { IfErr result (λ e. e.layer_start_offset ≡ 0) }
     {
         if slice.len() < 8 {
-            return Err(too_short(Layer::Arp, 8, slice.len()));
+            return Err(LenError::too_few_bytes(Layer::Arp, 8, slice.len()));
         }
         let packet_len = 8 + 2 * usize::from(slice[4]) + 2 * usize::from(slice[5]);
         if slice.len() < packet_len {
@@ -205,11 +205,8 @@ fn addresses_cut(required_len: usize, len: usize) -> LenError
     ensures { result ≡ addresses_cut required_len len }
 {
     LenError {
-        required_len,
-        len,
         len_source: LenSource::ArpAddrLengths,
-        layer: Layer::Arp,
-        layer_start_offset: 0,
+        ..LenError::too_few_bytes(Layer::Arp, required_len, len)
     }
 }
 

@@ -1,6 +1,10 @@
-ghost use Rattle.std.specs.Prelude.{◌≡◌, ◌+◌, ◌<◌, ◌≤◌, ℕ, List, ◌++◌, length, drop, Err, OnOk, OnErr, IsOk, IfOk, IfErr, IsOkAnd, MatchResult, vec_len, vec_capacity};
+ghost use Rattle.std.specs.Prelude.{◌≡◌, ◌+◌, ◌<◌, ◌≤◌, ℕ, List, ◌++◌, length, drop, Err, OnOk};
+ghost use Rattle.std.specs.Prelude.{OnErr, IsOk, IfOk, IfErr, IsOkAnd, MatchResult, vec_len};
+ghost use Rattle.std.specs.Prelude.{vec_capacity};
 ghost use Rattle.ep_base.specs.declared.err.layer.Layer.TheVariants as layer;
-ghost use Rattle.ep_link.specs.Ethernet.{ethernet_len, default_header, header_of, spelling, IsRead, Fits};
+ghost use Rattle.ep_link.specs.Ethernet.{ethernet_len, default_header, ethernet_header_of};
+ghost use Rattle.ep_link.specs.Ethernet.{spelling, IsRead};
+ghost use Rattle.ep_link.specs.Ethernet.{Fits};
 ghost use Rattle.ep_tag.specs.Front.{front_at};
 
 use super::Ethernet2HeaderSlice;
@@ -8,8 +12,8 @@ use ep_base::EtherType;
 use ep_base::err::{Layer, LenError, SliceWriteSpaceError};
 use std::alloc::AllocError;
 
-/// An Ethernet II header (RFC 894). In its 14 bytes the destination stands first, and the ether type
-/// high byte first.
+/// An Ethernet II header (RFC 894). In its 14 bytes the destination stands first, and the ether
+/// type high byte first.
 #[derive(Clone, Debug, PartialEq, Eq, Drop)]
 pub struct Ethernet2Header {
     /// The address that the frame comes from.
@@ -24,15 +28,17 @@ impl Ethernet2Header {
     /// The length of an Ethernet II header in bytes.
     pub const LEN: usize = 14;
 
-    /// The header at the front of the slice, and the bytes behind it. A slice of fewer than 14 bytes
-    /// is refused.
+    /// The header at the front of the slice, and the bytes behind it. A slice of fewer than 14
+    /// bytes is refused.
     pub fn from_slice(slice: &[u8]) -> Result<(Ethernet2Header, &[u8]), LenError>
         // The front of the slice is a header, and is read so.
         ensures found { IfOk result (λ r. IsRead slice.now r.0 r.1.now) }
         // Any 14 bytes are read.
-        ensures only { (front rest : List ℕ) → length front ≡ ethernet_len → slice.now ≡ front ++ rest
-            → IsOkAnd result (λ r. (r.0 ≡ header_of front) × (r.1.now ≡ rest)) }
-        ensures err { IfErr result (λ e. front_at layer.Ethernet2Header ethernet_len slice.now ≡ Err e) }
+        ensures only { (front rest : List ℕ) → length front ≡ ethernet_len
+            → slice.now ≡ front ++ rest
+            → IsOkAnd result (λ r. (r.0 ≡ ethernet_header_of front) × (r.1.now ≡ rest)) }
+        ensures err { IfErr result
+            (λ e. front_at layer.Ethernet2Header ethernet_len slice.now ≡ Err e) }
         ensures place { IfErr result (λ e. e.layer_start_offset ≡ 0) }
     {
         let header = Ethernet2HeaderSlice::from_slice(slice)?;
@@ -42,7 +48,7 @@ impl Ethernet2Header {
 
     /// The fields that 14 bytes spell.
     pub fn from_bytes(bytes: [u8; 14]) -> Ethernet2Header
-        ensures { result ≡ header_of bytes }
+        ensures { result ≡ ethernet_header_of bytes }
     {
         Ethernet2HeaderSlice::of_bytes(&bytes).to_header()
     }
@@ -58,7 +64,7 @@ impl Ethernet2Header {
     pub fn to_bytes(&self) -> [u8; 14]
         ensures bytes { result ≡ spelling self.now }
         // They spell these fields.
-        ensures fields { header_of result ≡ self.now }
+        ensures fields { ethernet_header_of result ≡ self.now }
     {
         self.spelled()
     }
@@ -119,7 +125,8 @@ impl Ethernet2Header {
         ensures len { OnOk result (vec_len buffer.new ≡ vec_len buffer.old + ethernet_len) }
         ensures err { OnErr result (buffer.new.items ≡ buffer.old.items) }
         // It fails only where room was missing, and room never shrinks.
-        ensures succeeds { vec_len buffer.old + ethernet_len ≤ vec_capacity buffer.old → IsOk result }
+        ensures succeeds { vec_len buffer.old + ethernet_len ≤ vec_capacity buffer.old
+            → IsOk result }
         ensures capacity { vec_capacity buffer.old ≤ vec_capacity buffer.new }
     {
         buffer.extend_from_slice(&self.to_bytes())

@@ -1,41 +1,23 @@
-ghost use Rattle.std.specs.Prelude.{◌≡◌, ℕ, List, ◌++◌, length, IfOk, IfErr, Ok, nat_eq};
-ghost use Rattle.std.specs.Cmp.Lexicographic.{pointwise};
-ghost use Rattle.std.specs.Cmp.Rules.{comparing};
-ghost use Rattle.std.proofs.Common.{rules};
+ghost use Rattle.std.specs.Prelude.{◌≡◌, length, IfErr};
 ghost use Rattle.ep_base.specs.declared.err.layer.Layer.TheVariants as layer;
-ghost use Rattle.ep_link.specs.Ethernet.{ethernet_len, destination_of, source_of, next_type_of, header_of};
+ghost use Rattle.ep_link.specs.Ethernet.{ethernet_len};
+ghost use Rattle.ep_base.specs.Fronts.{IsOfLength, TakesFront};
 ghost use Rattle.ep_tag.specs.Front.{front_at};
 
 use super::Ethernet2Header;
-use super::front::too_short;
-use ep_base::EtherType;
+use super::ethernet2_bytes::Ethernet2Bytes;
 use ep_base::err::{Layer, LenError};
 use ep_tag::laws::front::front_is_taken;
-use std::marker::Model;
 
 /// The 14 bytes of an Ethernet II header (RFC 894), borrowed. A contract sees the value as those
 /// bytes.
-#[derive(Clone, Debug, Drop)]
-pub struct Ethernet2HeaderSlice<'a> {
-    slice: &'a [u8],
-}
+pub type Ethernet2HeaderSlice<'a> = Ethernet2Bytes<'a, 14>;
 
-impl<'a> Model for Ethernet2HeaderSlice<'a> {
-    ghost Value = { List ℕ };
-
-    ghost view = { λ header. header.slice.now };
-
-    ghost invariant = { λ header. length header.slice.now ≡ ethernet_len };
-}
-
-impl<'a> Ethernet2HeaderSlice<'a> {
+impl<'a> Ethernet2Bytes<'a, 14> {
     /// The header at the front of the slice. A slice of fewer than 14 bytes is refused.
     pub fn from_slice(slice: &'a [u8]) -> Result<Ethernet2HeaderSlice<'a>, LenError>
         // What is taken are the first 14 bytes.
-        ensures found { IfOk result (λ header. (length header ≡ ethernet_len)
-            × ((rest : List ℕ) × (slice.now ≡ header ++ rest))) }
-        ensures only { (header rest : List ℕ) → length header ≡ ethernet_len → slice.now ≡ header ++ rest
-            → result ≡ Ok header }
+        ensures takes { TakesFront (IsOfLength ethernet_len) slice.now result }
         ensures exact { result ≡ front_at layer.Ethernet2Header ethernet_len slice.now }
         ensures place { IfErr result (λ e. e.layer_start_offset ≡ 0) }
     {
@@ -48,9 +30,13 @@ impl<'a> Ethernet2HeaderSlice<'a> {
         ensures place { IfErr result (λ e. e.layer_start_offset ≡ 0) }
     {
         if slice.len() < Ethernet2Header::LEN {
-            return Err(too_short(Layer::Ethernet2Header, Ethernet2Header::LEN, slice.len()));
+            return Err(LenError::too_few_bytes(
+                Layer::Ethernet2Header,
+                Ethernet2Header::LEN,
+                slice.len(),
+            ));
         }
-        Ok(Ethernet2HeaderSlice {
+        Ok(Ethernet2Bytes {
             slice: &slice[..Ethernet2Header::LEN],
         })
     }
@@ -59,7 +45,7 @@ impl<'a> Ethernet2HeaderSlice<'a> {
     pub(super) fn of_bytes(bytes: &'a [u8; 14]) -> Ethernet2HeaderSlice<'a>
         ensures { result ≡ bytes.now }
     {
-        Ethernet2HeaderSlice { slice: bytes }
+        Ethernet2Bytes { slice: bytes }
     }
 
     /// The header's 14 bytes.
@@ -69,50 +55,4 @@ impl<'a> Ethernet2HeaderSlice<'a> {
     {
         self.slice
     }
-
-    /// The address that the frame goes to.
-    pub fn destination(&self) -> [u8; 6]
-        ensures { result ≡ destination_of self.now }
-    {
-        self.slice[..6].try_into().unwrap()
-    }
-
-    /// The address that the frame comes from.
-    pub fn source(&self) -> [u8; 6]
-        ensures { result ≡ source_of self.now }
-    {
-        self.slice[6..12].try_into().unwrap()
-    }
-
-    /// The ether type of what follows the header.
-    pub fn ether_type(&self) -> EtherType
-        ensures { result ≡ next_type_of self.now }
-    {
-        EtherType(u16::from_be_bytes([self.slice[12], self.slice[13]]))
-    }
-
-    /// The fields.
-    pub fn to_header(&self) -> Ethernet2Header
-        ensures { result ≡ header_of self.now }
-    {
-        Ethernet2Header {
-            source: self.source(),
-            destination: self.destination(),
-            ether_type: self.ether_type(),
-        }
-    }
-}
-
-impl<'a> PartialEq for Ethernet2HeaderSlice<'a> {
-    ghost eq = { pointwise nat_eq };
-
-    ghost laws = { Prim.search (comparing, rules) };
-
-    fn eq(&self, other: &Self) -> bool {
-        self.slice == other.slice
-    }
-}
-
-impl<'a> Eq for Ethernet2HeaderSlice<'a> {
-    ghost laws = { Prim.search (comparing, rules) };
 }

@@ -75,7 +75,8 @@ impl LinkHeader {
         ensures len { OnOk result (vec_len buffer.new ≡ vec_len buffer.old + link_len self.now) }
         ensures err { OnErr result (buffer.new.items ≡ buffer.old.items) }
         // It fails only where room was missing, and room never shrinks.
-        ensures succeeds { vec_len buffer.old + link_len self.now ≤ vec_capacity buffer.old → IsOk result }
+        ensures succeeds { vec_len buffer.old + link_len self.now ≤ vec_capacity buffer.old
+            → IsOk result }
         ensures capacity { vec_capacity buffer.old ≤ vec_capacity buffer.new }
     {
         match self {

@@ -30,8 +30,8 @@ impl<'a> LinkSlice<'a> {
         }
     }
 
-    /// What stands behind an ether type: of an Ethernet II frame always, of a packet of a Linux cooked
-    /// capture where its protocol is an ether type.
+    /// What stands behind an ether type: of an Ethernet II frame always, of a packet of a Linux
+    /// cooked capture where its protocol is an ether type.
     pub fn ether_payload(&self) -> Option<EtherPayloadSlice<'a>>
         ensures { result ≡ payload_behind self.now }
     {

@@ -1,6 +1,10 @@
-ghost use Rattle.std.specs.Prelude.{◌≡◌, ◌+◌, ◌≤◌, ℕ, List, ◌++◌, length, Err, OnOk, OnErr, IsOk, IfOk, IfErr, IsOkAnd, vec_len, vec_capacity};
-ghost use Rattle.ep_link.specs.Sll.{sll_len, IsSllHeader, NamesProtocol, IsRead, Fits, header_of, spelling};
-ghost use Rattle.ep_link.specs.SllFault.{header_at, place_of};
+ghost use Rattle.std.specs.Prelude.{◌≡◌, ◌+◌, ◌≤◌, ℕ, List, ◌++◌, length, Err, OnOk, OnErr, IsOk};
+ghost use Rattle.std.specs.Prelude.{IfOk, IfErr, IsOkAnd, vec_len, vec_capacity};
+ghost use Rattle.ep_base.specs.SliceError.{content_offset};
+ghost use Rattle.ep_link.specs.Sll.{sll_len, IsSllHeader, NamesProtocol, IsRead, Fits};
+ghost use Rattle.ep_link.specs.Sll.{sll_header_of};
+ghost use Rattle.ep_link.specs.Sll.{spelling};
+ghost use Rattle.ep_link.specs.SllFault.{header_at};
 
 use super::{ArpHardwareId, LinuxSllHeaderSlice, LinuxSllPacketType, LinuxSllProtocolType};
 use crate::err::linux_sll::HeaderSliceError;
@@ -33,10 +37,10 @@ impl LinuxSllHeader {
         ensures found { IfOk result (λ r. IsRead slice.now r.0 r.1.now) }
         // A front that is a header is read.
         ensures only { (front rest : List ℕ) → IsSllHeader front → slice.now ≡ front ++ rest
-            → IsOkAnd result (λ r. (r.0 ≡ header_of front) × (r.1.now ≡ rest)) }
+            → IsOkAnd result (λ r. (r.0 ≡ sll_header_of front) × (r.1.now ≡ rest)) }
         // Else it is the first fault.
         ensures err { IfErr result (λ e. header_at slice.now ≡ Err e) }
-        ensures place { IfErr result (λ e. place_of e ≡ 0) }
+        ensures place { IfErr result (λ e. content_offset e ≡ 0) }
     {
         let header = LinuxSllHeaderSlice::from_slice(slice)?;
         let rest = &slice[LinuxSllHeader::LEN..];
@@ -55,7 +59,7 @@ impl LinuxSllHeader {
         ensures bytes { result ≡ spelling self.now }
         // They are a header, with these fields where hardware type and number name the protocol.
         ensures header { IsSllHeader result }
-        ensures fields { NamesProtocol self.now → header_of result ≡ self.now }
+        ensures fields { NamesProtocol self.now → sll_header_of result ≡ self.now }
     {
         self.spelled()
     }

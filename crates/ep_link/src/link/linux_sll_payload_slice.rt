@@ -4,7 +4,8 @@ ghost use Rattle.std.specs.Cmp.Rules.{comparing};
 ghost use Rattle.std.specs.Ordering.{on};
 ghost use Rattle.std.proofs.Common.{rules};
 ghost use Rattle.ep_link.specs.declared.link.linux_sll_protocol_type.LinuxSllProtocolType.TheVariants as variant;
-ghost use Rattle.ep_link.specs.SllPayload.{SllPayload, compared_as, as_ether_payload, named_payload};
+ghost use Rattle.ep_link.specs.SllPayload.{SllPayload, compared_as, as_ether_payload};
+ghost use Rattle.ep_link.specs.SllPayload.{named_payload};
 
 use super::LinuxSllProtocolType;
 use ep_base::LenSource;
@@ -69,7 +70,8 @@ impl<'a> TryFrom<LinuxSllPayloadSlice<'a>> for EtherPayloadSlice<'a> {
 }
 
 impl<'a> From<EtherPayloadSlice<'a>> for LinuxSllPayloadSlice<'a> {
-    ghost from_gives = { λ p r. r ≡ record { protocol_type = variant.EtherType p.ether_type; payload = p.payload } };
+    ghost from_gives = { λ p r. r
+        ≡ record { protocol_type = variant.EtherType p.ether_type; payload = p.payload } };
 
     /// The same bytes; what bounds them is dropped.
     fn from(payload: EtherPayloadSlice<'a>) -> Self {

@@ -1,45 +1,30 @@
-ghost use Rattle.std.specs.Prelude.{◌≡◌, ◌≤◌, ℕ, List, length, drop, nat_eq, IfErr};
-ghost use Rattle.std.specs.Cmp.Lexicographic.{pointwise};
-ghost use Rattle.std.specs.Cmp.Rules.{comparing};
-ghost use Rattle.std.proofs.Common.{rules};
-ghost use Rattle.ep_base.specs.Bytes.{num};
-ghost use Rattle.ep_link.specs.Sll.{sll_len, greatest_packet_type, packet_type_of, hardware_type_of, address_len_of, address_of, protocol_of, header_of};
-ghost use Rattle.ep_link.specs.SllFault.{place_of, whole_at};
+ghost use Rattle.std.specs.Prelude.{◌≡◌, ◌≤◌, length, drop, IfErr};
+ghost use Rattle.ep_base.specs.SliceError.{content_offset};
+ghost use Rattle.ep_link.specs.Sll.{sll_len, greatest_packet_type, packet_type_of};
+ghost use Rattle.ep_link.specs.SllFault.{whole_at};
 ghost use Rattle.ep_link.specs.SllPayload.{payload_of};
 
-use super::front::too_short;
-use super::{
-    ArpHardwareId, LinuxSllHeader, LinuxSllPacketType, LinuxSllPayloadSlice, LinuxSllProtocolType,
-};
+use super::linux_sll_bytes::LinuxSllBytes;
+use super::{LinuxSllHeader, LinuxSllPacketType, LinuxSllPayloadSlice};
 use crate::err::linux_sll::{HeaderError, HeaderSliceError};
-use ep_base::err::Layer;
-use std::marker::Model;
+use ep_base::err::{Layer, LenError};
+
+// As many bytes as a slice has.
+const MOST: usize = usize::MAX;
 
 /// A packet of a Linux cooked capture (libpcap's page on LINKTYPE_LINUX_SLL), borrowed: the header
 /// and all bytes behind it. A contract sees the value as the bytes of both.
-#[derive(Clone, Debug, Drop)]
-pub struct LinuxSllSlice<'a> {
-    slice: &'a [u8],
-}
+pub type LinuxSllSlice<'a> = LinuxSllBytes<'a, { MOST }>;
 
-impl<'a> Model for LinuxSllSlice<'a> {
-    ghost Value = { List ℕ };
-
-    ghost view = { λ packet. packet.slice.now };
-
-    ghost invariant = { λ packet. (sll_len ≤ length packet.slice.now)
-        × (packet_type_of packet.slice.now ≤ greatest_packet_type) };
-}
-
-impl<'a> LinuxSllSlice<'a> {
+impl<'a> LinuxSllBytes<'a, { MOST }> {
     /// The header at the front of the slice, and what follows it. Refused are, in this order, a
     /// slice of fewer than 16 bytes and a packet type above 4.
     pub fn from_slice(slice: &'a [u8]) -> Result<LinuxSllSlice<'a>, HeaderSliceError>
         ensures exact { result ≡ whole_at slice.now }
-        ensures place { IfErr result (λ e. place_of e ≡ 0) }
+        ensures place { IfErr result (λ e. content_offset e ≡ 0) }
     {
         if slice.len() < LinuxSllHeader::LEN {
-            return Err(HeaderSliceError::Len(too_short(
+            return Err(HeaderSliceError::Len(LenError::too_few_bytes(
                 Layer::LinuxSllHeader,
                 LinuxSllHeader::LEN,
                 slice.len(),
@@ -51,7 +36,7 @@ impl<'a> LinuxSllSlice<'a> {
                 packet_type,
             }));
         }
-        Ok(LinuxSllSlice { slice })
+        Ok(LinuxSllBytes { slice })
     }
 
     /// The header and all bytes behind it.
@@ -70,42 +55,6 @@ impl<'a> LinuxSllSlice<'a> {
         LinuxSllHeader::LEN
     }
 
-    /// Who the packet was sent to, or by.
-    pub fn packet_type(&self) -> LinuxSllPacketType
-        ensures { result ≡ packet_type_of self.now }
-    {
-        LinuxSllPacketType::try_from(u16::from_be_bytes([self.slice[0], self.slice[1]])).unwrap()
-    }
-
-    /// The type of the link.
-    pub fn arp_hrd_type(&self) -> ArpHardwareId
-        ensures { result ≡ hardware_type_of self.now }
-    {
-        ArpHardwareId(u16::from_be_bytes([self.slice[2], self.slice[3]]))
-    }
-
-    /// How many bytes of the address are the sender's.
-    pub fn sender_address_valid_length(&self) -> u16
-        ensures { result ≡ address_len_of self.now }
-    {
-        u16::from_be_bytes([self.slice[4], self.slice[5]])
-    }
-
-    /// The sender's link address, and bytes without meaning behind it.
-    pub fn sender_address(&self) -> [u8; 8]
-        ensures { result ≡ address_of self.now }
-    {
-        self.slice[6..14].try_into().unwrap()
-    }
-
-    /// What stands behind the header.
-    pub fn protocol_type(&self) -> LinuxSllProtocolType
-        ensures { result ≡ protocol_of (hardware_type_of self.now) (num self.now 14 2) }
-    {
-        let number = u16::from_be_bytes([self.slice[14], self.slice[15]]);
-        LinuxSllProtocolType::from((self.arp_hrd_type(), number))
-    }
-
     /// What follows the header, under its protocol.
     pub fn payload(&self) -> LinuxSllPayloadSlice<'a>
         ensures { result ≡ payload_of self.now }
@@ -122,31 +71,4 @@ impl<'a> LinuxSllSlice<'a> {
     {
         &self.slice[LinuxSllHeader::LEN..]
     }
-
-    /// The fields of the header.
-    pub fn to_header(&self) -> LinuxSllHeader
-        ensures { result ≡ header_of self.now }
-    {
-        LinuxSllHeader {
-            packet_type: self.packet_type(),
-            arp_hrd_type: self.arp_hrd_type(),
-            sender_address_valid_length: self.sender_address_valid_length(),
-            sender_address: self.sender_address(),
-            protocol_type: self.protocol_type(),
-        }
-    }
-}
-
-impl<'a> PartialEq for LinuxSllSlice<'a> {
-    ghost eq = { pointwise nat_eq };
-
-    ghost laws = { Prim.search (comparing, rules) };
-
-    fn eq(&self, other: &Self) -> bool {
-        self.slice == other.slice
-    }
-}
-
-impl<'a> Eq for LinuxSllSlice<'a> {
-    ghost laws = { Prim.search (comparing, rules) };
 }

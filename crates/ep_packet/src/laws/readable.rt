@@ -12,9 +12,9 @@ ghost use Rattle.ep_tcpudp.specs.Udp.{ReadableUdp};
 ghost use Rattle.ep_tcpudp.specs.declared.err.tcp.header_error.HeaderError.TheVariants.{DataOffsetTooSmall};
 
 /// An ICMP message can be read exactly where its header of 8 bytes is there and it is 20 bytes long
-/// if it is a timestamp message of ICMPv4; a TCP segment where its header is there as long as it says;
-/// a UDP message where its header is and its length is 0, or no less than the header's and no more
-/// than is there. Any other message can.
+/// if it is a timestamp message of ICMPv4; a TCP segment where its header is there as long as it
+/// says; a UDP message where its header is and its length is 0, or no less than the header's and no
+/// more than is there. Any other message can.
 pub fn readable_messages(message: &[u8])
     ensures icmpv4 { IsTrue (is_readable icmpv4 message.now) ↔ ReadableIcmpv4 message.now }
     ensures tcp { IsTrue (is_readable tcp message.now) ↔ ReadableTcp message.now }
@@ -25,14 +25,17 @@ pub fn readable_messages(message: &[u8])
 {}
 
 /// What bytes are read as, worked out by hand after RFC 768, 792, 4443 and 9293: an echo reply of
-/// ICMPv4, a TCP header, a UDP message with a byte behind its length, an echo request of ICMPv6, and a
-/// byte of another protocol; and why bytes are no message: too few, and a data offset of 4.
+/// ICMPv4, a TCP header, a UDP message with a byte behind its length, an echo request of ICMPv6,
+/// and a byte of another protocol; and why bytes are no message: too few, and a data offset of 4.
 pub fn messages_by_hand()
     ensures icmpv4 { message_at 1 (0 ∷ 0 ∷ 255 ∷ 255 ∷ 0 ∷ 0 ∷ 0 ∷ 0 ∷ [])
         ≡ Ok (Icmpv4 (0 ∷ 0 ∷ 255 ∷ 255 ∷ 0 ∷ 0 ∷ 0 ∷ 0 ∷ [])) }
-    ensures tcp { message_at 6 (0 ∷ 1 ∷ 0 ∷ 2 ∷ 0 ∷ 0 ∷ 0 ∷ 3 ∷ 0 ∷ 0 ∷ 0 ∷ 0 ∷ 80 ∷ 2 ∷ 4 ∷ 0 ∷ 0 ∷ 0 ∷ 0 ∷ 0 ∷ [])
-        ≡ Ok (Tcp (0 ∷ 1 ∷ 0 ∷ 2 ∷ 0 ∷ 0 ∷ 0 ∷ 3 ∷ 0 ∷ 0 ∷ 0 ∷ 0 ∷ 80 ∷ 2 ∷ 4 ∷ 0 ∷ 0 ∷ 0 ∷ 0 ∷ 0 ∷ [])) }
-    ensures udp { message_at 17 (0 ∷ 1 ∷ 0 ∷ 2 ∷ 0 ∷ 8 ∷ 0 ∷ 0 ∷ 9 ∷ []) ≡ Ok (Udp (0 ∷ 1 ∷ 0 ∷ 2 ∷ 0 ∷ 8 ∷ 0 ∷ 0 ∷ [])) }
+    ensures tcp { message_at 6 (0 ∷ 1 ∷ 0 ∷ 2 ∷ 0 ∷ 0 ∷ 0 ∷ 3 ∷ 0 ∷ 0 ∷ 0 ∷ 0 ∷ 80 ∷ 2 ∷ 4 ∷
+        0 ∷ 0 ∷ 0 ∷ 0 ∷ 0 ∷ [])
+        ≡ Ok (Tcp (0 ∷ 1 ∷ 0 ∷ 2 ∷ 0 ∷ 0 ∷ 0 ∷ 3 ∷ 0 ∷ 0 ∷ 0 ∷ 0 ∷ 80 ∷ 2 ∷ 4 ∷
+        0 ∷ 0 ∷ 0 ∷ 0 ∷ 0 ∷ [])) }
+    ensures udp { message_at 17 (0 ∷ 1 ∷ 0 ∷ 2 ∷ 0 ∷ 8 ∷ 0 ∷ 0 ∷ 9 ∷ [])
+        ≡ Ok (Udp (0 ∷ 1 ∷ 0 ∷ 2 ∷ 0 ∷ 8 ∷ 0 ∷ 0 ∷ [])) }
     ensures icmpv6 { message_at 58 (128 ∷ 0 ∷ 0 ∷ 0 ∷ 0 ∷ 1 ∷ 0 ∷ 2 ∷ [])
         ≡ Ok (Icmpv6 (128 ∷ 0 ∷ 0 ∷ 0 ∷ 0 ∷ 1 ∷ 0 ∷ 2 ∷ [])) }
     ensures raw { message_at 253 (9 ∷ []) ≡ Ok (Raw (9 ∷ [])) }
@@ -43,6 +46,7 @@ pub fn messages_by_hand()
       layer = layer.UdpHeader;
       layer_start_offset = 0;
     })) }
-    ensures data_offset { message_at 6 (0 ∷ 1 ∷ 0 ∷ 2 ∷ 0 ∷ 0 ∷ 0 ∷ 3 ∷ 0 ∷ 0 ∷ 0 ∷ 0 ∷ 64 ∷ 2 ∷ 4 ∷ 0 ∷ 0 ∷ 0 ∷ 0 ∷ 0 ∷ [])
+    ensures data_offset { message_at 6
+        (0 ∷ 1 ∷ 0 ∷ 2 ∷ 0 ∷ 0 ∷ 0 ∷ 3 ∷ 0 ∷ 0 ∷ 0 ∷ 0 ∷ 64 ∷ 2 ∷ 4 ∷ 0 ∷ 0 ∷ 0 ∷ 0 ∷ 0 ∷ [])
         ≡ Err (slice_error.Tcp (DataOffsetTooSmall 4)) }
 {}

@@ -1,27 +1,37 @@
-//! Laws of the parts of a frame at frames from outside: the answers were worked out by hand after IEEE
-//! 802.3, 802.1Q and 802.1AE and RFC 768, 791, 826 and 8200, so that a definition can't change with the
-//! code.
+//! Laws of the parts of a frame at frames from outside: the answers were worked out by hand after
+//! IEEE
+//! 802.3, 802.1Q and 802.1AE and RFC 768, 791, 826 and 8200, so that a definition can't change with
+//! the code.
 ghost use Rattle.std.specs.Prelude.{◌≡◌, [], ◌∷◌, ◌++◌, true, false, Ok, Err, Some, None};
 ghost use Rattle.ep_base.specs.declared.err.layer.Layer.TheVariants as layer;
 ghost use Rattle.ep_base.specs.declared.len_source.LenSource.TheVariants as source;
 ghost use Rattle.ep_ipslice.specs.declared.err.ip.header_error.HeaderError.TheVariants.{UnsupportedIpVersion};
 ghost use Rattle.ep_link.specs.declared.link.link_slice.LinkSlice.TheVariants as link;
 ghost use Rattle.ep_packet.specs.Class.{class_of};
-ghost use Rattle.ep_packet.specs.Class.Addresses.{V6};
 ghost use Rattle.ep_packet.specs.Class.Class.{Cut, Other, Refused, Whole};
-ghost use Rattle.ep_packet.specs.Examples.{bounded_packet, cooked_header, cooked_packet, cooked_without_type, cut_frame, eight_bytes, frame_addresses, ipv4_addresses, ipv4_fragment_header, ipv4_header, ipv4_header_of, ipv4_packet, ipv6_cut_frame, ipv6_destination, ipv6_other_frame, ipv6_source, tag_1, tag_2, tag_3, tag_4, udp_message, vlan_named, whole_frame};
-ghost use Rattle.ep_packet.specs.PacketView.{ether_payload_in, ip_payload_of, is_part, last_payload, payload_ether_type_in, source_behind, vlan_of};
+ghost use Rattle.ep_packet.specs.Examples.{bounded_packet, cooked_header, cooked_packet};
+ghost use Rattle.ep_packet.specs.Examples.{cooked_without_type, cut_frame, eight_bytes};
+ghost use Rattle.ep_packet.specs.Examples.{frame_addresses, ipv4_addresses, ipv4_fragment_header};
+ghost use Rattle.ep_packet.specs.Examples.{ipv4_header, ipv4_header_before, ipv4_packet};
+ghost use Rattle.ep_packet.specs.Examples.{ipv6_cut_frame, ipv6_destination, ipv6_other_frame};
+ghost use Rattle.ep_packet.specs.Examples.{ipv6_source, tag_1, tag_2, tag_3, tag_4, udp_message};
+ghost use Rattle.ep_packet.specs.Examples.{vlan_named, whole_frame};
+ghost use Rattle.ep_packet.specs.PacketView.{ether_payload_in, ip_payload_of, is_part};
+ghost use Rattle.ep_packet.specs.PacketView.{last_payload, payload_ether_type_in, source_behind};
+ghost use Rattle.ep_packet.specs.PacketView.{vlan_slice_of};
 ghost use Rattle.ep_packet.specs.Parts.{headers_len, tags_len};
 ghost use Rattle.ep_packet.specs.Readable.ReadMessage.{Udp};
-ghost use Rattle.ep_packet.specs.SliceFault.{bounded_by, moved, within};
+ghost use Rattle.ep_packet.specs.SliceFault.{bounded_by, offset_by, within};
 ghost use Rattle.ep_packet.specs.Sliced.{sliced_ip, sliced_linux_sll};
 ghost use Rattle.ep_packet.specs.Tags.{is_macsec_type, is_vlan_type, tags_in, vlan_ids_of};
+ghost use Rattle.ep_packet.specs.declared.addresses.Addresses.TheVariants.{V6};
 ghost use Rattle.ep_packet.specs.declared.err.packet.slice_error.SliceError.TheVariants as slice_error;
 ghost use Rattle.ep_packet.specs.declared.net.net_slice.NetSlice.TheVariants as net;
 ghost use Rattle.ep_packet.specs.declared.transport.transport_slice.TransportSlice.TheVariants as transport;
 ghost use Rattle.ep_tag.specs.MacsecPayload.MacsecPayload.{Modified};
 ghost use Rattle.ep_tag.specs.declared.link.link_ext_slice.LinkExtSlice.TheVariants as tag;
-ghost use Rattle.ep_tag.specs.declared.link.vlan_slice.VlanSlice.TheVariants.{DoubleVlan, SingleVlan};
+ghost use Rattle.ep_tag.specs.declared.link.vlan_slice.VlanSlice.TheVariants.{DoubleVlan};
+ghost use Rattle.ep_tag.specs.declared.link.vlan_slice.VlanSlice.TheVariants.{SingleVlan};
 ghost use Rattle.ep_tcpudp.specs.declared.err.tcp.header_error.HeaderError.TheVariants.{DataOffsetTooSmall};
 
 /// The ether types that name a tag.
@@ -36,9 +46,9 @@ pub fn types_of_tags()
     ensures ipv4_is_no_macsec { is_macsec_type (record { 0 = 2048 }) ≡ false }
 {}
 
-/// What frames are: a UDP message behind a VLAN tag, which tells nothing of the tag; a part of one behind
-/// two tags, which does; an unknown ether type, an ARP packet; a header that is cut off, and a frame of
-/// 13 bytes.
+/// What frames are: a UDP message behind a VLAN tag, which tells nothing of the tag; a part of one
+/// behind two tags, which does; an unknown ether type, an ARP packet; a header that is cut off, and
+/// a frame of 13 bytes.
 pub fn classes_by_hand()
     ensures whole { class_of whole_frame ≡ Whole ipv4_addresses 17 udp_message (Udp udp_message) }
     ensures part { class_of cut_frame ≡ Cut (record {
@@ -53,8 +63,8 @@ pub fn classes_by_hand()
     ensures too_short { class_of (frame_addresses ++ 8 ∷ []) ≡ Refused }
 {}
 
-/// What frames with IPv6 are: a part of a message, if the first fragment header says so, and something
-/// else where only a later one does.
+/// What frames with IPv6 are: a part of a message, if the first fragment header says so, and
+/// something else where only a later one does.
 pub fn ipv6_classes_by_hand()
     ensures part { class_of ipv6_cut_frame ≡ Cut (record {
       vlan_ids = [];
@@ -65,35 +75,39 @@ pub fn ipv6_classes_by_hand()
     ensures later { class_of ipv6_other_frame ≡ Other }
 {}
 
-/// Three of four VLAN tags are read; nothing is named behind a modified payload, here an encrypted one;
-/// and the place of a cut-off tag counts from the front of the tag before.
+/// Three of four VLAN tags are read; nothing is named behind a modified payload, here an encrypted
+/// one; and the place of a cut-off tag counts from the front of the tag before.
 pub fn tags_by_hand()
     ensures four { tags_in 3 (vlan_named tag_1) ≡ Ok (record {
       tags = tag.Vlan tag_1 ∷ tag.Vlan tag_2 ∷ tag.Vlan tag_3 ∷ [];
       len = 12;
       last = Some (vlan_named tag_4);
     }) }
-    ensures modified { tags_in 3 (vlan_named (0 ∷ 5 ∷ 136 ∷ 229 ∷ 12 ∷ 0 ∷ 0 ∷ 0 ∷ 0 ∷ 1 ∷ 9 ∷ [])) ≡ Ok (record {
-      tags = tag.Vlan (0 ∷ 5 ∷ 136 ∷ 229 ∷ 12 ∷ 0 ∷ 0 ∷ 0 ∷ 0 ∷ 1 ∷ 9 ∷ [])
-          ∷ tag.Macsec (record { header = 12 ∷ 0 ∷ 0 ∷ 0 ∷ 0 ∷ 1 ∷ []; payload = Modified (9 ∷ []) }) ∷ [];
-      len = 10;
-      last = None;
-    }) }
-    ensures cut_off { tags_in 3 (vlan_named (0 ∷ 5 ∷ 129 ∷ 0 ∷ 0 ∷ 6 ∷ [])) ≡ Err (slice_error.Len (record {
-      required_len = 4;
-      len = 2;
-      len_source = source.Slice;
-      layer = layer.VlanHeader;
-      layer_start_offset = 4;
-    })) }
-    ensures ids { vlan_ids_of (tag.Vlan tag_1 ∷ tag.Macsec (record { header = []; payload = Modified [] }) ∷ tag.Vlan tag_2 ∷ [])
+    ensures modified { tags_in 3 (vlan_named (0 ∷ 5 ∷ 136 ∷ 229 ∷ 12 ∷ 0 ∷ 0 ∷ 0 ∷ 0 ∷ 1 ∷ 9 ∷ []))
+        ≡ Ok (record {
+          tags = tag.Vlan (0 ∷ 5 ∷ 136 ∷ 229 ∷ 12 ∷ 0 ∷ 0 ∷ 0 ∷ 0 ∷ 1 ∷ 9 ∷ [])
+              ∷ tag.Macsec
+              (record { header = 12 ∷ 0 ∷ 0 ∷ 0 ∷ 0 ∷ 1 ∷ []; payload = Modified (9 ∷ []) }) ∷ [];
+          len = 10;
+          last = None;
+        }) }
+    ensures cut_off { tags_in 3 (vlan_named (0 ∷ 5 ∷ 129 ∷ 0 ∷ 0 ∷ 6 ∷ []))
+        ≡ Err (slice_error.Len (record {
+          required_len = 4;
+          len = 2;
+          len_source = source.Slice;
+          layer = layer.VlanHeader;
+          layer_start_offset = 4;
+        })) }
+    ensures ids { vlan_ids_of (tag.Vlan tag_1 ∷
+        tag.Macsec (record { header = []; payload = Modified [] }) ∷ tag.Vlan tag_2 ∷ [])
         ≡ 1 ∷ 2 ∷ [] }
 {}
 
-/// A want of bytes seen from 14 bytes earlier, and within what bounds it; a fault of the content is the
-/// same.
+/// A want of bytes seen from 14 bytes earlier, and within what bounds it; a fault of the content is
+/// the same.
 pub fn faults_by_hand()
-    ensures moved { moved 14 (slice_error.Len (record {
+    ensures moved { offset_by 14 (slice_error.Len (record {
       required_len = 4;
       len = 2;
       len_source = source.Slice;
@@ -106,7 +120,8 @@ pub fn faults_by_hand()
       layer = layer.VlanHeader;
       layer_start_offset = 22;
     }) }
-    ensures content { moved 14 (slice_error.Tcp (DataOffsetTooSmall 4)) ≡ slice_error.Tcp (DataOffsetTooSmall 4) }
+    ensures content { offset_by 14 (slice_error.Tcp (DataOffsetTooSmall 4))
+        ≡ slice_error.Tcp (DataOffsetTooSmall 4) }
     ensures within { within source.Ipv4HeaderTotalLen (slice_error.Len (record {
       required_len = 8;
       len = 7;
@@ -120,35 +135,53 @@ pub fn faults_by_hand()
       layer = layer.UdpHeader;
       layer_start_offset = 0;
     }) }
-    ensures outer { bounded_by source.Ipv6HeaderPayloadLen source.Slice ≡ source.Ipv6HeaderPayloadLen }
+    ensures outer { bounded_by source.Ipv6HeaderPayloadLen source.Slice
+        ≡ source.Ipv6HeaderPayloadLen }
     ensures own { bounded_by source.Ipv4HeaderTotalLen source.UdpHeaderLen ≡ source.UdpHeaderLen }
 {}
 
-/// What a packet tells of its tags: the first two VLAN tags, what bounds the bytes behind them, and what
-/// the last ether type names.
+/// What a packet tells of its tags: the first two VLAN tags, what bounds the bytes behind them, and
+/// what the last ether type names.
 pub fn views_by_hand()
-    ensures no_vlan { vlan_of [] ≡ None }
-    ensures single { vlan_of (tag_1 ∷ []) ≡ Some (SingleVlan tag_1) }
-    ensures double { vlan_of (tag_1 ∷ tag_2 ∷ tag_3 ∷ []) ≡ Some (DoubleVlan (record { outer = tag_1; inner = tag_2 })) }
-    ensures slice { source_behind (tag.Vlan tag_1 ∷ tag.Macsec (record { header = 0 ∷ 0 ∷ 0 ∷ 0 ∷ 0 ∷ 1 ∷ 8 ∷ 0 ∷ []; payload = Modified [] }) ∷ [])
+    ensures no_vlan { vlan_slice_of [] ≡ None }
+    ensures single { vlan_slice_of (tag_1 ∷ []) ≡ Some (SingleVlan tag_1) }
+    ensures double { vlan_slice_of (tag_1 ∷ tag_2 ∷ tag_3 ∷ [])
+        ≡ Some (DoubleVlan (record { outer = tag_1; inner = tag_2 })) }
+    ensures slice { source_behind (tag.Vlan tag_1 ∷
+        tag.Macsec (record
+        { header = 0 ∷ 0 ∷ 0 ∷ 0 ∷ 0 ∷ 1 ∷ 8 ∷ 0 ∷ []; payload = Modified [] }) ∷ [])
         ≡ source.Slice }
-    ensures short_length { source_behind (tag.Macsec (record { header = 0 ∷ 6 ∷ 0 ∷ 0 ∷ 0 ∷ 1 ∷ 8 ∷ 0 ∷ []; payload = Modified [] }) ∷ tag.Vlan tag_1 ∷ [])
+    ensures short_length { source_behind
+        (tag.Macsec (record
+        { header = 0 ∷ 6 ∷ 0 ∷ 0 ∷ 0 ∷ 1 ∷ 8 ∷ 0 ∷ []; payload = Modified [] }) ∷
+        tag.Vlan tag_1 ∷ [])
         ≡ source.MacsecShortLength }
     ensures no_link { last_payload None [] ≡ None }
-    ensures link { last_payload (Some (link.EtherPayload (vlan_named tag_1))) [] ≡ Some (vlan_named tag_1) }
-    ensures last_tag { last_payload (Some (link.EtherPayload (vlan_named tag_2))) (tag.Vlan tag_2 ∷ tag.Vlan tag_3 ∷ [])
+    ensures link { last_payload (Some (link.EtherPayload (vlan_named tag_1))) []
+        ≡ Some (vlan_named tag_1) }
+    ensures last_tag { last_payload (Some (link.EtherPayload (vlan_named tag_2)))
+        (tag.Vlan tag_2 ∷ tag.Vlan tag_3 ∷ [])
         ≡ Some (vlan_named tag_4) }
 {}
 
-/// What a packet tells of what the last ether type names, here IPv4 in a VLAN tag behind a short length; and
-/// whether an IP payload is a part of a message.
+/// What a packet tells of what the last ether type names, here IPv4 in a VLAN tag behind a short
+/// length; and whether an IP payload is a part of a message.
 pub fn packet_views_by_hand()
     ensures named { payload_ether_type_in (bounded_packet None) ≡ Some (record { 0 = 2048 }) }
-    ensures looked_into { payload_ether_type_in (bounded_packet (Some (net.Ipv4 ipv4_packet))) ≡ None }
+    ensures looked_into { payload_ether_type_in
+        (bounded_packet (Some (net.Ipv4 ipv4_packet))) ≡ None }
     ensures bounded { ether_payload_in (bounded_packet None)
-        ≡ Some (record { ether_type = record { 0 = 2048 }; len_source = source.MacsecShortLength; payload = [] }) }
+        ≡ Some (record {
+          ether_type = record { 0 = 2048 };
+          len_source = source.MacsecShortLength;
+          payload = [];
+        }) }
     ensures bounded_too { ether_payload_in (bounded_packet (Some (net.Ipv4 ipv4_packet)))
-        ≡ Some (record { ether_type = record { 0 = 2048 }; len_source = source.MacsecShortLength; payload = [] }) }
+        ≡ Some (record {
+          ether_type = record { 0 = 2048 };
+          len_source = source.MacsecShortLength;
+          payload = [];
+        }) }
     ensures no_packet { is_part (ip_payload_of None) ≡ false }
     ensures whole { is_part (ip_payload_of (Some (net.Ipv4 ipv4_packet))) ≡ false }
     ensures part { is_part (ip_payload_of (Some (net.Ipv4 (record {
@@ -158,8 +191,8 @@ pub fn packet_views_by_hand()
     })))) ≡ true }
 {}
 
-/// Packets of Linux cooked captures: the ether type of IPv4; a number that is no ether type, behind which
-/// nothing is looked into; and the place of a header that is cut off, and that of their own.
+/// Packets of Linux cooked captures: the ether type of IPv4; a number that is no ether type, behind
+/// which nothing is looked into; and the place of a header that is cut off, and that of their own.
 pub fn cooked_packets_by_hand()
     ensures ipv4 { sliced_linux_sll cooked_packet ≡ Ok (record {
       link = Some (link.LinuxSll cooked_packet);
@@ -173,13 +206,14 @@ pub fn cooked_packets_by_hand()
       net = None;
       transport = None;
     }) }
-    ensures cut_off { sliced_linux_sll (cooked_header (8 ∷ 0 ∷ []) ++ 69 ∷ []) ≡ Err (slice_error.Len (record {
-      required_len = 20;
-      len = 1;
-      len_source = source.Slice;
-      layer = layer.Ipv4Header;
-      layer_start_offset = 16;
-    })) }
+    ensures cut_off { sliced_linux_sll (cooked_header (8 ∷ 0 ∷ []) ++ 69 ∷ [])
+        ≡ Err (slice_error.Len (record {
+          required_len = 20;
+          len = 1;
+          len_source = source.Slice;
+          layer = layer.Ipv4Header;
+          layer_start_offset = 16;
+        })) }
     ensures too_short { sliced_linux_sll (cooked_header []) ≡ Err (slice_error.Len (record {
       required_len = 16;
       len = 14;
@@ -189,8 +223,8 @@ pub fn cooked_packets_by_hand()
     })) }
 {}
 
-/// IP packets without a link header: a UDP message over IPv4; bytes of another version, and none; and a TCP
-/// header that the packet cuts off.
+/// IP packets without a link header: a UDP message over IPv4; bytes of another version, and none;
+/// and a TCP header that the packet cuts off.
 pub fn ip_packets_by_hand()
     ensures ipv4 { sliced_ip (ipv4_header ++ udp_message) ≡ Ok (record {
       link = None;
@@ -206,19 +240,22 @@ pub fn ip_packets_by_hand()
       layer = layer.IpHeader;
       layer_start_offset = 0;
     })) }
-    ensures cut_off { sliced_ip (ipv4_header_of 6 ++ udp_message) ≡ Err (slice_error.Len (record {
-      required_len = 20;
-      len = 8;
-      len_source = source.Ipv4HeaderTotalLen;
-      layer = layer.TcpHeader;
-      layer_start_offset = 20;
-    })) }
+    ensures cut_off { sliced_ip (ipv4_header_before 6 ++ udp_message) ≡ Err (slice_error.Len
+        (record {
+          required_len = 20;
+          len = 8;
+          len_source = source.Ipv4HeaderTotalLen;
+          layer = layer.TcpHeader;
+          layer_start_offset = 20;
+        })) }
 {}
 
 /// How long the parts are in front of a payload.
 pub fn lengths_by_hand()
     ensures no_tags { tags_len [] ≡ 0 }
-    ensures tags { tags_len (tag.Vlan tag_1 ∷ tag.Macsec (record { header = 0 ∷ 0 ∷ 0 ∷ 0 ∷ 0 ∷ 1 ∷ 8 ∷ 0 ∷ []; payload = Modified [] }) ∷ [])
+    ensures tags { tags_len (tag.Vlan tag_1 ∷
+        tag.Macsec (record
+        { header = 0 ∷ 0 ∷ 0 ∷ 0 ∷ 0 ∷ 1 ∷ 8 ∷ 0 ∷ []; payload = Modified [] }) ∷ [])
         ≡ 12 }
     ensures no_headers { headers_len None ≡ 0 }
     ensures ipv4 { headers_len (Some (net.Ipv4 ipv4_packet)) ≡ 20 }

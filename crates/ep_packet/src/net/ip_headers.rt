@@ -1,4 +1,5 @@
-ghost use Rattle.std.specs.Prelude.{◌≡◌, ◌≤◌, ◌<◌, ◌+◌, ℕ, List, length, Ok, Err, IfOk, IfErr, IsOkAnd, vec_len, vec_capacity};
+ghost use Rattle.std.specs.Prelude.{◌≡◌, ◌≤◌, ◌<◌, ◌+◌, ℕ, List, length, Ok, Err, IfOk, IfErr};
+ghost use Rattle.std.specs.Prelude.{IsOkAnd, vec_len, vec_capacity};
 ghost use Rattle.std.specs.Option.{option_map};
 ghost use Rattle.ep_ext.specs.Follow.{Follows, Names, header_len as exts_len};
 ghost use Rattle.ep_ext.specs.Ipv4Exts.{NamesBehind, ipv4_exts_spelling};
@@ -12,15 +13,19 @@ ghost use Rattle.ep_ext.specs.Place.{place_of};
 ghost use Rattle.ep_packet.specs.IpHeadersAt.{ip_headers_at, ipv4_headers_at, ipv6_headers_at};
 ghost use Rattle.ep_ipslice.specs.Ipv6Fault.{IsFaultIn};
 ghost use Rattle.ep_ipslice.specs.Packet.{IpPayload};
-ghost use Rattle.ep_packet.specs.ReadIpHeaders.{IsIpHeaders, IsIpHeadersFault, IsIpv4Headers, IsIpv6Headers};
+ghost use Rattle.ep_packet.specs.ReadIpHeaders.{IsIpHeaders, IsIpHeadersFault, IsIpv4Headers};
+ghost use Rattle.ep_packet.specs.ReadIpHeaders.{IsIpv6Headers};
 ghost use Rattle.ep_packet.specs.declared.net.ip_headers.IpHeaders.{IpHeaders};
-ghost use Rattle.ep_packet.specs.IpHeaders.{AppendsHeaders, AppendsIpv4, AppendsIpv6, IsLinked, ether_type_of, ip_headers_len, ipv4_in, ipv4_parts, ipv6_in, is_fragmenting, or_ipv4, or_ipv6, with_payload_len};
+ghost use Rattle.ep_packet.specs.IpHeaders.{AppendsHeaders, AppendsIpv4, AppendsIpv6, IsLinked};
+ghost use Rattle.ep_packet.specs.IpHeaders.{ether_type_of, ip_headers_len, ipv4_in, ipv4_parts};
+ghost use Rattle.ep_packet.specs.IpHeaders.{ipv6_in, is_fragmenting, or_ipv4, or_ipv6};
+ghost use Rattle.ep_packet.specs.IpHeaders.{with_payload_len};
 ghost use Rattle.ep_packet.specs.declared.err.ip.headers_write_error.HeadersWriteError.TheVariants.{Memory};
 ghost use Rattle.ep_packet.specs.declared.net.ip_headers.IpHeaders.TheVariants as headers;
 
 use crate::err::ip::HeadersWriteError;
 use ep_base::err::{Layer, LenError, ValueTooBigError};
-use ep_base::{EtherType, IpNumber, LenSource};
+use ep_base::{EtherType, IpNumber};
 use ep_ext::err::ip_exts::ExtsWalkError;
 use ep_ext::{Ipv4Extensions, Ipv6Extensions};
 use ep_ip::{Ipv4Header, Ipv6Header};
@@ -61,27 +66,22 @@ impl IpHeaders {
         }
     }
 
-    /// The headers of the IP packet at the front of the slice, of the version that the upper half of its
-    /// first byte tells, and its payload. Refused are, in this order, a slice of no bytes, a version that
-    /// is neither 4 nor 6, and what `from_ipv4_slice` or `from_ipv6_slice` refuses.
+    /// The headers of the IP packet at the front of the slice, of the version that the upper half
+    /// of its first byte tells, and its payload. Refused are, in this order, a slice of no bytes, a
+    /// version that is neither 4 nor 6, and what `from_ipv4_slice` or `from_ipv6_slice` refuses.
     pub fn from_slice(slice: &[u8]) -> Result<(IpHeaders, IpPayloadSlice<'_>), HeadersSliceError>
         // The slice begins with what is taken.
         ensures found { IfOk result (λ r. IsIpHeaders slice.now r.0 r.1) }
         // Headers and a payload that the slice begins with are taken.
-        ensures only { (headers : IpHeaders) (payload : IpPayload) → IsIpHeaders slice.now headers payload
+        ensures only { (headers : IpHeaders) (payload : IpPayload)
+            → IsIpHeaders slice.now headers payload
             → result ≡ Ok (headers, payload) }
         // Else it is the first fault.
         ensures refused { IfErr result (λ e. IsIpHeadersFault slice.now e) }
         ensures exact { result ≡ ip_headers_at slice.now }
     {
         if slice.is_empty() {
-            return Err(HeadersSliceError::Len(LenError {
-                required_len: 1,
-                len: 0,
-                len_source: LenSource::Slice,
-                layer: Layer::IpHeader,
-                layer_start_offset: 0,
-            }));
+            return Err(HeadersSliceError::Len(LenError::too_few_bytes(Layer::IpHeader, 1, 0)));
         }
         let version_number = slice[0] >> 4;
         if version_number == 4 {
@@ -101,13 +101,15 @@ impl IpHeaders {
         })))
     }
 
-    /// The headers of the IP packet at the front of the slice, the number behind them and the bytes of
-    /// the payload, as `from_slice` gives them.
+    /// The headers of the IP packet at the front of the slice, the number behind them and the bytes
+    /// of the payload, as `from_slice` gives them.
     pub fn read_from_slice(slice: &[u8]) -> Result<(IpHeaders, IpNumber, &[u8]), HeadersSliceError>
         ensures found { IfOk result (λ r. (payload : IpPayload) × IsIpHeaders slice.now r.0 payload
             × (r.1 ≡ payload.ip_number) × (r.2.now ≡ payload.payload)) }
-        ensures only { (headers : IpHeaders) (payload : IpPayload) → IsIpHeaders slice.now headers payload
-            → IsOkAnd result (λ r. (r.0 ≡ headers) × (r.1 ≡ payload.ip_number) × (r.2.now ≡ payload.payload)) }
+        ensures only { (headers : IpHeaders) (payload : IpPayload)
+            → IsIpHeaders slice.now headers payload
+            → IsOkAnd result (λ r. (r.0 ≡ headers) × (r.1 ≡ payload.ip_number)
+            × (r.2.now ≡ payload.payload)) }
         ensures refused { IfErr result (λ e. IsIpHeadersFault slice.now e) }
     {
         match IpHeaders::from_slice(slice) {
@@ -116,15 +118,16 @@ impl IpHeaders {
         }
     }
 
-    /// The headers of the IPv4 packet at the front of the slice, and its payload, without the padding
-    /// behind the total length. It is refused as by [`Ipv4Slice::from_slice`].
+    /// The headers of the IPv4 packet at the front of the slice, and its payload, without the
+    /// padding behind the total length. It is refused as by [`Ipv4Slice::from_slice`].
     pub fn from_ipv4_slice(
         slice: &[u8],
     ) -> Result<(IpHeaders, IpPayloadSlice<'_>), ipv4::SliceError>
         // The slice begins with what is taken.
         ensures found { IfOk result (λ r. IsIpv4Headers slice.now r.0 r.1) }
         // Headers and a payload that the slice begins with are taken.
-        ensures only { (headers : IpHeaders) (payload : IpPayload) → IsIpv4Headers slice.now headers payload
+        ensures only { (headers : IpHeaders) (payload : IpPayload)
+            → IsIpv4Headers slice.now headers payload
             → result ≡ Ok (headers, payload) }
         // Else it is the first fault.
         ensures exact { result ≡ ipv4_headers_at slice.now }
@@ -135,20 +138,22 @@ impl IpHeaders {
         }
     }
 
-    /// The headers of the IPv6 packet at the front of the slice, and its payload, without the padding
-    /// behind the payload length. Where that length is 0 and bytes stand behind the header, the packet
-    /// takes all of them.
+    /// The headers of the IPv6 packet at the front of the slice, and its payload, without the
+    /// padding behind the payload length. Where that length is 0 and bytes stand behind the header,
+    /// the packet takes all of them.
     ///
-    /// The extension headers are those that [`Ipv6Extensions::from_slice`] takes, and the payload begins
-    /// behind them. Refused are, in this order, what [`Ipv6Slice::header_and_body`] refuses, and what
-    /// [`Ipv6Extensions::from_slice`] refuses in the bytes that the payload length gives it.
+    /// The extension headers are those that [`Ipv6Extensions::from_slice`] takes, and the payload
+    /// begins behind them. Refused are, in this order, what [`Ipv6Slice::header_and_body`] refuses,
+    /// and what [`Ipv6Extensions::from_slice`] refuses in the bytes that the payload length gives
+    /// it.
     pub fn from_ipv6_slice(
         slice: &[u8],
     ) -> Result<(IpHeaders, IpPayloadSlice<'_>), ipv6::SliceError>
         // The slice begins with what is taken.
         ensures found { IfOk result (λ r. IsIpv6Headers slice.now r.0 r.1) }
         // Headers and a payload that the slice begins with are taken.
-        ensures only { (headers : IpHeaders) (payload : IpPayload) → IsIpv6Headers slice.now headers payload
+        ensures only { (headers : IpHeaders) (payload : IpPayload)
+            → IsIpv6Headers slice.now headers payload
             → result ≡ Ok (headers, payload) }
         // Else it is the first fault.
         ensures refused { IfErr result (λ e. IsFaultIn place_of slice.now e) }
@@ -195,7 +200,8 @@ impl IpHeaders {
             → (r : _) × (result ≡ or_ipv4 r) × NamesBehind e h.protocol.0 r }
         ensures ipv6 { (h : Ipv6Header) (e : Ipv6Extensions) → self.now ≡ headers.Ipv6 h e
             → (r : _) × (result ≡ or_ipv6 r)
-            × ((pieces : List Piece) (last : ℕ) → Follows e h.next_header.0 pieces last → Names e pieces last r) }
+            × ((pieces : List Piece) (last : ℕ) → Follows e h.next_header.0 pieces last
+            → Names e pieces last r) }
     {
         match self {
             IpHeaders::Ipv4(header, extensions) => extensions
@@ -207,8 +213,8 @@ impl IpHeaders {
         }
     }
 
-    /// Makes the headers name one another, and the last one this number, and answers the ether type of
-    /// the version.
+    /// Makes the headers name one another, and the last one this number, and answers the ether type
+    /// of the version.
     pub fn set_next_headers(&mut self, last: IpNumber) -> EtherType
         ensures ether_type { result.0 ≡ ether_type_of self.old }
         ensures linked { IsLinked self.old last.0 self.new }
@@ -225,15 +231,17 @@ impl IpHeaders {
         }
     }
 
-    /// Sets the length field to that of extension headers and a payload of this many bytes, of IPv4 with
-    /// the header.
+    /// Sets the length field to that of extension headers and a payload of this many bytes, of IPv4
+    /// with the header.
     ///
-    /// Refused, with the headers unchanged, are extension headers and payload of more than 65535 bytes
-    /// together, of IPv4 less those of the header. The error tells that sum and the limit; a sum that
-    /// doesn't fit a `usize` is told as the greatest one.
+    /// Refused, with the headers unchanged, are extension headers and payload of more than 65535
+    /// bytes together, of IPv4 less those of the header. The error tells that sum and the limit; a
+    /// sum that doesn't fit a `usize` is told as the greatest one.
     pub fn set_payload_len(&mut self, len: usize) -> Result<(), ValueTooBigError<usize>>
-        ensures ok { IfOk (with_payload_len self.old len) (λ headers. (result ≡ Ok tt) × (self.new ≡ headers)) }
-        ensures err { IfErr (with_payload_len self.old len) (λ e. (result ≡ Err e) × (self.new ≡ self.old)) }
+        ensures ok { IfOk (with_payload_len self.old len)
+            (λ headers. (result ≡ Ok tt) × (self.new ≡ headers)) }
+        ensures err { IfErr (with_payload_len self.old len)
+            (λ e. (result ≡ Err e) × (self.new ≡ self.old)) }
     {
         match self {
             IpHeaders::Ipv4(header, extensions) => {
@@ -245,15 +253,16 @@ impl IpHeaders {
         }
     }
 
-    /// Appends the IP header, of IPv4 with the checksum that belongs to it, and the extension headers in
-    /// the order in which it and they name one another.
+    /// Appends the IP header, of IPv4 with the checksum that belongs to it, and the extension
+    /// headers in the order in which it and they name one another.
     ///
-    /// What `next_header` refuses is refused before memory is asked for. On `Err` the buffer keeps its
-    /// bytes.
+    /// What `next_header` refuses is refused before memory is asked for. On `Err` the buffer keeps
+    /// its bytes.
     pub fn write(&self, buffer: &mut Vec<u8>) -> Result<(), HeadersWriteError>
         ensures appends { AppendsHeaders self.now buffer.old.items buffer.new.items result }
         // Memory is wanted only where room was missing, and room never shrinks.
-        ensures memory { result ≡ Err Memory → vec_capacity buffer.old < vec_len buffer.old + ip_headers_len self.now }
+        ensures memory { result ≡ Err Memory
+            → vec_capacity buffer.old < vec_len buffer.old + ip_headers_len self.now }
         ensures capacity { vec_capacity buffer.old ≤ vec_capacity buffer.new }
     {
         match self {
@@ -295,7 +304,8 @@ fn write_ipv4(
     extensions: &Ipv4Extensions,
     buffer: &mut Vec<u8>,
 ) -> Result<(), HeadersWriteError>
-    ensures appends { AppendsIpv4 header.now extensions.now buffer.old.items buffer.new.items result }
+    ensures appends { AppendsIpv4 header.now extensions.now buffer.old.items
+        buffer.new.items result }
     ensures memory { result ≡ Err Memory → vec_capacity buffer.old
         < vec_len buffer.old + (header_len header.now + length (ipv4_exts_spelling extensions.now)) }
     ensures capacity { vec_capacity buffer.old ≤ vec_capacity buffer.new }
@@ -317,7 +327,8 @@ fn write_ipv6(
     extensions: &Ipv6Extensions,
     buffer: &mut Vec<u8>,
 ) -> Result<(), HeadersWriteError>
-    ensures appends { AppendsIpv6 header.now extensions.now buffer.old.items buffer.new.items result }
+    ensures appends { AppendsIpv6 header.now extensions.now buffer.old.items
+        buffer.new.items result }
     ensures memory { result ≡ Err Memory → vec_capacity buffer.old
         < vec_len buffer.old + (40 + exts_len extensions.now) }
     ensures capacity { vec_capacity buffer.old ≤ vec_capacity buffer.new }

@@ -1,7 +1,9 @@
-ghost use Rattle.std.specs.Prelude.{◌≡◌, ◌+◌, ◌≤◌, ◌++◌, OnOk, OnErr, IfOk, IfErr, IsOk, Ok, Err, vec_len, vec_capacity};
+ghost use Rattle.std.specs.Prelude.{◌≡◌, ◌+◌, ◌≤◌, ◌++◌, OnOk, OnErr, IfOk, IfErr, IsOk, Ok, Err};
+ghost use Rattle.std.specs.Prelude.{vec_len, vec_capacity};
 ghost use Rattle.std.specs.Option.{option_copied_mut};
 ghost use Rattle.std.specs.Borrow.{sem};
-ghost use Rattle.ep_packet.specs.Transport.{udp_in, tcp_in, icmpv4_in, icmpv6_in, transport_len, transport_spelling};
+ghost use Rattle.ep_packet.specs.Transport.{udp_in, tcp_in, icmpv4_in, icmpv6_in, transport_len};
+ghost use Rattle.ep_packet.specs.Transport.{transport_spelling};
 ghost use Rattle.ep_packet.specs.TransportChecksum.{with_checksum_v4, with_checksum_v6};
 ghost use Rattle.ep_packet.specs.TransportLends.{lends_udp, lends_tcp, lends_icmpv4, lends_icmpv6};
 
@@ -110,7 +112,8 @@ impl TransportHeader {
         }
     }
 
-    /// The length of the header in bytes: 8 of UDP, 20 to 60 of TCP, 8 or 20 of ICMPv4, 8 of ICMPv6.
+    /// The length of the header in bytes: 8 of UDP, 20 to 60 of TCP, 8 or 20 of ICMPv4, 8 of
+    /// ICMPv6.
     pub fn header_len(&self) -> usize
         ensures { result ≡ transport_len self.now }
     {
@@ -122,9 +125,9 @@ impl TransportHeader {
         }
     }
 
-    /// Sets the checksum to the one that belongs to the other fields, this payload and the addresses
-    /// of this IPv4 header. UDP's length field isn't touched, and goes into its pseudo header as it
-    /// stands.
+    /// Sets the checksum to the one that belongs to the other fields, this payload and the
+    /// addresses of this IPv4 header. UDP's length field isn't touched, and goes into its pseudo
+    /// header as it stands.
     ///
     /// Refused, with the header unchanged, are a UDP payload above 65527 bytes, a TCP payload above
     /// 65535 bytes less the header, and every ICMPv6 header.
@@ -133,9 +136,11 @@ impl TransportHeader {
         ip_header: &Ipv4Header,
         payload: &[u8],
     ) -> Result<(), TransportChecksumError>
-        ensures ok { IfOk (with_checksum_v4 ip_header.now.source ip_header.now.destination self.old payload.now)
+        ensures ok { IfOk
+            (with_checksum_v4 ip_header.now.source ip_header.now.destination self.old payload.now)
             (λ header. (result ≡ Ok tt) × (self.new ≡ header)) }
-        ensures err { IfErr (with_checksum_v4 ip_header.now.source ip_header.now.destination self.old payload.now)
+        ensures err { IfErr
+            (with_checksum_v4 ip_header.now.source ip_header.now.destination self.old payload.now)
             (λ e. (result ≡ Err e) × (self.new ≡ self.old)) }
     {
         match self {
@@ -156,8 +161,8 @@ impl TransportHeader {
     }
 
     /// Sets the checksum to the one that belongs to the other fields, this payload and, but for
-    /// ICMPv4, the addresses of this IPv6 header. UDP's length field isn't touched, and goes into its
-    /// pseudo header as it stands.
+    /// ICMPv4, the addresses of this IPv6 header. UDP's length field isn't touched, and goes into
+    /// its pseudo header as it stands.
     ///
     /// Refused, with the header unchanged, is a payload above 4294967295 bytes less the header, of
     /// any protocol but ICMPv4.
@@ -166,9 +171,11 @@ impl TransportHeader {
         ip_header: &Ipv6Header,
         payload: &[u8],
     ) -> Result<(), ValueTooBigError<usize>>
-        ensures ok { IfOk (with_checksum_v6 ip_header.now.source ip_header.now.destination self.old payload.now)
+        ensures ok { IfOk
+            (with_checksum_v6 ip_header.now.source ip_header.now.destination self.old payload.now)
             (λ header. (result ≡ Ok tt) × (self.new ≡ header)) }
-        ensures err { IfErr (with_checksum_v6 ip_header.now.source ip_header.now.destination self.old payload.now)
+        ensures err { IfErr
+            (with_checksum_v6 ip_header.now.source ip_header.now.destination self.old payload.now)
             (λ e. (result ≡ Err e) × (self.new ≡ self.old)) }
     {
         match self {
@@ -190,11 +197,14 @@ impl TransportHeader {
     ///
     /// Where no memory is left for them, the buffer keeps its bytes.
     pub fn write(&self, buffer: &mut Vec<u8>) -> Result<(), AllocError>
-        ensures ok { OnOk result (buffer.new.items ≡ buffer.old.items ++ transport_spelling self.now) }
-        ensures len { OnOk result (vec_len buffer.new ≡ vec_len buffer.old + transport_len self.now) }
+        ensures ok { OnOk result (buffer.new.items ≡ buffer.old.items
+            ++ transport_spelling self.now) }
+        ensures len { OnOk result (vec_len buffer.new
+            ≡ vec_len buffer.old + transport_len self.now) }
         ensures err { OnErr result (buffer.new.items ≡ buffer.old.items) }
         // It fails only where room was missing, and room never shrinks.
-        ensures succeeds { vec_len buffer.old + transport_len self.now ≤ vec_capacity buffer.old → IsOk result }
+        ensures succeeds { vec_len buffer.old + transport_len self.now ≤ vec_capacity buffer.old
+            → IsOk result }
         ensures capacity { vec_capacity buffer.old ≤ vec_capacity buffer.new }
     {
         match self {

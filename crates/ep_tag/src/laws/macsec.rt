@@ -1,14 +1,19 @@
 //! Laws of MACsec headers (IEEE 802.1AE, clause 9).
-ghost use Rattle.std.specs.Prelude.{◌≡◌, ℕ, List, [], ◌∷◌, ◌++◌, true, false, Ok, Err, Some, None, IsOkAnd};
+ghost use Rattle.std.specs.Prelude.{◌≡◌, ℕ, List, [], ◌∷◌, ◌++◌, true, false, Ok, Err, Some, None};
+ghost use Rattle.std.specs.Prelude.{IsOkAnd};
 ghost use Rattle.ep_base.specs.Bytes.{IsBytes};
 ghost use Rattle.ep_base.specs.declared.err.layer.Layer.TheVariants as layer;
 ghost use Rattle.ep_base.specs.declared.len_source.LenSource.TheVariants as source;
-ghost use Rattle.ep_tag.specs.declared.err.macsec.header_error.HeaderError.TheVariants.{UnexpectedVersion, InvalidUnmodifiedShortLen};
-ghost use Rattle.ep_tag.specs.declared.err.macsec.header_slice_error.HeaderSliceError.TheVariants.{Len, Content};
+ghost use Rattle.ep_tag.specs.declared.err.macsec.header_error.HeaderError.TheVariants.{UnexpectedVersion};
+ghost use Rattle.ep_tag.specs.declared.err.macsec.header_error.HeaderError.TheVariants.{InvalidUnmodifiedShortLen};
+ghost use Rattle.ep_base.specs.declared.err.slice_error.SliceError.TheVariants.{Len, Content};
 ghost use Rattle.ep_tag.specs.declared.link.macsec_p_type.MacsecPType.TheVariants as ptype;
-ghost use Rattle.ep_tag.specs.Front.{too_short};
-ghost use Rattle.ep_tag.specs.Macsec.{IsMacsecHeader, HasRoom, has_no_room, header_of, payload_len_in, ptype_of, short_len_of, spelling, with_unused_bits_zero};
-ghost use Rattle.ep_tag.specs.MacsecPayload.{IsMacsec, Macsec, Modified, Unmodified, macsec_at, payload_len_of};
+ghost use Rattle.ep_base.specs.LenError.{too_few_bytes};
+ghost use Rattle.ep_tag.specs.Macsec.{IsMacsecHeader, HasRoom, has_no_room, macsec_header_of};
+ghost use Rattle.ep_tag.specs.Macsec.{payload_len_in, ptype_of, short_len_of, spelling};
+ghost use Rattle.ep_tag.specs.Macsec.{with_unused_bits_zero};
+ghost use Rattle.ep_tag.specs.MacsecPayload.{IsMacsec, Macsec, Modified, Unmodified, macsec_at};
+ghost use Rattle.ep_tag.specs.MacsecPayload.{payload_len_of};
 
 use crate::MacsecHeader;
 use crate::err::macsec::HeaderSliceError;
@@ -20,19 +25,19 @@ pub fn header_lengths() -> [usize; 2]
     [MacsecHeader::MIN_LEN, MacsecHeader::MAX_LEN]
 }
 
-/// A header's bytes spell its fields, and are a header where the short length has room for the ether
-/// type; the bytes of a header spell fields that spell it again, but for the two unused bits.
+/// A header's bytes spell its fields, and are a header where the short length has room for the
+/// ether type; the bytes of a header spell fields that spell it again, but for the two unused bits.
 pub fn headers_are_their_bytes(header: &MacsecHeader)
     ensures header { HasRoom header.now → IsMacsecHeader (spelling header.now) }
-    ensures fields { header_of (spelling header.now) ≡ header.now }
+    ensures fields { macsec_header_of (spelling header.now) ≡ header.now }
     ensures again { (bytes : List ℕ) → IsMacsecHeader bytes → IsBytes bytes
-        → spelling (header_of bytes) ≡ with_unused_bits_zero bytes }
+        → spelling (macsec_header_of bytes) ≡ with_unused_bits_zero bytes }
 {
     let _bytes = header.to_bytes();
 }
 
-/// What `to_bytes` gives is read again, whatever follows it, where the short length has room for the
-/// ether type.
+/// What `to_bytes` gives is read again, whatever follows it, where the short length has room for
+/// the ether type.
 pub fn header_is_read_again<'a>(
     header: &MacsecHeader,
     slice: &'a [u8],
@@ -44,17 +49,20 @@ pub fn header_is_read_again<'a>(
     MacsecHeader::from_slice(slice)
 }
 
-/// What is found at the front of bytes is a header and a payload that they begin with, and one that they
-/// begin with is found.
+/// What is found at the front of bytes is a header and a payload that they begin with, and one that
+/// they begin with is found.
 pub fn payload_is_read()
-    ensures found { (bytes : List ℕ) (macsec : Macsec) → macsec_at bytes ≡ Ok macsec → IsMacsec bytes macsec }
-    ensures only { (bytes : List ℕ) (macsec : Macsec) → IsMacsec bytes macsec → macsec_at bytes ≡ Ok macsec }
+    ensures found { (bytes : List ℕ) (macsec : Macsec) → macsec_at bytes ≡ Ok macsec
+        → IsMacsec bytes macsec }
+    ensures only { (bytes : List ℕ) (macsec : Macsec) → IsMacsec bytes macsec
+        → macsec_at bytes ≡ Ok macsec }
 {}
 
 /// All flags but the version set, association 2, short length 3 with both unused bits set, packet
 /// number 01020304 and a secure channel identifier.
 pub fn fields_by_hand()
-    ensures { header_of (0x7e ∷ 0xc3 ∷ 1 ∷ 2 ∷ 3 ∷ 4 ∷ 0xa ∷ 0xb ∷ 0xc ∷ 0xd ∷ 0xe ∷ 0xf ∷ 0x10 ∷ 0x11 ∷ [])
+    ensures { macsec_header_of (0x7e ∷ 0xc3 ∷ 1 ∷ 2 ∷ 3 ∷ 4 ∷ 0xa ∷ 0xb ∷ 0xc ∷ 0xd ∷ 0xe ∷
+        0xf ∷ 0x10 ∷ 0x11 ∷ [])
         ≡ record {
           ptype = ptype.Encrypted;
           endstation_id = true;
@@ -66,8 +74,8 @@ pub fn fields_by_hand()
         } }
 {}
 
-/// What a header's fields and what its bytes say of the payload's length behind a short length above 0
-/// is the same, and there is none where the short length has no room for the ether type.
+/// What a header's fields and what its bytes say of the payload's length behind a short length
+/// above 0 is the same, and there is none where the short length has no room for the ether type.
 pub fn payload_lengths_agree()
     ensures room { (header : List ℕ) → has_no_room header ≡ false
         → payload_len_in (ptype_of header) (short_len_of header) ≡ Some (payload_len_of header) }
@@ -75,8 +83,8 @@ pub fn payload_lengths_agree()
         → payload_len_in (ptype_of header) (short_len_of header) ≡ None }
 {}
 
-/// A short length leaves its bytes for the payload, 2 fewer where an ether type stands in it, and so
-/// none of 1 there.
+/// A short length leaves its bytes for the payload, 2 fewer where an ether type stands in it, and
+/// so none of 1 there.
 pub fn payload_lengths_by_hand()
     ensures modified { payload_len_in ptype.Modified 1 ≡ Some 1 }
     ensures encrypted { payload_len_in ptype.Encrypted 63 ≡ Some 63 }
@@ -86,13 +94,20 @@ pub fn payload_lengths_by_hand()
     ensures greatest { payload_len_in (ptype.Unmodified (record { 0 = 0x0800 })) 63 ≡ Some 61 }
 {}
 
-/// Short lengths 0 and 1 under the other flags: 0 leaves all that follows, 1 a single byte, and 1 is
-/// refused where an ether type is to stand in it.
+/// Short lengths 0 and 1 under the other flags: 0 leaves all that follows, 1 a single byte, and 1
+/// is refused where an ether type is to stand in it.
 pub fn short_lengths_by_hand()
-    ensures zero_identifier { macsec_at (0x20 ∷ 0 ∷ 0 ∷ 0 ∷ 0 ∷ 1 ∷ 10 ∷ 11 ∷ 12 ∷ 13 ∷ 14 ∷ 15 ∷ 16 ∷ 17 ∷ 8 ∷ 6 ∷ 7 ∷ 8 ∷ []) ≡ Ok (record {
-      header = 0x20 ∷ 0 ∷ 0 ∷ 0 ∷ 0 ∷ 1 ∷ 10 ∷ 11 ∷ 12 ∷ 13 ∷ 14 ∷ 15 ∷ 16 ∷ 17 ∷ 8 ∷ 6 ∷ [];
-      payload = Unmodified (record { ether_type = record { 0 = 0x0806 }; len_source = source.Slice; payload = 7 ∷ 8 ∷ [] });
-    }) }
+    ensures zero_identifier { macsec_at
+        (0x20 ∷ 0 ∷ 0 ∷ 0 ∷ 0 ∷ 1 ∷ 10 ∷ 11 ∷ 12 ∷ 13 ∷ 14 ∷ 15 ∷ 16 ∷ 17 ∷ 8 ∷ 6 ∷ 7 ∷ 8 ∷ [])
+        ≡ Ok (record {
+          header = 0x20 ∷ 0 ∷ 0 ∷ 0 ∷ 0 ∷ 1 ∷ 10 ∷ 11 ∷ 12 ∷ 13 ∷ 14 ∷ 15 ∷ 16 ∷ 17 ∷ 8 ∷ 6 ∷ [];
+          payload = Unmodified
+              (record {
+                ether_type = record { 0 = 0x0806 };
+                len_source = source.Slice;
+                payload = 7 ∷ 8 ∷ [];
+              });
+        }) }
     ensures zero_changed { macsec_at (0x44 ∷ 0 ∷ 0 ∷ 0 ∷ 0 ∷ 1 ∷ 7 ∷ 8 ∷ []) ≡ Ok (record {
       header = 0x44 ∷ 0 ∷ 0 ∷ 0 ∷ 0 ∷ 1 ∷ [];
       payload = Modified (7 ∷ 8 ∷ []);
@@ -105,12 +120,15 @@ pub fn short_lengths_by_hand()
       header = 8 ∷ 1 ∷ 0 ∷ 0 ∷ 0 ∷ 1 ∷ [];
       payload = Modified (7 ∷ []);
     }) }
-    ensures one_of_all { macsec_at (0x2c ∷ 1 ∷ 0 ∷ 0 ∷ 0 ∷ 1 ∷ 10 ∷ 11 ∷ 12 ∷ 13 ∷ 14 ∷ 15 ∷ 16 ∷ 17 ∷ 7 ∷ 8 ∷ []) ≡ Ok (record {
-      header = 0x2c ∷ 1 ∷ 0 ∷ 0 ∷ 0 ∷ 1 ∷ 10 ∷ 11 ∷ 12 ∷ 13 ∷ 14 ∷ 15 ∷ 16 ∷ 17 ∷ [];
-      payload = Modified (7 ∷ []);
-    }) }
-    ensures one_identifier { macsec_at (0x20 ∷ 1 ∷ 0 ∷ 0 ∷ 0 ∷ 1 ∷ []) ≡ Err (Content InvalidUnmodifiedShortLen) }
-    ensures one_broadcast { macsec_at (0x53 ∷ 0xc1 ∷ 0 ∷ 0 ∷ 0 ∷ 1 ∷ 8 ∷ 6 ∷ 7 ∷ []) ≡ Err (Content InvalidUnmodifiedShortLen) }
+    ensures one_of_all { macsec_at (0x2c ∷ 1 ∷ 0 ∷ 0 ∷ 0 ∷ 1 ∷ 10 ∷ 11 ∷ 12 ∷ 13 ∷ 14 ∷ 15 ∷ 16 ∷
+        17 ∷ 7 ∷ 8 ∷ []) ≡ Ok (record {
+          header = 0x2c ∷ 1 ∷ 0 ∷ 0 ∷ 0 ∷ 1 ∷ 10 ∷ 11 ∷ 12 ∷ 13 ∷ 14 ∷ 15 ∷ 16 ∷ 17 ∷ [];
+          payload = Modified (7 ∷ []);
+        }) }
+    ensures one_identifier { macsec_at (0x20 ∷ 1 ∷ 0 ∷ 0 ∷ 0 ∷ 1 ∷ [])
+        ≡ Err (Content InvalidUnmodifiedShortLen) }
+    ensures one_broadcast { macsec_at (0x53 ∷ 0xc1 ∷ 0 ∷ 0 ∷ 0 ∷ 1 ∷ 8 ∷ 6 ∷ 7 ∷ [])
+        ≡ Err (Content InvalidUnmodifiedShortLen) }
 {}
 
 /// What a header makes of the bytes behind it: an ether type and the payload that the short length
@@ -118,18 +136,31 @@ pub fn short_lengths_by_hand()
 pub fn payloads_by_hand()
     ensures cut { macsec_at (0 ∷ 4 ∷ 0 ∷ 0 ∷ 0 ∷ 1 ∷ 0x81 ∷ 0 ∷ 7 ∷ 8 ∷ 9 ∷ []) ≡ Ok (record {
       header = 0 ∷ 4 ∷ 0 ∷ 0 ∷ 0 ∷ 1 ∷ 0x81 ∷ 0 ∷ [];
-      payload = Unmodified (record { ether_type = record { 0 = 0x8100 }; len_source = source.MacsecShortLength; payload = 7 ∷ 8 ∷ [] });
+      payload = Unmodified
+          (record {
+            ether_type = record { 0 = 0x8100 };
+            len_source = source.MacsecShortLength;
+            payload = 7 ∷ 8 ∷ [];
+          });
     }) }
     ensures uncut { macsec_at (0 ∷ 0 ∷ 0 ∷ 0 ∷ 0 ∷ 1 ∷ 8 ∷ 6 ∷ 7 ∷ 8 ∷ []) ≡ Ok (record {
       header = 0 ∷ 0 ∷ 0 ∷ 0 ∷ 0 ∷ 1 ∷ 8 ∷ 6 ∷ [];
-      payload = Unmodified (record { ether_type = record { 0 = 0x0806 }; len_source = source.Slice; payload = 7 ∷ 8 ∷ [] });
+      payload = Unmodified
+          (record {
+            ether_type = record { 0 = 0x0806 };
+            len_source = source.Slice;
+            payload = 7 ∷ 8 ∷ [];
+          });
     }) }
     ensures changed { macsec_at (4 ∷ 1 ∷ 0 ∷ 0 ∷ 0 ∷ 1 ∷ 7 ∷ 8 ∷ []) ≡ Ok (record {
       header = 4 ∷ 1 ∷ 0 ∷ 0 ∷ 0 ∷ 1 ∷ [];
       payload = Modified (7 ∷ []);
     }) }
     ensures version { macsec_at (0x80 ∷ 1 ∷ 0 ∷ 0 ∷ 0 ∷ 1 ∷ []) ≡ Err (Content UnexpectedVersion) }
-    ensures no_room { macsec_at (0 ∷ 1 ∷ 0 ∷ 0 ∷ 0 ∷ 1 ∷ []) ≡ Err (Content InvalidUnmodifiedShortLen) }
-    ensures header { macsec_at (0x20 ∷ 0 ∷ 0 ∷ 0 ∷ 0 ∷ 1 ∷ 7 ∷ []) ≡ Err (Len (too_short layer.MacsecHeader 16 7)) }
-    ensures payload { macsec_at (0xc ∷ 3 ∷ 0 ∷ 0 ∷ 0 ∷ 1 ∷ 7 ∷ 8 ∷ []) ≡ Err (Len (too_short layer.MacsecPacket 9 8)) }
+    ensures no_room { macsec_at (0 ∷ 1 ∷ 0 ∷ 0 ∷ 0 ∷ 1 ∷ [])
+        ≡ Err (Content InvalidUnmodifiedShortLen) }
+    ensures header { macsec_at (0x20 ∷ 0 ∷ 0 ∷ 0 ∷ 0 ∷ 1 ∷ 7 ∷ [])
+        ≡ Err (Len (too_few_bytes layer.MacsecHeader 16 7)) }
+    ensures payload { macsec_at (0xc ∷ 3 ∷ 0 ∷ 0 ∷ 0 ∷ 1 ∷ 7 ∷ 8 ∷ [])
+        ≡ Err (Len (too_few_bytes layer.MacsecPacket 9 8)) }
 {}

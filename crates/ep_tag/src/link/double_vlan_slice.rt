@@ -1,5 +1,5 @@
 ghost use Rattle.std.specs.Prelude.{◌≡◌, drop};
-ghost use Rattle.ep_tag.specs.Vlan.{vlan_len, header_of, payload_of};
+ghost use Rattle.ep_tag.specs.Vlan.{vlan_len, single_vlan_header_of, payload_of};
 
 use super::{DoubleVlanHeader, EtherPayloadSlice, SingleVlanSlice};
 
@@ -36,7 +36,12 @@ impl<'a> DoubleVlanSlice<'a> {
 
     /// The fields of both tags.
     pub fn to_header(&self) -> DoubleVlanHeader
-        ensures { result ≡ record { outer = header_of self.now.outer; inner = header_of self.now.inner } }
+        ensures { result
+            ≡ record {
+              outer = single_vlan_header_of self.now.outer;
+              inner = single_vlan_header_of
+                  self.now.inner;
+            } }
     {
         DoubleVlanHeader {
             outer: self.outer.to_header(),

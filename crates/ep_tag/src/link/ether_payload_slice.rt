@@ -83,7 +83,8 @@ impl<'a> Ord for EtherPayloadSlice<'a> {
 impl<'a> PartialOrd for EtherPayloadSlice<'a> {
     ghost partial_cmp = { as_partial_cmp (on ordered_as (slice_cmp nat_cmp)) };
 
-    ghost laws = { partial_order_from_own_ties (Prim.search (comparing, rules)) (Prim.search (comparing, rules)) };
+    ghost laws = { partial_order_from_own_ties (Prim.search (comparing, rules))
+        (Prim.search (comparing, rules)) };
 
     fn partial_cmp(&self, other: &Self) -> Option<Ordering> {
         Some(self.cmp(other))

@@ -1,4 +1,5 @@
-ghost use Rattle.std.specs.Prelude.{◌≡◌, ◌+◌, ◌≤◌, ◌++◌, length, OnOk, OnErr, IsOk, vec_len, vec_capacity};
+ghost use Rattle.std.specs.Prelude.{◌≡◌, ◌+◌, ◌≤◌, ◌++◌, length, OnOk, OnErr, IsOk, vec_len};
+ghost use Rattle.std.specs.Prelude.{vec_capacity};
 ghost use Rattle.ep_tag.specs.LinkExt.{tag_spelling, next_type_in};
 ghost use Rattle.ep_tag.specs.Vlan.{default_header};
 ghost use Rattle.ep_tag.specs.declared.link.link_ext_header.LinkExtHeader.TheVariants as header;
@@ -27,8 +28,8 @@ impl LinkExtHeader {
         }
     }
 
-    /// The ether type of what stands behind the tag, where it has one: none behind a modified MACsec
-    /// payload.
+    /// The ether type of what stands behind the tag, where it has one: none behind a modified
+    /// MACsec payload.
     pub fn next_ether_type(&self) -> Option<EtherType>
         ensures { result ≡ next_type_in self.now }
     {
@@ -41,10 +42,12 @@ impl LinkExtHeader {
     /// Appends the bytes of the tag.
     pub fn write(&self, buffer: &mut Vec<u8>) -> Result<(), AllocError>
         ensures ok { OnOk result (buffer.new.items ≡ buffer.old.items ++ tag_spelling self.now) }
-        ensures len { OnOk result (vec_len buffer.new ≡ vec_len buffer.old + length (tag_spelling self.now)) }
+        ensures len { OnOk result (vec_len buffer.new
+            ≡ vec_len buffer.old + length (tag_spelling self.now)) }
         ensures err { OnErr result (buffer.new.items ≡ buffer.old.items) }
         // It fails only where room was missing, and room never shrinks.
-        ensures succeeds { vec_len buffer.old + length (tag_spelling self.now) ≤ vec_capacity buffer.old → IsOk result }
+        ensures succeeds { vec_len buffer.old + length (tag_spelling self.now)
+            ≤ vec_capacity buffer.old → IsOk result }
         ensures capacity { vec_capacity buffer.old ≤ vec_capacity buffer.new }
     {
         match self {

@@ -1,8 +1,14 @@
-ghost use Rattle.std.specs.Prelude.{◌≡◌, ◌==◌, ◌&&◌, ℕ, ◌+◌, ◌≤◌, List, [], ◌∷◌, ◌++◌, length, Bool, true, false, if◌then◌else◌, is_some, Some, None, Err, OnOk, OnErr, IsOk, IfOk, IfErr, IsOkAnd, vec_len, vec_capacity};
+ghost use Rattle.std.specs.Prelude.{◌≡◌, ◌==◌, ◌&&◌, ℕ, ◌+◌, ◌≤◌, List, [], ◌∷◌, ◌++◌, length};
+ghost use Rattle.std.specs.Prelude.{Bool, true, false, if◌then◌else◌, is_some, Some, None, Err};
+ghost use Rattle.std.specs.Prelude.{OnOk, OnErr, IsOk, IfOk, IfErr, IsOkAnd, vec_len, vec_capacity};
 ghost use Rattle.std.specs.Int.{w32, to_be_bytes};
 ghost use Rattle.arrayvec.specs.ArrayVec.{array_vec_len};
-ghost use Rattle.ep_tag.specs.Macsec.{IsMacsecHeader, IsRead, HasRoom, Fits, SciFits, TypeFits, header_of, spelling, first_byte, ptype_bits, ptype_spelling, sci_spelling, worth, next_type_in, payload_len_in};
-ghost use Rattle.ep_tag.specs.MacsecFault.{header_at, place_of};
+ghost use Rattle.ep_base.specs.SliceError.{content_offset};
+ghost use Rattle.ep_tag.specs.Macsec.{IsMacsecHeader, IsRead, HasRoom, Fits, SciFits, TypeFits};
+ghost use Rattle.ep_tag.specs.Macsec.{macsec_header_of, spelling, first_byte, ptype_bits};
+ghost use Rattle.ep_tag.specs.Macsec.{ptype_spelling};
+ghost use Rattle.ep_tag.specs.Macsec.{sci_spelling, worth, next_type_in, payload_len_in};
+ghost use Rattle.ep_tag.specs.MacsecFault.{header_at};
 
 use super::{MacsecAn, MacsecHeaderSlice, MacsecPType, MacsecShortLen};
 use crate::err::macsec::HeaderSliceError;
@@ -37,18 +43,18 @@ impl MacsecHeader {
     /// The length in bytes of a header with a secure channel identifier and an ether type.
     pub const MAX_LEN: usize = 16;
 
-    /// The header at the front of the slice, and the bytes behind it, which aren't cut. Refused are,
-    /// in this order, a slice of fewer than 6 bytes, version 1, a short length of 1 where an ether
-    /// type is to stand in it, and a slice shorter than the header.
+    /// The header at the front of the slice, and the bytes behind it, which aren't cut. Refused
+    /// are, in this order, a slice of fewer than 6 bytes, version 1, a short length of 1 where an
+    /// ether type is to stand in it, and a slice shorter than the header.
     pub fn from_slice(slice: &[u8]) -> Result<(MacsecHeader, &[u8]), HeaderSliceError>
         // The front of the slice is a header, and is read so.
         ensures found { IfOk result (λ r. IsRead slice.now r.0 r.1.now) }
         // A front that is a header is read.
         ensures only { (front rest : List ℕ) → IsMacsecHeader front → slice.now ≡ front ++ rest
-            → IsOkAnd result (λ r. (r.0 ≡ header_of front) × (r.1.now ≡ rest)) }
+            → IsOkAnd result (λ r. (r.0 ≡ macsec_header_of front) × (r.1.now ≡ rest)) }
         // Else it is the first fault.
         ensures err { IfErr result (λ e. header_at slice.now ≡ Err e) }
-        ensures place { IfErr result (λ e. place_of e ≡ 0) }
+        ensures place { IfErr result (λ e. content_offset e ≡ 0) }
     {
         let header = MacsecHeaderSlice::from_slice(slice)?;
         let rest = &slice[header.slice().len()..];
@@ -83,7 +89,8 @@ impl MacsecHeader {
     /// How many bytes the short length leaves for the payload, where it isn't 0. A short length
     /// of 1 before an unmodified payload, which has no room for the ether type, leaves none.
     pub fn expected_payload_len(&self) -> Option<usize>
-        ensures { result ≡ (if self.now.short_len == 0 then None else payload_len_in self.now.ptype self.now.short_len) }
+        ensures { result ≡ (if self.now.short_len == 0 then None
+            else payload_len_in self.now.ptype self.now.short_len) }
     {
         let short_len = usize::from(self.short_len.value());
         match (short_len, self.ptype) {
@@ -99,7 +106,7 @@ impl MacsecHeader {
         ensures bytes { result.items ≡ spelling self.now }
         // Where the short length has room for the ether type they are a header, with these fields.
         ensures header { HasRoom self.now → IsMacsecHeader result.items }
-        ensures fields { header_of result.items ≡ self.now }
+        ensures fields { macsec_header_of result.items ≡ self.now }
     {
         self.spelled()
     }
@@ -142,10 +149,12 @@ impl MacsecHeader {
     /// Appends the bytes of the header.
     pub fn write(&self, buffer: &mut Vec<u8>) -> Result<(), AllocError>
         ensures ok { OnOk result (buffer.new.items ≡ buffer.old.items ++ spelling self.now) }
-        ensures len { OnOk result (vec_len buffer.new ≡ vec_len buffer.old + length (spelling self.now)) }
+        ensures len { OnOk result (vec_len buffer.new
+            ≡ vec_len buffer.old + length (spelling self.now)) }
         ensures err { OnErr result (buffer.new.items ≡ buffer.old.items) }
         // It fails only where room was missing, and room never shrinks.
-        ensures succeeds { vec_len buffer.old + length (spelling self.now) ≤ vec_capacity buffer.old → IsOk result }
+        ensures succeeds { vec_len buffer.old + length (spelling self.now) ≤ vec_capacity buffer.old
+            → IsOk result }
         ensures capacity { vec_capacity buffer.old ≤ vec_capacity buffer.new }
     {
         buffer.extend_from_slice(self.to_bytes().as_slice())

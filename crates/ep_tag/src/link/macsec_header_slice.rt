@@ -1,23 +1,29 @@
-ghost use Rattle.std.specs.Prelude.{◌≡◌, ◌<◌, ◌≤◌, ◌+◌, ◌==◌, true, ℕ, List, ◌++◌, length, Some, None, Ok, IfOk, IfErr, if◌then◌else◌, nat_eq};
+ghost use Rattle.std.specs.Prelude.{◌≡◌, ◌<◌, ◌≤◌, ◌+◌, ◌==◌, true, ℕ, List, length, Some, None};
+ghost use Rattle.std.specs.Prelude.{IfErr, if◌then◌else◌, nat_eq};
 ghost use Rattle.std.specs.Cmp.Lexicographic.{pointwise};
 ghost use Rattle.std.specs.Cmp.Rules.{comparing};
 ghost use Rattle.std.proofs.Common.{rules};
-ghost use Rattle.ep_tag.specs.Macsec.{IsMacsecHeader, version_of, endstation_id_of, has_sci, scb_of, is_encrypted, is_changed, is_unmodified, an_of, short_len_of, packet_nr_of, sci_of, sci_len, type_len, header_len_of, next_type_of, ptype_of, has_no_room, header_of};
+ghost use Rattle.ep_base.specs.Fronts.{TakesFront};
+ghost use Rattle.ep_tag.specs.Macsec.{IsMacsecHeader, version_of, endstation_id_of, has_sci};
+ghost use Rattle.ep_tag.specs.Macsec.{scb_of, is_encrypted, is_changed, is_unmodified, an_of};
+ghost use Rattle.ep_tag.specs.Macsec.{short_len_of, packet_nr_of, sci_of, sci_len, type_len};
+ghost use Rattle.ep_tag.specs.Macsec.{header_len_of, next_type_of, ptype_of, has_no_room};
+ghost use Rattle.ep_tag.specs.Macsec.{macsec_header_of};
 ghost use Rattle.ep_base.specs.Bytes.{num};
+ghost use Rattle.ep_base.specs.SliceError.{content_offset};
 ghost use Rattle.ep_tag.specs.Ether.{ether_type_at};
-ghost use Rattle.ep_tag.specs.MacsecFault.{header_at, place_of};
+ghost use Rattle.ep_tag.specs.MacsecFault.{header_at};
 ghost use Rattle.ep_tag.specs.MacsecPayload.{payload_len_of};
 
-use super::front::too_short;
 use super::{MacsecAn, MacsecHeader, MacsecPType, MacsecShortLen};
 use crate::err::macsec::{HeaderError, HeaderSliceError};
 use ep_base::EtherType;
-use ep_base::err::Layer;
+use ep_base::err::{Layer, LenError};
 use std::marker::Model;
 
-/// The bytes of a MACsec header (IEEE 802.1AE, clause 9), borrowed: 6, 8 more where a secure channel
-/// identifier is there, and 2 more where the payload is unmodified. They were tested when the value
-/// was made. A contract sees the value as those bytes.
+/// The bytes of a MACsec header (IEEE 802.1AE, clause 9), borrowed: 6, 8 more where a secure
+/// channel identifier is there, and 2 more where the payload is unmodified. They were tested when
+/// the value was made. A contract sees the value as those bytes.
 #[derive(Clone, Debug, Drop)]
 pub struct MacsecHeaderSlice<'a> {
     slice: &'a [u8],
@@ -37,25 +43,21 @@ impl<'a> MacsecHeaderSlice<'a> {
     /// 6 bytes, version 1, a short length of 1 where an ether type is to stand in it, and a slice
     /// shorter than the header.
     pub fn from_slice(slice: &'a [u8]) -> Result<MacsecHeaderSlice<'a>, HeaderSliceError>
-        // What is taken is a header, and a front of the slice.
-        ensures found { IfOk result (λ header. IsMacsecHeader header
-            × ((rest : List ℕ) × (slice.now ≡ header ++ rest))) }
-        // A front that is a header is taken.
-        ensures only { (header rest : List ℕ) → IsMacsecHeader header → slice.now ≡ header ++ rest
-            → result ≡ Ok header }
+        // What is taken is a header at the front of the slice, and one that stands there is taken.
+        ensures takes { TakesFront IsMacsecHeader slice.now result }
         // Else it is the first fault.
         ensures exact { result ≡ header_at slice.now }
-        ensures place { IfErr result (λ e. place_of e ≡ 0) }
+        ensures place { IfErr result (λ e. content_offset e ≡ 0) }
     {
         Self::tested(slice)
     }
 
     fn tested(slice: &'a [u8]) -> Result<MacsecHeaderSlice<'a>, HeaderSliceError>
         ensures exact { result ≡ header_at slice.now }
-        ensures place { IfErr result (λ e. place_of e ≡ 0) }
+        ensures place { IfErr result (λ e. content_offset e ≡ 0) }
     {
         if slice.len() < MacsecHeader::MIN_LEN {
-            return Err(HeaderSliceError::Len(too_short(
+            return Err(HeaderSliceError::Len(LenError::too_few_bytes(
                 Layer::MacsecHeader,
                 MacsecHeader::MIN_LEN,
                 slice.len(),
@@ -69,7 +71,7 @@ impl<'a> MacsecHeaderSlice<'a> {
         }
         let header_len = header_len_of(slice);
         if slice.len() < header_len {
-            return Err(HeaderSliceError::Len(too_short(
+            return Err(HeaderSliceError::Len(LenError::too_few_bytes(
                 Layer::MacsecHeader,
                 header_len,
                 slice.len(),
@@ -228,7 +230,8 @@ impl<'a> MacsecHeaderSlice<'a> {
 
     /// How many bytes the short length leaves for the payload, where it isn't 0.
     pub fn expected_payload_len(&self) -> Option<usize>
-        ensures { result ≡ (if short_len_of self.now == 0 then None else Some (payload_len_of self.now)) }
+        ensures { result ≡ (if short_len_of self.now == 0 then None
+            else Some (payload_len_of self.now)) }
     {
         let payload_len = self.payload_len();
         if self.short_len().value() == 0 {
@@ -248,7 +251,7 @@ impl<'a> MacsecHeaderSlice<'a> {
 
     /// The fields. The two unused bits are dropped.
     pub fn to_header(&self) -> MacsecHeader
-        ensures { result ≡ header_of self.now }
+        ensures { result ≡ macsec_header_of self.now }
     {
         MacsecHeader {
             ptype: self.ptype(),

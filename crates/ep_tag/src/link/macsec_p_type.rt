@@ -4,7 +4,8 @@ use ep_base::EtherType;
 /// section 9.5).
 #[derive(Clone, Copy, Debug, PartialEq, Eq, Hash, PartialOrd, Ord)]
 pub enum MacsecPType {
-    /// E and C are 0: the payload is as it was handed to MACsec, and its ether type ends the header.
+    /// E and C are 0: the payload is as it was handed to MACsec, and its ether type ends the
+    /// header.
     Unmodified(EtherType),
     /// E is 0 and C is 1: the payload isn't encrypted, and was changed.
     Modified,

@@ -7,8 +7,8 @@ use ep_base::err::{ValueTooBigError, ValueType};
 use std::fmt;
 use std::marker::Model;
 
-/// The short length of a MACsec header, 6 bits (IEEE 802.1AE, section 9.7): how many bytes the header
-/// protects, the ether type of an unmodified payload among them; 0 where it doesn't say.
+/// The short length of a MACsec header, 6 bits (IEEE 802.1AE, section 9.7): how many bytes the
+/// header protects, the ether type of an unmodified payload among them; 0 where it doesn't say.
 #[derive(Clone, Copy, Debug, PartialEq, Eq, Hash, PartialOrd, Ord)]
 pub struct MacsecShortLen(u8);
 

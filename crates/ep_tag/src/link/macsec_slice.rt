@@ -1,18 +1,18 @@
-ghost use Rattle.std.specs.Prelude.{◌≡◌, ◌&&◌, ℕ, List, length, nat_eq, IfOk, IfErr, Ok, option_map};
+ghost use Rattle.std.specs.Prelude.{◌≡◌, ◌&&◌, ℕ, List, length, nat_eq, IfOk, IfErr, Ok};
+ghost use Rattle.std.specs.Prelude.{option_map};
 ghost use Rattle.std.specs.Cmp.Lexicographic.{pointwise};
 ghost use Rattle.std.specs.Cmp.Rules.{comparing};
 ghost use Rattle.std.specs.Ordering.{on};
 ghost use Rattle.std.proofs.Common.{rules};
-ghost use Rattle.ep_tag.specs.Macsec.{header_of};
-ghost use Rattle.ep_tag.specs.MacsecFault.{place_of};
+ghost use Rattle.ep_base.specs.SliceError.{content_offset};
+ghost use Rattle.ep_tag.specs.Macsec.{macsec_header_of};
 ghost use Rattle.ep_tag.specs.MacsecOrder.{compared_as};
 ghost use Rattle.ep_tag.specs.MacsecPayload.{Macsec, IsMacsec, macsec_at, named_payload};
 ghost use Rattle.ep_tag.specs.MacsecView.{payload_told};
 
-use super::front::too_short;
 use super::{EtherPayloadSlice, MacsecHeader, MacsecHeaderSlice, MacsecPayloadSlice};
 use crate::err::macsec::HeaderSliceError;
-use ep_base::err::Layer;
+use ep_base::err::{Layer, LenError};
 use ep_base::{EtherType, LenSource};
 use std::marker::Model;
 
@@ -43,21 +43,21 @@ impl<'a> MacsecSlice<'a> {
         ensures only { (macsec : Macsec) → IsMacsec slice.now macsec → result ≡ Ok macsec }
         // Else it is the first fault.
         ensures exact { result ≡ macsec_at slice.now }
-        ensures place { IfErr result (λ e. place_of e ≡ 0) }
+        ensures place { IfErr result (λ e. content_offset e ≡ 0) }
     {
         Self::tested(slice)
     }
 
     fn tested(slice: &'a [u8]) -> Result<MacsecSlice<'a>, HeaderSliceError>
         ensures exact { result ≡ macsec_at slice.now }
-        ensures place { IfErr result (λ e. place_of e ≡ 0) }
+        ensures place { IfErr result (λ e. content_offset e ≡ 0) }
     {
         let header = MacsecHeaderSlice::from_slice(slice)?;
         let header_len = header.slice().len();
         let (_, rest) = slice.split_at(header_len);
         let payload_len = header.payload_len();
         if rest.len() < payload_len {
-            return Err(HeaderSliceError::Len(too_short(
+            return Err(HeaderSliceError::Len(LenError::too_few_bytes(
                 Layer::MacsecPacket,
                 header_len + payload_len,
                 slice.len(),
@@ -87,7 +87,7 @@ impl<'a> MacsecSlice<'a> {
 
     /// The fields of the header.
     pub fn to_header(&self) -> MacsecHeader
-        ensures { result ≡ header_of self.now.header }
+        ensures { result ≡ macsec_header_of self.now.header }
     {
         self.header.to_header()
     }
@@ -114,7 +114,8 @@ impl<'a> MacsecSlice<'a> {
 }
 
 impl<'a> PartialEq for MacsecSlice<'a> {
-    ghost eq = { λ a b. on (λ m. m.header) (pointwise nat_eq) a b && on (λ m. compared_as m.payload) (pointwise nat_eq) a b };
+    ghost eq = { λ a b. on (λ m. m.header) (pointwise nat_eq) a b
+        && on (λ m. compared_as m.payload) (pointwise nat_eq) a b };
 
     ghost laws = { Prim.search (comparing, rules) depth 9 };
 

@@ -1,7 +1,10 @@
-ghost use Rattle.std.specs.Prelude.{◌≡◌, ◌+◌, ◌^◌, ◌≤◌, List, ℕ, if◌then◌else◌, ◌++◌, length, OnOk, OnErr, IsOk, IfOk, IfErr, IsOkAnd, Err, Bool, false, vec_len, vec_capacity};
+ghost use Rattle.std.specs.Prelude.{◌≡◌, ◌+◌, ◌^◌, ◌≤◌, List, ℕ, if◌then◌else◌, ◌++◌, length, OnOk};
+ghost use Rattle.std.specs.Prelude.{OnErr, IsOk, IfOk, IfErr, IsOkAnd, Err, Bool, false, vec_len};
+ghost use Rattle.std.specs.Prelude.{vec_capacity};
 ghost use Rattle.ep_base.specs.declared.err.layer.Layer.TheVariants as layer;
 ghost use Rattle.ep_tag.specs.Front.{front_at};
-ghost use Rattle.ep_tag.specs.Vlan.{vlan_len, default_header, header_of, spelling, IsRead, Fits};
+ghost use Rattle.ep_tag.specs.Vlan.{vlan_len, default_header, single_vlan_header_of, spelling};
+ghost use Rattle.ep_tag.specs.Vlan.{IsRead, Fits};
 
 use super::{SingleVlanHeaderSlice, VlanId, VlanPcp};
 use ep_base::EtherType;
@@ -32,7 +35,7 @@ impl SingleVlanHeader {
         ensures found { IfOk result (λ r. IsRead slice.now r.0 r.1.now) }
         // Any four bytes are read.
         ensures only { (front rest : List ℕ) → length front ≡ vlan_len → slice.now ≡ front ++ rest
-            → IsOkAnd result (λ r. (r.0 ≡ header_of front) × (r.1.now ≡ rest)) }
+            → IsOkAnd result (λ r. (r.0 ≡ single_vlan_header_of front) × (r.1.now ≡ rest)) }
         ensures err { IfErr result (λ e. front_at layer.VlanHeader vlan_len slice.now ≡ Err e) }
         ensures place { IfErr result (λ e. e.layer_start_offset ≡ 0) }
     {
@@ -43,7 +46,7 @@ impl SingleVlanHeader {
 
     /// The fields that four bytes spell.
     pub fn from_bytes(bytes: [u8; 4]) -> SingleVlanHeader
-        ensures { result ≡ header_of bytes }
+        ensures { result ≡ single_vlan_header_of bytes }
     {
         SingleVlanHeaderSlice::of_bytes(&bytes).to_header()
     }
@@ -59,7 +62,7 @@ impl SingleVlanHeader {
     pub fn to_bytes(&self) -> [u8; 4]
         ensures bytes { result ≡ spelling self.now }
         // They spell these fields.
-        ensures fields { header_of result ≡ self.now }
+        ensures fields { single_vlan_header_of result ≡ self.now }
     {
         self.spelled()
     }

@@ -1,4 +1,5 @@
-ghost use Rattle.std.specs.Prelude.{◌≡◌, ◌+◌, ◌≤◌, ◌++◌, length, OnOk, OnErr, IsOk, vec_len, vec_capacity};
+ghost use Rattle.std.specs.Prelude.{◌≡◌, ◌+◌, ◌≤◌, ◌++◌, length, OnOk, OnErr, IsOk, vec_len};
+ghost use Rattle.std.specs.Prelude.{vec_capacity};
 ghost use Rattle.ep_tag.specs.VlanForms.{tags_spelling, last_type_in};
 
 use super::{DoubleVlanHeader, SingleVlanHeader};
@@ -38,10 +39,12 @@ impl VlanHeader {
     /// Appends the bytes of the tags, the outer one first.
     pub fn write(&self, buffer: &mut Vec<u8>) -> Result<(), AllocError>
         ensures ok { OnOk result (buffer.new.items ≡ buffer.old.items ++ tags_spelling self.now) }
-        ensures len { OnOk result (vec_len buffer.new ≡ vec_len buffer.old + length (tags_spelling self.now)) }
+        ensures len { OnOk result (vec_len buffer.new
+            ≡ vec_len buffer.old + length (tags_spelling self.now)) }
         ensures err { OnErr result (buffer.new.items ≡ buffer.old.items) }
         // It fails only where room was missing, and room never shrinks.
-        ensures succeeds { vec_len buffer.old + length (tags_spelling self.now) ≤ vec_capacity buffer.old → IsOk result }
+        ensures succeeds { vec_len buffer.old + length (tags_spelling self.now)
+            ≤ vec_capacity buffer.old → IsOk result }
         ensures capacity { vec_capacity buffer.old ≤ vec_capacity buffer.new }
     {
         match self {

@@ -7,7 +7,8 @@ ghost use Rattle.std.specs.Ordering.{nat_cmp};
 ghost use Rattle.ep_base.specs.Bytes.{IsBytes};
 ghost use Rattle.ep_tcpudp.specs.Elements.{ItemsAreSpelled, NoOtherItems};
 ghost use Rattle.ep_tcpudp.specs.Options.{ElementsComeBack};
-ghost use Rattle.ep_tcpudp.specs.Tcp.{IsTcpHeader, header_of, spelling, with_reserved_bits_zero};
+ghost use Rattle.ep_tcpudp.specs.Tcp.{IsTcpHeader, tcp_header_of, spelling};
+ghost use Rattle.ep_tcpudp.specs.Tcp.{with_reserved_bits_zero};
 ghost use Rattle.ep_tcpudp.specs.TcpChecksum.{SealedTcpSumsToAllOnes, SealedSegmentSumsToAllOnes};
 
 use crate::err::tcp::HeaderSliceError;
@@ -25,13 +26,13 @@ pub fn sealed_sums_to_all_ones()
     checksum_sums_to_all_ones();
 }
 
-/// The bytes of a header are one, and spell its fields; the bytes of fields that were read are those
-/// that they were read from, but for the reserved bits, which are 0.
+/// The bytes of a header are one, and spell its fields; the bytes of fields that were read are
+/// those that they were read from, but for the reserved bits, which are 0.
 pub fn headers_are_their_bytes(header: &TcpHeader)
     ensures spelled { IsTcpHeader (spelling header.now) }
-    ensures read { header_of (spelling header.now) ≡ header.now }
+    ensures read { tcp_header_of (spelling header.now) ≡ header.now }
     ensures spelled_again { (bytes : List ℕ) → IsTcpHeader bytes → IsBytes bytes
-        → spelling (header_of bytes) ≡ with_reserved_bits_zero bytes }
+        → spelling (tcp_header_of bytes) ≡ with_reserved_bits_zero bytes }
 {
     let _bytes = header.to_bytes();
 }
@@ -77,8 +78,9 @@ pub fn elements_come_back()
     ensures { ElementsComeBack }
 {}
 
-/// The bytes of options are read as the elements that they begin with, up to the end of the list, and
-/// then as the fault that it ends with, if there is one; and there is no other way to read them.
+/// The bytes of options are read as the elements that they begin with, up to the end of the list,
+/// and then as the fault that it ends with, if there is one; and there is no other way to read
+/// them.
 pub fn items_are_elements()
     ensures spelled { ItemsAreSpelled }
     ensures no_other { NoOtherItems }

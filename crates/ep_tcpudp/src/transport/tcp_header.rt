@@ -1,11 +1,14 @@
 //! The TCP header as a value, and its checksum.
 
-ghost use Rattle.std.specs.Prelude.{◌≡◌, ◌↔◌, ℕ, ◌+◌, ◌-◌, ◌*◌, ◌%◌, ◌≤◌, List, ◌++◌, length, take, drop, IfOk, IfErr, IsOkAnd, OnOk, OnErr, IsOk, Ok, Err, vec_len, vec_capacity};
+ghost use Rattle.std.specs.Prelude.{◌≡◌, ◌↔◌, ℕ, ◌+◌, ◌-◌, ◌*◌, ◌%◌, ◌≤◌, List, ◌++◌, length, take};
+ghost use Rattle.std.specs.Prelude.{drop, IfOk, IfErr, IsOkAnd, OnOk, OnErr, IsOk, Ok, Err};
+ghost use Rattle.std.specs.Prelude.{vec_len, vec_capacity};
 ghost use Rattle.ep_base.specs.MessageSum.{SumsWords};
 ghost use Rattle.ep_base.specs.Sum.{fold, total};
 ghost use Rattle.ep_tcpudp.specs.Limit.{value_up_to};
 ghost use Rattle.ep_tcpudp.specs.Options.{options_of_elements};
-ghost use Rattle.ep_tcpudp.specs.Tcp.{IsTcpHeader, IsRead, Fits, header_of, new_header, data_offset, header_len, flag, flags, spelling};
+ghost use Rattle.ep_tcpudp.specs.Tcp.{IsTcpHeader, IsRead, Fits, tcp_header_of, new_header};
+ghost use Rattle.ep_tcpudp.specs.Tcp.{data_offset, header_len, flag, flags, spelling};
 ghost use Rattle.ep_tcpudp.specs.TcpChecksum.{right_checksum, checksum_v4, checksum_v6};
 ghost use Rattle.ep_tcpudp.specs.TcpFault.{header_at};
 ghost use Rattle.ep_tcpudp.specs.TcpOptions.{IsTcpOptions, whole_options};
@@ -31,8 +34,8 @@ pub struct TcpHeader {
     pub source_port: u16,
     /// The port that it goes to.
     pub destination_port: u16,
-    /// The number of the first byte of the payload in the stream, or, where `syn` is set, the initial
-    /// number, which is one less.
+    /// The number of the first byte of the payload in the stream, or, where `syn` is set, the
+    /// initial number, which is one less.
     pub sequence_number: u32,
     /// The number that the sender expects next; it counts where `ack` is set.
     pub acknowledgment_number: u32,
@@ -144,8 +147,10 @@ impl TcpHeader {
     ///
     /// Elements that need more than 40 bytes are refused, and the header is unchanged.
     pub fn set_options(&mut self, options: &[TcpOptionElement]) -> Result<(), TcpOptionWriteError>
-        ensures ok { IfOk (options_of_elements options.now) (λ bytes. (result ≡ Ok tt) × (self.new ≡ record self.old { options = bytes })) }
-        ensures err { IfErr (options_of_elements options.now) (λ e. (result ≡ Err e) × (self.new ≡ self.old)) }
+        ensures ok { IfOk (options_of_elements options.now)
+            (λ bytes. (result ≡ Ok tt) × (self.new ≡ record self.old { options = bytes })) }
+        ensures err { IfErr (options_of_elements options.now)
+            (λ e. (result ≡ Err e) × (self.new ≡ self.old)) }
     {
         self.options = TcpOptions::try_from_elements(options)?;
         Ok(())
@@ -159,7 +164,8 @@ impl TcpHeader {
         ensures fits { IsOk result ↔ (length data.now ≤ 40) }
         ensures ok { OnOk result (self.new ≡ record self.old { options = whole_options data.now }) }
         ensures err { OnErr result (self.new ≡ self.old) }
-        ensures refused { IfErr result (λ e. e ≡ TcpOptionWriteError.NotEnoughSpace (length data.now)) }
+        ensures refused { IfErr result
+            (λ e. e ≡ TcpOptionWriteError.NotEnoughSpace (length data.now)) }
     {
         self.options = TcpOptions::try_from_slice(data)?;
         Ok(())
@@ -174,7 +180,7 @@ impl TcpHeader {
         ensures found { IfOk result (λ r. IsRead slice.now r.0 r.1.now) }
         // A front that is a header is read.
         ensures only { (front rest : List ℕ) → IsTcpHeader front → slice.now ≡ front ++ rest
-            → IsOkAnd result (λ r. (r.0 ≡ header_of front) × (r.1.now ≡ rest)) }
+            → IsOkAnd result (λ r. (r.0 ≡ tcp_header_of front) × (r.1.now ≡ rest)) }
         // Else it is the first fault.
         ensures err { IfErr result (λ e. header_at slice.now ≡ Err e) }
     {
@@ -183,7 +189,8 @@ impl TcpHeader {
         Ok((header.to_header(), rest))
     }
 
-    /// The bytes of the header: the reserved bits are 0, and the checksum is the field as it stands.
+    /// The bytes of the header: the reserved bits are 0, and the checksum is the field as it
+    /// stands.
     ///
     /// The data offset comes from the options.
     pub fn to_bytes(&self) -> ArrayVec<u8, 60>
@@ -191,7 +198,7 @@ impl TcpHeader {
         ensures len { length result.items ≡ header_len self.now }
         // They are a header, with these fields.
         ensures header { IsTcpHeader result.items }
-        ensures fields { header_of result.items ≡ self.now }
+        ensures fields { tcp_header_of result.items ≡ self.now }
     {
         self.spelled()
     }
@@ -213,7 +220,8 @@ impl TcpHeader {
 
     // The 20 bytes in front of the options, with this checksum.
     fn fixed_bytes_with(&self, checksum: u16) -> [u8; 20]
-        ensures bytes { result ++ self.now.options ≡ spelling (record self.now { checksum = checksum }) }
+        ensures bytes { result ++ self.now.options
+            ≡ spelling (record self.now { checksum = checksum }) }
         ensures fits { Fits (record self.now { checksum = checksum }) }
     {
         let source_port = self.source_port.to_be_bytes();
@@ -275,14 +283,15 @@ impl TcpHeader {
         ensures len { OnOk result (vec_len buffer.new ≡ vec_len buffer.old + header_len self.now) }
         ensures err { OnErr result (buffer.new.items ≡ buffer.old.items) }
         // It fails only where room was missing, and room never shrinks.
-        ensures succeeds { vec_len buffer.old + header_len self.now ≤ vec_capacity buffer.old → IsOk result }
+        ensures succeeds { vec_len buffer.old + header_len self.now ≤ vec_capacity buffer.old
+            → IsOk result }
         ensures capacity { vec_capacity buffer.old ≤ vec_capacity buffer.new }
     {
         buffer.extend_from_slice(self.to_bytes().as_slice())
     }
 
-    /// The checksum over IPv4: of the pseudo header between the addresses of this header, of the TCP
-    /// header with its checksum as 0, and of the payload.
+    /// The checksum over IPv4: of the pseudo header between the addresses of this header, of the
+    /// TCP header with its checksum as 0, and of the payload.
     ///
     /// A payload above 65535 bytes less the header is refused.
     pub fn calc_checksum_ipv4(
@@ -290,7 +299,8 @@ impl TcpHeader {
         ip_header: &Ipv4Header,
         payload: &[u8],
     ) -> Result<u16, ValueTooBigError<usize>>
-        ensures { result ≡ value_up_to ValueType.TcpPayloadLengthIpv4 (65535 - header_len self.now) (length payload.now)
+        ensures { result ≡ value_up_to ValueType.TcpPayloadLengthIpv4
+            (65535 - header_len self.now) (length payload.now)
             (checksum_v4 ip_header.now.source ip_header.now.destination self.now payload.now) }
     {
         self.calc_checksum_ipv4_raw(ip_header.source, ip_header.destination, payload)
@@ -303,7 +313,8 @@ impl TcpHeader {
         destination: [u8; 4],
         payload: &[u8],
     ) -> Result<u16, ValueTooBigError<usize>>
-        ensures { result ≡ value_up_to ValueType.TcpPayloadLengthIpv4 (65535 - header_len self.now) (length payload.now)
+        ensures { result ≡ value_up_to ValueType.TcpPayloadLengthIpv4
+            (65535 - header_len self.now) (length payload.now)
             (checksum_v4 source destination self.now payload.now) }
     {
         let max_payload_len = u16::MAX as usize - self.header_len();
@@ -325,7 +336,8 @@ impl TcpHeader {
         ip_header: &Ipv6Header,
         payload: &[u8],
     ) -> Result<u16, ValueTooBigError<usize>>
-        ensures { result ≡ value_up_to ValueType.TcpPayloadLengthIpv6 (4294967295 - header_len self.now) (length payload.now)
+        ensures { result ≡ value_up_to ValueType.TcpPayloadLengthIpv6
+            (4294967295 - header_len self.now) (length payload.now)
             (checksum_v6 ip_header.now.source ip_header.now.destination self.now payload.now) }
     {
         self.calc_checksum_ipv6_raw(ip_header.source, ip_header.destination, payload)
@@ -338,7 +350,8 @@ impl TcpHeader {
         destination: [u8; 16],
         payload: &[u8],
     ) -> Result<u16, ValueTooBigError<usize>>
-        ensures { result ≡ value_up_to ValueType.TcpPayloadLengthIpv6 (4294967295 - header_len self.now) (length payload.now)
+        ensures { result ≡ value_up_to ValueType.TcpPayloadLengthIpv6
+            (4294967295 - header_len self.now) (length payload.now)
             (checksum_v6 source destination self.now payload.now) }
     {
         let max_payload_len = u32::MAX as usize - self.header_len();
@@ -364,7 +377,8 @@ impl TcpHeader {
 
     fn sum_behind(&self, pseudo: Sum16BitWords, payload: &[u8]) -> Sum16BitWords
         ensures { (front : List ℕ) → SumsWords pseudo front
-            → result ≡ fold (total (front ++ spelling (record self.now { checksum = 0 }) ++ payload.now)) }
+            → result ≡ fold
+            (total (front ++ spelling (record self.now { checksum = 0 }) ++ payload.now)) }
     {
         message_sum(pseudo, &self.fixed_bytes_with(0), self.options.as_slice()).add_slice(payload)
     }

@@ -21,9 +21,9 @@ pub enum TcpOptionElement {
     WindowScale(u8),
     /// Selective acknowledgements are understood (RFC 2018, section 2).
     SelectiveAcknowledgementPermitted,
-    /// Blocks of bytes that arrived behind a hole, each by the number of its first byte and of the byte
-    /// behind its last one: the first, and up to three more (RFC 2018, section 3). Those that are read
-    /// stand in front.
+    /// Blocks of bytes that arrived behind a hole, each by the number of its first byte and of the
+    /// byte behind its last one: the first, and up to three more (RFC 2018, section 3). Those that
+    /// are read stand in front.
     SelectiveAcknowledgement((u32, u32), [Option<(u32, u32)>; 3]),
     /// The sender's clock, and the clock value that it replies to (RFC 7323, section 3.2).
     Timestamp(u32, u32),

@@ -9,8 +9,8 @@ use crate::{TcpOptionElement, TcpOptionWriteError, TcpOptionsIterator};
 use arrayvec::ArrayVec;
 use std::marker::Model;
 
-/// The options of a TCP header: whole words of 4 bytes, at most ten of them (RFC 9293, section 3.1).
-/// A contract sees them as their bytes.
+/// The options of a TCP header: whole words of 4 bytes, at most ten of them (RFC 9293, section
+/// 3.1). A contract sees them as their bytes.
 #[derive(Clone, Debug, PartialEq, Eq, Hash, PartialOrd, Ord, Drop)]
 pub struct TcpOptions {
     bytes: ArrayVec<u8, 40>,
@@ -41,8 +41,8 @@ impl TcpOptions {
         }
     }
 
-    /// The options that these bytes are. Where the last word isn't whole, it is filled up with 0, the
-    /// option that ends the list. What the bytes mean isn't looked at.
+    /// The options that these bytes are. Where the last word isn't whole, it is filled up with 0,
+    /// the option that ends the list. What the bytes mean isn't looked at.
     ///
     /// More than 40 bytes are refused with their number.
     pub fn try_from_slice(slice: &[u8]) -> Result<TcpOptions, TcpOptionWriteError>
@@ -56,9 +56,9 @@ impl TcpOptions {
         Ok(TcpOptions::filled(bytes))
     }
 
-    /// The options of these elements in a row. Where the last word isn't whole, it is filled up with 0,
-    /// the option that ends the list. Of a selective acknowledgement, the blocks that are there are
-    /// written in their order.
+    /// The options of these elements in a row. Where the last word isn't whole, it is filled up
+    /// with 0, the option that ends the list. Of a selective acknowledgement, the blocks that are
+    /// there are written in their order.
     ///
     /// Elements that need more than 40 bytes are refused with the number of bytes.
     pub fn try_from_elements(

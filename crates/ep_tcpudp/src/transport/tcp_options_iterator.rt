@@ -5,7 +5,9 @@ ghost use Rattle.std.specs.Cmp.Lexicographic.{pointwise};
 ghost use Rattle.std.specs.Cmp.Rules.{comparing};
 ghost use Rattle.std.specs.Iterator.{YieldsFirst, item_count, MakesProgress};
 ghost use Rattle.std.proofs.Common.{rules};
-ghost use Rattle.ep_tcpudp.specs.Options.{acknowledgement_at, block_at, block_within, element_at, is_end, item_at, items_of, kind_at, of_size, rest_at, size_at};
+ghost use Rattle.ep_tcpudp.specs.Options.{acknowledgement_at, block_at, block_within, element_at};
+ghost use Rattle.ep_tcpudp.specs.Options.{is_end, item_at, items_of, kind_at, of_size, rest_at};
+ghost use Rattle.ep_tcpudp.specs.Options.{size_at};
 
 use crate::tcp_option::{
     KIND_END, KIND_MAXIMUM_SEGMENT_SIZE, KIND_NOOP, KIND_SELECTIVE_ACK,
@@ -17,9 +19,9 @@ use std::marker::Model;
 
 /// The elements that the bytes of TCP options spell, one after the other (RFC 9293, section 3.2).
 ///
-/// It ends with the bytes, at the option that ends the list, or behind the first fault, which is given
-/// as the last item; [`crate::laws::tcp::items_are_elements`] states it of the table of options. A
-/// contract sees it as the bytes that are left, and by these it is equal to another.
+/// It ends with the bytes, at the option that ends the list, or behind the first fault, which is
+/// given as the last item; [`crate::laws::tcp::items_are_elements`] states it of the table of
+/// options. A contract sees it as the bytes that are left, and by these it is equal to another.
 #[derive(Clone, Debug, Drop)]
 pub struct TcpOptionsIterator<'a> {
     options: &'a [u8],
@@ -118,7 +120,8 @@ fn element_at(options: &[u8]) -> Result<TcpOptionElement, TcpOptionReadError>
     ensures exact { result ≡ element_at options.now }
     // Where it is an element, its size is among the bytes, and they are as many.
     ensures second { OnOk result (kind_at options.now ≢ 1 → 2 ≤ length options.now) }
-    ensures fits { OnOk result ((0 < size_at options.now) × (size_at options.now ≤ length options.now)) }
+    ensures fits { OnOk result ((0 < size_at options.now)
+        × (size_at options.now ≤ length options.now)) }
 {
     match options[0] {
         KIND_NOOP => Ok(TcpOptionElement::Noop),

@@ -1,11 +1,14 @@
 //! The UDP header as a value, and its checksum.
 
-ghost use Rattle.std.specs.Prelude.{◌≡◌, ℕ, ◌+◌, ◌≤◌, List, ◌++◌, length, IfOk, IfErr, IsOkAnd, OnOk, OnErr, IsOk, Err, vec_len, vec_capacity};
+ghost use Rattle.std.specs.Prelude.{◌≡◌, ℕ, ◌+◌, ◌≤◌, List, ◌++◌, length, IfOk, IfErr, IsOkAnd};
+ghost use Rattle.std.specs.Prelude.{OnOk, OnErr, IsOk, Err, vec_len, vec_capacity};
 ghost use Rattle.ep_base.specs.MessageSum.{SumsWords};
 ghost use Rattle.ep_base.specs.Sum.{fold, total};
 ghost use Rattle.ep_tcpudp.specs.Limit.{value_up_to};
-ghost use Rattle.ep_tcpudp.specs.Udp.{IsUdpHeader, IsRead, Fits, header_of, spelling, unchecked_header};
-ghost use Rattle.ep_tcpudp.specs.UdpChecksum.{right_checksum, checksum_v4, checksum_v6, sealed_v4, sealed_v6};
+ghost use Rattle.ep_tcpudp.specs.Udp.{IsUdpHeader, IsRead, Fits, udp_header_of, spelling};
+ghost use Rattle.ep_tcpudp.specs.Udp.{unchecked_header};
+ghost use Rattle.ep_tcpudp.specs.UdpChecksum.{right_checksum, checksum_v4, checksum_v6, sealed_v4};
+ghost use Rattle.ep_tcpudp.specs.UdpChecksum.{sealed_v6};
 ghost use Rattle.ep_tcpudp.specs.UdpFault.{header_at};
 
 use super::limit::at_most;
@@ -49,11 +52,25 @@ impl UdpHeader {
         ensures { result ≡ value_up_to ValueType.UdpPayloadLengthIpv4 65527 payload_length
             (unchecked_header source_port destination_port payload_length) }
     {
-        at_most(
+        UdpHeader::unchecked(
+            source_port,
+            destination_port,
             payload_length,
-            u16::MAX as usize - UdpHeader::LEN,
             ValueType::UdpPayloadLengthIpv4,
-        )?;
+        )
+    }
+
+    // The header of a payload of this length and kind, with the checksum 0.
+    fn unchecked(
+        source_port: u16,
+        destination_port: u16,
+        payload_length: usize,
+        kind: ValueType,
+    ) -> Result<UdpHeader, ValueTooBigError<usize>>
+        ensures { result ≡ value_up_to kind 65527 payload_length
+            (unchecked_header source_port destination_port payload_length) }
+    {
+        at_most(payload_length, u16::MAX as usize - UdpHeader::LEN, kind)?;
         Ok(UdpHeader {
             source_port,
             destination_port,
@@ -74,17 +91,8 @@ impl UdpHeader {
         ensures { result ≡ value_up_to ValueType.UdpPayloadLengthIpv4 65527 (length payload.now)
             (sealed_v4 source_port destination_port ip_header.now.source ip_header.now.destination payload.now) }
     {
-        at_most(
-            payload.len(),
-            u16::MAX as usize - UdpHeader::LEN,
-            ValueType::UdpPayloadLengthIpv4,
-        )?;
-        let header = UdpHeader {
-            source_port,
-            destination_port,
-            length: (UdpHeader::LEN + payload.len()) as u16,
-            checksum: 0,
-        };
+        let kind = ValueType::UdpPayloadLengthIpv4;
+        let header = UdpHeader::unchecked(source_port, destination_port, payload.len(), kind)?;
         let checksum = header.checksum_over_ipv4(ip_header.source, ip_header.destination, payload);
         Ok(UdpHeader { checksum, ..header })
     }
@@ -101,17 +109,8 @@ impl UdpHeader {
         ensures { result ≡ value_up_to ValueType.UdpPayloadLengthIpv6 65527 (length payload.now)
             (sealed_v6 source_port destination_port ip_header.now.source ip_header.now.destination payload.now) }
     {
-        at_most(
-            payload.len(),
-            u16::MAX as usize - UdpHeader::LEN,
-            ValueType::UdpPayloadLengthIpv6,
-        )?;
-        let header = UdpHeader {
-            source_port,
-            destination_port,
-            length: (UdpHeader::LEN + payload.len()) as u16,
-            checksum: 0,
-        };
+        let kind = ValueType::UdpPayloadLengthIpv6;
+        let header = UdpHeader::unchecked(source_port, destination_port, payload.len(), kind)?;
         let checksum = header.checksum_over_ipv6(ip_header.source, ip_header.destination, payload);
         Ok(UdpHeader { checksum, ..header })
     }
@@ -159,7 +158,8 @@ impl UdpHeader {
         ip_header: &Ipv6Header,
         payload: &[u8],
     ) -> Result<u16, ValueTooBigError<usize>>
-        ensures { result ≡ value_up_to ValueType.UdpPayloadLengthIpv6 4294967287 (length payload.now)
+        ensures { result ≡ value_up_to ValueType.UdpPayloadLengthIpv6 4294967287
+            (length payload.now)
             (checksum_v6 ip_header.now.source ip_header.now.destination self.now payload.now) }
     {
         self.calc_checksum_ipv6_raw(ip_header.source, ip_header.destination, payload)
@@ -172,7 +172,8 @@ impl UdpHeader {
         destination: [u8; 16],
         payload: &[u8],
     ) -> Result<u16, ValueTooBigError<usize>>
-        ensures { result ≡ value_up_to ValueType.UdpPayloadLengthIpv6 4294967287 (length payload.now)
+        ensures { result ≡ value_up_to ValueType.UdpPayloadLengthIpv6 4294967287
+            (length payload.now)
             (checksum_v6 source destination self.now payload.now) }
     {
         at_most(
@@ -209,7 +210,8 @@ impl UdpHeader {
 
     fn sum_behind(&self, pseudo: Sum16BitWords, payload: &[u8]) -> Sum16BitWords
         ensures { (front : List ℕ) → SumsWords pseudo front
-            → result ≡ fold (total (front ++ spelling (record self.now { checksum = 0 }) ++ payload.now)) }
+            → result ≡ fold
+            (total (front ++ spelling (record self.now { checksum = 0 }) ++ payload.now)) }
     {
         message_sum(pseudo, &self.spelled_with(0), payload)
     }
@@ -221,7 +223,7 @@ impl UdpHeader {
         ensures found { IfOk result (λ r. IsRead slice.now r.0 r.1.now) }
         // A front that is a header is read.
         ensures only { (front rest : List ℕ) → IsUdpHeader front → slice.now ≡ front ++ rest
-            → IsOkAnd result (λ r. (r.0 ≡ header_of front) × (r.1.now ≡ rest)) }
+            → IsOkAnd result (λ r. (r.0 ≡ udp_header_of front) × (r.1.now ≡ rest)) }
         // Else it is the want of bytes.
         ensures err { IfErr result (λ e. header_at slice.now ≡ Err e) }
     {
@@ -232,7 +234,7 @@ impl UdpHeader {
 
     /// The header that these bytes are.
     pub fn from_bytes(bytes: [u8; 8]) -> UdpHeader
-        ensures { result ≡ header_of bytes }
+        ensures { result ≡ udp_header_of bytes }
     {
         let [s0, s1, d0, d1, l0, l1, c0, c1] = bytes;
         UdpHeader {
@@ -255,7 +257,7 @@ impl UdpHeader {
         ensures bytes { result ≡ spelling self.now }
         // They are a header, with these fields.
         ensures header { IsUdpHeader result }
-        ensures fields { header_of result ≡ self.now }
+        ensures fields { udp_header_of result ≡ self.now }
     {
         self.spelled_with(self.checksum)
     }

@@ -1,13 +1,18 @@
 //! One fragmented message, put together again.
 
-ghost use Rattle.std.specs.Prelude.{◌≡◌, ◌+◌, ◌<◌, ◌≤◌, ◌↔◌, ◌&&◌, List, [], ◌++◌, ◌∷◌, if◌then◌else◌, length, map, nat_eq, vec_len, vec_capacity, is_some, OnOk, OnErr, IfOk, IfErr, IsOk, IsTrue};
+ghost use Rattle.std.specs.Prelude.{◌≡◌, ◌+◌, ◌<◌, ◌≤◌, ◌↔◌, ◌&&◌, List, [], ◌++◌, ◌∷◌};
+ghost use Rattle.std.specs.Prelude.{if◌then◌else◌, length, map, nat_eq, vec_len, vec_capacity};
+ghost use Rattle.std.specs.Prelude.{is_some, OnOk, OnErr, IfOk, IfErr, IsOk, IsTrue};
 ghost use Rattle.std.specs.Cmp.Lexicographic.{pointwise};
 ghost use Rattle.std.specs.Cmp.Rules.{comparing};
 ghost use Rattle.std.specs.Option.{option_eq};
 ghost use Rattle.std.specs.Ordering.{on, eq_of_both};
 ghost use Rattle.std.proofs.Common.{rules};
-ghost use Rattle.etherparse.specs.Fragments.{Fragment, fragment, accepted, end_of, refusal_at, refusal_of, with_accepted, is_complete, Complete};
-ghost use Rattle.etherparse.specs.IpDefragBuf.{Contents, Shows, IsPicture, AnswersAdd, Stops, Writes, unless_refused, is_whole};
+ghost use Rattle.etherparse.specs.Fragments.{Fragment, fragment, with_all_accepted, end_of};
+ghost use Rattle.etherparse.specs.Fragments.{refusal_at};
+ghost use Rattle.etherparse.specs.Fragments.{refusal_of, with_accepted, is_complete, Complete};
+ghost use Rattle.etherparse.specs.IpDefragBuf.{Contents, Shows, IsPicture, AnswersAdd, Stops};
+ghost use Rattle.etherparse.specs.IpDefragBuf.{Writes, unless_refused, is_whole};
 ghost use Rattle.etherparse.specs.IpFragRange.{is_one_from_zero, same_range, AddsRange, AreApart};
 ghost use Rattle.etherparse.specs.Picture.{text_of};
 
@@ -44,8 +49,10 @@ impl Model for IpDefragBuf {
 }
 
 impl PartialEq for IpDefragBuf {
-    ghost eq = { eq_of_both (on (λ buf. buf.ip_number.0) nat_eq) (eq_of_both (on (λ buf. buf.bytes) (pointwise nat_eq))
-        (eq_of_both (on (λ buf. buf.sections) (pointwise same_range)) (on (λ buf. buf.end) (option_eq nat_eq)))) };
+    ghost eq = { eq_of_both (on (λ buf. buf.ip_number.0) nat_eq)
+        (eq_of_both (on (λ buf. buf.bytes) (pointwise nat_eq))
+        (eq_of_both (on (λ buf. buf.sections) (pointwise same_range))
+        (on (λ buf. buf.end) (option_eq nat_eq)))) };
 
     ghost laws = { Prim.search (comparing, rules) depth 9 };
 
@@ -61,8 +68,8 @@ impl Eq for IpDefragBuf {
     ghost laws = { Prim.search (comparing, rules) depth 9 };
 }
 
-// Writes bytes at a place, over those that are there, and 0 at each new place before it. There is memory
-// for them.
+// Writes bytes at a place, over those that are there, and 0 at each new place before it. There is
+// memory for them.
 fn write_at(buffer: &mut Vec<u8>, start: usize, bytes: &[u8])
     requires room { start + length bytes.now ≤ vec_capacity buffer.old }
     requires fits { start + length bytes.now ≤ 65535 }
@@ -73,11 +80,12 @@ fn write_at(buffer: &mut Vec<u8>, start: usize, bytes: &[u8])
     buffer[start..end].copy_from_slice(bytes);
 }
 
-// Adds a range to sections that are apart: it and those that it comes to touch are one. There is memory for
-// one more section.
+// Adds a range to sections that are apart: it and those that it comes to touch are one. There is
+// memory for one more section.
 fn add_range(sections: &mut Vec<IpFragRange>, range: IpFragRange)
     requires { vec_len sections.old < vec_capacity sections.old }
-    ensures { AreApart sections.old.items → range.start ≤ range.end → AddsRange sections.old.items sections.new.items range }
+    ensures { AreApart sections.old.items → range.start ≤ range.end
+        → AddsRange sections.old.items sections.new.items range }
 {
     let mut joined = range;
     let mut at = 0;
@@ -107,7 +115,8 @@ fn checked_end(
     more_fragments: bool,
     bytes: &[u8],
 ) -> Result<u16, IpDefragError>
-    ensures { let f = fragment offset more_fragments bytes.now in result ≡ unless_refused (refusal_at named_end f) (end_of f) }
+    ensures { let f = fragment offset more_fragments bytes.now in
+        result ≡ unless_refused (refusal_at named_end f) (end_of f) }
 {
     let too_big = IpDefragError::SegmentTooBig {
         offset,
@@ -138,15 +147,16 @@ fn checked_end(
 }
 
 impl IpDefragBuf {
-    /// An empty buffer for a message of this protocol, over memory that is there already. Both lists are
-    /// emptied.
+    /// An empty buffer for a message of this protocol, over memory that is there already. Both
+    /// lists are emptied.
     pub fn new(
         ip_number: IpNumber,
         mut data: Vec<u8>,
         mut sections: Vec<IpFragRange>,
     ) -> IpDefragBuf
         ensures empty { Shows result [] }
-        ensures value { result ≡ record { ip_number = ip_number; bytes = []; sections = []; end = None } }
+        ensures value { result
+            ≡ record { ip_number = ip_number; bytes = []; sections = []; end = None } }
     {
         data.clear();
         sections.clear();
@@ -186,12 +196,13 @@ impl IpDefragBuf {
         self.end
     }
 
-    /// Takes a fragment of the message, whose bytes go over those that are there. A last one names the end
-    /// of the message and cuts the data to it.
+    /// Takes a fragment of the message, whose bytes go over those that are there. A last one names
+    /// the end of the message and cuts the data to it.
     ///
-    /// It is refused, and nothing changes, where it ends behind 65535 bytes; else where more fragments follow
-    /// and its length is no multiple of 8; else where the end of the message is known and it ends behind it,
-    /// or is a last one with another end; else where no memory is left for it.
+    /// It is refused, and nothing changes, where it ends behind 65535 bytes; else where more
+    /// fragments follow and its length is no multiple of 8; else where the end of the message is
+    /// known and it ends behind it, or is a last one with another end; else where no memory is left
+    /// for it.
     pub fn add(
         &mut self,
         offset: IpFragOffset,
@@ -199,10 +210,12 @@ impl IpDefragBuf {
         bytes: &[u8],
     ) -> Result<(), IpDefragError>
         ensures accepted { (fs : List Fragment) → Shows self.old fs →
-            let f = fragment offset more_fragments bytes.now in OnOk result (Shows self.new (fs ++ f ∷ [])) }
+            let f = fragment offset more_fragments bytes.now in
+            OnOk result (Shows self.new (fs ++ f ∷ [])) }
         ensures refused { (fs : List Fragment) → Shows self.old fs →
             let f = fragment offset more_fragments bytes.now in AnswersAdd (refusal_of fs f) (end_of f) result }
-        ensures outcome { let f = fragment offset more_fragments bytes.now in AnswersAdd (refusal_at self.old.end f) (end_of f) result }
+        ensures outcome { let f = fragment offset more_fragments bytes.now in
+            AnswersAdd (refusal_at self.old.end f) (end_of f) result }
         ensures err { OnErr result (self.new ≡ self.old) }
         ensures ip_number { self.new.ip_number ≡ self.old.ip_number }
     {
@@ -245,18 +258,21 @@ impl IpDefragBuf {
         })
     }
 
-    /// Takes fragments in order, passes over those that are refused, and tells how many it took. It stops at
-    /// the first one that finds no memory, with the buffer as it was before that fragment.
+    /// Takes fragments in order, passes over those that are refused, and tells how many it took. It
+    /// stops at the first one that finds no memory, with the buffer as it was before that fragment.
     pub fn add_all(
         &mut self,
         fragments: &[(IpFragOffset, bool, &[u8])],
     ) -> Result<usize, IpDefragError>
         ensures ok { (fs : List Fragment) → Shows self.old fs →
-            OnOk result (Shows self.new (accepted fs (map (λ f. fragment f.0 f.1 f.2.now) fragments.now))) }
+            OnOk result (Shows self.new
+            (with_all_accepted fs (map (λ f. fragment f.0 f.1 f.2.now) fragments.now))) }
         ensures count { (fs : List Fragment) → Shows self.old fs →
-            IfOk result (λ count. length fs + count ≡ length (accepted fs (map (λ f. fragment f.0 f.1 f.2.now) fragments.now))) }
+            IfOk result (λ count. length fs + count
+            ≡ length (with_all_accepted fs (map (λ f. fragment f.0 f.1 f.2.now) fragments.now))) }
         ensures cover { (fs : List Fragment) → Shows self.old fs →
-            OnOk result (IsTrue (is_whole self.new) ↔ Complete (accepted fs (map (λ f. fragment f.0 f.1 f.2.now) fragments.now))) }
+            OnOk result (IsTrue (is_whole self.new)
+            ↔ Complete (with_all_accepted fs (map (λ f. fragment f.0 f.1 f.2.now) fragments.now))) }
         ensures err { (fs : List Fragment) → Shows self.old fs →
             IfErr result (Stops fs (map (λ f. fragment f.0 f.1 f.2.now) fragments.now) self.new) }
         ensures ip_number { self.new.ip_number ≡ self.old.ip_number }
@@ -280,10 +296,14 @@ impl IpDefragBuf {
         ensures shows { (fs : List Fragment) → Shows self.old fs →
             OnOk result (Shows self.new (with_accepted fs (fragment offset more_fragments bytes.now))) }
         ensures count { (fs : List Fragment) → Shows self.old fs →
-            IfOk result (λ taken. length (with_accepted fs (fragment offset more_fragments bytes.now)) ≡ length fs + (if taken then 1 else 0)) }
+            IfOk result (λ taken. length
+            (with_accepted fs (fragment offset more_fragments bytes.now))
+            ≡ length fs + (if taken then 1 else 0)) }
         ensures err { OnErr result (self.new ≡ self.old) }
-        ensures memory { (fs : List Fragment) → Shows self.old fs → let f = fragment offset more_fragments bytes.now in
-            IfErr result (λ e. (refusal_of fs f ≡ None) × (e ≡ IpDefragError.AllocationFailure (end_of f))) }
+        ensures memory { (fs : List Fragment) → Shows self.old fs
+            → let f = fragment offset more_fragments bytes.now in
+            IfErr result (λ e. (refusal_of fs f ≡ None)
+            × (e ≡ IpDefragError.AllocationFailure (end_of f))) }
         ensures ip_number { self.new.ip_number ≡ self.old.ip_number }
     {
         match self.add(offset, more_fragments, bytes) {
@@ -300,6 +320,8 @@ impl IpDefragBuf {
         ensures picture { IsPicture self.now }
         ensures test { result ≡ is_whole self.now }
         ensures decided { (fs : List Fragment) → Shows self.now fs → result ≡ is_complete fs }
+        ensures text { (fs : List Fragment) → Shows self.now fs → IsTrue result
+            → self.now.bytes ≡ text_of fs }
         ensures complete { (fs : List Fragment) → Shows self.now fs → IsTrue result ↔ Complete fs }
     {
         is_one_whole(self.end, &self.sections)
@@ -309,7 +331,8 @@ impl IpDefragBuf {
     pub fn take_bufs(self) -> (Vec<u8>, Vec<IpFragRange>)
         ensures bytes { result.0.items ≡ self.bytes }
         ensures sections { result.1.items ≡ self.sections }
-        ensures text { (fs : List Fragment) → Shows self fs → Complete fs → result.0.items ≡ text_of fs }
+        ensures text { (fs : List Fragment) → Shows self fs → Complete fs
+            → result.0.items ≡ text_of fs }
         ensures short { length result.0.items ≤ 65535 }
     {
         (self.data, self.sections)

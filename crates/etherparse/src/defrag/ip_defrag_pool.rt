@@ -2,24 +2,27 @@
 
 ghost use Rattle.std.specs.Prelude.{◌≡◌, ◌≤◌, [], None, Ok, OnOk, OnErr, IfOk, IfSome, length};
 ghost use Rattle.std.specs.Fn.{FnReturnsAt};
-ghost use Rattle.ep_packet.specs.Class.{packet_told};
-ghost use Rattle.etherparse.specs.IpDefragPool.{Accepts};
+ghost use Rattle.ep_packet.specs.Class.{IdentificationFits, as_class, packet_told};
+ghost use Rattle.ep_packet.specs.declared.class.Class.TheVariants as told;
+ghost use Rattle.etherparse.specs.IpDefragPool.{Accepts, same_id};
 ghost use Rattle.etherparse.specs.IpFragId.{fragment_in, id_named};
-ghost use Rattle.etherparse.specs.Streams.{MayAsk, OthersStay, Refuses, Retained, SameStreams, fragment_of, stream_at};
+ghost use Rattle.etherparse.specs.Streams.{MayAsk, OthersStay, Refuses, Retained, SameStreams};
+ghost use Rattle.etherparse.specs.Streams.{fragment_of, stream_at};
 
-use super::part::{Part, part_in};
+use super::part::spec_id;
 use super::streams::Streams;
 use super::{IpDefragError, IpDefragPayloadVec, IpFragId};
-use ep_packet::SlicedPacket;
+use ep_packet::{Class, CutMessage, Part, SlicedPacket};
 use std::alloc::{AllocError, Global};
 use std::hash::{BuildHasher, BuildHasherDefault, FoldHasher, Hash};
 use std::marker::Model;
 
 /// The fragmented messages that are on their way, each under its name, [`IpFragId`].
 ///
-/// A message that never completes is held, with its bytes, until [`IpDefragPool::retain`] drops it. So a caller whose
-/// input isn't trusted calls `retain` regularly: a receiver gives a message up by a timer (RFC 791, section 3.2),
-/// over IPv6 60 seconds after the fragment that came first (RFC 8200, section 4.5).
+/// A message that never completes is held, with its bytes, until [`IpDefragPool::retain`] drops it.
+/// So a caller whose input isn't trusted calls `retain` regularly: a receiver gives a message up by
+/// a timer (RFC 791, section 3.2), over IPv6 60 seconds after the fragment that came first (RFC
+/// 8200, section 4.5).
 #[derive(Drop)]
 pub struct IpDefragPool<
     Timestamp = (),
@@ -32,9 +35,9 @@ pub struct IpDefragPool<
 impl<Timestamp, CustomChannelId: Eq + Hash, S: BuildHasher> Model
     for IpDefragPool<Timestamp, CustomChannelId, S> {
     ghost use Rattle.etherparse.specs.declared.defrag.ip_frag_id.IpFragId.{IpFragId};
-    ghost use Rattle.etherparse.specs.Streams.{Streams};
+    ghost use Rattle.etherparse.specs.Streams.{Pool};
 
-    ghost Value = { Streams (IpFragId CustomChannelId) Timestamp };
+    ghost Value = { Pool (IpFragId CustomChannelId) Timestamp };
 
     ghost view = { λ pool. pool.streams };
 }
@@ -46,7 +49,7 @@ impl<Timestamp: Drop, CustomChannelId: Eq + Hash + Drop> IpDefragPool<
 > {
     /// A pool with no message. It takes no memory.
     pub fn new(alloc: Global) -> Self
-        ensures { result ≡ [] }
+        ensures { result.streams ≡ [] }
     {
         IpDefragPool {
             streams: Streams::with_hasher(alloc, BuildHasherDefault::new()),
@@ -61,12 +64,12 @@ impl<Timestamp: Drop, CustomChannelId: Eq + Hash + Drop, S: BuildHasher> IpDefra
 > {
     ghost use Rattle.etherparse.specs.declared.defrag.ip_frag_id.IpFragId.{IpFragId};
 
-    /// Takes a packet. If it is a fragment, it is added to those of its message that came before it, and
-    /// one that completes the message hands it out. Nothing is held of the message then. Any other packet
-    /// changes nothing.
+    /// Takes a packet. If it is a fragment, it is added to those of its message that came before
+    /// it, and one that completes the message hands it out. Nothing is held of the message then.
+    /// Any other packet changes nothing.
     ///
-    /// A fragment is refused as by [`super::IpDefragBuf::add`]. Then the message has the fragments and the
-    /// timestamp that it had.
+    /// A fragment is refused as by [`super::IpDefragBuf::add`]. Then the message has the fragments
+    /// and the timestamp that it had.
     pub fn process_sliced_packet(
         &mut self,
         packet: &SlicedPacket<'_>,
@@ -74,22 +77,66 @@ impl<Timestamp: Drop, CustomChannelId: Eq + Hash + Drop, S: BuildHasher> IpDefra
         channel_id: CustomChannelId,
     ) -> Result<Option<IpDefragPayloadVec>, IpDefragError>
         // A packet that is no fragment changes nothing.
-        ensures passed { fragment_in (packet_told packet.now) ≡ None → (result ≡ Ok None) × (self.new ≡ self.old) }
+        ensures passed { fragment_in (packet_told packet.now) ≡ None
+            → (result ≡ Ok None) × (self.new ≡ self.old) }
         // A fragment goes to the list of its name, and is refused by it or else at its end.
         ensures accepted { IfSome (fragment_in (packet_told packet.now)) (λ told.
-            Accepts ⟦<IpFragId<CustomChannelId> as PartialEq>⟧.eq self.old self.new (id_named told.0 channel_id) told.1 timestamp result) }
+            Accepts (same_id CustomChannelId.eq) self.old self.new (id_named told.0 channel_id) told.1 timestamp result) }
         ensures refused { IfSome (fragment_in (packet_told packet.now)) (λ told.
-            Refuses ⟦<IpFragId<CustomChannelId> as PartialEq>⟧.eq self.old (id_named told.0 channel_id) told.1 result) }
+            Refuses (same_id CustomChannelId.eq) self.old (id_named told.0 channel_id) told.1 result) }
         // Every other name's list and timestamp stay, and after a refusal all of them do.
         ensures others { IfSome (fragment_in (packet_told packet.now)) (λ told.
-            OthersStay ⟦<IpFragId<CustomChannelId> as PartialEq>⟧.eq (id_named told.0 channel_id) self.old self.new) }
-        ensures err { OnErr result (SameStreams ⟦<IpFragId<CustomChannelId> as PartialEq>⟧.eq self.old self.new) }
-        ensures short { IfOk result (λ payload. IfSome payload (λ whole. length whole.payload.items ≤ 65535)) }
+            OthersStay (same_id CustomChannelId.eq) (id_named told.0 channel_id) self.old self.new) }
+        ensures err { OnErr result (SameStreams (same_id CustomChannelId.eq) self.old self.new) }
+        ensures short { IfOk result
+            (λ payload. IfSome payload (λ whole. length whole.payload.items ≤ 65535)) }
     {
-        match part_in(packet, channel_id) {
-            Some((id, part)) => self.add_part(id, &part, timestamp),
-            None => Ok(None),
+        // Whole messages aren't looked into.
+        if !packet.is_ip_payload_fragmented() {
+            return Ok(None);
         }
+        match packet.class() {
+            Class::Cut(message) => self.process_cut_message(message, timestamp, channel_id),
+            _ => Ok(None),
+        }
+    }
+
+    /// Takes a part of a message, as [`IpDefragPool::process_sliced_packet`] takes that of its
+    /// packet: for a caller who has the packet's class ([`SlicedPacket::class`]).
+    pub fn process_cut_message(
+        &mut self,
+        message: CutMessage<'_>,
+        timestamp: Timestamp,
+        channel_id: CustomChannelId,
+    ) -> Result<Option<IpDefragPayloadVec>, IpDefragError>
+        // Over IPv4 an identification has 16 bits.
+        requires { IdentificationFits message.addresses message.identification }
+        ensures accepted { IfSome (fragment_in (as_class (told.Cut message.entry))) (λ named.
+            Accepts (same_id CustomChannelId.eq) self.old self.new (id_named named.0 channel_id)
+            named.1 timestamp result) }
+        ensures refused { IfSome (fragment_in (as_class (told.Cut message.entry))) (λ named.
+            Refuses (same_id CustomChannelId.eq) self.old (id_named named.0 channel_id) named.1
+            result) }
+        ensures others { IfSome (fragment_in (as_class (told.Cut message.entry))) (λ named.
+            OthersStay (same_id CustomChannelId.eq) (id_named named.0 channel_id)
+            self.old self.new) }
+        ensures err { OnErr result (SameStreams (same_id CustomChannelId.eq) self.old self.new) }
+        ensures short { IfOk result
+            (λ payload. IfSome payload (λ whole. length whole.payload.items ≤ 65535)) }
+    {
+        let CutMessage {
+            vlan_ids,
+            addresses,
+            identification,
+            part,
+        } = message;
+        let id = IpFragId {
+            vlan_ids,
+            ip: spec_id(addresses, identification),
+            payload_ip_number: part.ip_number,
+            channel_id,
+        };
+        self.add_part(id, &part, timestamp)
     }
 
     // Takes a part of the message with this name.
@@ -99,11 +146,16 @@ impl<Timestamp: Drop, CustomChannelId: Eq + Hash + Drop, S: BuildHasher> IpDefra
         part: &Part<'_>,
         timestamp: Timestamp,
     ) -> Result<Option<IpDefragPayloadVec>, IpDefragError>
-        ensures accepted { Accepts ⟦<IpFragId<CustomChannelId> as PartialEq>⟧.eq self.old self.new id (fragment_of part.now) timestamp result }
-        ensures refused { Refuses ⟦<IpFragId<CustomChannelId> as PartialEq>⟧.eq self.old id (fragment_of part.now) result }
-        ensures others { OthersStay ⟦<IpFragId<CustomChannelId> as PartialEq>⟧.eq id self.old self.new }
-        ensures err { OnErr result (SameStreams ⟦<IpFragId<CustomChannelId> as PartialEq>⟧.eq self.old self.new) }
-        ensures short { IfOk result (λ payload. IfSome payload (λ whole. length whole.payload.items ≤ 65535)) }
+        ensures accepted { Accepts ⟦<IpFragId<CustomChannelId> as PartialEq>⟧.eq self.old self.new
+            id (fragment_of part.now) timestamp result }
+        ensures refused { Refuses ⟦<IpFragId<CustomChannelId> as PartialEq>⟧.eq self.old id
+            (fragment_of part.now) result }
+        ensures others { OthersStay ⟦<IpFragId<CustomChannelId> as PartialEq>⟧.eq
+            id self.old self.new }
+        ensures err { OnErr result
+            (SameStreams ⟦<IpFragId<CustomChannelId> as PartialEq>⟧.eq self.old self.new) }
+        ensures short { IfOk result
+            (λ payload. IfSome payload (λ whole. length whole.payload.items ≤ 65535)) }
     {
         let ip_number = id.payload_ip_number;
         let len_source = id.ip.len_source();
@@ -121,18 +173,20 @@ impl<Timestamp: Drop, CustomChannelId: Eq + Hash + Drop, S: BuildHasher> IpDefra
     /// Takes back the memory of a message that was handed out.
     pub fn return_buf(&mut self, buf: IpDefragPayloadVec) -> Result<(), IpDefragPayloadVec>
         ensures ok { result ≡ Ok tt }
-        ensures same { self.new ≡ self.old }
+        ensures same { self.new.streams ≡ self.old.streams }
     {
         drop(buf);
         Ok(())
     }
 
-    /// Keeps exactly the messages to whose timestamp, that of the fragment accepted last, the test answers
-    /// `true`. It is asked once for each.
+    /// Keeps exactly the messages to whose timestamp, that of the fragment accepted last, the test
+    /// answers `true`. It is asked once for each.
     pub fn retain<F: Fn(&Timestamp) -> bool + Drop>(&mut self, keep: F) -> Result<(), AllocError>
-        requires { (q : IpFragId CustomChannelId) → MayAsk (F.pre keep) (stream_at ⟦<IpFragId<CustomChannelId> as PartialEq>⟧.eq self.old q) }
-        ensures retained { OnOk result ((q : IpFragId CustomChannelId) → Retained (FnReturnsAt F.Fn keep)
-            (stream_at ⟦<IpFragId<CustomChannelId> as PartialEq>⟧.eq self.old q) (stream_at ⟦<IpFragId<CustomChannelId> as PartialEq>⟧.eq self.new q)) }
+        requires { (q : IpFragId CustomChannelId)
+            → MayAsk (F.pre keep) (stream_at (same_id CustomChannelId.eq) self.old q) }
+        ensures retained { OnOk result ((q : IpFragId CustomChannelId)
+            → Retained (FnReturnsAt F.Fn keep)
+            (stream_at (same_id CustomChannelId.eq) self.old q) (stream_at (same_id CustomChannelId.eq) self.new q)) }
         ensures ok { result ≡ Ok tt }
         ensures err { OnErr result (self.new ≡ self.old) }
     {

@@ -1,7 +1,7 @@
 //! A part of a message that is there.
 
-/// A part of a message that is there. Two parts that follow one another share the number at which the one
-/// ends and the other starts, so they merge.
+/// A part of a message that is there. Two parts that follow one another share the number at which
+/// the one ends and the other starts, so they merge.
 #[derive(Clone, Copy, Debug, PartialEq, Eq, Hash, PartialOrd, Ord)]
 pub struct IpFragRange {
     /// The first place, in bytes.
@@ -12,11 +12,11 @@ pub struct IpFragRange {
 
 impl IpFragRange {
     ghost use Rattle.std.specs.Prelude.{◌≡◌, ◌≤◌, ◌↔◌, ℕ, IfSome, IsSome};
-    ghost use Rattle.etherparse.specs.IpFragRange.{has_number, hull, merged, HasNumber};
+    ghost use Rattle.etherparse.specs.IpFragRange.{has_number, hull, merge_of, HasNumber};
 
     /// Both ranges as one, where `start` or `end` of one lies in the other.
     pub fn merge(&self, other: IpFragRange) -> Option<IpFragRange>
-        ensures value { result ≡ merged self.now other }
+        ensures value { result ≡ merge_of self.now other }
         ensures hull { IfSome result (λ range. range ≡ hull self.now other) }
         ensures shared { self.now.start ≤ self.now.end → other.start ≤ other.end →
             IsSome result ↔ ((n : ℕ) × HasNumber self.now n × HasNumber other n) }

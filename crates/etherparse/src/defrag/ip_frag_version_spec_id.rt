@@ -7,8 +7,8 @@ ghost use Rattle.etherparse.specs.IpFragId.{hashed_as};
 use ep_base::LenSource;
 use std::hash::{Hash, Hasher};
 
-/// What names the message that an IP fragment belongs to, apart from its protocol: the IP version, both
-/// addresses and the identification (RFC 791, section 3.2; RFC 8200, section 4.5).
+/// What names the message that an IP fragment belongs to, apart from its protocol: the IP version,
+/// both addresses and the identification (RFC 791, section 3.2; RFC 8200, section 4.5).
 #[derive(Clone, Debug, PartialEq, Eq, Drop)]
 pub enum IpFragVersionSpecId {
     /// Over IPv4.

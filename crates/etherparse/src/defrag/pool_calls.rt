@@ -6,11 +6,13 @@ ghost use Rattle.ep_packet.specs.Class.{class_of, packet_told};
 ghost use Rattle.ep_packet.specs.Class.Class.{Refused};
 ghost use Rattle.ep_packet.specs.Sliced.{sliced_ethernet};
 ghost use Rattle.ep_packet.specs.declared.err.packet.slice_error.SliceError.{SliceError};
-ghost use Rattle.etherparse.specs.PoolCalls.{Answered, FrameAnswered, HasMemory, Lists, Replies, ShowsLists, answers, fault_in, lists_after, retained_from, told, told_outcome};
+ghost use Rattle.etherparse.specs.PoolCalls.{Answered, FrameAnswered, HasMemory, Lists, Replies};
+ghost use Rattle.etherparse.specs.PoolCalls.{ShowsLists, answers, fault_in, lists_after};
+ghost use Rattle.etherparse.specs.PoolCalls.{retained_from, as_told, told_outcome};
 ghost use Rattle.etherparse.specs.PoolCalls.Told.{Retained};
 
-use super::{IpDefragError, IpDefragPayloadVec, IpDefragPool, IpFragId};
-use crate::laws::names::equal_names;
+use super::{IpDefragError, IpDefragPayloadVec, IpDefragPool};
+use crate::laws::streams::packets_are_answered;
 use ep_packet::SlicedPacket;
 use ep_packet::err::packet::SliceError;
 use std::alloc::{AllocError, Global};
@@ -44,15 +46,15 @@ pub enum PoolReply {
     NotSliced(SliceError),
     /// The other messages stay.
     Retained,
-    /// No memory was left to drop messages. All of them stay. No call answers it yet, since to drop messages
-    /// takes no memory.
+    /// No memory was left to drop messages. All of them stay. No call answers it yet, since to drop
+    /// messages takes no memory.
     NoMemory,
 }
 
 // Answers one call.
 fn answer(pool: &mut IpDefragPool<u64, u32>, call: &PoolCall<'_>) -> PoolReply
-    ensures { (lists : Lists) → ShowsLists ⟦<IpFragId<u32> as PartialEq>⟧.eq pool.old lists
-        → Answered (ShowsLists ⟦<IpFragId<u32> as PartialEq>⟧.eq pool.new) lists call.now (told result) }
+    ensures { (lists : Lists) → ShowsLists pool.old lists
+        → Answered (ShowsLists pool.new) lists call.now (as_told result) }
 {
     match call {
         PoolCall::Frame {
@@ -70,8 +72,9 @@ fn answer_frame(
     timestamp: u64,
     channel: u32,
 ) -> PoolReply
-    ensures { (lists : Lists) → ShowsLists ⟦<IpFragId<u32> as PartialEq>⟧.eq pool.old lists
-        → FrameAnswered (ShowsLists ⟦<IpFragId<u32> as PartialEq>⟧.eq pool.new) lists (class_of frame.now) timestamp channel (fault_in (sliced_ethernet frame.now)) (told result) }
+    ensures { (lists : Lists) → ShowsLists pool.old lists
+        → FrameAnswered (ShowsLists pool.new) lists (class_of frame.now) timestamp channel
+        (fault_in (sliced_ethernet frame.now)) (as_told result) }
 {
     match SlicedPacket::from_ethernet(frame) {
         Ok(packet) => answer_packet(pool, &packet, timestamp, channel),
@@ -86,16 +89,17 @@ fn answer_packet(
     channel: u32,
 ) -> PoolReply
     requires { packet_told packet.now ≡ Refused → ⊥ }
-    ensures { (fault : Option SliceError) (lists : Lists) → ShowsLists ⟦<IpFragId<u32> as PartialEq>⟧.eq pool.old lists
-        → FrameAnswered (ShowsLists ⟦<IpFragId<u32> as PartialEq>⟧.eq pool.new) lists (packet_told packet.now) timestamp channel fault (told result) }
+    ensures { (fault : Option SliceError) (lists : Lists) → ShowsLists pool.old lists
+        → FrameAnswered (ShowsLists pool.new) lists
+        (packet_told packet.now) timestamp channel fault (as_told result) }
 {
-    equal_names::<u32>();
+    packets_are_answered();
     reply_of(pool.process_sliced_packet(packet, timestamp, channel))
 }
 
 // The reply that tells what became of a packet.
 fn reply_of(outcome: Result<Option<IpDefragPayloadVec>, IpDefragError>) -> PoolReply
-    ensures { told result ≡ told_outcome outcome }
+    ensures { as_told result ≡ told_outcome outcome }
 {
     match outcome {
         Ok(Some(payload)) => PoolReply::Payload(payload),
@@ -105,9 +109,9 @@ fn reply_of(outcome: Result<Option<IpDefragPayloadVec>, IpDefragError>) -> PoolR
 }
 
 fn retain_from(pool: &mut IpDefragPool<u64, u32>, from: u64) -> PoolReply
-    ensures told { told result ≡ Retained }
-    ensures lists { (lists : Lists) → ShowsLists ⟦<IpFragId<u32> as PartialEq>⟧.eq pool.old lists
-        → ShowsLists ⟦<IpFragId<u32> as PartialEq>⟧.eq pool.new (λ name channel. retained_from from (lists name channel)) }
+    ensures told { as_told result ≡ Retained }
+    ensures lists { (lists : Lists) → ShowsLists pool.old lists
+        → ShowsLists pool.new (λ name channel. retained_from from (lists name channel)) }
 {
     match pool.retain(|timestamp: &u64| *timestamp >= from) {
         Ok(()) => PoolReply::Retained,
@@ -121,15 +125,17 @@ pub fn run_calls(
     pool: &mut IpDefragPool<u64, u32>,
     calls: &[PoolCall<'_>],
 ) -> Result<Vec<PoolReply>, AllocError>
-    // Each reply is that of its name's own list of fragments; or it tells of want of memory, to a fragment
-    // that isn't refused, and then its call changed nothing.
-    ensures replies { IfOk result (λ replies. (lists : Lists) → ShowsLists ⟦<IpFragId<u32> as PartialEq>⟧.eq pool.old lists
-        → Replies (ShowsLists ⟦<IpFragId<u32> as PartialEq>⟧.eq pool.new) lists calls.now (map told replies.items)) }
+    // Each reply is that of its name's own list of fragments; or it tells of want of memory, to a
+    // fragment that isn't refused, and then its call changed nothing.
+    ensures replies { IfOk result (λ replies. (lists : Lists) → ShowsLists pool.old lists
+        → Replies (ShowsLists pool.new) lists calls.now (map as_told replies.items)) }
     // Where none tells of it, they are the answers.
-    ensures told { IfOk result (λ replies. (lists : Lists) → ShowsLists ⟦<IpFragId<u32> as PartialEq>⟧.eq pool.old lists
-        → AllByRecursion HasMemory (map told replies.items) → map told replies.items ≡ answers lists calls.now) }
-    ensures lists { IfOk result (λ replies. (lists : Lists) → ShowsLists ⟦<IpFragId<u32> as PartialEq>⟧.eq pool.old lists
-        → AllByRecursion HasMemory (map told replies.items) → ShowsLists ⟦<IpFragId<u32> as PartialEq>⟧.eq pool.new (lists_after lists calls.now)) }
+    ensures told { IfOk result (λ replies. (lists : Lists) → ShowsLists pool.old lists
+        → AllByRecursion HasMemory (map as_told replies.items)
+        → map as_told replies.items ≡ answers lists calls.now) }
+    ensures lists { IfOk result (λ replies. (lists : Lists) → ShowsLists pool.old lists
+        → AllByRecursion HasMemory (map as_told replies.items)
+        → ShowsLists pool.new (lists_after lists calls.now)) }
     ensures len { IfOk result (λ replies. vec_len replies ≡ length calls.now) }
     ensures err { OnErr result (pool.new ≡ pool.old) }
 {

@@ -24,7 +24,8 @@ pub(crate) fn retain_streams<K: Eq + Hash + Drop, T: Drop, S: BuildHasher, F: Fn
     keep: &F,
 )
     requires { (q : K) → MayAsk (F.pre keep.now) (get K.eq streams.old q) }
-    ensures { (q : K) → Retained (FnReturnsAt F.Fn keep.now) (get K.eq streams.old q) (get K.eq streams.new q) }
+    ensures { (q : K) → Retained (FnReturnsAt F.Fn keep.now) (get K.eq streams.old q)
+        (get K.eq streams.new q) }
 {
     let mut at = 0;
     while at < streams.len() {

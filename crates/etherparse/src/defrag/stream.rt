@@ -1,13 +1,16 @@
 //! A message that is on its way.
 
-ghost use Rattle.std.specs.Prelude.{◌≡◌, ◌++◌, ◌∷◌, [], List, None, false, OnErr, IfOk, IfSome};
+ghost use Rattle.std.specs.Prelude.{◌≡◌, ◌++◌, ◌∷◌, [], List, None, false, OnErr, IfErr, IfOk};
+ghost use Rattle.std.specs.Prelude.{option_map};
 ghost use Rattle.indexmap.specs.IndexMap.{get};
 ghost use Rattle.etherparse.specs.Fragments.{Fragment, refusal_of, refusal_at, end_of};
 ghost use Rattle.etherparse.specs.IpDefragBuf.{AnswersAdd, Shows};
-ghost use Rattle.etherparse.specs.Streams.{Becomes, IsStreamOf, ShowsStream, fragment_of};
+ghost use Rattle.etherparse.specs.Outcome.{outcome};
+ghost use Rattle.etherparse.specs.Streams.{Becomes, IsErrorOf, IsStreamOf, ShowsStream};
+ghost use Rattle.etherparse.specs.Streams.{fragment_of};
 
-use super::part::Part;
 use super::{IpDefragBuf, IpDefragError};
+use ep_packet::Part;
 use indexmap::IndexMap;
 use indexmap::map::Entry;
 use std::alloc::Global;
@@ -23,9 +26,11 @@ pub(crate) struct Stream<T> {
 impl<T: Drop> Stream<T> {
     // Takes one more part.
     fn add(&mut self, part: &Part<'_>, timestamp: T) -> Result<(), IpDefragError>
-        ensures accepted { let f = fragment_of part.now in (fs : List Fragment) → Shows self.old.buf fs →
+        ensures accepted { let f = fragment_of part.now in (fs : List Fragment)
+            → Shows self.old.buf fs →
             IfOk result (λ u. IsStreamOf (fs ++ f ∷ []) timestamp self.new) }
-        ensures refused { let f = fragment_of part.now in (fs : List Fragment) → Shows self.old.buf fs →
+        ensures refused { let f = fragment_of part.now in (fs : List Fragment)
+            → Shows self.old.buf fs →
             AnswersAdd (refusal_of fs f) (end_of f) result }
         ensures err { OnErr result (self.new ≡ self.old) }
     {
@@ -38,15 +43,17 @@ impl<T: Drop> Stream<T> {
 // The buffer of a message of which this is the first part.
 fn begin(alloc: Global, part: &Part<'_>) -> Result<IpDefragBuf, IpDefragError>
     ensures accepted { IfOk result (λ buf. Shows buf (fragment_of part.now ∷ [])) }
-    ensures refused { let f = fragment_of part.now in AnswersAdd (refusal_at None f) (end_of f) result }
+    ensures refused { let f = fragment_of part.now in
+        AnswersAdd (refusal_at None f) (end_of f) result }
 {
     let mut buf = IpDefragBuf::new(part.ip_number, Vec::new(alloc), Vec::new(alloc));
     buf.add(part.offset, part.more_fragments, part.bytes)?;
     Ok(buf)
 }
 
-// Takes a part of the message with this name. The stream ends where the message is complete. One that is complete
-// at once isn't kept: no packet's part is a whole message, but the contract speaks of every part.
+// Takes a part of the message with this name. The stream ends where the message is complete. One
+// that is complete at once isn't kept: no packet's part is a whole message, but the contract speaks
+// of every part.
 pub(crate) fn add_part<K: Eq + Hash + Drop, T: Drop, S: BuildHasher>(
     alloc: Global,
     streams: &mut IndexMap<K, Stream<T>, S>,
@@ -54,11 +61,15 @@ pub(crate) fn add_part<K: Eq + Hash + Drop, T: Drop, S: BuildHasher>(
     part: &Part<'_>,
     timestamp: T,
 ) -> Result<Option<IpDefragBuf>, IpDefragError>
-    ensures accepted { let f = fragment_of part.now in (fs : List Fragment) → ShowsStream (get K.eq streams.old name) fs →
-        IfOk result (λ whole. Becomes (λ gs buf. Shows buf gs) (fs ++ f ∷ []) timestamp (get K.eq streams.new name) whole) }
-    ensures refused { let f = fragment_of part.now in (fs : List Fragment) → ShowsStream (get K.eq streams.old name) fs →
-        AnswersAdd (refusal_of fs f) (end_of f) result }
-    ensures others { (q : K) → K.eq name q ≡ false → get K.eq streams.new q ≡ get K.eq streams.old q }
+    ensures accepted { let f = fragment_of part.now in (fs : List Fragment)
+        → ShowsStream (get K.eq streams.old name) fs →
+        IfOk result (λ told. Becomes (λ text. text) (outcome fs f) timestamp
+        (get K.eq streams.new name) (option_map (λ buf. buf.bytes) told)) }
+    ensures refused { let f = fragment_of part.now in (fs : List Fragment)
+        → ShowsStream (get K.eq streams.old name) fs →
+        IfErr result (IsErrorOf f (outcome fs f)) }
+    ensures others { (q : K) → K.eq name q ≡ false
+        → get K.eq streams.new q ≡ get K.eq streams.old q }
     ensures err { OnErr result ((q : K) → get K.eq streams.new q ≡ get K.eq streams.old q) }
 {
     match streams.entry(name) {

@@ -1,15 +1,16 @@
 //! The messages that are on their way.
 
-ghost use Rattle.std.specs.Prelude.{◌≡◌, ◌≤◌, ◌++◌, ◌∷◌, [], List, OnErr, IfOk, IfSome, length, option_map};
+ghost use Rattle.std.specs.Prelude.{◌≡◌, ◌≤◌, [], List, OnErr, IfOk, IfSome, length, option_map};
 ghost use Rattle.std.specs.Fn.{FnReturnsAt};
 ghost use Rattle.etherparse.specs.Fragments.{Fragment};
-ghost use Rattle.etherparse.specs.Picture.{text_of};
-ghost use Rattle.etherparse.specs.Streams.{Becomes, MayAsk, OthersStay, Refuses, Retained, SameStreams, ShowsStream, fragment_of, stream_at};
+ghost use Rattle.etherparse.specs.Outcome.{outcome};
+ghost use Rattle.etherparse.specs.Streams.{Becomes, MayAsk, OthersStay, Refuses, Retained};
+ghost use Rattle.etherparse.specs.Streams.{SameStreams, ShowsStream, fragment_of, stream_at};
 
 use super::IpDefragError;
-use super::part::Part;
 use super::retain_streams::retain_streams;
 use super::stream::{Stream, add_part};
+use ep_packet::Part;
 use indexmap::IndexMap;
 use std::alloc::Global;
 use std::hash::{BuildHasher, Hash};
@@ -23,17 +24,17 @@ pub(crate) struct Streams<K: Eq + Hash, T, S: BuildHasher> {
 }
 
 impl<K: Eq + Hash, T, S: BuildHasher> Model for Streams<K, T, S> {
-    ghost use Rattle.etherparse.specs.Streams.{Streams};
+    ghost use Rattle.etherparse.specs.Streams.{Pool};
 
-    ghost Value = { Streams K T };
+    ghost Value = { Pool K T };
 
-    ghost view = { λ streams. streams.active.entries };
+    ghost view = { λ held. record { streams = held.active.entries } };
 }
 
 impl<K: Eq + Hash + Drop, T: Drop, S: BuildHasher> Streams<K, T, S> {
     /// No streams. It takes no memory.
     pub(crate) fn with_hasher(alloc: Global, state: S) -> Self
-        ensures { result ≡ [] }
+        ensures { result.streams ≡ [] }
     {
         Streams {
             alloc,
@@ -41,16 +42,18 @@ impl<K: Eq + Hash + Drop, T: Drop, S: BuildHasher> Streams<K, T, S> {
         }
     }
 
-    /// Takes a part of the message with this name. One that completes it hands its bytes out, and ends
-    /// the stream.
+    /// Takes a part of the message with this name. One that completes it hands its bytes out, and
+    /// ends the stream.
     pub(crate) fn add(
         &mut self,
         name: K,
         part: &Part<'_>,
         timestamp: T,
     ) -> Result<Option<Vec<u8>>, IpDefragError>
-        ensures accepted { let f = fragment_of part.now in (fs : List Fragment) → ShowsStream (stream_at K.eq self.old name) fs →
-            IfOk result (λ text. Becomes (λ gs bytes. bytes ≡ text_of gs) (fs ++ f ∷ []) timestamp (stream_at K.eq self.new name) (option_map (λ bytes. bytes.items) text)) }
+        ensures accepted { (fs : List Fragment) → ShowsStream (stream_at K.eq self.old name) fs →
+            IfOk result (λ told. Becomes (λ text. text)
+            (outcome fs (fragment_of part.now)) timestamp
+            (stream_at K.eq self.new name) (option_map (λ bytes. bytes.items) told)) }
         ensures refused { Refuses K.eq self.old name (fragment_of part.now) result }
         ensures others { OthersStay K.eq name self.old self.new }
         ensures err { OnErr result (SameStreams K.eq self.old self.new) }
@@ -67,7 +70,8 @@ impl<K: Eq + Hash + Drop, T: Drop, S: BuildHasher> Streams<K, T, S> {
     /// Keeps exactly the streams to whose timestamp the test answers `true`.
     pub(crate) fn retain<F: Fn(&T) -> bool>(&mut self, keep: &F)
         requires { (q : K) → MayAsk (F.pre keep.now) (stream_at K.eq self.old q) }
-        ensures { (q : K) → Retained (FnReturnsAt F.Fn keep.now) (stream_at K.eq self.old q) (stream_at K.eq self.new q) }
+        ensures { (q : K) → Retained (FnReturnsAt F.Fn keep.now) (stream_at K.eq self.old q)
+            (stream_at K.eq self.new q) }
     {
         retain_streams(&mut self.active, keep);
     }

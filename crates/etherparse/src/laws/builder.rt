@@ -4,8 +4,8 @@ ghost use Rattle.etherparse.specs.BuiltLaws.{HasAddresses, HasWholeOptions, Sums
 
 use ep_packet::{IpHeaders, TransportHeader};
 
-/// A receiver that sums the pseudo header, a transport header as the builder writes it, and its payload
-/// finds all ones. (ICMPv6, which has no checksum over IPv4, isn't written there.)
+/// A receiver that sums the pseudo header, a transport header as the builder writes it, and its
+/// payload finds all ones. (ICMPv6, which has no checksum over IPv4, isn't written there.)
 pub fn built_messages_sum_to_all_ones(ip: &IpHeaders, transport: &TransportHeader, payload: &[u8])
     ensures { SumsToAllOnes ip.now transport.now payload.now }
 {

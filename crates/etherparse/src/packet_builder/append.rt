@@ -6,7 +6,8 @@ ghost use Rattle.ep_packet.specs.IpHeaders.{ip_headers_len};
 ghost use Rattle.ep_packet.specs.Transport.{transport_len, transport_spelling};
 ghost use Rattle.ep_packet.specs.declared.net.ip_headers.IpHeaders.TheVariants as headers;
 ghost use Rattle.ep_tag.specs.VlanForms.{tags_spelling};
-ghost use Rattle.etherparse.specs.Built.{bytes_if, first_type, ip_bytes, len_if, link_bytes, link_naming, linked, tags_naming, vlan_bytes};
+ghost use Rattle.etherparse.specs.Built.{bytes_if, first_type, ip_bytes, len_if, link_bytes};
+ghost use Rattle.etherparse.specs.Built.{link_naming, with_last_number, tags_naming, vlan_bytes};
 
 use ep_base::{EtherType, IpNumber};
 use ep_ext::{Ipv4Extensions, Ipv6Extensions};
@@ -45,7 +46,8 @@ fn first_type(vlan: &Option<VlanHeader>, ether_type: EtherType) -> EtherType
 
 fn append_link_naming(ether_type: EtherType, link: LinkHeader, buffer: &mut Vec<u8>)
     requires { vec_len buffer.old + link_len link ≤ vec_capacity buffer.old }
-    ensures items { buffer.new.items ≡ buffer.old.items ++ link_spelling (link_naming ether_type.0 link) }
+    ensures items { buffer.new.items ≡ buffer.old.items
+        ++ link_spelling (link_naming ether_type.0 link) }
     ensures len { vec_len buffer.new ≡ vec_len buffer.old + link_len link }
     ensures capacity { vec_capacity buffer.old ≤ vec_capacity buffer.new }
 {
@@ -62,9 +64,11 @@ fn append_link_naming(ether_type: EtherType, link: LinkHeader, buffer: &mut Vec<
 }
 
 pub(super) fn append_vlan(vlan: Option<VlanHeader>, ether_type: EtherType, buffer: &mut Vec<u8>)
-    requires { vec_len buffer.old + len_if (λ t. length (tags_spelling t)) vlan ≤ vec_capacity buffer.old }
+    requires { vec_len buffer.old + len_if (λ t. length (tags_spelling t)) vlan
+        ≤ vec_capacity buffer.old }
     ensures items { buffer.new.items ≡ buffer.old.items ++ vlan_bytes vlan ether_type.0 }
-    ensures len { vec_len buffer.new ≡ vec_len buffer.old + len_if (λ t. length (tags_spelling t)) vlan }
+    ensures len { vec_len buffer.new ≡ vec_len buffer.old + len_if
+        (λ t. length (tags_spelling t)) vlan }
     ensures capacity { vec_capacity buffer.old ≤ vec_capacity buffer.new }
 {
     if let Some(tags) = vlan {
@@ -74,7 +78,8 @@ pub(super) fn append_vlan(vlan: Option<VlanHeader>, ether_type: EtherType, buffe
 
 fn append_tags(ether_type: EtherType, tags: VlanHeader, buffer: &mut Vec<u8>)
     requires { vec_len buffer.old + length (tags_spelling tags) ≤ vec_capacity buffer.old }
-    ensures items { buffer.new.items ≡ buffer.old.items ++ tags_spelling (tags_naming ether_type.0 tags) }
+    ensures items { buffer.new.items ≡ buffer.old.items
+        ++ tags_spelling (tags_naming ether_type.0 tags) }
     ensures len { vec_len buffer.new ≡ vec_len buffer.old + length (tags_spelling tags) }
     ensures capacity { vec_capacity buffer.old ≤ vec_capacity buffer.new }
 {
@@ -94,7 +99,8 @@ fn append_tags(ether_type: EtherType, tags: VlanHeader, buffer: &mut Vec<u8>)
 // The IP headers, made to name one another and the last one this number.
 pub(super) fn append_ip(ip: &mut IpHeaders, number: IpNumber, buffer: &mut Vec<u8>)
     requires { vec_len buffer.old + ip_headers_len ip.old ≤ vec_capacity buffer.old }
-    ensures items { buffer.new.items ≡ buffer.old.items ++ ip_bytes (linked ip.old number.0) }
+    ensures items { buffer.new.items ≡ buffer.old.items ++ ip_bytes (with_last_number ip.old
+        number.0) }
     ensures len { vec_len buffer.new ≡ vec_len buffer.old + ip_headers_len ip.old }
     ensures capacity { vec_capacity buffer.old ≤ vec_capacity buffer.new }
 {
@@ -110,9 +116,12 @@ fn append_ipv4(
     number: IpNumber,
     buffer: &mut Vec<u8>,
 )
-    requires { vec_len buffer.old + ip_headers_len (headers.Ipv4 header.old extensions.old) ≤ vec_capacity buffer.old }
-    ensures items { buffer.new.items ≡ buffer.old.items ++ ip_bytes (linked (headers.Ipv4 header.old extensions.old) number.0) }
-    ensures len { vec_len buffer.new ≡ vec_len buffer.old + ip_headers_len (headers.Ipv4 header.old extensions.old) }
+    requires { vec_len buffer.old + ip_headers_len (headers.Ipv4 header.old extensions.old)
+        ≤ vec_capacity buffer.old }
+    ensures items { buffer.new.items ≡ buffer.old.items
+        ++ ip_bytes (with_last_number (headers.Ipv4 header.old extensions.old) number.0) }
+    ensures len { vec_len buffer.new ≡ vec_len buffer.old + ip_headers_len
+        (headers.Ipv4 header.old extensions.old) }
     ensures capacity { vec_capacity buffer.old ≤ vec_capacity buffer.new }
 {
     header.protocol = extensions.set_next_headers(number);
@@ -126,9 +135,12 @@ fn append_ipv6(
     number: IpNumber,
     buffer: &mut Vec<u8>,
 )
-    requires { vec_len buffer.old + ip_headers_len (headers.Ipv6 header.old extensions.old) ≤ vec_capacity buffer.old }
-    ensures items { buffer.new.items ≡ buffer.old.items ++ ip_bytes (linked (headers.Ipv6 header.old extensions.old) number.0) }
-    ensures len { vec_len buffer.new ≡ vec_len buffer.old + ip_headers_len (headers.Ipv6 header.old extensions.old) }
+    requires { vec_len buffer.old + ip_headers_len (headers.Ipv6 header.old extensions.old)
+        ≤ vec_capacity buffer.old }
+    ensures items { buffer.new.items ≡ buffer.old.items
+        ++ ip_bytes (with_last_number (headers.Ipv6 header.old extensions.old) number.0) }
+    ensures len { vec_len buffer.new ≡ vec_len buffer.old + ip_headers_len
+        (headers.Ipv6 header.old extensions.old) }
     ensures capacity { vec_capacity buffer.old ≤ vec_capacity buffer.new }
 {
     header.next_header = extensions.set_next_headers(number);
@@ -138,7 +150,8 @@ fn append_ipv6(
 
 pub(super) fn append_transport(transport: &Option<TransportHeader>, buffer: &mut Vec<u8>)
     requires { vec_len buffer.old + len_if transport_len transport.now ≤ vec_capacity buffer.old }
-    ensures items { buffer.new.items ≡ buffer.old.items ++ bytes_if transport_spelling transport.now }
+    ensures items { buffer.new.items ≡ buffer.old.items
+        ++ bytes_if transport_spelling transport.now }
     ensures len { vec_len buffer.new ≡ vec_len buffer.old + len_if transport_len transport.now }
     ensures capacity { vec_capacity buffer.old ≤ vec_capacity buffer.new }
 {

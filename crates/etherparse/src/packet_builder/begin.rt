@@ -1,7 +1,9 @@
 //! Where a packet begins: a link header, or an IP header alone.
 
 ghost use Rattle.std.specs.Prelude.{◌≡◌, Some};
-ghost use Rattle.etherparse.specs.BuiltSteps.{cooked, ethernet_between, ipv4_between, ipv6_between, no_headers};
+ghost use Rattle.etherparse.specs.BuiltSteps.{cooked_link_header, ethernet_between, ipv4_between};
+ghost use Rattle.etherparse.specs.BuiltSteps.{ipv6_between};
+ghost use Rattle.etherparse.specs.BuiltSteps.{no_headers};
 
 use super::packet_impl::PacketImpl;
 use super::step::PacketBuilderStep;
@@ -14,8 +16,8 @@ use ep_packet::IpHeaders;
 
 /// Where a packet begins.
 ///
-/// Each step adds a header, and the last one writes the packet with the ether types, numbers, lengths and
-/// checksums that belong to it.
+/// Each step adds a header, and the last one writes the packet with the ether types, numbers,
+/// lengths and checksums that belong to it.
 #[derive(Drop)]
 pub struct PacketBuilder {}
 
@@ -23,7 +25,8 @@ impl PacketBuilder {
     /// A packet in an Ethernet II frame between these addresses.
     #[inline(always)]
     pub fn ethernet2(source: [u8; 6], destination: [u8; 6]) -> PacketBuilderStep<Ethernet2Header>
-        ensures { result ≡ record no_headers { link_header = Some (ethernet_between source destination) } }
+        ensures { result ≡ record no_headers
+            { link_header = Some (ethernet_between source destination) } }
     {
         let mut state = PacketImpl::empty();
         state.link_header = Some(LinkHeader::Ethernet2(Ethernet2Header {
@@ -34,8 +37,8 @@ impl PacketBuilder {
         PacketBuilderStep::of(state)
     }
 
-    /// A packet of a Linux cooked capture, of a device of hardware type 1, Ethernet: who it was sent to
-    /// or by, and the sender's address with how many of its bytes count.
+    /// A packet of a Linux cooked capture, of a device of hardware type 1, Ethernet: who it was
+    /// sent to or by, and the sender's address with how many of its bytes count.
     #[inline(always)]
     pub fn linux_sll(
         packet_type: LinuxSllPacketType,
@@ -43,7 +46,8 @@ impl PacketBuilder {
         sender_address: [u8; 8],
     ) -> PacketBuilderStep<LinuxSllHeader>
         ensures { result ≡ record no_headers {
-          link_header = Some (cooked packet_type sender_address_valid_length sender_address);
+          link_header = Some (cooked_link_header packet_type sender_address_valid_length
+              sender_address);
         } }
     {
         let mut state = PacketImpl::empty();
@@ -64,7 +68,8 @@ impl PacketBuilder {
         destination: [u8; 4],
         time_to_live: u8,
     ) -> PacketBuilderStep<IpHeaders>
-        ensures { result ≡ record no_headers { ip_headers = Some (ipv4_between source destination time_to_live) } }
+        ensures { result ≡ record no_headers
+            { ip_headers = Some (ipv4_between source destination time_to_live) } }
     {
         PacketBuilder::nothing().ipv4(source, destination, time_to_live)
     }
@@ -76,12 +81,14 @@ impl PacketBuilder {
         destination: [u8; 16],
         hop_limit: u8,
     ) -> PacketBuilderStep<IpHeaders>
-        ensures { result ≡ record no_headers { ip_headers = Some (ipv6_between source destination hop_limit) } }
+        ensures { result ≡ record no_headers
+            { ip_headers = Some (ipv6_between source destination hop_limit) } }
     {
         PacketBuilder::nothing().ipv6(source, destination, hop_limit)
     }
 
-    /// An IP packet with no link header, with these headers, as [`PacketBuilderStep::ip`] adds them.
+    /// An IP packet with no link header, with these headers, as [`PacketBuilderStep::ip`] adds
+    /// them.
     #[inline(always)]
     pub fn ip(ip_header: IpHeaders) -> PacketBuilderStep<IpHeaders>
         ensures { result ≡ record no_headers { ip_headers = Some ip_header } }

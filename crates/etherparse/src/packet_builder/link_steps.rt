@@ -51,8 +51,8 @@ impl PacketBuilderStep<Ethernet2Header> {
 }
 
 impl<L: LinkStep> PacketBuilderStep<L> {
-    /// With these headers. Their lengths and numbers, and of IPv4 the checksum, are set when the packet is
-    /// written.
+    /// With these headers. Their lengths and numbers, and of IPv4 the checksum, are set when the
+    /// packet is written.
     #[inline(always)]
     pub fn ip(self, ip_header: IpHeaders) -> PacketBuilderStep<IpHeaders>
         ensures { result ≡ record self { ip_headers = Some ip_header } }
@@ -70,7 +70,8 @@ impl<L: LinkStep> PacketBuilderStep<L> {
         destination: [u8; 4],
         time_to_live: u8,
     ) -> PacketBuilderStep<IpHeaders>
-        ensures { result ≡ record self { ip_headers = Some (ipv4_between source destination time_to_live) } }
+        ensures { result
+            ≡ record self { ip_headers = Some (ipv4_between source destination time_to_live) } }
     {
         let header = Ipv4Header {
             source,
@@ -89,7 +90,8 @@ impl<L: LinkStep> PacketBuilderStep<L> {
         destination: [u8; 16],
         hop_limit: u8,
     ) -> PacketBuilderStep<IpHeaders>
-        ensures { result ≡ record self { ip_headers = Some (ipv6_between source destination hop_limit) } }
+        ensures { result
+            ≡ record self { ip_headers = Some (ipv6_between source destination hop_limit) } }
     {
         let header = Ipv6Header {
             traffic_class: 0,

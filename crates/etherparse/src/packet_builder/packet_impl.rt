@@ -1,12 +1,18 @@
 //! The headers that were chosen, and the packet that is written of them.
 
-ghost use Rattle.std.specs.Prelude.{◌≡◌, ◌≢◌, ◌+◌, ◌^◌, ◌<◌, ◌≤◌, ◌++◌, length, vec_len, vec_capacity, MatchOption, IfOk, IsOk, IsSome, OnOk, OnErr, IsOkUnless};
+ghost use Rattle.std.specs.Prelude.{◌≡◌, ◌≢◌, ◌+◌, ◌^◌, ◌<◌, ◌≤◌, ◌++◌, length, vec_len};
+ghost use Rattle.std.specs.Prelude.{vec_capacity, MatchOption, IfOk, IsOk, IsSome, OnOk, OnErr};
+ghost use Rattle.std.specs.Prelude.{IsOkUnless};
 ghost use Rattle.ep_link.specs.Arp.{packet_len_in};
 ghost use Rattle.ep_link.specs.Link.{link_len};
 ghost use Rattle.ep_packet.specs.IpHeaders.{ether_type_of, ip_headers_len};
 ghost use Rattle.ep_tag.specs.VlanForms.{tags_spelling};
 ghost use Rattle.ep_packet.specs.Transport.{transport_len};
-ghost use Rattle.etherparse.specs.Built.{arp_size_of, built, built_arp, front_len, len_if, len_refusal, measured, message_len, number_in, refusal_of, size_of};
+ghost use Rattle.etherparse.specs.Built.{arp_size_of, packet_with_number, built_arp, front_len};
+ghost use Rattle.etherparse.specs.Built.{len_if};
+ghost use Rattle.etherparse.specs.Built.{len_refusal, with_lengths, message_len, number_in};
+ghost use Rattle.etherparse.specs.Built.{refusal_of};
+ghost use Rattle.etherparse.specs.Built.{size_of};
 ghost use Rattle.etherparse.specs.BuiltSteps.{no_headers};
 ghost use Rattle.etherparse.specs.declared.err.packet.build_write_error.BuildWriteError.TheVariants.{Memory};
 
@@ -87,8 +93,8 @@ impl PacketImpl {
         }
     }
 
-    // Appends the packet, whose headers of the network layer name this number last. Where it is refused,
-    // or no memory is left, the buffer keeps its bytes.
+    // Appends the packet, whose headers of the network layer name this number last. Where it is
+    // refused, or no memory is left, the buffer keeps its bytes.
     #[inline(always)]
     pub(super) fn write(
         self,
@@ -99,10 +105,13 @@ impl PacketImpl {
         requires { IsSome self.ip_headers }
         ensures refusal { MatchOption (refusal_of self (length payload.now))
             (IsOkUnless result Memory) (λ e. result ≡ Err e) }
-        ensures ok { OnOk result (buffer.new.items ≡ buffer.old.items ++ built self number.0 payload.now) }
-        ensures len { OnOk result (vec_len buffer.new ≡ vec_len buffer.old + size_of self (length payload.now)) }
+        ensures ok { OnOk result (buffer.new.items ≡ buffer.old.items
+            ++ packet_with_number self number.0 payload.now) }
+        ensures len { OnOk result (vec_len buffer.new
+            ≡ vec_len buffer.old + size_of self (length payload.now)) }
         ensures err { OnErr result (buffer.new.items ≡ buffer.old.items) }
-        ensures memory { vec_len buffer.old + size_of self (length payload.now) ≤ vec_capacity buffer.old → result ≢ Err Memory }
+        ensures memory { vec_len buffer.old + size_of self (length payload.now)
+            ≤ vec_capacity buffer.old → result ≢ Err Memory }
     {
         let headers_len = self.headers_len();
         let PacketImpl {
@@ -129,14 +138,16 @@ impl PacketImpl {
         Ok(())
     }
 
-    // Appends the packet, which holds an ARP packet. Where no memory is left, the buffer keeps its bytes.
+    // Appends the packet, which holds an ARP packet. Where no memory is left, the buffer keeps its
+    // bytes.
     pub(super) fn write_arp(self, buffer: &mut Vec<u8>) -> Result<(), BuildWriteError>
         requires { IsSome self.arp_packet }
         ensures outcome { IsOkUnless result Memory }
         ensures ok { OnOk result (buffer.new.items ≡ buffer.old.items ++ built_arp self) }
         ensures len { OnOk result (vec_len buffer.new ≡ vec_len buffer.old + arp_size_of self) }
         ensures err { OnErr result (buffer.new.items ≡ buffer.old.items) }
-        ensures memory { vec_len buffer.old + arp_size_of self ≤ vec_capacity buffer.old → result ≢ Err Memory }
+        ensures memory { vec_len buffer.old + arp_size_of self ≤ vec_capacity buffer.old
+            → result ≢ Err Memory }
     {
         if buffer.reserve(self.arp_size()).is_err() {
             return Err(BuildWriteError::Memory);
@@ -238,8 +249,9 @@ fn measure(
     transport: &Option<TransportHeader>,
     payload_len: usize,
 ) -> Result<(), BuildWriteError>
-    ensures refusal { MatchOption (len_refusal transport.now payload_len ip.old) (IsOk result) (λ e. result ≡ Err e) }
-    ensures ok { OnOk result (ip.new ≡ measured ip.old (message_len transport.now payload_len)) }
+    ensures refusal { MatchOption (len_refusal transport.now payload_len ip.old) (IsOk result)
+        (λ e. result ≡ Err e) }
+    ensures ok { OnOk result (ip.new ≡ with_lengths ip.old (message_len transport.now payload_len)) }
     ensures len { OnOk result (ip_headers_len ip.new ≡ ip_headers_len ip.old) }
     ensures short { OnOk result (message_len transport.now payload_len ≤ 65535) }
 {

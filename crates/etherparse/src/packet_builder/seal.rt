@@ -3,7 +3,7 @@
 ghost use Rattle.std.specs.Prelude.{◌≡◌, ◌+◌, ◌≤◌, length, MatchOption, IfOk, IsOk, OnOk};
 ghost use Rattle.std.specs.Option.{option_and_then, option_map};
 ghost use Rattle.ep_packet.specs.Transport.{transport_len};
-ghost use Rattle.etherparse.specs.Built.{len_if, seal_refusal, sealed, with_length};
+ghost use Rattle.etherparse.specs.Built.{len_if, seal_refusal, with_message_checksum, with_length};
 
 use crate::err::packet::BuildWriteError;
 use ep_packet::err::packet::TransportChecksumError;
@@ -18,9 +18,12 @@ pub(super) fn sealed(
     payload: &[u8],
 ) -> Result<Option<TransportHeader>, BuildWriteError>
     requires { len_if transport_len transport + length payload.now ≤ 65535 }
-    ensures refusal { MatchOption (option_and_then (seal_refusal ip.now) transport) (IsOk result) (λ e. result ≡ Err e) }
-    ensures ok { IfOk result (λ header. header ≡ option_map (sealed ip.now payload.now) transport) }
-    ensures len { IfOk result (λ header. len_if transport_len header ≡ len_if transport_len transport) }
+    ensures refusal { MatchOption (option_and_then (seal_refusal ip.now) transport) (IsOk result)
+        (λ e. result ≡ Err e) }
+    ensures ok { IfOk result (λ header. header ≡ option_map (with_message_checksum ip.now
+        payload.now) transport) }
+    ensures len { IfOk result (λ header. len_if transport_len header
+        ≡ len_if transport_len transport) }
 {
     let Some(mut header) = transport else {
         return Ok(None);
@@ -35,8 +38,10 @@ fn seal(
     payload: &[u8],
 ) -> Result<(), BuildWriteError>
     requires { transport_len transport.old + length payload.now ≤ 65535 }
-    ensures refusal { MatchOption (seal_refusal ip.now transport.old) (IsOk result) (λ e. result ≡ Err e) }
-    ensures ok { OnOk result (transport.new ≡ sealed ip.now payload.now transport.old) }
+    ensures refusal { MatchOption (seal_refusal ip.now transport.old) (IsOk result)
+        (λ e. result ≡ Err e) }
+    ensures ok { OnOk result (transport.new ≡ with_message_checksum ip.now payload.now
+        transport.old) }
     ensures len { OnOk result (transport_len transport.new ≡ transport_len transport.old) }
 {
     set_length(transport, payload);

@@ -74,7 +74,8 @@ impl PacketBuilderStep<TcpHeader> {
     /// With the flag `ack` and this acknowledgment number.
     #[inline(always)]
     pub fn ack(self, acknowledgment_number: u32) -> PacketBuilderStep<TcpHeader>
-        ensures { result ≡ with_tcp (λ h. record h { ack = true; acknowledgment_number = acknowledgment_number }) self }
+        ensures { result ≡ with_tcp
+            (λ h. record h { ack = true; acknowledgment_number = acknowledgment_number }) self }
     {
         let mut state = self.state;
         if let Some(TransportHeader::Tcp(header)) = &mut state.transport_header {
@@ -87,7 +88,8 @@ impl PacketBuilderStep<TcpHeader> {
     /// With the flag `urg` and this urgent pointer.
     #[inline(always)]
     pub fn urg(self, urgent_pointer: u16) -> PacketBuilderStep<TcpHeader>
-        ensures { result ≡ with_tcp (λ h. record h { urg = true; urgent_pointer = urgent_pointer }) self }
+        ensures { result ≡ with_tcp
+            (λ h. record h { urg = true; urgent_pointer = urgent_pointer }) self }
     {
         let mut state = self.state;
         if let Some(TransportHeader::Tcp(header)) = &mut state.transport_header {
@@ -128,7 +130,8 @@ impl PacketBuilderStep<TcpHeader> {
         self,
         options: &[TcpOptionElement],
     ) -> Result<PacketBuilderStep<TcpHeader>, TcpOptionWriteError>
-        ensures ok { IfOk (options_of_elements options.now) (λ bytes. result ≡ Ok (with_tcp (λ h. record h { options = bytes }) self)) }
+        ensures ok { IfOk (options_of_elements options.now)
+            (λ bytes. result ≡ Ok (with_tcp (λ h. record h { options = bytes }) self)) }
         ensures err { IfErr (options_of_elements options.now) (λ e. result ≡ Err e) }
     {
         let options = TcpOptions::try_from_elements(options)?;
@@ -142,7 +145,8 @@ impl PacketBuilderStep<TcpHeader> {
         self,
         options: &[u8],
     ) -> Result<PacketBuilderStep<TcpHeader>, TcpOptionWriteError>
-        ensures ok { length options.now ≤ 40 → result ≡ Ok (with_tcp (λ h. record h { options = whole_options options.now }) self) }
+        ensures ok { length options.now ≤ 40
+            → result ≡ Ok (with_tcp (λ h. record h { options = whole_options options.now }) self) }
         ensures err { 40 < length options.now → result ≡ Err (NotEnoughSpace (length options.now)) }
     {
         let options = TcpOptions::try_from_slice(options)?;

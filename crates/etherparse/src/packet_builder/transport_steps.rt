@@ -16,7 +16,8 @@ impl PacketBuilderStep<IpHeaders> {
     /// With a UDP header between these ports.
     #[inline(always)]
     pub fn udp(self, source_port: u16, destination_port: u16) -> PacketBuilderStep<UdpHeader>
-        ensures { result ≡ record self { transport_header = Some (udp_between source_port destination_port) } }
+        ensures { result
+            ≡ record self { transport_header = Some (udp_between source_port destination_port) } }
     {
         let mut state = self.state;
         state.transport_header = Some(TransportHeader::Udp(UdpHeader {
@@ -67,15 +68,17 @@ impl PacketBuilderStep<IpHeaders> {
         PacketBuilderStep::of(state)
     }
 
-    /// With the header of an ICMP message over IPv4 of this type and code, and with these bytes behind
-    /// its checksum.
+    /// With the header of an ICMP message over IPv4 of this type and code, and with these bytes
+    /// behind its checksum.
     pub fn icmpv4_raw(
         self,
         type_u8: u8,
         code_u8: u8,
         bytes5to8: [u8; 4],
     ) -> PacketBuilderStep<Icmpv4Header>
-        ensures { result ≡ record self { transport_header = Some (icmpv4_of (v4.Unknown type_u8 code_u8 bytes5to8)) } }
+        ensures { result
+            ≡ record self
+            { transport_header = Some (icmpv4_of (v4.Unknown type_u8 code_u8 bytes5to8)) } }
     {
         self.icmpv4(Icmpv4Type::Unknown {
             type_u8,
@@ -86,14 +89,16 @@ impl PacketBuilderStep<IpHeaders> {
 
     /// With the header of an echo request over IPv4.
     pub fn icmpv4_echo_request(self, id: u16, seq: u16) -> PacketBuilderStep<Icmpv4Header>
-        ensures { result ≡ record self { transport_header = Some (icmpv4_of (v4.EchoRequest (echo id seq))) } }
+        ensures { result
+            ≡ record self { transport_header = Some (icmpv4_of (v4.EchoRequest (echo id seq))) } }
     {
         self.icmpv4(Icmpv4Type::EchoRequest(IcmpEchoHeader { id, seq }))
     }
 
     /// With the header of the reply to an echo request over IPv4.
     pub fn icmpv4_echo_reply(self, id: u16, seq: u16) -> PacketBuilderStep<Icmpv4Header>
-        ensures { result ≡ record self { transport_header = Some (icmpv4_of (v4.EchoReply (echo id seq))) } }
+        ensures { result
+            ≡ record self { transport_header = Some (icmpv4_of (v4.EchoReply (echo id seq))) } }
     {
         self.icmpv4(Icmpv4Type::EchoReply(IcmpEchoHeader { id, seq }))
     }
@@ -111,15 +116,17 @@ impl PacketBuilderStep<IpHeaders> {
         PacketBuilderStep::of(state)
     }
 
-    /// With the header of an ICMP message over IPv6 of this type and code, and with these bytes behind
-    /// its checksum.
+    /// With the header of an ICMP message over IPv6 of this type and code, and with these bytes
+    /// behind its checksum.
     pub fn icmpv6_raw(
         self,
         type_u8: u8,
         code_u8: u8,
         bytes5to8: [u8; 4],
     ) -> PacketBuilderStep<Icmpv6Header>
-        ensures { result ≡ record self { transport_header = Some (icmpv6_of (v6.Unknown type_u8 code_u8 bytes5to8)) } }
+        ensures { result
+            ≡ record self
+            { transport_header = Some (icmpv6_of (v6.Unknown type_u8 code_u8 bytes5to8)) } }
     {
         self.icmpv6(Icmpv6Type::Unknown {
             type_u8,
@@ -130,14 +137,16 @@ impl PacketBuilderStep<IpHeaders> {
 
     /// With the header of an echo request over IPv6.
     pub fn icmpv6_echo_request(self, id: u16, seq: u16) -> PacketBuilderStep<Icmpv6Header>
-        ensures { result ≡ record self { transport_header = Some (icmpv6_of (v6.EchoRequest (echo id seq))) } }
+        ensures { result
+            ≡ record self { transport_header = Some (icmpv6_of (v6.EchoRequest (echo id seq))) } }
     {
         self.icmpv6(Icmpv6Type::EchoRequest(IcmpEchoHeader { id, seq }))
     }
 
     /// With the header of the reply to an echo request over IPv6.
     pub fn icmpv6_echo_reply(self, id: u16, seq: u16) -> PacketBuilderStep<Icmpv6Header>
-        ensures { result ≡ record self { transport_header = Some (icmpv6_of (v6.EchoReply (echo id seq))) } }
+        ensures { result
+            ≡ record self { transport_header = Some (icmpv6_of (v6.EchoReply (echo id seq))) } }
     {
         self.icmpv6(Icmpv6Type::EchoReply(IcmpEchoHeader { id, seq }))
     }

@@ -2,10 +2,12 @@
 ghost use Rattle.std.specs.Prelude.{◌≡◌, ◌≢◌, ℕ, List, ◌++◌, length, None, Ok};
 ghost use Rattle.netlines.specs.ChangedWord.{DifferInOneWord, verdict_after};
 ghost use Rattle.etherparse.specs.packet.Readable.{ReadMessage, message_at, udp as udp_number};
-ghost use Rattle.etherparse.specs.Built.{sealed as built_header};
+ghost use Rattle.etherparse.specs.Built.{with_message_checksum as built_header};
 ghost use Rattle.etherparse.specs.packet.Transport.{transport_spelling};
-ghost use Rattle.netlines.specs.Sealed.{HeaderFits, addresses_of, number_of, seal_refusal, sealed, stream_between};
-ghost use Rattle.netlines.specs.Verdict.{AddressesFit, summed, summed_text, verdict_of};
+ghost use Rattle.netlines.specs.Sealed.{HeaderFits, addresses_of, number_of, seal_refusal};
+ghost use Rattle.netlines.specs.Sealed.{sealed_message_bytes};
+ghost use Rattle.netlines.specs.Sealed.{stream_between};
+ghost use Rattle.netlines.specs.Verdict.{AddressesFit, summed_bytes, summed_text, verdict_of};
 
 use crate::{Addresses, IpFragVersionSpecId, Verdict};
 use etherparse::laws::icmp::{icmpv4, icmpv6};
@@ -15,7 +17,8 @@ use etherparse::{IpHeaders, TransportHeader};
 /// A sealed message that can be read is good under the addresses that it was sealed for.
 pub fn sealed_is_good(stream: &IpFragVersionSpecId, header: &TransportHeader, payload: &[u8])
     ensures { (message : ReadMessage) → seal_refusal stream.now header.now payload.now ≡ None
-        → message_at (number_of header.now) (sealed stream.now header.now payload.now) ≡ Ok message
+        → message_at (number_of header.now) (sealed_message_bytes stream.now header.now
+        payload.now) ≡ Ok message
         → verdict_of (addresses_of stream.now) message ≡ Verdict.Good }
 {
     icmpv4::checksums_sum_to_all_ones();
@@ -26,11 +29,14 @@ pub fn sealed_is_good(stream: &IpFragVersionSpecId, header: &TransportHeader, pa
     header_fits(header);
 }
 
-/// A message as the builder writes it, transport header and payload, is good where it can be read, between
-/// the addresses of its IP header.
+/// A message as the builder writes it, transport header and payload, is good where it can be read,
+/// between the addresses of its IP header.
 pub fn built_is_good(ip: &IpHeaders, header: &TransportHeader, payload: &[u8])
-    ensures { (message : ReadMessage) → seal_refusal (stream_between ip.now) header.now payload.now ≡ None
-        → message_at (number_of header.now) (transport_spelling (built_header ip.now payload.now header.now) ++ payload.now) ≡ Ok message
+    ensures { (message : ReadMessage)
+        → seal_refusal (stream_between ip.now) header.now payload.now ≡ None
+        → message_at (number_of header.now)
+        (transport_spelling (built_header ip.now payload.now header.now) ++ payload.now)
+        ≡ Ok message
         → verdict_of (addresses_of (stream_between ip.now)) message ≡ Verdict.Good }
 {
     icmpv4::checksums_sum_to_all_ones();
@@ -43,12 +49,13 @@ pub fn built_is_good(ip: &IpHeaders, header: &TransportHeader, payload: &[u8])
 
 /// Where a message is good, and one 16-bit word of what its checksum covers is changed (an odd last
 /// byte counts as a word with a zero byte behind it; the length and the checksum of UDP aside), the
-/// new message, where it can be read, is good exactly where 0000 and ffff were exchanged and not all
-/// that is summed is zero, and else bad.
+/// new message, where it can be read, is good exactly where 0000 and ffff were exchanged and not
+/// all that is summed is zero, and else bad.
 pub fn one_changed_word(addresses: &Addresses)
     ensures { (number : ℕ) (bytes behind new : List ℕ) (message changed : ReadMessage)
         → message_at number bytes ≡ Ok message → verdict_of addresses.now message ≡ Verdict.Good
-        → bytes ≡ summed message ++ behind → (words : DifferInOneWord (summed message) new)
+        → bytes ≡ summed_bytes message ++ behind → (words : DifferInOneWord (summed_bytes message)
+        new)
         → (number ≡ udp_number → (length words.front ≢ 4) × (length words.front ≢ 6))
         → message_at number (new ++ behind) ≡ Ok changed
         → verdict_of addresses.now changed

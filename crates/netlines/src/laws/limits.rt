@@ -1,15 +1,11 @@
 //! The constants are these numbers.
 ghost use Rattle.std.specs.Prelude.{◌≡◌};
-ghost use Rattle.netlines.specs.declared.limits.TheConstants.{
-  LINE_LIMIT,
-  LINE_ROOM,
-  READ_COUNT_LIMIT,
-  READ_SIZE_LIMIT,
-  REPLY_ROOM,
-};
+ghost use Rattle.netlines.specs.declared.lines.limits.TheConstants.{LINE_LIMIT, LINE_ROOM};
+ghost use Rattle.netlines.specs.declared.lines.limits.TheConstants.{READ_COUNT_LIMIT};
+ghost use Rattle.netlines.specs.declared.lines.limits.TheConstants.{READ_SIZE_LIMIT, REPLY_ROOM};
 
-/// The limits of a run are these numbers: of a line's bytes, of a read's bytes, and of reads; and the room
-/// for a line and for a reply.
+/// The limits of a run are these numbers: of a line's bytes, of a read's bytes, and of reads; and
+/// the room for a line and for a reply.
 pub fn run_limits()
     ensures line { LINE_LIMIT ≡ 200000 }
     ensures read { READ_SIZE_LIMIT ≡ 65536 }

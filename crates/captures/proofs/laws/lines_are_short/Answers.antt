@@ -10,6 +10,8 @@ returns c packet channel frame =
     let number = length-decimal-le 10 packet.channel (omega arith) (omega arith) (omega arith) in
     let a = length-append (codes "frame ") (decimal packet.channel) in
     let b = length-append (codes "frame " ++ decimal packet.channel) (codes " ") in
-    let c' = length-append ((codes "frame " ++ decimal packet.channel) ++ codes " ") (encode_lower packet.frame) in
-    let d = length-append (((codes "frame " ++ decimal packet.channel) ++ codes " ") ++ encode_lower packet.frame) (10 ∷ []) in
+    let c' = length-append ((codes "frame " ++ decimal packet.channel) ++ codes " ")
+    (encode_lower packet.frame) in
+    let d = length-append (((codes "frame " ++ decimal packet.channel) ++ codes " ")
+    ++ encode_lower packet.frame) (10 ∷ []) in
     omega arith

@@ -7,4 +7,5 @@ use Rattle.captures.proofs.laws.worked_line.Goals as goal
 pub returns : goal.returns
 unfolding hex_on_literals
 returns c =
-    ap (λ (number : List ℕ). codes "frame " ++ number ++ codes " " ++ encode_lower (0x0a ∷ 0xff ∷ []) ++ 10 ∷ []) (decimal_digit 7 (omega arith))
+    ap (λ (number : List ℕ). codes "frame " ++ number ++ codes " "
+    ++ encode_lower (0x0a ∷ 0xff ∷ []) ++ 10 ∷ []) (decimal_digit 7 (omega arith))

@@ -3,4 +3,5 @@ use Rattle.std.proofs.lemmas.List.{drop-replicate}
 use Rattle.digits.proofs.lanes.block_of.Goals as goal
 
 pub returns : goal.returns
-returns c = ap₂ (λ a b. a ++ b) c.copy_from_slice.ensures.after (drop-replicate (length c.args.digits.now) 32 48)
+returns c = ap₂ (λ a b. a ++ b) c.copy_from_slice.ensures.after
+    (drop-replicate (length c.args.digits.now) 32 48)

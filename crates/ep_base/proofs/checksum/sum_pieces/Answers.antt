@@ -11,10 +11,13 @@ loop-piece-init c = c.new-sum.ensures.value ∙ sym fold_zero
 
 pub loop-piece-preserved : goal.loop-piece-preserved
 loop-piece-preserved c =
-    piece_more (λ (p : Bor (List ℕ)). total p.now) _ _ _ _ _ c.loop-piece-test.true c.loop-piece.invariant c.add_slice-sum.ensures.sum
+    piece_more (λ (p : Bor (List ℕ)). total p.now) _ _ _ _ _ c.loop-piece-test.true
+    c.loop-piece.invariant c.add_slice-sum.ensures.sum
 
 pub returns : goal.returns
 returns c =
     let whole = sym (total-pieces (λ piece. piece.now) c.args.pieces.now) in
-    let all = ap (sum_by (λ piece. total piece.now)) (take_all c.loop-piece.piece-index c.args.pieces.now c.loop-piece-test.false) in
-    c.ones_complement.ensures.text (flat_map (λ piece. whole_words piece.now) c.args.pieces.now) (c.loop-piece.invariant ∙ ap fold (all ∙ whole))
+    let all = ap (sum_by (λ piece. total piece.now))
+    (take_all c.loop-piece.piece-index c.args.pieces.now c.loop-piece-test.false) in
+    c.ones_complement.ensures.text (flat_map (λ piece. whole_words piece.now) c.args.pieces.now)
+    (c.loop-piece.invariant ∙ ap fold (all ∙ whole))

@@ -1,8 +1,8 @@
 //! Why a destination can't be reached over IPv4.
-ghost use Rattle.std.specs.Prelude.{◌≡◌, ◌≢◌, MatchOption};
-ghost use Rattle.ep_icmp.specs.Icmpv4.{HasNextHopMtu, UnreachableFits, unreachable_code, unreachable_fields};
-ghost use Rattle.ep_icmp.specs.Layout.{written};
-ghost use Rattle.ep_icmp.specs.declared.transport.icmpv4.dest_unreachable_header.DestUnreachableHeader.{DestUnreachableHeader};
+ghost use Rattle.std.specs.Prelude.{◌≡◌, ◌≤◌, MatchOption};
+ghost use Rattle.ep_icmp.specs.Icmpv4.{HasNextHopMtu, UnreachableFits, unreachable_code};
+ghost use Rattle.ep_icmp.specs.Icmpv4.{unreachable_fields};
+ghost use Rattle.ep_icmp.specs.Layout.{bytes_of_fields};
 
 /// The code of a destination unreachable message and what goes with it (RFC 792, "Destination
 /// Unreachable Message"; RFC 1122, section 3.2.2.1; RFC 1812, section 5.2.7.1).
@@ -49,7 +49,7 @@ pub enum DestUnreachableHeader {
 impl DestUnreachableHeader {
     // The one with this code, if one has it, and for code 4 with this length.
     pub(crate) fn from_values(code_u8: u8, next_hop_mtu: u16) -> Option<DestUnreachableHeader>
-        ensures { MatchOption result ((header : DestUnreachableHeader) → unreachable_code header ≢ code_u8)
+        ensures { MatchOption result (16 ≤ code_u8)
             (λ header. (unreachable_code header ≡ code_u8) × HasNextHopMtu header next_hop_mtu) }
     {
         use DestUnreachableHeader::*;
@@ -101,7 +101,7 @@ impl DestUnreachableHeader {
 
     // What stands behind the checksum.
     pub(crate) fn bytes5to8(&self) -> [u8; 4]
-        ensures bytes { result ≡ written (unreachable_fields self.now) }
+        ensures bytes { result ≡ bytes_of_fields (unreachable_fields self.now) }
         ensures fits { UnreachableFits self.now }
     {
         match self {

@@ -1,8 +1,7 @@
 //! What is wrong with an IPv4 header.
-ghost use Rattle.std.specs.Prelude.{◌≡◌, ◌≢◌, MatchOption};
+ghost use Rattle.std.specs.Prelude.{◌≡◌, ◌≤◌, MatchOption};
 ghost use Rattle.ep_icmp.specs.Icmpv4.{HasPointer, ProblemFits, problem_code, problem_fields};
-ghost use Rattle.ep_icmp.specs.Layout.{written};
-ghost use Rattle.ep_icmp.specs.declared.transport.icmpv4.parameter_problem_header.ParameterProblemHeader.{ParameterProblemHeader};
+ghost use Rattle.ep_icmp.specs.Layout.{bytes_of_fields};
 
 /// The code of a parameter problem message and what goes with it (RFC 792, "Parameter Problem
 /// Message"; RFC 1122, section 3.2.2.5).
@@ -19,7 +18,7 @@ pub enum ParameterProblemHeader {
 impl ParameterProblemHeader {
     // The one with this code, if one has it, and for code 0 with this place.
     pub(crate) fn from_values(code_u8: u8, pointer: u8) -> Option<ParameterProblemHeader>
-        ensures { MatchOption result ((header : ParameterProblemHeader) → problem_code header ≢ code_u8)
+        ensures { MatchOption result (3 ≤ code_u8)
             (λ header. (problem_code header ≡ code_u8) × HasPointer header pointer) }
     {
         match code_u8 {
@@ -42,7 +41,7 @@ impl ParameterProblemHeader {
 
     // What stands behind the checksum.
     pub(crate) fn bytes5to8(&self) -> [u8; 4]
-        ensures bytes { result ≡ written (problem_fields self.now) }
+        ensures bytes { result ≡ bytes_of_fields (problem_fields self.now) }
         ensures fits { ProblemFits self.now }
     {
         match self {

@@ -1,7 +1,6 @@
 //! For which traffic another gateway is the better one.
-ghost use Rattle.std.specs.Prelude.{◌≡◌, ◌≢◌, MatchOption};
+ghost use Rattle.std.specs.Prelude.{◌≡◌, ◌≤◌, MatchOption};
 ghost use Rattle.ep_icmp.specs.Icmpv4.{redirect_code};
-ghost use Rattle.ep_icmp.specs.declared.transport.icmpv4.redirect_code.RedirectCode.{RedirectCode};
 
 /// The code of a redirect message (RFC 792, "Redirect Message").
 #[derive(Clone, Copy, Debug, PartialEq, Eq)]
@@ -18,7 +17,7 @@ pub enum RedirectCode {
 
 impl RedirectCode {
     pub(crate) fn from_u8(code_u8: u8) -> Option<RedirectCode>
-        ensures { MatchOption result ((code : RedirectCode) → redirect_code code ≢ code_u8)
+        ensures { MatchOption result (4 ≤ code_u8)
             (λ code. redirect_code code ≡ code_u8) }
     {
         use RedirectCode::*;

@@ -1,7 +1,6 @@
 //! Which time was exceeded over IPv4.
-ghost use Rattle.std.specs.Prelude.{◌≡◌, ◌≢◌, MatchOption};
+ghost use Rattle.std.specs.Prelude.{◌≡◌, ◌≤◌, MatchOption};
 ghost use Rattle.ep_icmp.specs.Icmpv4.{time_exceeded_code};
-ghost use Rattle.ep_icmp.specs.declared.transport.icmpv4.time_exceeded_code.TimeExceededCode.{TimeExceededCode};
 
 /// The code of a time exceeded message (RFC 792, "Time Exceeded Message").
 #[derive(Clone, Copy, Debug, PartialEq, Eq)]
@@ -14,7 +13,7 @@ pub enum TimeExceededCode {
 
 impl TimeExceededCode {
     pub(crate) fn from_u8(code_u8: u8) -> Option<TimeExceededCode>
-        ensures { MatchOption result ((code : TimeExceededCode) → time_exceeded_code code ≢ code_u8)
+        ensures { MatchOption result (2 ≤ code_u8)
             (λ code. time_exceeded_code code ≡ code_u8) }
     {
         match code_u8 {

@@ -1,7 +1,6 @@
 //! Why a destination can't be reached over IPv6.
-ghost use Rattle.std.specs.Prelude.{◌≡◌, ◌≢◌, MatchOption};
+ghost use Rattle.std.specs.Prelude.{◌≡◌, ◌≤◌, MatchOption};
 ghost use Rattle.ep_icmp.specs.Icmpv6.{unreachable_code};
-ghost use Rattle.ep_icmp.specs.declared.transport.icmpv6.dest_unreachable_code.DestUnreachableCode.{DestUnreachableCode};
 
 /// The code of a destination unreachable message (RFC 4443, section 3.1).
 #[derive(Clone, Copy, Debug, PartialEq, Eq)]
@@ -24,8 +23,7 @@ pub enum DestUnreachableCode {
 
 impl DestUnreachableCode {
     pub(crate) fn from_u8(code_u8: u8) -> Option<DestUnreachableCode>
-        ensures { MatchOption result ((code : DestUnreachableCode) → unreachable_code code ≢ code_u8)
-            (λ code. unreachable_code code ≡ code_u8) }
+        ensures { MatchOption result (7 ≤ code_u8) (λ code. unreachable_code code ≡ code_u8) }
     {
         use DestUnreachableCode::*;
         let code = match code_u8 {

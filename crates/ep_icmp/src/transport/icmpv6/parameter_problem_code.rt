@@ -1,7 +1,6 @@
 //! What is wrong with a header of an IPv6 packet.
-ghost use Rattle.std.specs.Prelude.{◌≡◌, ◌≢◌, MatchOption};
+ghost use Rattle.std.specs.Prelude.{◌≡◌, ◌≤◌, MatchOption};
 ghost use Rattle.ep_icmp.specs.Icmpv6.{problem_code};
-ghost use Rattle.ep_icmp.specs.declared.transport.icmpv6.parameter_problem_code.ParameterProblemCode.{ParameterProblemCode};
 
 /// The code of a parameter problem message (RFC 4443, section 3.4).
 #[derive(Clone, Copy, Debug, PartialEq, Eq)]
@@ -33,8 +32,7 @@ pub enum ParameterProblemCode {
 
 impl ParameterProblemCode {
     pub(crate) fn from_u8(code_u8: u8) -> Option<ParameterProblemCode>
-        ensures { MatchOption result ((code : ParameterProblemCode) → problem_code code ≢ code_u8)
-            (λ code. problem_code code ≡ code_u8) }
+        ensures { MatchOption result (11 ≤ code_u8) (λ code. problem_code code ≡ code_u8) }
     {
         use ParameterProblemCode::*;
         let code = match code_u8 {

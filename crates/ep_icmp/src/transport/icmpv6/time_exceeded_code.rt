@@ -1,7 +1,6 @@
 //! Which limit was exceeded over IPv6.
-ghost use Rattle.std.specs.Prelude.{◌≡◌, ◌≢◌, MatchOption};
+ghost use Rattle.std.specs.Prelude.{◌≡◌, ◌≤◌, MatchOption};
 ghost use Rattle.ep_icmp.specs.Icmpv6.{time_exceeded_code};
-ghost use Rattle.ep_icmp.specs.declared.transport.icmpv6.time_exceeded_code.TimeExceededCode.{TimeExceededCode};
 
 /// The code of a time exceeded message (RFC 4443, section 3.3).
 #[derive(Clone, Copy, Debug, PartialEq, Eq)]
@@ -14,8 +13,7 @@ pub enum TimeExceededCode {
 
 impl TimeExceededCode {
     pub(crate) fn from_u8(code_u8: u8) -> Option<TimeExceededCode>
-        ensures { MatchOption result ((code : TimeExceededCode) → time_exceeded_code code ≢ code_u8)
-            (λ code. time_exceeded_code code ≡ code_u8) }
+        ensures { MatchOption result (2 ≤ code_u8) (λ code. time_exceeded_code code ≡ code_u8) }
     {
         use TimeExceededCode::*;
         let code = match code_u8 {

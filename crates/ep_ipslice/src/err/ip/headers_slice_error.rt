@@ -1,5 +1,5 @@
 ghost use Rattle.std.specs.Prelude.{◌≡◌};
-ghost use Rattle.ep_ipslice.specs.IpFault.{CanMove, headers_fault, moved};
+ghost use Rattle.ep_ipslice.specs.IpFault.{CanMove, headers_fault, offset_by};
 
 use super::{HeadersError, SliceError};
 use ep_base::err::LenError;
@@ -30,7 +30,7 @@ impl HeadersSliceError {
     /// The same fault of headers that start `offset` bytes further on. A `Content` stays as it is.
     pub fn add_slice_offset(self, offset: usize) -> Self
         requires { CanMove self offset }
-        ensures { result ≡ moved self offset }
+        ensures { result ≡ offset_by self offset }
     {
         match self {
             HeadersSliceError::Len(error) => HeadersSliceError::Len(error.add_offset(offset)),

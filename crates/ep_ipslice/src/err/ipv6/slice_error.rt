@@ -1,5 +1,5 @@
 ghost use Rattle.std.specs.Prelude.{◌≡◌};
-ghost use Rattle.ep_ext.specs.Moved.{CanMove};
+ghost use Rattle.ep_base.specs.SliceError.{CanMove};
 ghost use Rattle.ep_ipslice.specs.Ipv6Fault.{of_exts_fault, of_header_fault};
 
 use ep_base::LenSource;

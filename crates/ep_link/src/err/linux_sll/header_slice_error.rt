@@ -1,48 +1,19 @@
+//! Why a slice begins with no header of a Linux cooked capture.
+
 ghost use Rattle.std.specs.Prelude.{◌≡◌};
-ghost use Rattle.ep_link.specs.declared.err.linux_sll.header_slice_error.HeaderSliceError.TheVariants as fault;
-ghost use Rattle.ep_link.specs.SllFault.{CanMove, moved};
+ghost use Rattle.ep_base.specs.declared.err.slice_error.SliceError.TheVariants as slice_error;
 
 use super::HeaderError;
-use ep_base::err::LenError;
-use thiserror::Error;
+use ep_base::err::SliceError;
 
-/// Why no header of a Linux cooked capture could be read from a slice.
-#[derive(Clone, Copy, Debug, PartialEq, Eq, Hash, Error)]
-pub enum HeaderSliceError {
-    /// The slice is shorter than 16 bytes.
-    #[error("{0}")]
-    Len(LenError),
-    /// The bytes are there and are no such header.
-    #[error("{0}")]
-    Content(HeaderError),
-}
-
-impl From<LenError> for HeaderSliceError {
-    ghost from_gives = { λ error r. r ≡ fault.Len error };
-
-    fn from(error: LenError) -> Self {
-        HeaderSliceError::Len(error)
-    }
-}
+/// Why no header of a Linux cooked capture could be read from a slice: the slice is shorter than
+/// 16 bytes, or its bytes are no such header.
+pub type HeaderSliceError = SliceError<HeaderError>;
 
 impl From<HeaderError> for HeaderSliceError {
-    ghost from_gives = { λ error r. r ≡ fault.Content error };
+    ghost from_gives = { λ error r. r ≡ slice_error.Content error };
 
     fn from(error: HeaderError) -> Self {
         HeaderSliceError::Content(error)
-    }
-}
-
-impl HeaderSliceError {
-    /// The same fault of a header that starts `offset` bytes further on. A `Content` stays as it
-    /// is.
-    pub fn add_slice_offset(self, offset: usize) -> Self
-        requires { CanMove self offset }
-        ensures { result ≡ moved self offset }
-    {
-        match self {
-            HeaderSliceError::Len(error) => HeaderSliceError::Len(error.add_offset(offset)),
-            HeaderSliceError::Content(error) => HeaderSliceError::Content(error),
-        }
     }
 }

@@ -7,8 +7,12 @@ use Rattle.ep_tag.specs.declared.link.link_ext_slice.LinkExtSlice.TheVariants as
 
 pub returns-in-Ok-clause-parts : goal.returns-in-Ok-clause-parts
 returns-in-Ok-clause-parts c =
-    subst (λ (p : EtherPayload). TagIn p.payload (tag.Macsec c.in-Ok.macsec)) c.payload.view_is (macsec_in c.payload.inside.payload.now c.in-Ok.macsec c.in-Ok.ensures.found)
+    subst (λ (p : EtherPayload). TagIn p.payload (tag.Macsec c.in-Ok.macsec)) c.payload.view_is
+    (macsec_in c.payload.inside.payload.now c.in-Ok.macsec c.in-Ok.ensures.found)
 
 pub returns-in-Ok-from_slice-clause-parts : goal.returns-in-Ok-from_slice-clause-parts
 returns-in-Ok-from_slice-clause-parts c =
-    subst (λ (p : EtherPayload). TagIn p.payload (tag.Vlan c.in-Ok-from_slice.vlan)) c.payload.view_is (vlan_in _ c.payload.inside.payload.now c.in-Ok-from_slice.vlan c.in-Ok-from_slice.ensures.exact)
+    subst (λ (p : EtherPayload). TagIn p.payload (tag.Vlan c.in-Ok-from_slice.vlan))
+    c.payload.view_is
+    (vlan_in _ c.payload.inside.payload.now c.in-Ok-from_slice.vlan
+    c.in-Ok-from_slice.ensures.exact)

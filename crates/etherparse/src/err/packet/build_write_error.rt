@@ -1,5 +1,6 @@
 ghost use Rattle.std.specs.Prelude.{◌≡◌};
-ghost use Rattle.etherparse.specs.BuildWriteError.{is_icmpv6_in_ipv4, is_memory, ipv4_exts_in, ipv6_exts_in, payload_len_in};
+ghost use Rattle.etherparse.specs.BuildWriteError.{is_icmpv6_in_ipv4, is_memory, ipv4_exts_in};
+ghost use Rattle.etherparse.specs.BuildWriteError.{ipv6_exts_in, payload_len_in};
 
 use ep_base::err::ValueTooBigError;
 use ep_ext::err::{ipv4_exts, ipv6_exts};
@@ -7,9 +8,9 @@ use thiserror::Error;
 
 /// Why a packet is not written.
 ///
-/// A packet builder makes extension headers name one another, so that it answers neither `Ipv4Exts` nor
-/// `Ipv6Exts`, and an ARP packet holds addresses of the lengths that it names, so that it doesn't answer
-/// `ArpHeaderNotMatch`.
+/// A packet builder makes extension headers name one another, so that it answers neither `Ipv4Exts`
+/// nor `Ipv6Exts`, and an ARP packet holds addresses of the lengths that it names, so that it
+/// doesn't answer `ArpHeaderNotMatch`.
 #[derive(Clone, Copy, Debug, PartialEq, Eq, Hash, Error)]
 pub enum BuildWriteError {
     /// No memory was left for the packet.

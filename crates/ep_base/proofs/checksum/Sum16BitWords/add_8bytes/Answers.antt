@@ -3,4 +3,5 @@ use Rattle.ep_base.proofs.Totals.{text_more}
 use Rattle.ep_base.proofs.checksum.Sum16BitWords.add_8bytes.Goals as goal
 
 pub returns-clause-text : goal.returns-clause-text
-returns-clause-text c = λ text even so. text_more _ _ text c.args.value c.add_8bytes.ensures even (c.self.view_is ∙ so)
+returns-clause-text c = λ text even so. text_more _ _ text c.args.value c.add_8bytes.ensures even
+    (c.self.view_is ∙ so)

@@ -6,4 +6,5 @@ use Rattle.ep_base.proofs.checksum.Sum16BitWords.ones_complement.Goals as goal
 
 pub returns-clause-all_ones : goal.returns-clause-all_ones
 returns-clause-all_ones c =
-    λ text so. swap_bytes_complement_zero (total text) _ (c.ones_complement.ensures ∙ ap (λ sum. swap_bytes w16 (65535 - sum)) (c.self.view_is ∙ so))
+    λ text so. swap_bytes_complement_zero (total text) _
+    (c.ones_complement.ensures ∙ ap (λ sum. swap_bytes w16 (65535 - sum)) (c.self.view_is ∙ so))

@@ -5,4 +5,5 @@ use Rattle.ep_base.proofs.checksum.u32_16bit_word.add_4bytes.Goals as goal
 
 pub returns : goal.returns
 returns c =
-    word_more _ _ _ c.args.value c.add_carrying.ensures (ap accumulator_sum c.from_le_bytes.ensures ∙ accumulator_sum_4 c.args.value (search rules))
+    word_more _ _ _ c.args.value c.add_carrying.ensures
+    (ap accumulator_sum c.from_le_bytes.ensures ∙ accumulator_sum_4 c.args.value (search rules))

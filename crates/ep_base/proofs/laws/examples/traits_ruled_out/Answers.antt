@@ -12,3 +12,6 @@ returns-clause-order c = λ h. let turned_round = h 0 1 in cc
 
 pub returns-clause-fails : goal.returns-clause-fails
 returns-clause-fails c = λ h. absurd (omega (arith, h 1))
+
+pub returns-clause-hash : goal.returns-clause-hash
+returns-clause-hash c = λ h. let nothing_fed = h 0 in cc

@@ -6,4 +6,6 @@ pub returns : goal.returns
 returns c =
     let linked = c.set_next_headers-first.new.self in
     let pieces = pieces_in linked all_places in
-    named_ok linked pieces c.args.last.0 c.next_header.result (c.next_header.ensures.only pieces c.args.last.0 c.set_next_headers-first.ensures.chained) c.set_next_headers-first.ensures.whole
+    named_ok linked pieces c.args.last.0 c.next_header.result
+    (c.next_header.ensures.only pieces c.args.last.0 c.set_next_headers-first.ensures.chained)
+    c.set_next_headers-first.ensures.whole

@@ -7,5 +7,7 @@ pub returns : goal.returns
 returns c = λ rest is.
     let header = c.args.header.now in
     let again : fragment_of (fragment_spelling header) ≡ header = c.header_len-len.ensures.fields in
-    let P : Ipv6FragmentHeader → Type 0 = λ h. IsOkAnd c.from_slice.result (λ r. (r.0 ≡ h) × (r.1.now ≡ rest)) in
-    subst P again (c.from_slice.ensures.only (fragment_spelling header) rest (record { whole = refl }) is)
+    let P : Ipv6FragmentHeader → Type 0 =
+    λ h. IsOkAnd c.from_slice.result (λ r. (r.0 ≡ h) × (r.1.now ≡ rest)) in
+    subst P again (c.from_slice.ensures.only (fragment_spelling header) rest
+    (record { whole = refl }) is)

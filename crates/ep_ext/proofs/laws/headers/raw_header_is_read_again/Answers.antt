@@ -7,5 +7,7 @@ pub returns : goal.returns
 returns c = λ rest is.
     let header = c.args.header.now in
     let again : raw_of (raw_spelling header) ≡ header = refl in
-    let P : Ipv6RawExtHeader → Type 0 = λ h. IsOkAnd c.from_slice.result (λ r. (r.0 ≡ h) × (r.1.now ≡ rest)) in
-    subst P again (c.from_slice.ensures.only (raw_spelling header) rest c.header_len-len.ensures.header is)
+    let P : Ipv6RawExtHeader → Type 0 =
+    λ h. IsOkAnd c.from_slice.result (λ r. (r.0 ≡ h) × (r.1.now ≡ rest)) in
+    subst P again (c.from_slice.ensures.only
+    (raw_spelling header) rest c.header_len-len.ensures.header is)

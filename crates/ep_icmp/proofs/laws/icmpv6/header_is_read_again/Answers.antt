@@ -1,5 +1,5 @@
 use Rattle.std.proofs.Common.{◌∙◌, ap, arith, sym, length}
-use Rattle.ep_icmp.specs.Icmpv6.{header_of, spelling}
+use Rattle.ep_icmp.specs.Icmpv6.{icmpv6_header_of, spelling}
 use Rattle.ep_icmp.proofs.Icmpv6Again.{header_again}
 use Rattle.ep_icmp.proofs.Layouts.{front_of}
 use Rattle.ep_icmp.proofs.Outcomes.{ok_and}
@@ -9,6 +9,13 @@ pub returns : goal.returns
 returns c = λ rest place out.
     let h = c.args.header.now in
     let bytes = c.to_bytes-bytes.ensures in
-    let front = front_of 8 c.args.slice.now (spelling h) rest place (ap length (sym bytes.bytes) ∙ bytes.len) in
-    ok_and c.from_slice.result _ _ (c.from_slice.ensures.only (record { least = omega (arith, front.0) })) c.from_slice.ensures.found
-    (λ r read. (read.fields ∙ ap header_of place ∙ header_again h rest bytes.fits out, read.behind ∙ front.1))
+    let front = front_of 8 c.args.slice.now (spelling h) rest place
+    (ap length (sym bytes.bytes) ∙ bytes.len) in
+    ok_and c.from_slice.result _ _
+    (c.from_slice.ensures.only (record { least = omega (arith, front.0) }))
+    c.from_slice.ensures.found
+    (λ r read. (
+      read.fields ∙ ap icmpv6_header_of place
+          ∙ header_again h rest bytes.fits out,
+      read.behind ∙ front.1,
+    ))

@@ -2,5 +2,6 @@ use Rattle.ep_link.proofs.laws.linux_sll.header_is_read_again.Goals as goal
 
 pub returns : goal.returns
 returns c = λ rest names front_is.
-    let read = c.from_slice.ensures.only c.to_bytes-bytes.result rest c.to_bytes-bytes.ensures.header (rw c.to_bytes-bytes.ensures.bytes front_is) in
+    let read = c.from_slice.ensures.only c.to_bytes-bytes.result rest
+    c.to_bytes-bytes.ensures.header (rw c.to_bytes-bytes.ensures.bytes front_is) in
     rw (c.to_bytes-bytes.ensures.fields names) at read

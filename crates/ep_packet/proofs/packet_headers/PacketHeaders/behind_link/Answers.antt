@@ -7,6 +7,14 @@ use Rattle.ep_packet.proofs.packet_headers.PacketHeaders.behind_link.Goals as go
 
 pub moved-requires-in-Err-layers_behind : goal.moved-requires-in-Err-layers_behind
 moved-requires-in-Err-layers_behind c =
-    let t : Tagged = record { tags = c.tagged.inside.tags.items; len = c.tagged.inside.len; last = c.tagged.inside.last } in
-    layer_fits c.args.payload.payload c.args.link_len t c.in-Err-layers_behind.error (subst (TagsIn c.args.payload.payload 0) (sym c.tagged.view_is) c.in-Ok.ensures.parts) c.in-Err-layers_behind.ensures.place
-    (named_behind t.tags t.last c.in-Err-layers_behind.error c.in-Err-layers_behind.ensures.layers) c.requires
+    let t : Tagged =
+    record {
+      tags = c.tagged.inside.tags.items;
+      len = c.tagged.inside.len;
+      last = c.tagged.inside.last;
+    } in
+    layer_fits c.args.payload.payload c.args.link_len t c.in-Err-layers_behind.error
+    (subst (TagsIn c.args.payload.payload 0) (sym c.tagged.view_is) c.in-Ok.ensures.parts)
+    c.in-Err-layers_behind.ensures.place
+    (named_behind t.tags t.last c.in-Err-layers_behind.error c.in-Err-layers_behind.ensures.layers)
+    c.requires

@@ -6,4 +6,11 @@ use Rattle.ep_packet.proofs.packet_headers.PacketHeaders.from_ether_type.Goals a
 pub returns-clause-agrees : goal.returns-clause-agrees
 returns-clause-agrees c = λ packet headers is are.
     c.behind_link.ensures
-    ∙ ap (later 0) (ether_type_same (record { found = c.rows_are_found.ensures; views = c.placed_rows_are_views.ensures; begins = c.ipv6_packet_found_is_there.ensures }) c.args.ether_type c.args.slice.now packet headers is are)
+    ∙ ap (later 0)
+    (ether_type_same
+    (record {
+      found = c.rows_are_found.ensures;
+      views = c.placed_rows_are_views.ensures;
+      begins = c.ipv6_packet_found_is_there.ensures;
+    }) c.args.ether_type
+    c.args.slice.now packet headers is are)

@@ -4,4 +4,9 @@ use Rattle.ep_packet.proofs.packet_headers.PacketHeaders.from_ethernet_slice.Goa
 
 pub returns-clause-agrees : goal.returns-clause-agrees
 returns-clause-agrees c = λ packet headers is are.
-    c.in_frame.ensures ∙ ethernet_same (record { found = c.rows_are_found.ensures; views = c.placed_rows_are_views.ensures; begins = c.ipv6_packet_found_is_there.ensures }) c.args.slice.now packet headers is are
+    c.in_frame.ensures ∙ ethernet_same
+    (record {
+      found = c.rows_are_found.ensures;
+      views = c.placed_rows_are_views.ensures;
+      begins = c.ipv6_packet_found_is_there.ensures;
+    }) c.args.slice.now packet headers is are

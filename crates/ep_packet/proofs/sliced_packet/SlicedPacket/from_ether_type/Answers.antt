@@ -7,9 +7,13 @@ use Rattle.ep_tag.specs.Ether.{EtherPayload}
 pub returns-clause-found : goal.returns-clause-found
 returns-clause-found c =
     let p : EtherPayload = ether_payload c.args.ether_type c.args.slice.now in
-    found_behind (record { found = c.payload_is_read.ensures.found; only = c.payload_is_read.ensures.only }) (link.EtherPayload p) p 0 c.behind_link.result c.behind_link.ensures.exact
+    found_behind
+    (record { found = c.payload_is_read.ensures.found; only = c.payload_is_read.ensures.only })
+    (link.EtherPayload p) p 0 c.behind_link.result c.behind_link.ensures.exact
 
 pub returns-clause-only : goal.returns-clause-only
 returns-clause-only c =
     let p : EtherPayload = ether_payload c.args.ether_type c.args.slice.now in
-    taken_behind (record { found = c.payload_is_read.ensures.found; only = c.payload_is_read.ensures.only }) (link.EtherPayload p) p 0 c.behind_link.result c.behind_link.ensures.exact
+    taken_behind
+    (record { found = c.payload_is_read.ensures.found; only = c.payload_is_read.ensures.only })
+    (link.EtherPayload p) p 0 c.behind_link.result c.behind_link.ensures.exact

@@ -14,28 +14,43 @@ use Rattle.ep_tag.specs.Ether.{EtherPayload}
 exact : (c : goal.After-behind_link) → c.behind_link.result ≡ sliced_ethernet c.args.slice.now
 exact c =
     c.behind_link.ensures.exact
-    ∙ ap (λ (p : EtherPayload). later ethernet_len (packet_behind (link.Ethernet2 c.in-Ok.frame) p)) c.payload-payload.ensures.payload
+    ∙ ap (λ (p : EtherPayload). later ethernet_len (packet_behind (link.Ethernet2 c.in-Ok.frame) p))
+    c.payload-payload.ensures.payload
     ∙ ap in_frame c.in-Ok.ensures.exact
 
 payload_is : (c : goal.After-behind_link) → c.payload-payload.result ≡ payload_of c.args.slice.now
-payload_is c = c.payload-payload.ensures.payload ∙ ap payload_of (whole_is _ ethernet_len c.args.slice.now c.in-Ok.frame c.in-Ok.ensures.exact).0
+payload_is c = c.payload-payload.ensures.payload
+    ∙ ap payload_of (whole_is _ ethernet_len c.args.slice.now c.in-Ok.frame c.in-Ok.ensures.exact).0
 
 pub returns-clause-found : goal.returns-clause-found
 returns-clause-found c =
-    subst (λ (p : EtherPayload). IfOk c.behind_link.result (λ packet. IsSliced p packet)) (payload_is c)
-    (found_behind (record { found = c.payload_is_read.ensures.found; only = c.payload_is_read.ensures.only }) (link.Ethernet2 c.in-Ok.frame) c.payload-payload.result ethernet_len c.behind_link.result c.behind_link.ensures.exact)
+    subst (λ (p : EtherPayload). IfOk c.behind_link.result (λ packet. IsSliced p packet))
+    (payload_is c)
+    (found_behind
+    (record {
+      found = c.payload_is_read.ensures.found;
+      only = c.payload_is_read.ensures.only;
+    })
+    (link.Ethernet2 c.in-Ok.frame) c.payload-payload.result ethernet_len c.behind_link.result
+    c.behind_link.ensures.exact)
 
 pub returns-clause-only : goal.returns-clause-only
 returns-clause-only c = λ packet enough linked is.
     let whole = whole_is _ ethernet_len c.args.slice.now c.in-Ok.frame c.in-Ok.ensures.exact in
-    taken_behind (record { found = c.payload_is_read.ensures.found; only = c.payload_is_read.ensures.only }) (link.Ethernet2 c.in-Ok.frame) c.payload-payload.result ethernet_len c.behind_link.result
-    c.behind_link.ensures.exact packet (linked ∙ ap (λ (xs : List ℕ). Some (link.Ethernet2 xs)) (sym whole.0)) (subst (λ (p : EtherPayload). IsSliced p packet) (sym (payload_is c)) is)
+    taken_behind
+    (record { found = c.payload_is_read.ensures.found; only = c.payload_is_read.ensures.only })
+    (link.Ethernet2 c.in-Ok.frame) c.payload-payload.result ethernet_len c.behind_link.result
+    c.behind_link.ensures.exact packet
+    (linked ∙ ap (λ (xs : List ℕ). Some (link.Ethernet2 xs)) (sym whole.0))
+    (subst (λ (p : EtherPayload). IsSliced p packet) (sym (payload_is c)) is)
 
 pub returns-clause-parts : goal.returns-clause-parts
 returns-clause-parts c =
     let whole = whole_is _ ethernet_len c.args.slice.now c.in-Ok.frame c.in-Ok.ensures.exact in
-    parts_in_frame c.args.slice.now (drop ethernet_len c.args.slice.now) ethernet_len c.behind_link.result (at_drop ethernet_len c.args.slice.now whole.1)
-    (subst (λ (p : EtherPayload). IfOk c.behind_link.result (λ packet. ArePartsOf p.payload 0 packet)) (payload_is c) c.behind_link.ensures.parts)
+    parts_in_frame c.args.slice.now (drop ethernet_len c.args.slice.now) ethernet_len
+    c.behind_link.result (at_drop ethernet_len c.args.slice.now whole.1)
+    (subst (λ (p : EtherPayload). IfOk c.behind_link.result
+    (λ packet. ArePartsOf p.payload 0 packet)) (payload_is c) c.behind_link.ensures.parts)
 
 pub returns-clause-refused : goal.returns-clause-refused
 returns-clause-refused c = refused_is_told c.args.slice.now c.behind_link.result (exact c)

@@ -9,18 +9,29 @@ use Rattle.ep_packet.proofs.sliced_packet.SlicedPacket.from_linux_sll.Goals as g
 use Rattle.ep_tag.specs.Ether.{EtherPayload}
 
 -- what the protocol names is what was handed in behind the header
-named : (c : goal.After-behind_link) → named_payload (payload_of c.args.slice.now) ≡ Some c.in-Ok-try_from.payload
+named : (c : goal.After-behind_link)
+    → named_payload (payload_of c.args.slice.now) ≡ Some c.in-Ok-try_from.payload
 named c =
-    ap (λ (xs : List ℕ). named_payload (payload_of xs)) (sym (sll_whole c.args.slice.now c.in-Ok.packet c.in-Ok.ensures.exact).0)
-    ∙ ap named_payload (sym c.payload.ensures) ∙ some_named (named_payload c.payload.result) c.in-Ok-try_from.payload c.in-Ok-try_from.ensures
+    ap (λ (xs : List ℕ). named_payload (payload_of xs))
+    (sym (sll_whole c.args.slice.now c.in-Ok.packet c.in-Ok.ensures.exact).0)
+    ∙ ap named_payload (sym c.payload.ensures)
+    ∙ some_named (named_payload c.payload.result) c.in-Ok-try_from.payload c.in-Ok-try_from.ensures
 
 pub returns-in-Ok-try_from-clause-found : goal.returns-in-Ok-try_from-clause-found
 returns-in-Ok-try_from-clause-found c =
-    subst (λ (o : Option EtherPayload). IfOk c.behind_link.result (λ packet. IfSome o (λ p. IsSliced p packet))) (sym (named c))
-    (found_behind (record { found = c.payload_is_read.ensures.found; only = c.payload_is_read.ensures.only }) (link.LinuxSll c.in-Ok.packet) c.in-Ok-try_from.payload sll_len c.behind_link.result
+    subst (λ (o : Option EtherPayload). IfOk c.behind_link.result
+    (λ packet. IfSome o (λ p. IsSliced p packet))) (sym (named c))
+    (found_behind
+    (record {
+      found = c.payload_is_read.ensures.found;
+      only = c.payload_is_read.ensures.only;
+    })
+    (link.LinuxSll c.in-Ok.packet) c.in-Ok-try_from.payload sll_len c.behind_link.result
     c.behind_link.ensures.exact)
 
 pub returns-in-Ok-try_from-clause-parts : goal.returns-in-Ok-try_from-clause-parts
 returns-in-Ok-try_from-clause-parts c =
     let whole = sll_whole c.args.slice.now c.in-Ok.packet c.in-Ok.ensures.exact in
-    parts_in_frame c.args.slice.now c.in-Ok-try_from.payload.payload sll_len c.behind_link.result (named_at c.args.slice.now c.in-Ok-try_from.payload whole.1 (named c)) c.behind_link.ensures.parts
+    parts_in_frame c.args.slice.now c.in-Ok-try_from.payload.payload sll_len c.behind_link.result
+    (named_at c.args.slice.now c.in-Ok-try_from.payload whole.1 (named c))
+    c.behind_link.ensures.parts

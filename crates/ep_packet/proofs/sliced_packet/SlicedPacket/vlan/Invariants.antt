@@ -4,4 +4,6 @@ use Rattle.ep_packet.proofs.sliced_packet.SlicedPacket.vlan.Given as goal
 
 -- the first of the tags that were passed, if there is one
 abbrev pub invariant-loop-tag : goal.invariant-loop-tag
-invariant-loop-tag l = MatchOption l.outer (vlan_tags (take l.tag-index l.self.link_exts.items) ≡ []) (λ tag. vlan_tags (take l.tag-index l.self.link_exts.items) ≡ tag ∷ [])
+invariant-loop-tag l = MatchOption l.outer
+    (vlan_tags (take l.tag-index l.self.link_exts.items) ≡ [])
+    (λ tag. vlan_tags (take l.tag-index l.self.link_exts.items) ≡ tag ∷ [])

@@ -1,5 +1,5 @@
-use Rattle.ep_tcpudp.proofs.TcpSpelling.{spelling-header_of}
+use Rattle.ep_tcpudp.proofs.TcpSpelling.{spelling-tcp_header_of}
 use Rattle.ep_tcpudp.proofs.laws.tcp.headers_are_their_bytes.Goals as goal
 
 pub returns-clause-spelled_again : goal.returns-clause-spelled_again
-returns-clause-spelled_again c = spelling-header_of
+returns-clause-spelled_again c = spelling-tcp_header_of

@@ -8,7 +8,9 @@ invariant-loop-at l = record {
   within : l.at ≤ vec_len l.sections;
   fewer : vec_len l.sections ≤ vec_len l.fn.sections;
   room : vec_capacity l.sections ≡ vec_capacity l.fn.sections;
-  joining : AreApart l.fn.sections.items → l.fn.range.start ≤ l.fn.range.end → Joining l.fn.sections.items l.fn.range (take l.at l.sections.items) (drop l.at l.sections.items) l.joined;
+  joining : AreApart l.fn.sections.items → l.fn.range.start ≤ l.fn.range.end
+      → Joining l.fn.sections.items l.fn.range (take l.at l.sections.items)
+      (drop l.at l.sections.items) l.joined;
 }
 
 abbrev pub decreases-loop-at : goal.decreases-loop-at

@@ -1,8 +1,8 @@
 use Rattle.std.proofs.Common.{arith, List, ◌<◌, get_or, length, map, subst}
 use Rattle.std.proofs.lemmas.List.{take_all}
 use Rattle.etherparse.specs.declared.defrag.pool_calls.PoolCall.{PoolCall}
-use Rattle.etherparse.specs.PoolCalls.{Answered, Lists, Replies, ShowsLists, told}
-use Rattle.etherparse.proofs.Runs.{names_eq, no_call, same_call, replies_more, replies_with_memory}
+use Rattle.etherparse.specs.PoolCalls.{Answered, Lists, Replies, ShowsLists, as_told}
+use Rattle.etherparse.proofs.Runs.{no_call, same_call, replies_more, replies_with_memory}
 use Rattle.etherparse.proofs.defrag.pool_calls.run_calls.Goals as goal
 
 pub loop-call-preserved : goal.loop-call-preserved
@@ -13,24 +13,32 @@ loop-call-preserved c =
     let call = get_or c.args.calls.now c.loop-call.call-index no_call in
     let below : c.loop-call.call-index < length c.args.calls.now = omega arith in
     let is = same_call c.args.calls.now c.loop-call.call-index below in
-    let answered : (lists : Lists) → ShowsLists names_eq c.loop-call.pool lists → Answered (ShowsLists names_eq c.answer-reply.new.pool) lists call (told c.answer-reply.result) = c.answer-reply.ensures in
+    let answered : (lists : Lists) → ShowsLists c.loop-call.pool lists
+    → Answered (ShowsLists c.answer-reply.new.pool) lists call (as_told c.answer-reply.result) =
+    c.answer-reply.ensures in
     record {
       len = omega (arith, longer);
       room = omega (arith, c.push.ensures.capacity);
       replies_so_far = λ lists shows.
-          rw pushed (replies_more (ShowsLists names_eq c.loop-call.pool) (ShowsLists names_eq c.answer-reply.new.pool) lists c.args.calls.now c.loop-call.call-index call c.loop-call.replies.items c.answer-reply.result below is
+          rw pushed (replies_more (ShowsLists c.loop-call.pool)
+          (ShowsLists c.answer-reply.new.pool) lists c.args.calls.now c.loop-call.call-index
+          call c.loop-call.replies.items c.answer-reply.result below is
           answered (i.replies_so_far lists shows));
     }
 
 pub returns-clause-replies : goal.returns-clause-replies
 returns-clause-replies c lists shows =
-    subst (λ (calls : List PoolCall). Replies (ShowsLists names_eq c.loop-call.pool) lists calls (map told c.loop-call.replies.items)) (take_all c.loop-call.call-index c.args.calls.now (omega arith))
+    subst (λ (calls : List PoolCall). Replies (ShowsLists c.loop-call.pool) lists calls
+    (map as_told c.loop-call.replies.items))
+    (take_all c.loop-call.call-index c.args.calls.now (omega arith))
     (c.loop-call.invariant.replies_so_far lists shows)
 
 pub returns-clause-told : goal.returns-clause-told
 returns-clause-told c lists shows has =
-    (replies_with_memory (ShowsLists names_eq c.loop-call.pool) lists c.args.calls.now (map told c.loop-call.replies.items) (returns-clause-replies c lists shows) has).0
+    (replies_with_memory (ShowsLists c.loop-call.pool) lists c.args.calls.now
+    (map as_told c.loop-call.replies.items) (returns-clause-replies c lists shows) has).0
 
 pub returns-clause-lists : goal.returns-clause-lists
 returns-clause-lists c lists shows has =
-    (replies_with_memory (ShowsLists names_eq c.loop-call.pool) lists c.args.calls.now (map told c.loop-call.replies.items) (returns-clause-replies c lists shows) has).1
+    (replies_with_memory (ShowsLists c.loop-call.pool) lists c.args.calls.now
+    (map as_told c.loop-call.replies.items) (returns-clause-replies c lists shows) has).1

@@ -9,29 +9,43 @@ pub loop-at-preserved-then-answer : goal.loop-at-preserved-then-answer
 loop-at-preserved-then-answer g c =
     let i = c.loop-at.invariant in
     let here = rw c.unwrap.ensures at c.get_index.ensures.entry in
-    let P = λ (e : g.row.K.Denot × Stream g.row.T.Denot). FnReturnsAt g.F.Fn c.args.keep.now e.1.timestamp true in
+    let P = λ (e : g.row.K.Denot × Stream g.row.T.Denot). FnReturnsAt g.F.Fn
+    c.args.keep.now e.1.timestamp true in
     record {
       within = omega arith;
       each = i.each;
-      asked = asked_more P c.loop-at.streams.entries c.loop-at.at (c.unwrap.result.0.now, c.unwrap.result.1.now) (sym here) (rw c.if-answer.true at c.answer.ensures) i.asked;
+      asked = asked_more P c.loop-at.streams.entries c.loop-at.at
+          (c.unwrap.result.0.now, c.unwrap.result.1.now) (sym here)
+          (rw c.if-answer.true at c.answer.ensures) i.asked;
     }
 
 pub loop-at-preserved : goal.loop-at-preserved
 loop-at-preserved g c =
     let i = c.loop-at.invariant in
-    let P = λ (e : g.row.K.Denot × Stream g.row.T.Denot). FnReturnsAt g.F.Fn c.args.keep.now e.1.timestamp true in
+    let P = λ (e : g.row.K.Denot × Stream g.row.T.Denot). FnReturnsAt g.F.Fn
+    c.args.keep.now e.1.timestamp true in
     let r = c.unwrap-ended.result in
-    let same = some_same (c.unwrap.result.0.now, c.unwrap.result.1.now) r (rw c.unwrap.ensures at c.get_index.ensures.entry ∙ sym c.swap_remove_index.ensures.entry ∙ c.unwrap-ended.ensures) in
+    let same = some_same (c.unwrap.result.0.now, c.unwrap.result.1.now) r
+    (rw c.unwrap.ensures at c.get_index.ensures.entry ∙ sym c.swap_remove_index.ensures.entry
+    ∙ c.unwrap-ended.ensures) in
     let entries = rw c.unwrap-ended.ensures at c.swap_remove_index.ensures.entries in
     let updates = rw c.unwrap-ended.ensures at c.swap_remove_index.ensures.updates in
-    let value = subst (λ (e : g.row.K.Denot × Stream g.row.T.Denot). lookup (g.K.PartialEq.eq e.0) c.loop-at.streams.entries ≡ Some e.1) same (rw c.unwrap.ensures at c.get_index.ensures.value) in
-    let denied = subst (λ (e : g.row.K.Denot × Stream g.row.T.Denot). FnReturnsAt g.F.Fn c.args.keep.now e.1.timestamp false) same (rw c.if-answer.false at c.answer.ensures) in
+    let value = subst (λ (e : g.row.K.Denot × Stream g.row.T.Denot). lookup
+    (g.K.PartialEq.eq e.0) c.loop-at.streams.entries ≡ Some e.1) same
+    (rw c.unwrap.ensures at c.get_index.ensures.value) in
+    let denied =
+    subst (λ (e : g.row.K.Denot × Stream g.row.T.Denot). FnReturnsAt g.F.Fn c.args.keep.now
+    e.1.timestamp false) same (rw c.if-answer.false at c.answer.ensures) in
     let fewer = rw c.unwrap-ended.ensures at c.swap_remove_index.ensures.len in
     record {
       within = omega (arith, fewer);
-      each = one_goes g.met.K.Eq.laws (FnReturnsAt g.F.Fn c.args.keep.now) c.args.streams.now.entries c.loop-at.streams.entries c.swap_remove_index.new.self.entries r.0 r.1 denied value updates.0 i.each;
-      asked = rw entries (asked_same P c.loop-at.streams.entries c.loop-at.at r (omega arith) i.asked);
+      each = one_goes g.met.K.Eq.laws (FnReturnsAt g.F.Fn c.args.keep.now)
+          c.args.streams.now.entries c.loop-at.streams.entries c.swap_remove_index.new.self.entries
+          r.0 r.1 denied value updates.0 i.each;
+      asked = rw entries (asked_same P c.loop-at.streams.entries c.loop-at.at r
+          (omega arith) i.asked);
     }
 
 pub returns : goal.returns
-returns g c = all_asked g.met.K.Eq.laws (FnReturnsAt g.F.Fn c.args.keep.now) _ _ (λ k d h. c.loop-at.invariant.asked k d (omega arith)) c.loop-at.invariant.each
+returns g c = all_asked g.met.K.Eq.laws (FnReturnsAt g.F.Fn c.args.keep.now) _ _
+    (λ k d h. c.loop-at.invariant.asked k d (omega arith)) c.loop-at.invariant.each

@@ -7,8 +7,10 @@ use Rattle.etherparse.proofs.defrag.retain_streams.retain_streams.Given as goal
 abbrev pub invariant-loop-at : goal.invariant-loop-at
 invariant-loop-at g l = record {
   within : l.at ≤ index_map_len l.streams;
-  each : (q : _) → MayStay (FnReturnsAt g.F.Fn l.keep) (get g.K.PartialEq.eq l.initial.streams q) (get g.K.PartialEq.eq l.streams q);
-  asked : (k : ℕ) (d : _) → k < l.at → FnReturnsAt g.F.Fn l.keep (get_or l.streams.entries k d).1.timestamp true;
+  each : (q : _) → MayStay (FnReturnsAt g.F.Fn l.keep) (get g.K.PartialEq.eq l.initial.streams q)
+      (get g.K.PartialEq.eq l.streams q);
+  asked : (k : ℕ) (d : _) → k < l.at
+      → FnReturnsAt g.F.Fn l.keep (get_or l.streams.entries k d).1.timestamp true;
 }
 
 abbrev pub decreases-loop-at : goal.decreases-loop-at

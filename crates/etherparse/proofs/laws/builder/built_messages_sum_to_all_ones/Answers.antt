@@ -3,5 +3,7 @@ use Rattle.etherparse.proofs.laws.builder.built_messages_sum_to_all_ones.Goals a
 
 pub returns : goal.returns
 returns c =
-    sums_to_all_ones c.sealed_sums_to_all_ones.ensures c.sealed_sums_to_all_ones-2.ensures.header c.checksums_sum_to_all_ones.ensures
-    c.checksums_sum_to_all_ones-2.ensures c.args.ip.now c.args.transport.now c.args.payload.now c.addresses_are_whole.ensures c.options_are_whole.ensures
+    sums_to_all_ones c.sealed_sums_to_all_ones.ensures c.sealed_sums_to_all_ones-2.ensures.header
+    c.checksums_sum_to_all_ones.ensures
+    c.checksums_sum_to_all_ones-2.ensures c.args.ip.now c.args.transport.now c.args.payload.now
+    c.addresses_are_whole.ensures c.options_are_whole.ensures

@@ -3,14 +3,18 @@ use Rattle.ep_link.specs.Ethernet.{Fits}
 use Rattle.etherparse.proofs.laws.frames.parts_are_written.Goals as goal
 use Rattle.etherparse.specs.Built.{refusal_of}
 use Rattle.etherparse.specs.BuiltFrameExamples.{ipv4_part, ipv6_part, link_by_hand, two_tags}
-use Rattle.etherparse.specs.BuiltFrames.{Frames, IpFits, Packets, TagsFit, framed}
+use Rattle.etherparse.specs.BuiltFrames.{Frames, IpFits, Packets, TagsFit, ethernet_packet}
 use Rattle.etherparse.specs.declared.err.packet.build_write_error.BuildWriteError.{BuildWriteError}
 
 link_fits : Fits link_by_hand
 link_fits = record { source = refl; destination = refl; ether_type = omega arith }
 
 tags_fit : TagsFit two_tags
-tags_fit = (record { pcp = omega arith; vlan_id = omega arith; ether_type = omega arith }, record { pcp = omega arith; vlan_id = omega arith; ether_type = omega arith })
+tags_fit = (
+  record { pcp = omega arith; vlan_id = omega arith; ether_type = omega arith },
+  record
+      { pcp = omega arith; vlan_id = omega arith; ether_type = omega arith },
+)
 
 ipv4_fits : IpFits ipv4_part 17
 ipv4_fits = (
@@ -30,8 +34,16 @@ ipv4_fits = (
 not_auth : ◌≢◌ {A = ℕ} 17 51
 not_auth e = omega (arith, e)
 
-ipv4_frames : (len : ℕ) → refusal_of (framed link_by_hand two_tags ipv4_part) len ≡ None → Frames link_by_hand two_tags ipv4_part 17 len
-ipv4_frames len written = record { link_fits = link_fits; tags_fit = tags_fit; ip_fits = ipv4_fits; names_none = not_auth; written = written }
+ipv4_frames : (len : ℕ) → refusal_of (ethernet_packet link_by_hand two_tags ipv4_part) len ≡ None
+    → Frames link_by_hand two_tags ipv4_part 17 len
+ipv4_frames len written =
+    record {
+      link_fits = link_fits;
+      tags_fit = tags_fit;
+      ip_fits = ipv4_fits;
+      names_none = not_auth;
+      written = written;
+    }
 
 pub returns-clause-ipv4 : goal.returns-clause-ipv4
 returns-clause-ipv4 c = ipv4_frames 8 refl
@@ -59,13 +71,27 @@ ipv6_fits = (
 )
 
 pub returns-clause-ipv6 : goal.returns-clause-ipv6
-returns-clause-ipv6 c = record { link_fits = link_fits; tags_fit = tt; ip_fits = ipv6_fits; names_none = refl; written = refl }
+returns-clause-ipv6 c =
+    record {
+      link_fits = link_fits;
+      tags_fit = tt;
+      ip_fits = ipv6_fits;
+      names_none = refl;
+      written = refl;
+    }
 
 ipv4_alone : Packets ipv4_part 17 8
 ipv4_alone = record { ip_fits = ipv4_fits; names_none = not_auth; written = refl }
 
 pub returns-clause-alone : goal.returns-clause-alone
-returns-clause-alone c = (ipv4_alone, record { ip_fits = ipv6_fits; names_none = refl; written = refl })
+returns-clause-alone c =
+    (ipv4_alone, record { ip_fits = ipv6_fits; names_none = refl; written = refl })
 
 pub returns-clause-cooked : goal.returns-clause-cooked
-returns-clause-cooked c = record { packet_type_fits = omega arith; address_len = refl; tags_fit = tags_fit; packet = ipv4_alone }
+returns-clause-cooked c =
+    record {
+      packet_type_fits = omega arith;
+      address_len = refl;
+      tags_fit = tags_fit;
+      packet = ipv4_alone;
+    }

@@ -3,7 +3,8 @@ use Rattle.std.specs.Fmt.{digits}
 use Rattle.hex.specs.Hex.{encode_with, decode_pairs}
 use Rattle.etherparse.specs.base.Sum.{total}
 use Rattle.etherparse.specs.packet.Tags.{tags_in}
-use Rattle.netlines.specs.Answers.{answer_after, lists_after_lines}
+use Rattle.netlines.specs.Answers.{answer_after}
+use Rattle.netlines.specs.Arrivals.{lists_after_lines}
 use Rattle.netlines.specs.Lines.{command_of}
 use Rattle.netlines.proofs.laws.examples.fragments_have_answers.Goals as goal
 

@@ -7,7 +7,8 @@ use Rattle.ep_ext.proofs.net.ip_auth_header_slice.IpAuthHeaderSlice.from_slice.G
 pub returns-in-Ok-clause-only : goal.returns-in-Ok-clause-only
 returns-in-Ok-clause-only c = λ header rest is_header front_is.
     let found = c.in-Ok.ensures.found in
-    ap Ok (auth_alone c.args.slice.now c.in-Ok.header c.in-Ok._rest.now header rest found.0 found.1 is_header front_is)
+    ap Ok (auth_alone c.args.slice.now c.in-Ok.header c.in-Ok._rest.now header rest found.0
+    found.1 is_header front_is)
 
 pub returns-in-Ok-clause-exact : goal.returns-in-Ok-clause-exact
 returns-in-Ok-clause-exact c =

@@ -6,12 +6,15 @@ use Rattle.ep_ext.proofs.net.ipv4_extensions.Ipv4Extensions.from_slice.Goals as 
 pub returns-in-Ok-clause-found : goal.returns-in-Ok-clause-found
 returns-in-Ok-clause-found c =
     let is : c.args.first.0 ≡ 51 = search rules in
-    read_found c.args.first.0 c.args.slice.now c.in-Ok.rest.now c.in-Ok.header is c.in-Ok.ensures.found
+    read_found c.args.first.0 c.args.slice.now c.in-Ok.rest.now c.in-Ok.header
+    is c.in-Ok.ensures.found
 
 pub returns-in-Ok-clause-only : goal.returns-in-Ok-clause-only
 returns-in-Ok-clause-only c =
     let is : c.args.first.0 ≡ 51 = search rules in
-    read_only c.args.first.0 c.args.slice.now c.in-Ok.rest.now c.in-Ok.header is c.in-Ok.ensures.found
+    read_only c.args.first.0 c.args.slice.now c.in-Ok.rest.now c.in-Ok.header
+    is c.in-Ok.ensures.found
 
 pub returns-in-Err-clause-place : goal.returns-in-Err-clause-place
-returns-in-Err-clause-place c = λ n fits. auth_moves c.args.slice.now c.in-Err.error n c.in-Err.ensures.err fits
+returns-in-Err-clause-place c =
+    λ n fits. auth_moves c.args.slice.now c.in-Err.error n c.in-Err.ensures.err fits

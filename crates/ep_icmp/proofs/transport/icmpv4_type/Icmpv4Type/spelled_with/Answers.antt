@@ -6,5 +6,6 @@ use Rattle.ep_icmp.proofs.transport.icmpv4_type.Icmpv4Type.spelled_with.Goals as
 
 pub returns-in_default-clause-bytes : goal.returns-in_default-clause-bytes
 returns-in_default-clause-bytes c =
-    let none = behind_none c.args.self.now c.front_with.ensures.fits.fields (sym c.in_default.ensures) in
+    let none = behind_none c.args.self.now c.front_with.ensures.fits.fields
+    (sym c.in_default.ensures) in
     rw (written_four (layout_of c.args.self.now).fields none) (search rules)

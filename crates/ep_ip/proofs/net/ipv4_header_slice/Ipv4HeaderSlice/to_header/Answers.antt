@@ -6,9 +6,11 @@ use Rattle.ep_ip.proofs.net.ipv4_header_slice.Ipv4HeaderSlice.to_header.Goals as
 pub returns-clause-ihl : goal.returns-clause-ihl
 returns-clause-ihl c =
     let header = subst IsIpv4Header c.self.view_is c.self.invariant in
-    options_words c.args.self.now c.from_words-options.result header (c.from_words-options.ensures ∙ c.options.ensures.bytes)
+    options_words c.args.self.now c.from_words-options.result header
+    (c.from_words-options.ensures ∙ c.options.ensures.bytes)
 
 pub returns-clause-len : goal.returns-clause-len
 returns-clause-len c =
     let header = subst IsIpv4Header c.self.view_is c.self.invariant in
-    options_len c.args.self.now c.from_words-options.result header (c.from_words-options.ensures ∙ c.options.ensures.bytes)
+    options_len c.args.self.now c.from_words-options.result header
+    (c.from_words-options.ensures ∙ c.options.ensures.bytes)

@@ -5,13 +5,18 @@ use Rattle.ep_ip.proofs.net.ipv6_header.Ipv6Header.walk.Goals as goal
 pub overflow_add-turns : goal.overflow_add-turns
 overflow_add-turns c =
     let kept = c.headers.invariant in
-    omega (arith, turns_le c.args.next_header.0 c.args.slice.now kept.0 c.headers.number.0 c.headers.rest.now c.headers.turns kept.1 kept.2 kept.3)
+    omega (
+      arith,
+      turns_le c.args.next_header.0 c.args.slice.now kept.0 c.headers.number.0
+          c.headers.rest.now c.headers.turns kept.1 kept.2 kept.3,
+    )
 
 pub headers-preserved : goal.headers-preserved
 headers-preserved c =
     let kept = c.headers.invariant in
     let found = c.in-Ok.ensures.found in
     let more =
-    walk_on c.args.next_header.0 c.args.slice.now kept.0 c.headers.number.0 c.headers.rest.now c.headers.turns found.0 c.in-Ok.behind.now c.in-Ok.next.0
+    walk_on c.args.next_header.0 c.args.slice.now kept.0 c.headers.number.0 c.headers.rest.now
+    c.headers.turns found.0 c.in-Ok.behind.now c.in-Ok.next.0
     kept.1 kept.2 kept.3 (sym c.is_skipped.ensures ∙ c.headers-test.true) found.1 found.2 found.3 in
     (kept.0 ++ found.0 ∷ [], more.0, more.1, more.2)

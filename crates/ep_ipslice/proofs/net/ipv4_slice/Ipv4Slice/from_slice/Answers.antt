@@ -9,7 +9,9 @@ pub returns-in-Ok-clause-only : goal.returns-in-Ok-clause-only
 returns-in-Ok-clause-only c = λ packet is.
     let rest : List ℕ = auth_bytes packet.auth ++ packet.payload ++ is.padding in
     let parts : c.args.slice.now ≡ packet.header ++ rest =
-    is.cut ∙ ap (λ (xs : List ℕ). xs ++ is.padding) (append_assoc packet.header (auth_bytes packet.auth) packet.payload)
+    is.cut ∙ ap (λ (xs : List ℕ). xs ++ is.padding)
+    (append_assoc packet.header (auth_bytes packet.auth) packet.payload)
     ∙ append_assoc packet.header (auth_bytes packet.auth ++ packet.payload) is.padding in
-    c.behind_header.ensures.exact ∙ ap (packet_with c.args.slice.now) (c.in-Ok.ensures.only packet.header rest is.header parts)
+    c.behind_header.ensures.exact ∙ ap (packet_with c.args.slice.now)
+    (c.in-Ok.ensures.only packet.header rest is.header parts)
     ∙ packet_again (c.whole_header_is_found.ensures.found Authentication) c.args.slice.now packet is

@@ -10,5 +10,6 @@ abbrev pub invariant-loop-header : goal.invariant-loop-header
 invariant-loop-header l =
     (goal.iterator-loop-header).can_next l.header-iterator
     × (goal.iterator-loop-header).is_finite l.header-iterator
-    × ((first : ℕ) (pieces : List Piece) (last : ℕ) → Row view_order [] first pieces last → l.self ≡ exts_of first pieces
+    × ((first : ℕ) (pieces : List Piece) (last : ℕ) → Row view_order [] first pieces last
+    → l.self ≡ exts_of first pieces
     → piece_at pieces Fragment ≡ piece_at l.header-iterator Fragment)

@@ -5,10 +5,22 @@ use Rattle.ep_ipslice.proofs.net.ipv6_extensions_slice.Ipv6ExtensionsSlice.iter.
 
 pub new-requires : goal.new-requires
 new-requires c =
-    let exts : Ipv6Exts = record { first_header = c.self.inside.first_header; fragmented = c.self.inside.fragmented; slice = c.self.inside.slice.now } in
+    let exts : Ipv6Exts =
+    record {
+      first_header = c.self.inside.first_header;
+      fragmented = c.self.inside.fragmented;
+      slice = c.self.inside.slice.now;
+    } in
     view_left exts c.in-Some.first c.self.invariant c.in-Some.is
 
 pub returns-in-Some-clause-headers : goal.returns-in-Some-clause-headers
 returns-in-Some-clause-headers c = λ first pieces last row seen.
-    let exts : Ipv6Exts = record { first_header = c.self.inside.first_header; fragmented = c.self.inside.fragmented; slice = c.self.inside.slice.now } in
-    c.new.ensures ∙ view_pieces c.whole_header_is_found.ensures.found c.whole_header_is_found.ensures.least exts c.in-Some.first first pieces last c.in-Some.is row (c.self.view_is ∙ seen)
+    let exts : Ipv6Exts =
+    record {
+      first_header = c.self.inside.first_header;
+      fragmented = c.self.inside.fragmented;
+      slice = c.self.inside.slice.now;
+    } in
+    c.new.ensures ∙ view_pieces c.whole_header_is_found.ensures.found
+    c.whole_header_is_found.ensures.least exts c.in-Some.first first pieces last c.in-Some.is
+    row (c.self.view_is ∙ seen)

@@ -6,7 +6,9 @@ use Rattle.ep_ipslice.specs.Ipv6Exts.{exts_of, view_order}
 use Rattle.ep_ipslice.specs.Ipv6Fault.{IsIpv6Fault, IsRowFault, OfExtensions}
 use Rattle.ep_ipslice.specs.Packet.{Ipv6Packet, IsIpv6Packet, body_source}
 use Rattle.ep_ipslice.proofs.Ipv6At.{told_exactly}
-use Rattle.ep_ipslice.proofs.Ipv6Parts.{body_fits, front_fault, never_refused, packet_body, packet_by_itself, packet_chain, packet_found, packet_same, payload_same, row_fault}
+use Rattle.ep_ipslice.proofs.Ipv6Parts.{body_fits, front_fault, never_refused, packet_body}
+use Rattle.ep_ipslice.proofs.Ipv6Parts.{packet_by_itself, packet_chain, packet_found, packet_same}
+use Rattle.ep_ipslice.proofs.Ipv6Parts.{payload_same, row_fault}
 use Rattle.ep_ipslice.proofs.net.ipv6_slice.Ipv6Slice.from_slice.Goals as goal
 
 abbrev packet : goal.After-is_fragmenting_payload-fragmented → Ipv6Packet
@@ -21,11 +23,14 @@ packet c = record {
   };
 }
 
-found : (c : goal.After-is_fragmenting_payload-fragmented) → IsIpv6Packet c.args.slice.now (packet c)
+found : (c : goal.After-is_fragmenting_payload-fragmented)
+    → IsIpv6Packet c.args.slice.now (packet c)
 found c =
     let found = c.in-Ok-from_slice.ensures.found in
-    packet_found c.args.slice.now c.in-Ok.parts.0 c.in-Ok.parts.2.now c.next_header.result.0 c.in-Ok.parts.1
-    found.0 found.1 found.2 c.in-Ok-from_slice.exts c.in-Ok-from_slice.ip_number c.is_fragmenting_payload-fragmented.result c.in-Ok-from_slice.payload.now
+    packet_found c.args.slice.now c.in-Ok.parts.0 c.in-Ok.parts.2.now
+    c.next_header.result.0 c.in-Ok.parts.1
+    found.0 found.1 found.2 c.in-Ok-from_slice.exts c.in-Ok-from_slice.ip_number
+    c.is_fragmenting_payload-fragmented.result c.in-Ok-from_slice.payload.now
     c.in-Ok.ensures.found c.next_header.ensures
     found.3 found.4.0 found.4.1 found.4.2 found.4.3 c.is_fragmenting_payload-fragmented.ensures
 
@@ -38,28 +43,41 @@ returns-in-Ok-from_slice-clause-found c = found c
 pub returns-in-Ok-from_slice-clause-only : goal.returns-in-Ok-from_slice-clause-only
 returns-in-Ok-from_slice-clause-only c = λ packet is.
     let bytes : List ℕ = c.args.slice.now in
-    let front = c.in-Ok.ensures.only packet.header (bytes_of is.pieces ++ packet.payload.payload) (body_source packet.header (length bytes - 40)) (packet_body bytes packet is) in
-    let chain = packet_chain c.row_ends_where_none_is_taken.ensures.closed bytes c.in-Ok.parts.2.now c.next_header.result.0 c.in-Ok.parts.0 packet is front.0 c.next_header.ensures front.2 in
+    let front = c.in-Ok.ensures.only packet.header (bytes_of is.pieces ++ packet.payload.payload)
+    (body_source packet.header (length bytes - 40)) (packet_body bytes packet is) in
+    let chain = packet_chain c.row_ends_where_none_is_taken.ensures.closed bytes c.in-Ok.parts.2.now
+    c.next_header.result.0 c.in-Ok.parts.0 packet is front.0 c.next_header.ensures front.2 in
     let answers = c.in-Ok-from_slice.ensures.only is.pieces is.last packet.payload.payload chain in
     packet_same packet c.in-Ok.parts.0 c.in-Ok-from_slice.exts _ front.0
-    (answers.0 ∙ ap (λ (n : ℕ). exts_of n is.pieces) (c.next_header.ensures ∙ ap next_header_of front.0) ∙ sym is.exts)
-    (payload_same bytes c.next_header.result.0 c.in-Ok.parts.1 c.in-Ok-from_slice.exts c.in-Ok-from_slice.ip_number c.is_fragmenting_payload-fragmented.result c.in-Ok-from_slice.payload.now packet is
+    (answers.0 ∙ ap (λ (n : ℕ). exts_of n is.pieces)
+    (c.next_header.ensures ∙ ap next_header_of front.0) ∙ sym is.exts)
+    (payload_same bytes c.next_header.result.0 c.in-Ok.parts.1 c.in-Ok-from_slice.exts
+    c.in-Ok-from_slice.ip_number c.is_fragmenting_payload-fragmented.result
+    c.in-Ok-from_slice.payload.now packet is
     front.1 answers.0 answers.1 c.is_fragmenting_payload-fragmented.ensures answers.2)
 
 pub returns-in-Err-from_slice-clause-only : goal.returns-in-Err-from_slice-clause-only
 returns-in-Err-from_slice-clause-only c = λ packet is.
     let bytes : List ℕ = c.args.slice.now in
-    let front = c.in-Ok.ensures.only packet.header (bytes_of is.pieces ++ packet.payload.payload) (body_source packet.header (length bytes - 40)) (packet_body bytes packet is) in
-    let chain = packet_chain c.row_ends_where_none_is_taken.ensures.closed bytes c.in-Ok.parts.2.now c.next_header.result.0 c.in-Ok.parts.0 packet is front.0 c.next_header.ensures front.2 in
+    let front = c.in-Ok.ensures.only packet.header (bytes_of is.pieces ++ packet.payload.payload)
+    (body_source packet.header (length bytes - 40)) (packet_body bytes packet is) in
+    let chain = packet_chain c.row_ends_where_none_is_taken.ensures.closed bytes c.in-Ok.parts.2.now
+    c.next_header.result.0 c.in-Ok.parts.0 packet is front.0 c.next_header.ensures front.2 in
     let refused = c.in-Err-from_slice.ensures.only is.pieces is.last packet.payload.payload chain in
-    absurd (never_refused is.pieces is.last packet.payload.payload (c.in-Err-from_slice.error, refused.0) is.ended refused.1)
+    absurd (never_refused is.pieces is.last packet.payload.payload
+    (c.in-Err-from_slice.error, refused.0) is.ended refused.1)
 
 refused : (c : goal.After-of_extensions) → IsIpv6Fault c.args.slice.now c.of_extensions.result
 refused c =
     let found = c.in-Err-from_slice.ensures.found in
-    let chain = subst (λ (n : ℕ). Chain view_order n c.in-Ok.parts.2.now found.0 found.1 found.2) c.next_header.ensures found.3 in
-    let row = row_fault view_order c.args.slice.now c.in-Ok.parts.0 c.in-Ok.parts.1 c.in-Ok.parts.2.now found.0 found.1 found.2 (c.in-Err-from_slice.error, found.4.0) c.in-Ok.ensures.found chain found.4.1 in
-    OfExtensions c.in-Ok.parts.0 c.in-Ok.ensures.header (subst (IsRowFault view_order c.args.slice.now c.in-Ok.parts.0) (sym c.of_extensions.ensures) row)
+    let chain = subst (λ (n : ℕ). Chain view_order n c.in-Ok.parts.2.now found.0 found.1 found.2)
+    c.next_header.ensures found.3 in
+    let row = row_fault view_order c.args.slice.now c.in-Ok.parts.0 c.in-Ok.parts.1
+    c.in-Ok.parts.2.now found.0 found.1 found.2
+    (c.in-Err-from_slice.error, found.4.0) c.in-Ok.ensures.found chain found.4.1 in
+    OfExtensions c.in-Ok.parts.0 c.in-Ok.ensures.header
+    (subst (IsRowFault view_order c.args.slice.now c.in-Ok.parts.0)
+    (sym c.of_extensions.ensures) row)
 
 pub returns-in-Err-from_slice-clause-refused : goal.returns-in-Err-from_slice-clause-refused
 returns-in-Err-from_slice-clause-refused c = refused c
@@ -67,24 +85,34 @@ returns-in-Err-from_slice-clause-refused c = refused c
 pub returns-in-Err-clause-only : goal.returns-in-Err-clause-only
 returns-in-Err-clause-only c = λ packet is.
     let bytes : List ℕ = c.args.slice.now in
-    absurd (c.in-Err.ensures.only packet.header (bytes_of is.pieces ++ packet.payload.payload) (body_source packet.header (length bytes - 40)) (packet_body bytes packet is))
+    absurd (c.in-Err.ensures.only packet.header (bytes_of is.pieces ++ packet.payload.payload)
+    (body_source packet.header (length bytes - 40)) (packet_body bytes packet is))
 
 pub returns-in-Err-clause-refused : goal.returns-in-Err-clause-refused
-returns-in-Err-clause-refused c = front_fault c.args.slice.now c.in-Err.error c.in-Err.ensures.refused
+returns-in-Err-clause-refused c =
+    front_fault c.args.slice.now c.in-Err.error c.in-Err.ensures.refused
 
 pub of_extensions-requires : goal.of_extensions-requires
 of_extensions-requires c =
-    c.in-Err-from_slice.ensures.place 40 (omega (arith, body_fits c.args.slice.now c.in-Ok.parts.0 c.in-Ok.parts.1 c.in-Ok.parts.2.now c.in-Ok.ensures.found))
+    c.in-Err-from_slice.ensures.place 40
+    (omega (
+      arith,
+      body_fits c.args.slice.now c.in-Ok.parts.0 c.in-Ok.parts.1
+          c.in-Ok.parts.2.now c.in-Ok.ensures.found,
+    ))
 
 pub returns-in-Ok-from_slice-clause-exact : goal.returns-in-Ok-from_slice-clause-exact
 returns-in-Ok-from_slice-clause-exact c =
-    told_exactly c.whole_header_is_found.ensures.found c.whole_header_is_found.ensures.least c.args.slice.now (Ok (packet c)) (found c) tt
+    told_exactly c.whole_header_is_found.ensures.found c.whole_header_is_found.ensures.least
+    c.args.slice.now (Ok (packet c)) (found c) tt
 
 pub returns-in-Err-from_slice-clause-exact : goal.returns-in-Err-from_slice-clause-exact
 returns-in-Err-from_slice-clause-exact c =
-    told_exactly c.whole_header_is_found.ensures.found c.whole_header_is_found.ensures.least c.args.slice.now (Err c.of_extensions.result) tt (refused c)
+    told_exactly c.whole_header_is_found.ensures.found c.whole_header_is_found.ensures.least
+    c.args.slice.now (Err c.of_extensions.result) tt (refused c)
 
 pub returns-in-Err-clause-exact : goal.returns-in-Err-clause-exact
 returns-in-Err-clause-exact c =
-    told_exactly c.whole_header_is_found.ensures.found c.whole_header_is_found.ensures.least c.args.slice.now (Err c.in-Err.error) tt
+    told_exactly c.whole_header_is_found.ensures.found c.whole_header_is_found.ensures.least
+    c.args.slice.now (Err c.in-Err.error) tt
     (front_fault c.args.slice.now c.in-Err.error c.in-Err.ensures.refused)

@@ -1,14 +1,15 @@
 use Rattle.std.proofs.Common.{arith, ap, ◌∙◌}
 use Rattle.ep_link.specs.Arp.{spelling}
-use Rattle.ep_link.proofs.Front.{front_fits}
 use Rattle.ep_link.proofs.ArpSpelling.{spelling-fields_of}
+use Rattle.ep_base.proofs.Fronts.{front_fits}
 use Rattle.ep_link.proofs.link.arp_packet.ArpPacket.from_slice.Goals as goal
 
 pub returns-clause-found : goal.returns-clause-found
 returns-clause-found c =
     let packet = c.in_ok-packet.packet in
-    let found = c.in_ok-packet.ensures.found in
-    let fits = front_fits c.args.slice.now packet found.1.0 found.1.1 (λ i. omega (arith, c.type_inv.slice i)) in
+    let found = c.in_ok-packet.ensures.takes.found in
+    let fits = front_fits c.args.slice.now packet found.1.0 found.1.1
+    (λ i. omega (arith, c.type_inv.slice i)) in
     record {
       front = packet;
       rest = found.1.0;

@@ -1,23 +1,19 @@
-use Rattle.std.proofs.Common.{arith, ap, ◌∙◌}
-use Rattle.ep_link.specs.Sll.{header_of, sll_len, spelling}
-use Rattle.ep_link.proofs.Front.{ok_same, front_fits, rest_of}
-use Rattle.ep_link.proofs.SllSpelling.{spelling-header_of}
+use Rattle.std.proofs.Common.{arith}
+use Rattle.ep_link.specs.Sll.{IsSllHeader, sll_header_of, sll_len, spelling}
+use Rattle.ep_link.proofs.SllSpelling.{spelling-sll_header_of}
+use Rattle.ep_base.proofs.Fronts.{is_read, only_read}
 use Rattle.ep_link.proofs.link.linux_sll_header.LinuxSllHeader.from_slice.Goals as goal
 
 pub returns-clause-found : goal.returns-clause-found
 returns-clause-found c =
-    let found = c.in_ok-header.ensures.found in
-    let rest_is = rest_of sll_len c.args.slice.now c.in_ok-header.header found.1.0 found.1.1 found.0.whole in
-    let fits = front_fits c.args.slice.now c.in_ok-header.header found.1.0 found.1.1 (λ i. omega (arith, c.type_inv.slice i)) in
-    record {
-      front = c.in_ok-header.header;
-      header = found.0;
-      place = rw rest_is found.1.1;
-      fields = c.to_header.ensures;
-      again = ap spelling c.to_header.ensures ∙ spelling-header_of c.in_ok-header.header found.0 fits;
-    }
+    is_read IsSllHeader sll_header_of spelling (λ front. front) spelling-sll_header_of
+    c.args.slice.now
+    c.in_ok-header.header sll_len c.to_header.result
+    c.in_ok-header.ensures.takes (λ i. omega (arith, c.type_inv.slice i))
+    c.in_ok-header.ensures.takes.found.0.whole c.to_header.ensures
 
 pub returns-clause-only : goal.returns-clause-only
-returns-clause-only c = λ front rest header front_is.
-    let same = ok_same _ _ (c.in_ok-header.ensures.only front rest header front_is) in
-    (c.to_header.ensures ∙ ap header_of same, rest_of sll_len c.args.slice.now front rest front_is header.whole)
+returns-clause-only c =
+    only_read IsSllHeader sll_header_of c.args.slice.now c.in_ok-header.header sll_len
+    c.to_header.result c.in_ok-header.ensures.takes
+    c.in_ok-header.ensures.takes.found.0.whole c.to_header.ensures

@@ -5,5 +5,12 @@ use Rattle.ep_link.proofs.link.linux_sll_header.LinuxSllHeader.spelled.Goals as 
 pub returns-clause-bytes : goal.returns-clause-bytes
 returns-clause-bytes c =
     let h = c.args.self.now in
-    rw (c.to_be_bytes-packet_type.ensures, c.value.ensures.value, c.to_be_bytes-hardware_type.ensures, c.to_be_bytes-address_len.ensures, c.to_be_bytes-number.ensures, c.from.ensures)
+    rw (
+      c.to_be_bytes-packet_type.ensures,
+      c.value.ensures.value,
+      c.to_be_bytes-hardware_type.ensures,
+      c.to_be_bytes-address_len.ensures,
+      c.to_be_bytes-number.ensures,
+      c.from.ensures,
+    )
     (put_together _ _ _ _ _ _ h.sender_address _ _ (search rules))

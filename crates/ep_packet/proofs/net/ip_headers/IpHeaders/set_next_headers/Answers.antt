@@ -13,8 +13,10 @@ returns-in-Ipv6-clause-linked c =
     let call = c.set_next_headers-header-in-Ipv6 in
     let first = call.result.0 in
     let header = record c.in-Ipv6.header { next_header = call.result } in
-    subst (λ (old : IpHeaders). IsLinked old last (headers.Ipv6 header call.new.self)) (sym c.in-Ipv6.is) (
+    subst (λ (old : IpHeaders). IsLinked old last (headers.Ipv6 header call.new.self))
+    (sym c.in-Ipv6.is) (
       first,
       ap (λ (e : Ipv6Extensions). headers.Ipv6 header e) call.ensures.linked,
-      subst (λ (e : Ipv6Extensions). Follows e first (pieces_in e all_places) last) call.ensures.linked call.ensures.chained,
+      subst (λ (e : Ipv6Extensions). Follows e first (pieces_in e all_places) last)
+          call.ensures.linked call.ensures.chained,
     )

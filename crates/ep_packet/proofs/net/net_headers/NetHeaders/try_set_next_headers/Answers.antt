@@ -13,12 +13,14 @@ returns-in-Ipv6 c =
     let last = c.args.last.0 in
     let call = c.set_next_headers-header-in-Ipv6 in
     let header = record c.in-Ipv6.header { next_header = call.result } in
-    subst (λ (old : NetHeaders). IsNetLinked old last (headers.Ipv6 header call.new.self) (Ok (record { 0 = 0x86dd }))) (sym c.in-Ipv6.is) (
+    subst (λ (old : NetHeaders). IsNetLinked old last (headers.Ipv6 header call.new.self)
+    (Ok (record { 0 = 0x86dd }))) (sym c.in-Ipv6.is) (
       ip.Ipv6 header call.new.self,
       (
         call.result.0,
         ap (λ (e : Ipv6Extensions). ip.Ipv6 header e) call.ensures.linked,
-        subst (λ (e : Ipv6Extensions). Follows e call.result.0 (pieces_in e all_places) last) call.ensures.linked call.ensures.chained,
+        subst (λ (e : Ipv6Extensions). Follows e call.result.0 (pieces_in e all_places) last)
+            call.ensures.linked call.ensures.chained,
       ),
       refl,
       refl,

@@ -1,25 +1,21 @@
-use Rattle.std.proofs.Common.{arith, ap, ◌∙◌}
-use Rattle.ep_tcpudp.proofs.Guards.{ok_same}
-use Rattle.ep_tcpudp.proofs.Words.{front_fits}
-use Rattle.ep_tcpudp.specs.Udp.{header_of, spelling}
-use Rattle.ep_tcpudp.proofs.UdpFront.{rest_of}
-use Rattle.ep_tcpudp.proofs.UdpSpelling.{spelling-header_of}
+use Rattle.std.proofs.Common.{Ok, arith}
+use Rattle.ep_base.proofs.Fronts.{is_read, only_read}
+use Rattle.ep_tcpudp.specs.Udp.{IsUdpHeader, udp_header_of, spelling}
+use Rattle.ep_tcpudp.proofs.UdpFront.{takes_header}
+use Rattle.ep_tcpudp.proofs.UdpSpelling.{spelling-udp_header_of}
 use Rattle.ep_tcpudp.proofs.transport.udp_header.UdpHeader.from_slice.Goals as goal
 
 pub returns-clause-found : goal.returns-clause-found
 returns-clause-found c =
-    let found = c.in_ok-header.ensures.found in
-    let rest_is = rest_of c.args.slice.now c.in_ok-header.header found.1.0 found.1.1 found.0.whole in
-    let fits = front_fits c.args.slice.now c.in_ok-header.header found.1.0 found.1.1 (λ i. omega (arith, c.type_inv.slice i)) in
-    record {
-      front = c.in_ok-header.header;
-      header = found.0;
-      place = rw rest_is found.1.1;
-      fields = c.to_header.ensures;
-      again = ap spelling c.to_header.ensures ∙ spelling-header_of c.in_ok-header.header found.0 fits;
-    }
+    let header = c.in_ok-header.header in
+    let takes = takes_header c.args.slice.now (Ok header) c.in_ok-header.ensures.exact in
+    is_read IsUdpHeader udp_header_of spelling (λ front. front) spelling-udp_header_of
+    c.args.slice.now header 8 c.to_header.result takes (λ i. omega (arith, c.type_inv.slice i))
+    takes.found.0.whole c.to_header.ensures
 
 pub returns-clause-only : goal.returns-clause-only
-returns-clause-only c = λ front rest header front_is.
-    let same = ok_same _ _ (c.in_ok-header.ensures.only front rest header front_is) in
-    (c.to_header.ensures ∙ ap header_of same, rest_of c.args.slice.now front rest front_is header.whole)
+returns-clause-only c =
+    let header = c.in_ok-header.header in
+    let takes = takes_header c.args.slice.now (Ok header) c.in_ok-header.ensures.exact in
+    only_read IsUdpHeader udp_header_of c.args.slice.now header 8 c.to_header.result takes
+    takes.found.0.whole c.to_header.ensures

@@ -3,14 +3,21 @@ use Rattle.etherparse.specs.Fragments.{fragment}
 use Rattle.etherparse.specs.IpDefragBuf.{Contents, Shows}
 use Rattle.etherparse.proofs.Push.{shows_add, picture_add, picture_same}
 use Rattle.etherparse.proofs.defrag.ip_defrag_buf.IpDefragBuf.add.Goals as goal
-use Rattle.etherparse.proofs.defrag.ip_defrag_buf.IpDefragBuf.add.Goals.{then-not-more_fragments, else-not-more_fragments}
+use Rattle.etherparse.proofs.defrag.ip_defrag_buf.IpDefragBuf.add.Goals.{then-not-more_fragments}
+use Rattle.etherparse.proofs.defrag.ip_defrag_buf.IpDefragBuf.add.Goals.{else-not-more_fragments}
 
 pub returns-clause-accepted : goal.returns-clause-accepted
 returns-clause-accepted c fs shows =
     let had = subst (λ (b : Contents). Shows b fs) (sym c.self.view_is) shows in
     elim c.if-not-more_fragments.branch [
-      | then-not-more_fragments w ↦ subst (λ (b : Contents). Shows b (fs ++ fragment c.args.offset c.args.more_fragments c.args.bytes.now ∷ [])) (sym w.self-is)
-          (shows_add _ _ fs (fragment c.args.offset c.args.more_fragments c.args.bytes.now) c.try_reserve.new.self.items c.write_at.new.buffer.items c.try_reserve-else-is_err.new.self.items c.from.result c.byte_offset-start.result c.in_ok-end.end had record {
+      | then-not-more_fragments w ↦
+          subst (λ (b : Contents). Shows b
+          (fs ++ fragment c.args.offset c.args.more_fragments c.args.bytes.now ∷ []))
+          (sym w.self-is)
+          (shows_add _ _ fs (fragment c.args.offset c.args.more_fragments c.args.bytes.now)
+          c.try_reserve.new.self.items c.write_at.new.buffer.items
+          c.try_reserve-else-is_err.new.self.items c.from.result c.byte_offset-start.result
+          c.in_ok-end.end had record {
             checked = c.in_ok-end.ensures;
             same_bytes = c.try_reserve.ensures.items;
             same_sections = c.try_reserve-else-is_err.ensures.items;
@@ -18,10 +25,21 @@ returns-clause-accepted c fs shows =
             start_is = omega arith;
             writes = c.write_at.ensures;
             adds = c.add_range.ensures;
-            cut = inr (w.if-not-more_fragments.true, rw c.from-len.ensures at w.truncate.ensures.items, refl);
+            cut = inr (
+              w.if-not-more_fragments.true,
+              rw c.from-len.ensures at
+                  w.truncate.ensures.items,
+              refl,
+            );
           })
-      | else-not-more_fragments w ↦ subst (λ (b : Contents). Shows b (fs ++ fragment c.args.offset c.args.more_fragments c.args.bytes.now ∷ [])) (sym w.self-is)
-          (shows_add _ _ fs (fragment c.args.offset c.args.more_fragments c.args.bytes.now) c.try_reserve.new.self.items c.write_at.new.buffer.items c.try_reserve-else-is_err.new.self.items c.from.result c.byte_offset-start.result c.in_ok-end.end had record {
+      | else-not-more_fragments w ↦
+          subst (λ (b : Contents). Shows b
+          (fs ++ fragment c.args.offset c.args.more_fragments c.args.bytes.now ∷ []))
+          (sym w.self-is)
+          (shows_add _ _ fs (fragment c.args.offset c.args.more_fragments c.args.bytes.now)
+          c.try_reserve.new.self.items c.write_at.new.buffer.items
+          c.try_reserve-else-is_err.new.self.items c.from.result c.byte_offset-start.result
+          c.in_ok-end.end had record {
             checked = c.in_ok-end.ensures;
             same_bytes = c.try_reserve.ensures.items;
             same_sections = c.try_reserve-else-is_err.ensures.items;
@@ -35,7 +53,10 @@ returns-clause-accepted c fs shows =
 
 pub invariant_of-self-then-not-more_fragments : goal.invariant_of-self-then-not-more_fragments
 invariant_of-self-then-not-more_fragments c =
-    picture_add _ _ (fragment c.args.offset c.args.more_fragments c.args.bytes.now) c.try_reserve.new.self.items c.write_at.new.buffer.items c.try_reserve-else-is_err.new.self.items c.from.result c.byte_offset-start.result c.in_ok-end.end c.self.invariant record {
+    picture_add _ _ (fragment c.args.offset c.args.more_fragments c.args.bytes.now)
+    c.try_reserve.new.self.items c.write_at.new.buffer.items
+    c.try_reserve-else-is_err.new.self.items c.from.result c.byte_offset-start.result
+    c.in_ok-end.end c.self.invariant record {
       checked = c.in_ok-end.ensures;
       same_bytes = c.try_reserve.ensures.items;
       same_sections = c.try_reserve-else-is_err.ensures.items;
@@ -43,12 +64,20 @@ invariant_of-self-then-not-more_fragments c =
       start_is = omega arith;
       writes = c.write_at.ensures;
       adds = c.add_range.ensures;
-      cut = inr (c.if-not-more_fragments.true, rw c.from-len.ensures at c.truncate.ensures.items, refl);
+      cut = inr (
+        c.if-not-more_fragments.true,
+        rw c.from-len.ensures at
+            c.truncate.ensures.items,
+        refl,
+      );
     }
 
 pub invariant_of-self-else-not-more_fragments : goal.invariant_of-self-else-not-more_fragments
 invariant_of-self-else-not-more_fragments c =
-    picture_add _ _ (fragment c.args.offset c.args.more_fragments c.args.bytes.now) c.try_reserve.new.self.items c.write_at.new.buffer.items c.try_reserve-else-is_err.new.self.items c.from.result c.byte_offset-start.result c.in_ok-end.end c.self.invariant record {
+    picture_add _ _ (fragment c.args.offset c.args.more_fragments c.args.bytes.now)
+    c.try_reserve.new.self.items c.write_at.new.buffer.items
+    c.try_reserve-else-is_err.new.self.items c.from.result c.byte_offset-start.result
+    c.in_ok-end.end c.self.invariant record {
       checked = c.in_ok-end.ensures;
       same_bytes = c.try_reserve.ensures.items;
       same_sections = c.try_reserve-else-is_err.ensures.items;
@@ -63,4 +92,6 @@ pub invariant_of-self : goal.invariant_of-self
 invariant_of-self c = picture_same _ _ refl c.try_reserve.ensures.items refl refl c.self.invariant
 
 pub invariant_of-self-then-is_err-2 : goal.invariant_of-self-then-is_err-2
-invariant_of-self-then-is_err-2 c = picture_same _ _ refl c.try_reserve.ensures.items c.try_reserve-else-is_err.ensures.items refl c.self.invariant
+invariant_of-self-then-is_err-2 c =
+    picture_same _ _ refl c.try_reserve.ensures.items
+    c.try_reserve-else-is_err.ensures.items refl c.self.invariant

@@ -1,0 +1,90 @@
+//! Messages that are put together: one of 65535 bytes from 8192 fragments, or 100,000 of two
+//! fragments each, which a pool holds at once.
+mod interleaved;
+mod order;
+
+use crate::job::Measured;
+use crate::reassembly::interleaved::put_together;
+use crate::reassembly::order::FRAGMENTS;
+pub use crate::reassembly::order::Order;
+use ep_base::{IpFragOffset, IpNumber};
+use etherparse::defrag::{IpDefragBuf, IpDefragPool};
+use std::alloc::{AllocError, Global};
+use std::io;
+use std::time::{Duration, Instant};
+
+const MESSAGE_LEN: usize = 65535;
+
+/// Puts the message together so many times, over the same memory, and takes the time of the fastest
+/// one. It has no contract: the time is a measurement, and the sum is compared with that of a plain
+/// program.
+pub fn measure(rt: &HostRuntime, order: Order, turns: u32) -> io::Result<Measured> {
+    let message = message(rt.alloc())?;
+    let mut data = Vec::new(rt.alloc());
+    let mut sections = Vec::new(rt.alloc());
+    let mut sum = 0u64;
+    let mut fastest = Duration::MAX;
+    for _ in 0..turns {
+        let mut buf = IpDefragBuf::new(IpNumber::UDP, data, sections);
+        let start = Instant::now(rt)?;
+        let accepted = add_all(&mut buf, order, message.as_slice());
+        fastest = fastest.min(start.elapsed(rt)?);
+        sum = sum_of(&buf, accepted);
+        (data, sections) = buf.take_bufs();
+    }
+    Ok(Measured { sum, fastest })
+}
+
+/// Puts the many messages together so many times, each time in the same pool, and takes the time of
+/// the fastest. It has no contract, as `measure`.
+pub fn measure_interleaved(rt: &HostRuntime, turns: u32) -> io::Result<Measured> {
+    let mut pool = IpDefragPool::new(rt.alloc());
+    let mut sum = 0;
+    let mut fastest = Duration::MAX;
+    for _ in 0..turns {
+        let start = Instant::now(rt)?;
+        sum = put_together(&mut pool);
+        fastest = fastest.min(start.elapsed(rt)?);
+    }
+    Ok(Measured { sum, fastest })
+}
+
+/// Bytes that differ from place to place; it has no contract, as any would do.
+fn message(alloc: Global) -> Result<Vec<u8>, AllocError> {
+    let mut message = Vec::with_capacity(alloc, MESSAGE_LEN)?;
+    let mut last = 7u8;
+    for _ in 0..MESSAGE_LEN {
+        last = last.wrapping_mul(5).wrapping_add(3);
+        message.push(last)?;
+    }
+    Ok(message)
+}
+
+/// How many of the fragments were accepted; it has no contract, as `measure`.
+fn add_all(buf: &mut IpDefragBuf, order: Order, message: &[u8]) -> u64 {
+    let mut accepted = 0u64;
+    for place in 0..FRAGMENTS {
+        let units = order.units(place);
+        let start = 8 * usize::from(units);
+        let end = message.len().min(start + 8);
+        let Some(bytes) = message.get(start..end) else {
+            continue;
+        };
+        let Ok(offset) = IpFragOffset::try_new(units) else {
+            continue;
+        };
+        if buf.add(offset, end < message.len(), bytes).is_ok() {
+            accepted = accepted.wrapping_add(1);
+        }
+    }
+    accepted
+}
+
+/// It has no contract, as `measure`.
+fn sum_of(buf: &IpDefragBuf, accepted: u64) -> u64 {
+    let mut sum = accepted.wrapping_add(u64::from(buf.is_complete()));
+    for byte in buf.data() {
+        sum = sum.wrapping_mul(31).wrapping_add(u64::from(*byte));
+    }
+    sum
+}

@@ -1,0 +1,63 @@
+//! Many messages on their way at once.
+
+use ep_packet::SlicedPacket;
+use etherparse::defrag::IpDefragPool;
+
+/// How many messages there are for each of two sources.
+const IDENTIFICATIONS: u16 = 50_000;
+
+/// The bytes of a fragment.
+const FRAGMENT_LEN: usize = 64;
+
+/// Behind the headers of Ethernet II and IPv4.
+const FRAME_LEN: usize = 34 + FRAGMENT_LEN;
+
+/// UDP of 10.0.0.0 to 10.0.0.2 in fragments of 64 bytes.
+const HEADERS: [u8; 34] = [
+    2, 0, 0, 0, 0, 2, 2, 0, 0, 0, 0, 1, 8, 0, 0x45, 0, 0, 84, 0, 0, 0, 0, 64, 17, 0, 0, 10, 0, 0,
+    0, 10, 0, 0, 2,
+];
+
+/// Puts 100,000 messages of two fragments together, all of whose first fragments come before the
+/// second ones, and gives a sum of what is handed out. It has no contract: the sum is compared with
+/// that of a plain program.
+pub fn put_together(pool: &mut IpDefragPool) -> u64 {
+    let mut frame = [0; FRAME_LEN];
+    frame[..34].copy_from_slice(&HEADERS);
+    let mut sum = 0;
+    for (flags, offset) in [(0x20, 0), (0, 8)] {
+        frame[20] = flags;
+        frame[21] = offset;
+        for source in 0..2u8 {
+            frame[29] = source;
+            for identification in 0..IDENTIFICATIONS {
+                let [high, low] = identification.to_be_bytes();
+                frame[18] = high;
+                frame[19] = low;
+                frame[34] = low;
+                sum = sum_with(sum, pool, &frame);
+            }
+        }
+    }
+    sum
+}
+
+/// The sum with what the pool hands out for a frame; it has no contract, as `put_together`.
+fn sum_with(sum: u64, pool: &mut IpDefragPool, frame: &[u8]) -> u64 {
+    let Ok(packet) = SlicedPacket::from_ethernet(frame) else {
+        return 0;
+    };
+    match pool.process_sliced_packet(&packet, (), ()) {
+        Ok(Some(whole)) => {
+            let bytes = whole.payload.as_slice();
+            let ends = bytes.first().zip(bytes.last());
+            let (first, last) = ends.map_or((0, 0), |(first, last)| (*first, *last));
+            sum.wrapping_mul(31)
+                .wrapping_add(bytes.len() as u64)
+                .wrapping_add(u64::from(first))
+                .wrapping_add(u64::from(last))
+        }
+        Ok(None) => sum,
+        Err(_) => 0,
+    }
+}

@@ -1,0 +1,155 @@
+-- A run that makes some bytes of others, call by call.
+use Rattle.std.proofs.Common.{◌≡◌, sym, subst, ℕ, ◌+◌, ◌*◌, ◌<◌, ◌≤◌, arith, true, false, List, []}
+use Rattle.std.proofs.Common.{◌++◌, length, length-append, Option, Some, None, Result, Ok, Err}
+use Rattle.runs.specs.declared.fault.Fault.{Fault}
+use Rattle.runs.specs.declared.fault.Fault.TheVariants.{ReadFailed}
+use Rattle.runs.specs.Calls.{Call, Reads}
+use Rattle.runs.specs.Endings.{Done, Stopped, OutOfMemory, OutOfReads, Refused, ending_by}
+use Rattle.runs.specs.Runs.{Task, Goes}
+use Rattle.runs.specs.Writes.{Written, Stops}
+use Rattle.runs.proofs.Going.{Going, going_start, going_piece, going_end, going_write, going_ends}
+use Rattle.runs.proofs.Going.{going_stops, going_unread, going_all, goes_nothing}
+use Rattle.captures.specs.declared.limits.TheConstants.{INPUT_ROOM}
+use Rattle.captures.specs.declared.translation.refusal.Refusal.{Refusal}
+use Rattle.captures.specs.Translations.{Begins, Translates, Finishes, IsWhole}
+
+module _ (task : Task Refusal) {D : Type 0} (transition : D → Call → D → Type 0) where
+  -- a run ends by the result of all the input
+  result_ends : (limit : ℕ) (read written : List ℕ) (count : ℕ) (old new : D)
+      (g : Going task transition read written true count old new) → count ≤ limit
+      → (result : Result Unit Refusal) → IsWhole task read written result
+      → Goes task transition limit old new (ending_by Refused result)
+  result_ends limit read written count old new g few (Ok tt) whole =
+      going_ends task transition limit read written true count old new g Done few
+      (g.faults, g.tells) whole
+  result_ends limit read written count old new g few (Err reason) whole =
+      going_ends task transition limit read written true count old new g (Refused reason) few
+      g.faults whole
+
+  -- what so many reads gave is translated, and this is held
+  pub record Translating (shown : List ℕ → List ℕ → List ℕ → Type 0) (count : ℕ) (old new : D)
+      (held : List ℕ) : Type 0 where
+    pub came : List ℕ
+    pub text : List ℕ
+    pub going : Going task transition came text false count old new
+    pub due : task.due came text
+    pub shows : shown held came text
+    pub few : length came ≤ INPUT_ROOM * count
+
+  -- the header is written,
+  pub translating_start : (shown : List ℕ → List ℕ → List ℕ → Type 0) (old new : D)
+      (header : List ℕ) → Begins task shown header → Written transition old header new
+      → Translating shown 0 old new []
+  translating_start shown old new header begins written = record {
+    came = [];
+    text = header;
+    going = going_write task transition [] [] false 0 old old new
+        (going_start task transition old) header written;
+    due = begins.due;
+    shows = begins.shows;
+    few = omega arith;
+  }
+
+  -- or a write stops before
+  pub header_stops : (shown : List ℕ → List ℕ → List ℕ → Type 0) (limit : ℕ) (old new : D)
+      (header : List ℕ) → Begins task shown header
+      → (fault : Fault) → Stops transition fault old header new
+      → Goes task transition limit old new (Stopped fault)
+  header_stops shown limit old new header begins fault stops =
+      going_stops task transition limit [] [] false 0 old old new (going_start task transition old)
+      (omega arith) header fault begins.full stops
+
+  module _ {shown : List ℕ → List ℕ → List ℕ → Type 0} {n : ℕ} {old mid : D}
+      {held : List ℕ} (t : Translating shown n old mid held) {limit most : ℕ} (fits : n < limit)
+      (enough : INPUT_ROOM * limit ≤ most) where
+    module _ {later : D} {piece : List ℕ} (call : transition mid (Reads (Some piece)) later)
+        (size : length piece ≤ INPUT_ROOM) (room : task.room ≡ INPUT_ROOM)
+        (some : 0 < length piece) {shown' : List ℕ → List ℕ → List ℕ → Type 0}
+        {bytes held' text : List ℕ} (front : bytes ≡ held ++ piece) {refusal : Option Refusal}
+        (told : (held piece read written : List ℕ) → shown held read written
+        → bytes ≡ held ++ piece → length (read ++ piece) ≤ most
+        → Translates task shown' held' (read ++ piece) (written ++ text) refusal) where
+      asked : Going task transition (t.came ++ piece) t.text false (n + 1) old later
+      asked = going_piece task transition t.came t.text n old mid later t.going t.due piece call
+          (subst (λ r. length piece ≤ r) (sym room) size) some
+
+      translates : Translates task shown' held' (t.came ++ piece) (t.text ++ text) refusal
+      translates = let few = t.few in told held piece t.came t.text t.shows front
+          (omega (arith, length-append t.came piece))
+
+      -- a piece is read, and what is made of it is written,
+      pub translating_more : {new : D} → refusal ≡ None → Written transition later text new
+          → Translating shown' (n + 1) old new held'
+      translating_more {new} is written = let goes_on = rw is at translates in record {
+        came = t.came ++ piece;
+        text = t.text ++ text;
+        going = going_write task transition (t.came ++ piece) t.text false
+            (n + 1) old later new asked text written;
+        due = goes_on.follows.0;
+        shows = goes_on.follows.1;
+        few = let few = t.few in omega (arith, length-append t.came piece);
+      }
+
+      -- or a write stops before,
+      pub translating_stops : {new : D} (fault : Fault) → Stops transition fault later text new
+          → Goes task transition limit old new (Stopped fault)
+      translating_stops {new} fault stops =
+          going_stops task transition limit (t.came ++ piece) t.text false
+          (n + 1) old later new asked (omega arith) text fault translates.full stops
+
+      -- or it is refused
+      pub translating_refused : {new : D} (reason : Refusal) → refusal ≡ Some reason
+          → Written transition later text new → Goes task transition limit old new (Refused reason)
+      translating_refused {new} reason is written =
+          let refused = rw is at translates in
+          let done = going_write task transition (t.came ++ piece) t.text false
+          (n + 1) old later new asked text written in
+          going_ends task transition limit (t.came ++ piece) (t.text ++ text) false
+          (n + 1) old new done (Refused reason) (omega arith) done.faults refused.follows
+
+    -- a read fails
+    pub translating_fails : {new : D} → transition mid (Reads None) new
+        → Goes task transition limit old new (Stopped ReadFailed)
+    translating_fails {new} call =
+        going_unread task transition limit t.came t.text n old mid new t.going t.due call fits
+
+    -- the end is told
+    module _ {later : D} {piece : List ℕ} (none : piece ≡ [])
+        (call : transition mid (Reads (Some piece)) later) {held' text : List ℕ}
+        (same : held' ≡ held) {result : Result Unit Refusal}
+        (told : (read written : List ℕ) → shown held' read written → length read ≤ most
+        → Finishes task read (written ++ text) result) where
+      ended : Going task transition t.came t.text true (n + 1) old later
+      ended = going_end task transition t.came t.text n old mid later t.going t.due piece none call
+
+      finishes : Finishes task t.came (t.text ++ text) result
+      finishes = let few = t.few in told t.came t.text
+          (subst (λ (l : List ℕ). shown l t.came t.text) (sym same) t.shows) (omega arith)
+
+      pub finish_stops : {new : D} (fault : Fault) → Stops transition fault later text new
+          → Goes task transition limit old new (Stopped fault)
+      finish_stops {new} fault stops =
+          going_stops task transition limit t.came t.text true (n + 1) old later new ended
+          (omega arith) text fault finishes.full stops
+
+      pub finish_ends : {new : D} → Written transition later text new
+          → Goes task transition limit old new (ending_by Refused result)
+      finish_ends {new} written =
+          let done = going_write task transition t.came t.text true
+          (n + 1) old later new ended text written in
+          result_ends limit t.came (t.text ++ text) (n + 1) old new done
+          (omega arith) result finishes.whole
+
+  -- as many reads as may be are made
+  pub translating_all : (shown : List ℕ → List ℕ → List ℕ → Type 0) (limit : ℕ) (old new : D)
+      (held : List ℕ) → Translating shown limit old new held
+      → Goes task transition limit old new OutOfReads
+  translating_all shown limit old new held t =
+      going_all task transition limit t.came t.text old new t.going t.due
+
+-- nothing is called
+pub translates_nothing : (task : Task Refusal) {D : Type 0} (transition : D → Call → D → Type 0)
+    (limit : ℕ) (old : D) → task.starved false [] []
+    → Goes task transition limit old old OutOfMemory
+translates_nothing task transition limit old starved =
+    goes_nothing task transition limit old starved

@@ -1,0 +1,35 @@
+use Rattle.std.proofs.Common.{rules, arith, ◌∙◌, ap, Some, length, ◌/◌, inl, inr}
+use Rattle.captures.specs.FrameLines.{frame_at}
+use Rattle.captures.proofs.RecordLemmas.{no_frame_at, decoded, frame_is, record_put}
+use Rattle.captures.proofs.text.line_records.append_record.Goals as goal
+use Rattle.captures.proofs.text.line_records.append_record.Goals.{then-len-eq0-via-then-len-eq0}
+use Rattle.captures.proofs.text.line_records.append_record.Goals.{then-len-eq0-via-else-len-eq0+then-len-gt-FRAME_LIMIT}
+
+pub returns-then-len-eq0-clause-record : goal.returns-then-len-eq0-clause-record
+returns-then-len-eq0-clause-record c =
+    let line = c.in_ok-line.line in
+    elim c.then-len-eq0.branch [
+      | then-len-eq0-via-then-len-eq0 w ↦
+          c.in_ok-line.ensures.frame ∙ no_frame_at line.time line.digits.now (inl (omega arith))
+      | then-len-eq0-via-else-len-eq0+then-len-gt-FRAME_LIMIT w ↦
+          c.in_ok-line.ensures.frame ∙ no_frame_at line.time line.digits.now (inr (omega arith))
+    ]
+
+pub returns-then-decode-clause-record : goal.returns-then-decode-clause-record
+returns-then-decode-clause-record c =
+    let line = c.in_ok-line.line in
+    let n = length line.digits.now / 2 in
+    let found = decoded line.digits.now c.decode.new.bytes n c.decode.result
+    (search rules) c.if-decode.true in
+    let time = line.time in (
+      record {
+        seconds = time.seconds;
+        microseconds = time.microseconds;
+        frame = c.decode.new.bytes;
+      },
+      c.in_ok-line.ensures.frame ∙ ap (frame_at (Some time)) found.0
+          ∙ frame_is time c.decode.new.bytes (omega arith) (omega arith),
+      record_put c.args.out.now c.append-start.new.out c.decode.new.bytes c.record_head-head.result
+          c.args.used c.append-start.result n _ time (search rules) found.1 (omega arith)
+          c.append-start.ensures.text c.record_head-head.ensures,
+    )

@@ -1,0 +1,16 @@
+use Rattle.std.proofs.Common.{arith, ◌≡◌, sym, subst, List, ℕ, length, take, append-nil}
+use Rattle.std.proofs.lemmas.List.{length-take-le}
+use Rattle.captures.specs.Runs.{capture_to_lines}
+use Rattle.captures.specs.Translations.{Finishes}
+use Rattle.captures.proofs.Telling.{tells_end}
+use Rattle.captures.proofs.translation.run_captures.PacketTellerTranslator.finish.Goals as goal
+
+pub returns-clause-finishes : goal.returns-clause-finishes
+returns-clause-finishes c read written tells fits =
+    let room = c.requires.room in
+    let held = take c.args.left c.args._input.now in
+    let size : c.args.left ≡ length held =
+    omega (arith, length-take-le c.args.left c.args._input.now (omega arith)) in
+    subst (λ (l : List ℕ). Finishes capture_to_lines read l c.end.result) (sym (append-nil written))
+    (tells_end read written c.args.self.now.state c.args.self.now.begun held c.args.left tells size
+    c.end.result (c.end.ensures tells.0 tells.1))

@@ -1,0 +1,16 @@
+use Rattle.captures.proofs.Telling.{tells_more, tells_refused}
+use Rattle.captures.proofs.translation.run_captures.PacketTellerTranslator.translate.Goals as goal
+
+pub returns-in-Some-clause-translates : goal.returns-in-Some-clause-translates
+returns-in-Some-clause-translates c held piece read written tells parts fits =
+    let leaves = rw c.in-Some.is at c.take_piece-progress.ensures.takes tells.0 tells.1 in
+    tells_refused c.args.self.now.state c.take_piece-progress.result.after c.args.self.now.begun
+    c.take_piece-progress.result.begun held piece c.args.bytes.now _ read written _ tells parts
+    _ c.in-Some.error leaves
+
+pub returns-in-None-clause-translates : goal.returns-in-None-clause-translates
+returns-in-None-clause-translates c held piece read written tells parts fits =
+    let leaves = rw c.in-None.is at c.take_piece-progress.ensures.takes tells.0 tells.1 in
+    tells_more c.args.self.now.state c.take_piece-progress.result.after c.args.self.now.begun
+    c.take_piece-progress.result.begun held piece c.args.bytes.now _ read
+    written _ tells parts leaves

@@ -1,0 +1,195 @@
+use Rattle.std.proofs.Common.{rules, arith, ◌≡◌, ◌<◌, ◌≤◌, ◌+◌, ◌-◌, sym, ap, subst, ℕ, List}
+use Rattle.std.proofs.Common.{take, drop, length, length-take, length-append}
+use Rattle.std.proofs.lemmas.Result.{err_from_is_err_and}
+use borrow.Rule.Slice.PartMut.{put_mid}
+use Rattle.captures.specs.declared.limits.TheConstants.{INPUT_ROOM}
+use Rattle.captures.proofs.BufferLemmas.{read_front, read_nothing, moved_front}
+use Rattle.captures.proofs.Translating.{Translating, translating_start, header_stops}
+use Rattle.captures.proofs.Translating.{translating_more, translating_stops, translating_refused}
+use Rattle.captures.proofs.Translating.{translating_fails, finish_stops, finish_ends}
+use Rattle.captures.proofs.Translating.{translating_all}
+use Rattle.captures.proofs.translation.translator.translate_reads.Goals as goal
+
+pub returns-in_err-write_whole : goal.returns-in_err-write_whole
+returns-in_err-write_whole g c =
+    let exit = err_from_is_err_and c.from_residual.result c.from_residual.ensures.1 in
+    rw (exit.1, exit.2)
+    (header_stops g.T.Translator.task g.D.Device.transition _ c.args.reads c.args.device.now
+    c.write_whole.new.device c.args.header.now c.requires.begins
+    c.in_err-write_whole.field-0.0 c.in_err-write_whole.ensures)
+
+pub reads-init : goal.reads-init
+reads-init g c = record {
+  translating = translating_start g.T.Translator.task g.D.Device.transition _ c.args.device.now
+      c.write_whole.new.device c.args.header.now c.requires.begins c.in_ok-write_whole.ensures;
+  room = let size = c.requires.input in omega arith;
+}
+
+pub returns-in-Err : goal.returns-in-Err
+returns-in-Err g c =
+    let task = g.T.Translator.task in
+    let transition = g.D.Device.transition in
+    let t = c.reads.invariant.translating in
+    let room = c.reads.invariant.room in
+    let left = c.reads.left in
+    let input = c.reads.input in
+    let some : 0 < length (take (length input - left) (drop left input)) = search rules in
+    translating_fails task transition t c.reads-test.true c.requires.most
+    (c.in-Err.ensures.call some)
+
+pub returns-in_err-write_whole-2 : goal.returns-in_err-write_whole-2
+returns-in_err-write_whole-2 g c =
+    let task = g.T.Translator.task in
+    let transition = g.D.Device.transition in
+    let t = c.reads.invariant.translating in
+    let room = c.reads.invariant.room in
+    let left = c.reads.left in
+    let input = c.reads.input in
+    let buf = c.read_some.new.buf in
+    let some : 0 < length (take (length input - left) (drop left input)) = search rules in
+    let exit = err_from_is_err_and c.from_residual-in_err-write_whole-2.result
+    c.from_residual-in_err-write_whole-2.ensures.1 in
+    let none = ap (λ n. take n buf) c.if-given-eq0.true in
+    let same = read_nothing input buf left (omega arith) in
+    rw (exit.1, exit.2) (finish_stops task transition t c.reads-test.true c.requires.most none
+    (c.in-Ok.ensures.call some) same c.finish-finished.ensures.finishes
+    c.in_err-write_whole-2.field-0.0 c.in_err-write_whole-2.ensures)
+
+pub returns-in-Ok-result : goal.returns-in-Ok-result
+returns-in-Ok-result g c =
+    let task = g.T.Translator.task in
+    let transition = g.D.Device.transition in
+    let t = c.reads.invariant.translating in
+    let room = c.reads.invariant.room in
+    let left = c.reads.left in
+    let input = c.reads.input in
+    let buf = c.read_some.new.buf in
+    let some : 0 < length (take (length input - left) (drop left input)) = search rules in
+    let none = ap (λ n. take n buf) c.if-given-eq0.true in
+    let same = read_nothing input buf left (omega arith) in
+    let done = finish_ends task transition t c.reads-test.true c.requires.most none
+    (c.in-Ok.ensures.call some) same c.finish-finished.ensures.finishes
+    c.in_ok-write_whole-2.ensures in
+    rw c.in-Ok-result.is at done
+
+pub returns-in-Err-result : goal.returns-in-Err-result
+returns-in-Err-result g c =
+    let task = g.T.Translator.task in
+    let transition = g.D.Device.transition in
+    let t = c.reads.invariant.translating in
+    let room = c.reads.invariant.room in
+    let left = c.reads.left in
+    let input = c.reads.input in
+    let buf = c.read_some.new.buf in
+    let some : 0 < length (take (length input - left) (drop left input)) = search rules in
+    let none = ap (λ n. take n buf) c.if-given-eq0.true in
+    let same = read_nothing input buf left (omega arith) in
+    let done = finish_ends task transition t c.reads-test.true c.requires.most none
+    (c.in-Ok.ensures.call some) same c.finish-finished.ensures.finishes
+    c.in_ok-write_whole-2.ensures in
+    rw c.from.ensures (rw c.in-Err-result.is at done)
+
+pub returns-in_err-write_whole-3 : goal.returns-in_err-write_whole-3
+returns-in_err-write_whole-3 g c =
+    let task = g.T.Translator.task in
+    let transition = g.D.Device.transition in
+    let t = c.reads.invariant.translating in
+    let room = c.reads.invariant.room in
+    let left = c.reads.left in
+    let input = c.reads.input in
+    let buf = c.read_some.new.buf in
+    let some : 0 < length (take (length input - left) (drop left input)) = search rules in
+    let held : length buf ≡ length input - left = search rules in
+    let not_zero = c.if-given-eq0.false in
+    let count = length-take c.in-Ok.given buf in
+    let size : length (take c.in-Ok.given buf) ≤ INPUT_ROOM = omega arith in
+    let given : 0 < length (take c.in-Ok.given buf) = omega (arith, c.in-Ok.ensures.bound.0) in
+    let front = read_front input buf left c.in-Ok.given (omega arith) c.in-Ok.ensures.bound.0 in
+    let exit = err_from_is_err_and c.from_residual-in_err-write_whole-3.result
+    c.from_residual-in_err-write_whole-3.ensures.1 in
+    rw (exit.1, exit.2) (translating_stops task transition t c.reads-test.true c.requires.most
+    (c.in-Ok.ensures.call some) size c.requires.begins.room given front
+    c.translate-taken.ensures.translates
+    c.in_err-write_whole-3.field-0.0 c.in_err-write_whole-3.ensures)
+
+pub returns-in-Some : goal.returns-in-Some
+returns-in-Some g c =
+    let task = g.T.Translator.task in
+    let transition = g.D.Device.transition in
+    let t = c.reads.invariant.translating in
+    let room = c.reads.invariant.room in
+    let left = c.reads.left in
+    let input = c.reads.input in
+    let buf = c.read_some.new.buf in
+    let some : 0 < length (take (length input - left) (drop left input)) = search rules in
+    let held : length buf ≡ length input - left = search rules in
+    let not_zero = c.if-given-eq0.false in
+    let count = length-take c.in-Ok.given buf in
+    let size : length (take c.in-Ok.given buf) ≤ INPUT_ROOM = omega arith in
+    let given : 0 < length (take c.in-Ok.given buf) = omega (arith, c.in-Ok.ensures.bound.0) in
+    let front = read_front input buf left c.in-Ok.given (omega arith) c.in-Ok.ensures.bound.0 in
+    rw c.from-in-Some.ensures (translating_refused task transition t c.reads-test.true
+    c.requires.most (c.in-Ok.ensures.call some) size c.requires.begins.room given front
+    c.translate-taken.ensures.translates
+    c.in-Some.refusal c.in-Some.is c.in_ok-write_whole-3.ensures)
+
+pub overflow_sub-left : goal.overflow_sub-left
+overflow_sub-left g c =
+    let n = c.reads.left + c.in-Ok.given in
+    let input = put_mid c.reads.left (length c.reads.input - c.reads.left)
+    c.reads.input c.read_some.new.buf in
+    let parts = c.translate-taken.ensures.parts in
+    omega (
+      arith,
+      length-take n input,
+      ap length parts.1,
+      length-append parts.0
+          c.translate-taken.result.rest.now,
+    )
+
+pub reads-preserved : goal.reads-preserved
+reads-preserved g c =
+    let task = g.T.Translator.task in
+    let transition = g.D.Device.transition in
+    let t = c.reads.invariant.translating in
+    let room = c.reads.invariant.room in
+    let left = c.reads.left in
+    let input = c.reads.input in
+    let buf = c.read_some.new.buf in
+    let some : 0 < length (take (length input - left) (drop left input)) = search rules in
+    let held : length buf ≡ length input - left = search rules in
+    let not_zero = c.if-given-eq0.false in
+    let count = length-take c.in-Ok.given buf in
+    let size : length (take c.in-Ok.given buf) ≤ INPUT_ROOM = omega arith in
+    let given : 0 < length (take c.in-Ok.given buf) = omega (arith, c.in-Ok.ensures.bound.0) in
+    let front = read_front input buf left c.in-Ok.given (omega arith) c.in-Ok.ensures.bound.0 in
+    let rest = c.translate-taken.result.rest.now in
+    let shown' = g.T.Translator.shows c.translate-taken.new.self in
+    let whole : left + c.in-Ok.given ≤ length (put_mid left (length input - left) input buf) =
+    search rules in
+    let moved = moved_front (put_mid left (length input - left) input buf) c.copy_within.new.self
+    c.translate-taken.ensures.parts.0 rest
+    (left + c.in-Ok.given) whole c.translate-taken.ensures.parts.1
+    c.copy_within.ensures.after in
+    let same : length c.copy_within.new.self ≡ INPUT_ROOM = search rules in
+    record {
+      translating =
+          subst (λ (l : List ℕ). Translating task transition shown'
+          (c.reads.counter + 1) c.args.device.now c.write_whole-in-reads.new.device l)
+          (sym moved)
+          (translating_more task transition t c.reads-test.true c.requires.most
+          (c.in-Ok.ensures.call some) size c.requires.begins.room given front
+          c.translate-taken.ensures.translates
+          c.in_default.is c.in_ok-write_whole-3.ensures);
+      room = let few = c.translate-taken.ensures.room c.in_default.is in omega arith;
+    }
+
+pub returns : goal.returns
+returns g c =
+    let all : c.reads.counter ≡ c.args.reads = omega arith in
+    let shown = g.T.Translator.shows c.reads.translator in
+    translating_all g.T.Translator.task g.D.Device.transition shown c.args.reads c.args.device.now
+    c.reads.device (take c.reads.left c.reads.input)
+    (subst (λ (n : ℕ). Translating g.T.Translator.task g.D.Device.transition shown n
+    c.args.device.now c.reads.device (take c.reads.left c.reads.input)) all
+    c.reads.invariant.translating)

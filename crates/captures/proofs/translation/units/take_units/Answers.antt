@@ -1,0 +1,35 @@
+use Rattle.std.proofs.Common.{◌∙◌, sym, arith, ◌+◌, ◌≤◌, [], append-nil, take, length}
+use Rattle.captures.specs.Lines.{line_of}
+use Rattle.captures.proofs.UnitLemmas.{told_unit, some_frame, no_frame}
+use Rattle.captures.proofs.translation.units.take_units.Goals as goal
+use Rattle.captures.proofs.translation.units.take_units.Goals.{then-not-is_empty, else-not-is_empty}
+
+pub units-preserved : goal.units-preserved
+units-preserved c =
+    let unit = c.in-Ok-Some.unit in
+    let frame = unit.frame.now in
+    let size : length frame + 12 + length unit.rest.now ≤ length c.units.rest.now =
+    rw c.in-Ok-Some.field-0-is at c.in-Ok-Some.ensures.size in
+    let found = rw c.in-Ok-Some.field-0-is at c.in-Ok-Some.ensures.found in
+    let before = c.units.invariant in
+    elim c.if-not-is_empty.branch [
+      | then-not-is_empty w ↦
+          rw (w.out-is, w.used-is) (
+            told_unit c.args.state c.units.after unit.after c.args.bytes.now c.units.rest.now
+                unit.rest.now _ (line_of (record { channel = unit.channel; frame = frame })) _
+                unit.channel frame before.0 found
+                (some_frame unit.channel frame
+                (sym c.is_empty.ensures ∙ w.if-not-is_empty.true))
+                w.append_line-used.ensures.text,
+            omega arith,
+          )
+      | else-not-is_empty w ↦
+          rw (w.out-is, w.used-is) (
+            told_unit c.args.state c.units.after unit.after c.args.bytes.now c.units.rest.now
+                unit.rest.now (take c.units.used c.units.out) [] _
+                unit.channel frame before.0 found
+                (no_frame unit.channel frame (sym c.is_empty.ensures ∙ w.if-not-is_empty.false))
+                (sym (append-nil (take c.units.used c.units.out))),
+            omega arith,
+          )
+    ]

@@ -1,9 +1,0 @@
-use Rattle.std.proofs.Common.{◌+◌, ◌*◌, ◌≤◌, length, take}
-use Rattle.captures.proofs.UnitLemmas.{Told}
-use Rattle.captures.proofs.units.take_units.Given as goal
-
-abbrev pub invariant-units : goal.invariant-units
-invariant-units l = Told l.fn.state l.bytes l.after l.rest (take l.used l.out) × (l.used + 4 * length l.rest ≤ length l.out)
-
-abbrev pub decreases-units : goal.decreases-units
-decreases-units l = length l.rest

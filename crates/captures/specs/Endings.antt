@@ -1,0 +1,23 @@
+-- How a run ends, by its result.
+use Rattle.std.specs.Prelude.{Result}
+use Rattle.runs.specs.declared.fault.Fault.TheVariants.{ReadFailed, WriteFailed, NothingTaken}
+use Rattle.runs.specs.Endings.{Ending, Stopped, OutOfMemory, OutOfReads, Refused, ending_by}
+use Rattle.captures.specs.declared.translation.refusal.Refusal.{Refusal}
+use Rattle.captures.specs.declared.translation.refusal.Refusal.TheVariants.{InCapture, InLine}
+use Rattle.captures.specs.declared.translation.run_error.RunError.{RunError}
+use Rattle.captures.specs.declared.translation.run_error.RunError.TheVariants.{Read, Write}
+use Rattle.captures.specs.declared.translation.run_error.RunError.TheVariants.{WriteZero, Memory}
+use Rattle.captures.specs.declared.translation.run_error.RunError.TheVariants.{TooManyReads}
+use Rattle.captures.specs.declared.translation.run_error.RunError.TheVariants.{Capture, BadLine}
+
+abbrev pub cause : RunError → Ending Refusal
+cause Read = Stopped ReadFailed
+cause Write = Stopped WriteFailed
+cause WriteZero = Stopped NothingTaken
+cause Memory = OutOfMemory
+cause TooManyReads = OutOfReads
+cause (Capture error) = Refused (InCapture error)
+cause (BadLine number) = Refused (InLine number)
+
+abbrev pub ending_of : Result Unit RunError → Ending Refusal
+ending_of result = ending_by cause result

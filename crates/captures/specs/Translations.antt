@@ -1,0 +1,39 @@
+-- What a run makes of its input, piece by piece. Some bytes are held after these were read and
+-- these written: the relation of the three is the caller's.
+use Rattle.std.specs.Prelude.{◌≡◌, ℕ, true, false, List, [], Option, Some, None, Result, Ok, Err}
+use Rattle.runs.specs.Runs.{Task}
+use Rattle.captures.specs.declared.limits.TheConstants.{INPUT_ROOM}
+use Rattle.captures.specs.declared.translation.refusal.Refusal.{Refusal}
+
+-- a header is written before anything is read
+pub record Begins (task : Task Refusal) (shown : List ℕ → List ℕ → List ℕ → Type 0)
+    (header : List ℕ) : Type 0 where
+  pub room : task.room ≡ INPUT_ROOM
+  pub starved : task.starved false [] []
+  pub full : task.full false [] header
+  pub due : task.due [] header
+  pub shows : shown [] [] header
+
+-- the input is refused, or what is due is written and this is held
+abbrev pub Follows : (task : Task Refusal) → (List ℕ → List ℕ → List ℕ → Type 0)
+    → (held read written : List ℕ) → Option Refusal → Type 0
+Follows task shown held read written None = task.due read written × shown held read written
+Follows task shown held read written (Some reason) = task.refused reason false read written
+
+-- after these bytes were read, these are written
+pub record Translates (task : Task Refusal) (shown : List ℕ → List ℕ → List ℕ → Type 0)
+    (held read written : List ℕ)
+    (refusal : Option Refusal) : Type 0 where
+  pub full : task.full false read written
+  pub follows : Follows task shown held read written refusal
+
+-- where the end is told, the input is whole, or it is refused
+abbrev pub IsWhole : Task Refusal → List ℕ → List ℕ → Result Unit Refusal → Type 0
+IsWhole task read written (Ok done) = task.whole read written
+IsWhole task read written (Err reason) = task.refused reason true read written
+
+-- these bytes are all that were read, and these are written
+pub record Finishes (task : Task Refusal) (read written : List ℕ)
+    (result : Result Unit Refusal) : Type 0 where
+  pub full : task.full true read written
+  pub whole : IsWhole task read written result

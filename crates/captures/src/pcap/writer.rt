@@ -1,0 +1,61 @@
+//! Classic captures, written.
+ghost use Rattle.std.specs.Prelude.{◌≡◌, ◌≤◌, length};
+ghost use Rattle.runs.specs.Writes.{Delivers};
+ghost use Rattle.captures.specs.Endings.{ending_of};
+ghost use Rattle.captures.specs.Spelling.{file_header, record_head, record_of};
+
+use crate::{FRAME_LIMIT, RunError};
+use runs::{Device, write_whole};
+
+/// The file header: low byte first, with times in microseconds: version 2.4, a snap length of
+/// 262,144, Ethernet.
+pub(crate) const FILE_HEADER: [u8; 24] = [
+    0xd4, 0xc3, 0xb2, 0xa1, 2, 0, 4, 0, 0, 0, 0, 0, 0, 0, 0, 0, 0, 0, 4, 0, 1, 0, 0, 0,
+];
+
+/// Writes a classic capture of Ethernet frames: its header once, and then each packet.
+#[derive(Drop)]
+pub struct Writer<D> {
+    /// What is written to.
+    pub device: D,
+}
+
+impl<D: Device> Writer<D> {
+    /// Writes the file header. Nothing else may come before it.
+    pub fn write_header(&mut self) -> Result<(), RunError>
+        ensures { Delivers D.transition self.old.device file_header
+            (ending_of result) self.new.device }
+    {
+        write_whole(&mut self.device, &FILE_HEADER)?;
+        Ok(())
+    }
+
+    /// Writes a packet that is captured whole, with its time in seconds since 1970 and
+    /// microseconds. A frame of no bytes is a packet of which nothing was captured.
+    pub fn write_packet(
+        &mut self,
+        seconds: u32,
+        microseconds: u32,
+        frame: &[u8],
+    ) -> Result<(), RunError>
+        requires { length frame.now ≤ FRAME_LIMIT }
+        ensures { Delivers D.transition self.old.device
+            (record_of (record { seconds = seconds; microseconds = microseconds; frame = frame.now }))
+            (ending_of result) self.new.device }
+    {
+        let head = record_head(seconds, microseconds, frame.len() as u32);
+        write_whole(&mut self.device, &head)?;
+        write_whole(&mut self.device, frame)?;
+        Ok(())
+    }
+}
+
+/// The head of a packet record, for a frame of so many bytes that was captured whole.
+pub(crate) fn record_head(seconds: u32, microseconds: u32, len: u32) -> [u8; 16]
+    ensures { result ≡ record_head seconds microseconds len }
+{
+    let [a, b, c, d] = seconds.to_le_bytes();
+    let [e, f, g, h] = microseconds.to_le_bytes();
+    let [i, j, k, l] = len.to_le_bytes();
+    [a, b, c, d, e, f, g, h, i, j, k, l, i, j, k, l]
+}

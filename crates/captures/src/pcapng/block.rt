@@ -1,0 +1,263 @@
+//! What a whole block of a pcapng file says.
+ghost use Rattle.std.specs.Prelude.{◌≡◌, ◌≤◌, ◌+◌, ◌==◌, if◌then◌else◌, ◌↔◌, IsTrue, ℕ, List};
+ghost use Rattle.std.specs.Prelude.{length, IfOk, IfErr, IfSome, MatchOption};
+ghost use Rattle.captures.specs.Numbers.{word};
+ghost use Rattle.captures.specs.Pcapng.{section_header, interface_description, enhanced_packet};
+ghost use Rattle.captures.specs.Pcapng.{simple_packet, captured_len, IsOther, IsSkipped};
+ghost use Rattle.captures.specs.Pcapng.{IsEnhancedPacket, IsSimplePacket, Reads, RefusesBlock};
+
+use crate::CaptureError;
+use crate::byte_order::ByteOrder;
+use crate::limits::FRAME_LIMIT;
+use crate::pcapng::section::{ETHERNET, Section};
+
+pub(crate) const SECTION_HEADER: u32 = 0x0a0d_0d0a;
+
+pub(crate) const BYTE_ORDER_MAGIC: u32 = 0x1a2b_3c4d;
+
+const INTERFACE_DESCRIPTION: u32 = 1;
+
+const SIMPLE_PACKET: u32 = 3;
+
+const ENHANCED_PACKET: u32 = 6;
+
+/// Whether a block with this front is skipped, whatever it holds.
+pub(crate) fn is_skipped(order: ByteOrder, front: &[u8]) -> bool
+    requires { 12 ≤ length front.now }
+    ensures { IsTrue result ↔ IsSkipped order front.now }
+{
+    ByteOrder::Big.word(front, 0) != SECTION_HEADER && is_other(order, front)
+}
+
+fn is_other(order: ByteOrder, front: &[u8]) -> bool
+    requires { 12 ≤ length front.now }
+    ensures { IsTrue result ↔ IsOther order front.now }
+{
+    let kind = order.word(front, 0);
+    kind != SECTION_HEADER
+        && kind != INTERFACE_DESCRIPTION
+        && kind != ENHANCED_PACKET
+        && kind != SIMPLE_PACKET
+}
+
+/// What is known after a block, and the frame in it: no bytes where there is none.
+#[derive(Drop)]
+pub(crate) struct Reading<'a> {
+    pub after: Section,
+    pub channel: u32,
+    pub frame: &'a [u8],
+}
+
+/// Reads a block.
+pub(crate) fn read_block(
+    section: Section,
+    order: ByteOrder,
+    block: &[u8],
+) -> Result<Reading<'_>, CaptureError>
+    requires { 12 ≤ length block.now }
+    ensures reads { IfOk result (λ r. Reads section order block.now r.after r.channel r.frame.now) }
+    ensures size { IfOk result (λ r. length r.frame.now + 12 ≤ length block.now) }
+    ensures refused { IfErr result (λ e. RefusesBlock section order block.now e) }
+{
+    match order.word(block, 0) {
+        SECTION_HEADER => begin_section(section, order, block),
+        INTERFACE_DESCRIPTION => describe_interface(section, order, block),
+        ENHANCED_PACKET => read_enhanced(section, order, block),
+        SIMPLE_PACKET => read_simple(section, order, block),
+        _ => Ok(Reading {
+            after: section,
+            channel: 0,
+            frame: &[],
+        }),
+    }
+}
+
+fn begin_section(
+    section: Section,
+    order: ByteOrder,
+    block: &[u8],
+) -> Result<Reading<'_>, CaptureError>
+    requires size { 12 ≤ length block.now }
+    requires kind { word order block.now 0 ≡ section_header }
+    ensures reads { IfOk result (λ r. Reads section order block.now r.after r.channel r.frame.now) }
+    ensures size { IfOk result (λ r. length r.frame.now + 12 ≤ length block.now) }
+    ensures refused { IfErr result (λ e. RefusesBlock section order block.now e) }
+{
+    if block.len() < 28 || order.half(block, 12) != 1 {
+        return Err(CaptureError::BadBlock);
+    }
+    let Some(first) = section.first.checked_add(section.interfaces) else {
+        return Err(CaptureError::BadBlock);
+    };
+    Ok(Reading {
+        after: Section {
+            order,
+            first,
+            interfaces: 0,
+            snap_len: 0,
+        },
+        channel: 0,
+        frame: &[],
+    })
+}
+
+fn describe_interface(
+    section: Section,
+    order: ByteOrder,
+    block: &[u8],
+) -> Result<Reading<'_>, CaptureError>
+    requires size { 12 ≤ length block.now }
+    requires kind { word order block.now 0 ≡ interface_description }
+    ensures reads { IfOk result (λ r. Reads section order block.now r.after r.channel r.frame.now) }
+    ensures size { IfOk result (λ r. length r.frame.now + 12 ≤ length block.now) }
+    ensures refused { IfErr result (λ e. RefusesBlock section order block.now e) }
+{
+    if block.len() < 20 {
+        return Err(CaptureError::BadBlock);
+    }
+    let Some(interfaces) = section.interfaces.checked_add(1) else {
+        return Err(CaptureError::BadBlock);
+    };
+    let link_type = order.half(block, 8);
+    if link_type != ETHERNET {
+        return Err(CaptureError::LinkType(link_type));
+    }
+    let snap_len = first_snap_len(section, order.word(block, 12));
+    Ok(Reading {
+        after: Section {
+            order: section.order,
+            first: section.first,
+            interfaces,
+            snap_len,
+        },
+        channel: 0,
+        frame: &[],
+    })
+}
+
+// The snap length of the first interface, after one more was described.
+fn first_snap_len(section: Section, described: u32) -> u32
+    ensures { result ≡ (if section.interfaces == 0 then described else section.snap_len) }
+{
+    if section.interfaces == 0 {
+        described
+    } else {
+        section.snap_len
+    }
+}
+
+// A packet's bytes, how many they are, and the number of its interface.
+#[derive(Drop)]
+struct Held<'a> {
+    channel: u32,
+    captured: u32,
+    frame: &'a [u8],
+}
+
+fn read_enhanced(
+    section: Section,
+    order: ByteOrder,
+    block: &[u8],
+) -> Result<Reading<'_>, CaptureError>
+    requires size { 12 ≤ length block.now }
+    requires kind { word order block.now 0 ≡ enhanced_packet }
+    ensures reads { IfOk result (λ r. Reads section order block.now r.after r.channel r.frame.now) }
+    ensures size { IfOk result (λ r. length r.frame.now + 12 ≤ length block.now) }
+    ensures refused { IfErr result (λ e. RefusesBlock section order block.now e) }
+{
+    let Some(held) = enhanced_frame(section, order, block) else {
+        return Err(CaptureError::BadBlock);
+    };
+    if held.captured as usize > FRAME_LIMIT {
+        return Err(CaptureError::FrameTooLong(held.captured));
+    }
+    Ok(Reading {
+        after: section,
+        channel: held.channel,
+        frame: held.frame,
+    })
+}
+
+fn enhanced_frame(section: Section, order: ByteOrder, block: &[u8]) -> Option<Held<'_>>
+    requires size { 12 ≤ length block.now }
+    requires kind { word order block.now 0 ≡ enhanced_packet }
+    ensures found { MatchOption result
+        ((channel : ℕ) (frame : List ℕ)
+        → IsEnhancedPacket section order block.now channel frame → ⊥)
+        (λ h. IsEnhancedPacket section order block.now h.channel h.frame.now) }
+    ensures captured { IfSome result (λ h. h.captured ≡ length h.frame.now) }
+{
+    if block.len() < 32 {
+        return None;
+    }
+    let interface = order.word(block, 8);
+    if interface >= section.interfaces {
+        return None;
+    }
+    let channel = section.first.checked_add(interface)?;
+    let captured = order.word(block, 20);
+    if captured as usize > block.len() - 32 {
+        return None;
+    }
+    Some(Held {
+        channel,
+        captured,
+        frame: &block[28..28 + captured as usize],
+    })
+}
+
+fn read_simple(
+    section: Section,
+    order: ByteOrder,
+    block: &[u8],
+) -> Result<Reading<'_>, CaptureError>
+    requires size { 12 ≤ length block.now }
+    requires kind { word order block.now 0 ≡ simple_packet }
+    ensures reads { IfOk result (λ r. Reads section order block.now r.after r.channel r.frame.now) }
+    ensures size { IfOk result (λ r. length r.frame.now + 12 ≤ length block.now) }
+    ensures refused { IfErr result (λ e. RefusesBlock section order block.now e) }
+{
+    let Some(held) = simple_frame(section, order, block) else {
+        return Err(CaptureError::BadBlock);
+    };
+    if held.captured as usize > FRAME_LIMIT {
+        return Err(CaptureError::FrameTooLong(held.captured));
+    }
+    Ok(Reading {
+        after: section,
+        channel: held.channel,
+        frame: held.frame,
+    })
+}
+
+fn simple_frame(section: Section, order: ByteOrder, block: &[u8]) -> Option<Held<'_>>
+    requires size { 12 ≤ length block.now }
+    requires kind { word order block.now 0 ≡ simple_packet }
+    ensures found { MatchOption result
+        ((channel : ℕ) (frame : List ℕ) → IsSimplePacket section order block.now channel frame → ⊥)
+        (λ h. IsSimplePacket section order block.now h.channel h.frame.now) }
+    ensures captured { IfSome result (λ h. h.captured ≡ length h.frame.now) }
+{
+    if block.len() < 16 || section.interfaces == 0 {
+        return None;
+    }
+    let captured = captured_len(section.snap_len, order.word(block, 8));
+    if captured as usize > block.len() - 16 {
+        return None;
+    }
+    Some(Held {
+        channel: section.first,
+        captured,
+        frame: &block[12..12 + captured as usize],
+    })
+}
+
+fn captured_len(snap_len: u32, original: u32) -> u32
+    ensures { result ≡ captured_len snap_len original }
+{
+    if snap_len == 0 {
+        original
+    } else {
+        snap_len.min(original)
+    }
+}

@@ -1,0 +1,83 @@
+//! The block at the front of some bytes of a section.
+ghost use Rattle.std.specs.Prelude.{◌≡◌, ◌≤◌, ◌+◌, ◌↔◌, IsTrue, length, IfOk, IfErr, IfSome};
+ghost use Rattle.std.specs.Prelude.{MatchOption};
+ghost use Rattle.captures.specs.Pcapng.{HasOrder, IsTaken};
+ghost use Rattle.captures.specs.Units.{IsBegun, RefusesAt, HasUnit};
+ghost use Rattle.captures.specs.declared.byte_order.ByteOrder.{ByteOrder};
+ghost use Rattle.captures.specs.declared.translation.state.State.TheVariants.{Pcapng};
+
+use crate::CaptureError;
+use crate::byte_order::ByteOrder;
+use crate::limits::BLOCK_LIMIT;
+use crate::pcap::unit::Unit;
+use crate::pcapng::block::{BYTE_ORDER_MAGIC, SECTION_HEADER, is_skipped, read_block};
+use crate::pcapng::section::Section;
+use crate::translation::state::State;
+
+/// The bytes of the shortest block.
+pub(crate) const BLOCK_MIN_LEN: usize = 12;
+
+/// The block at the front of the bytes. There is none where more bytes are wanted.
+pub(crate) fn section_unit(section: Section, bytes: &[u8]) -> Result<Option<Unit<'_>>, CaptureError>
+    ensures found { IfOk result (λ found. MatchOption found (IsBegun (Pcapng section) bytes.now)
+        (λ u. HasUnit (Pcapng section) bytes.now u.after u.channel u.frame.now u.rest.now)) }
+    ensures size { IfOk result
+        (λ found. IfSome found (λ u. length u.frame.now + 12 + length u.rest.now
+        ≤ length bytes.now)) }
+    ensures refused { IfErr result (λ e. RefusesAt section bytes.now e) }
+{
+    if bytes.len() < BLOCK_MIN_LEN {
+        return Ok(None);
+    }
+    let Some(order) = block_order(section.order, bytes) else {
+        return Err(CaptureError::BadBlock);
+    };
+    let len = order.word(bytes, 4);
+    if len < 12 || len % 4 != 0 {
+        return Err(CaptureError::BadBlock);
+    }
+    if !is_taken(order, bytes, len) {
+        return Err(CaptureError::BlockTooLong(len));
+    }
+    if bytes.len() < len as usize {
+        return Ok(None);
+    }
+    let (block, rest) = bytes.split_at(len as usize);
+    if order.word(block, block.len() - 4) != len {
+        return Err(CaptureError::BadBlock);
+    }
+    match read_block(section, order, block) {
+        Ok(reading) => Ok(Some(Unit {
+            after: State::Pcapng(reading.after),
+            channel: reading.channel,
+            frame: reading.frame,
+            rest,
+        })),
+        Err(error) => Err(error),
+    }
+}
+
+// The byte order of a block, in a section of this order.
+fn block_order(order: ByteOrder, bytes: &[u8]) -> Option<ByteOrder>
+    requires { 12 ≤ length bytes.now }
+    ensures { MatchOption result ((o : ByteOrder) → HasOrder order bytes.now o → ⊥)
+        (λ o. HasOrder order bytes.now o) }
+{
+    if ByteOrder::Big.word(bytes, 0) != SECTION_HEADER {
+        Some(order)
+    } else if ByteOrder::Big.word(bytes, 8) == BYTE_ORDER_MAGIC {
+        Some(ByteOrder::Big)
+    } else if ByteOrder::Little.word(bytes, 8) == BYTE_ORDER_MAGIC {
+        Some(ByteOrder::Little)
+    } else {
+        None
+    }
+}
+
+// Whether a block of this length is taken.
+fn is_taken(order: ByteOrder, bytes: &[u8], len: u32) -> bool
+    requires { 12 ≤ length bytes.now }
+    ensures { IsTrue result ↔ IsTaken order bytes.now len }
+{
+    len as usize <= BLOCK_LIMIT || is_skipped(order, bytes)
+}

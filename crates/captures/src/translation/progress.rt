@@ -1,0 +1,128 @@
+//! What a run takes of its input, piece by piece.
+ghost use Rattle.std.specs.Prelude.{◌≡◌, ◌≤◌, ◌<◌, ◌*◌, ◌++◌, ℕ, List, length, take, None, Some};
+ghost use Rattle.captures.specs.Dropped.{IsDropped, Leaves};
+
+use crate::CaptureError;
+use crate::limits::INPUT_ROOM;
+use crate::pcapng::long_block::{LongBlock, long_block};
+use crate::translation::state::State;
+use crate::translation::units::take_units;
+
+/// The bytes of a block's second length.
+const SECOND_LEN: usize = 4;
+
+/// What is known after all whole units of what was read.
+#[derive(Drop)]
+pub(crate) struct Progress<'a> {
+    /// What the capture is known to be.
+    pub after: State,
+    /// A long block that is begun, of which what was read so far is dropped.
+    pub begun: Option<LongBlock>,
+    /// What is to be held of the bytes.
+    pub rest: &'a [u8],
+    /// How many bytes the lines of the packets have.
+    pub used: usize,
+    /// Why no unit can follow.
+    pub refusal: Option<CaptureError>,
+}
+
+/// Takes all whole units of these bytes, which come behind what was dropped of a begun block, and
+/// puts the lines of their packets into the front of `out`.
+pub(crate) fn take_piece<'a>(
+    state: State,
+    begun: Option<LongBlock>,
+    bytes: &'a [u8],
+    out: &mut [u8],
+) -> Progress<'a>
+    requires size { length bytes.now ≤ INPUT_ROOM }
+    requires out { 4 * length bytes.now ≤ length out.old }
+    ensures fits { result.used ≤ length out.new }
+    ensures takes { (dropped : List ℕ) → IsDropped state begun dropped
+        → Leaves state (dropped ++ bytes.now) result.after result.begun result.rest.now
+        (take result.used out.new) result.refusal }
+    ensures parts { (front : List ℕ) × (bytes.now ≡ front ++ result.rest.now) }
+    ensures room { result.refusal ≡ None → length result.rest.now < INPUT_ROOM }
+{
+    match begun {
+        Some(block) => take_behind(state, block, bytes, out),
+        None => take_whole(state, bytes, out),
+    }
+}
+
+// Takes units alone. Where a long block follows them, all that was read of it is dropped.
+fn take_whole<'a>(state: State, bytes: &'a [u8], out: &mut [u8]) -> Progress<'a>
+    requires size { length bytes.now ≤ INPUT_ROOM }
+    requires out { 4 * length bytes.now ≤ length out.old }
+    ensures fits { result.used ≤ length out.new }
+    ensures takes { Leaves state bytes.now result.after result.begun result.rest.now
+        (take result.used out.new) result.refusal }
+    ensures parts { (front : List ℕ) × (bytes.now ≡ front ++ result.rest.now) }
+    ensures room { result.refusal ≡ None → length result.rest.now < INPUT_ROOM }
+{
+    let taken = take_units(state, bytes, out);
+    if taken.refusal.is_some() {
+        return Progress {
+            after: taken.after,
+            begun: None,
+            rest: taken.rest,
+            used: taken.used,
+            refusal: taken.refusal,
+        };
+    }
+    match long_block(taken.after, taken.rest) {
+        Some(block) => Progress {
+            after: taken.after,
+            begun: Some(block),
+            rest: &[],
+            used: taken.used,
+            refusal: None,
+        },
+        None => Progress {
+            after: taken.after,
+            begun: None,
+            rest: taken.rest,
+            used: taken.used,
+            refusal: None,
+        },
+    }
+}
+
+// Takes the units behind a long block, once its second length is there.
+fn take_behind<'a>(state: State, block: LongBlock, bytes: &'a [u8], out: &mut [u8]) -> Progress<'a>
+    requires size { length bytes.now ≤ INPUT_ROOM }
+    requires out { 4 * length bytes.now ≤ length out.old }
+    ensures fits { result.used ≤ length out.new }
+    ensures takes { (dropped : List ℕ) → IsDropped state (Some block) dropped
+        → Leaves state (dropped ++ bytes.now) result.after result.begun result.rest.now
+        (take result.used out.new) result.refusal }
+    ensures parts { (front : List ℕ) × (bytes.now ≡ front ++ result.rest.now) }
+    ensures room { result.refusal ≡ None → length result.rest.now < INPUT_ROOM }
+{
+    let dropped = bytes.len().min(block.left as usize);
+    let (_, rest) = bytes.split_at(dropped);
+    let begun = LongBlock {
+        order: block.order,
+        len: block.len,
+        left: block.left - dropped as u32,
+    };
+    if rest.len() < SECOND_LEN {
+        return Progress {
+            after: state,
+            begun: Some(begun),
+            rest,
+            used: 0,
+            refusal: None,
+        };
+    }
+    if block.order.word(rest, 0) != block.len {
+        return Progress {
+            after: state,
+            begun: Some(begun),
+            rest,
+            used: 0,
+            refusal: Some(CaptureError::BadBlock),
+        };
+    }
+    let (_, behind) = rest.split_at(SECOND_LEN);
+    take_whole(state, behind, out)
+}

@@ -1,0 +1,130 @@
+//! A run: reads, and the lines of the packets that they give.
+ghost use Rattle.std.specs.Prelude.{◌≡◌, ◌≤◌, ◌+◌, ◌*◌, ◌^◌, ◌++◌, ℕ, List, length, OnOk, IfSome};
+ghost use Rattle.std.specs.Prelude.{IsErrOf, None};
+ghost use Rattle.std.specs.Io.KnownBytes.{Appends, IsAtEnd};
+ghost use Rattle.runs.specs.Known.{KnownCall, Transfers, known_of};
+ghost use Rattle.captures.specs.Dropped.{IsDropped};
+ghost use Rattle.captures.specs.Endings.{ending_of};
+ghost use Rattle.captures.specs.Lines.{Packet, lines_of};
+ghost use Rattle.captures.specs.Runs.{Runs, IsCapture, capture_to_lines, result_at_end};
+ghost use Rattle.captures.specs.Units.{Takes};
+ghost use Rattle.captures.specs.declared.limits.TheConstants.{INPUT_ROOM};
+ghost use Rattle.captures.specs.declared.translation.state.State.TheVariants.{Start};
+
+use crate::limits::FIRST_UNIT_LEN;
+use crate::pcapng::long_block::LongBlock;
+use crate::translation::progress::take_piece;
+use crate::translation::refusal::Refusal;
+use crate::translation::state::State;
+use crate::translation::translator::{Finished, Translated, Translator, run_translator};
+use crate::{CaptureError, READ_COUNT_LIMIT, RunError};
+use runs::{Device, ReaderWriter};
+use std::alloc::Global;
+use std::io::{Read, Write};
+
+/// Writes the line of each packet of a capture, up to the end of the reader.
+///
+/// The line of a packet is written before the next read. A packet of which no byte was captured has
+/// no line. A read that gives nothing tells the end, and nothing is read after it. Any fault that a
+/// read or a write answers ends the run, an interrupted call too.
+pub fn run<R: Read, W: Write>(alloc: Global, reader: &mut R, writer: &mut W) -> Result<(), RunError>
+    // All packets are told, and no byte is left to read.
+    ensures ok { OnOk result
+        (IfSome (R.remaining reader.old) (λ bytes. (packets : List Packet) × IsCapture bytes packets
+        × Appends (W.contents writer.old) (W.contents writer.new) (lines_of packets))) }
+    ensures end { OnOk result (IsAtEnd (R.remaining reader.new)) }
+
+    // However reads and writes cut the bytes, what is written is the output for the bytes read.
+    ensures bytes { Transfers capture_to_lines (R.remaining reader.old) (R.remaining reader.new)
+        (W.contents writer.old) (W.contents writer.new) (ending_of result) }
+
+    // The calls, one by one, as far as they show in the known bytes.
+    ensures calls { Runs KnownCall READ_COUNT_LIMIT
+        (known_of (R.remaining reader.old) (W.contents writer.old))
+        (known_of (R.remaining reader.new) (W.contents writer.new)) result }
+
+    // Each of these reads gave a byte at least.
+    ensures too_many { IsErrOf result RunError.TooManyReads
+        → IfSome (R.remaining reader.old) (λ bytes. READ_COUNT_LIMIT ≤ length bytes) }
+
+    // Memory is taken before the first call.
+    ensures memory { IsErrOf result RunError.Memory
+        → (reader.new ≡ reader.old) × (writer.new ≡ writer.old) }
+{
+    let mut device = ReaderWriter { reader, writer };
+    let result = run_over(alloc, &mut device, READ_COUNT_LIMIT);
+    // No effect at run time. The proof reads here what both hold at the end.
+    let _ = &*device.reader;
+    let _ = &*device.writer;
+    result
+}
+
+/// A run of at most so many reads over any device: each call that it makes, in its order, and how
+/// these calls end it.
+pub fn run_over<D: Device>(alloc: Global, device: &mut D, reads: u64) -> Result<(), RunError>
+    ensures { Runs D.transition reads device.old device.new result }
+{
+    let mut teller = PacketTeller {
+        state: State::Start,
+        begun: None,
+    };
+    run_translator(alloc, &mut teller, &[], device, reads)
+}
+
+// Tells the packets of a capture.
+#[derive(Drop)]
+struct PacketTeller {
+    state: State,
+    // A long block that is begun, of which nothing is held.
+    begun: Option<LongBlock>,
+}
+
+impl Translator for PacketTeller {
+    ghost task = { capture_to_lines };
+
+    ghost most = { INPUT_ROOM * 2 ^ 64 };
+
+    ghost shows = { λ teller held read written. (dropped : List ℕ)
+        × IsDropped teller.state teller.begun dropped
+        × Takes Start read teller.state (dropped ++ held) written None };
+
+    fn translate<'a>(&mut self, bytes: &'a [u8], out: &mut [u8]) -> Translated<'a> {
+        let progress = take_piece(self.state, self.begun, bytes, out);
+        self.state = progress.after;
+        self.begun = progress.begun;
+        match progress.refusal {
+            Some(error) => Translated {
+                used: progress.used,
+                rest: progress.rest,
+                refusal: Some(Refusal::InCapture(error)),
+            },
+            None => Translated {
+                used: progress.used,
+                rest: progress.rest,
+                refusal: None,
+            },
+        }
+    }
+
+    fn finish(&mut self, _input: &mut [u8], left: usize, _out: &mut [u8]) -> Finished {
+        Finished {
+            used: 0,
+            result: end(self.state, self.begun, left),
+        }
+    }
+}
+
+fn end(state: State, begun: Option<LongBlock>, left: usize) -> Result<(), Refusal>
+    ensures { (dropped : List ℕ) → IsDropped state begun dropped
+        → result ≡ result_at_end state (length dropped + left) }
+{
+    if begun.is_some() {
+        return Err(Refusal::InCapture(CaptureError::CutOff));
+    }
+    match state {
+        State::Start if left < FIRST_UNIT_LEN => Err(Refusal::InCapture(CaptureError::NotCapture)),
+        State::Start => Err(Refusal::InCapture(CaptureError::CutOff)),
+        _ if left == 0 => Ok(()),
+        _ => Err(Refusal::InCapture(CaptureError::CutOff)),
+    }
+}

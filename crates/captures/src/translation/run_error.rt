@@ -1,0 +1,61 @@
+//! Why a run ends before all packets are told, or all frames written.
+ghost use Rattle.std.specs.Prelude.{◌≡◌};
+ghost use Rattle.runs.specs.Endings.{Refused, Stopped};
+ghost use Rattle.captures.specs.Endings.{cause};
+ghost use Rattle.captures.specs.declared.translation.run_error.RunError.TheVariants as run_error;
+
+use crate::CaptureError;
+use crate::translation::refusal::Refusal;
+use runs::Fault;
+use thiserror::Error;
+
+/// Why a run ends before all packets are told, or all frames written.
+#[derive(Clone, Copy, Debug, PartialEq, Eq, Error)]
+pub enum RunError {
+    /// A read answered a fault, of whatever kind.
+    #[error("the input cannot be read")]
+    Read,
+    /// A write answered a fault, of whatever kind.
+    #[error("the output cannot be written")]
+    Write,
+    /// A write of some bytes took none of them.
+    #[error("the output takes no more bytes")]
+    WriteZero,
+    /// There was no memory for the buffers, so nothing was read or written.
+    #[error("out of memory")]
+    Memory,
+    /// As many reads as a run may make gave bytes.
+    #[error("too many reads")]
+    TooManyReads,
+    /// The input of [`run`](crate::run) is no capture of Ethernet frames, or is cut off.
+    #[error("{0}")]
+    Capture(CaptureError),
+    /// The line with this number, counted from 1, of the input of
+    /// [`write_capture`](crate::write_capture) hands in no frame, or one that a line of `run` can't
+    /// hold.
+    #[error("line {0} hands in no frame")]
+    BadLine(u64),
+}
+
+impl From<Fault> for RunError {
+    ghost from_gives = { λ fault error. cause error ≡ Stopped fault };
+
+    fn from(fault: Fault) -> RunError {
+        match fault {
+            Fault::ReadFailed => RunError::Read,
+            Fault::WriteFailed => RunError::Write,
+            Fault::NothingTaken => RunError::WriteZero,
+        }
+    }
+}
+
+impl From<Refusal> for RunError {
+    ghost from_gives = { λ refusal error. cause error ≡ Refused refusal };
+
+    fn from(refusal: Refusal) -> RunError {
+        match refusal {
+            Refusal::InCapture(error) => RunError::Capture(error),
+            Refusal::InLine(number) => RunError::BadLine(number),
+        }
+    }
+}

@@ -1,0 +1,136 @@
+//! A run the other way: reads of lines, and the packet records of the frames that they hand in.
+ghost use Rattle.std.specs.Prelude.{◌≡◌, ◌≤◌, ◌*◌, List, length, OnOk, IfSome, IsErrOf};
+ghost use Rattle.std.specs.Io.KnownBytes.{Appends, IsAtEnd};
+ghost use Rattle.runs.specs.Known.{KnownCall, Transfers, known_of};
+ghost use Rattle.captures.specs.Endings.{ending_of};
+ghost use Rattle.captures.specs.Spelling.{TimedFrame, capture_of};
+ghost use Rattle.captures.specs.Texts.{Hands, IsBegunLine, IsText, WritesCapture, lines_to_capture};
+ghost use Rattle.captures.specs.declared.limits.TheConstants.{INPUT_ROOM, READ_COUNT_LIMIT};
+
+use crate::pcap::writer::FILE_HEADER;
+use crate::text::line_records::take_lines;
+use crate::translation::refusal::Refusal;
+use crate::translation::translator::{Finished, Translated, Translator, run_translator};
+use crate::{READ_COUNT_LIMIT, RunError};
+use runs::{Device, ReaderWriter};
+use std::alloc::Global;
+use std::io::{Read, Write};
+
+/// Writes a classic capture of the frames that the lines of the reader hand in, up to its end:
+/// times in microseconds, Ethernet.
+///
+/// A line is `frame CHANNEL HEX`, as [`run`](crate::run) writes it, or `frame CHANNEL HEX SECONDS
+/// MICROSECONDS` with the time since the year 1970 began; without a time it is 0. The hex digits
+/// may be of either case. The channel is a number and isn't written: a classic capture has one
+/// interface. A line that isn't of this form, or whose frame has no byte or more than
+/// [`FRAME_LIMIT`](crate::FRAME_LIMIT), ends the run, after the packets before it are written.
+///
+/// The file header is written before the first read, and the packets of all whole lines before the
+/// next read. A read that gives nothing tells the end, and nothing is read after it. Any fault that
+/// a read or a write answers ends the run, an interrupted call too.
+pub fn write_capture<R: Read, W: Write>(
+    alloc: Global,
+    reader: &mut R,
+    writer: &mut W,
+) -> Result<(), RunError>
+    // All frames are written, and no byte is left to read.
+    ensures ok { OnOk result
+        (IfSome (R.remaining reader.old) (λ bytes. (frames : List TimedFrame) × IsText bytes frames
+        × Appends (W.contents writer.old) (W.contents writer.new) (capture_of frames))) }
+    ensures end { OnOk result (IsAtEnd (R.remaining reader.new)) }
+
+    // However reads and writes cut the bytes, what is written is that for the bytes read.
+    ensures bytes { Transfers lines_to_capture (R.remaining reader.old) (R.remaining reader.new)
+        (W.contents writer.old) (W.contents writer.new) (ending_of result) }
+
+    // The calls, one by one, as far as they show in the known bytes.
+    ensures calls { WritesCapture KnownCall READ_COUNT_LIMIT
+        (known_of (R.remaining reader.old) (W.contents writer.old))
+        (known_of (R.remaining reader.new) (W.contents writer.new)) result }
+
+    // Each of these reads gave a byte at least.
+    ensures too_many { IsErrOf result RunError.TooManyReads
+        → IfSome (R.remaining reader.old) (λ bytes. READ_COUNT_LIMIT ≤ length bytes) }
+
+    // Memory is taken before the first call.
+    ensures memory { IsErrOf result RunError.Memory
+        → (reader.new ≡ reader.old) × (writer.new ≡ writer.old) }
+{
+    let mut device = ReaderWriter { reader, writer };
+    let result = write_capture_over(alloc, &mut device, READ_COUNT_LIMIT);
+    // No effect at run time. The proof reads here what both hold at the end.
+    let _ = &*device.reader;
+    let _ = &*device.writer;
+    result
+}
+
+/// A run of [`write_capture`] of at most so many reads over any device: each call that it makes, in
+/// its order, and how these calls end it.
+pub fn write_capture_over<D: Device>(
+    alloc: Global,
+    device: &mut D,
+    reads: u64,
+) -> Result<(), RunError>
+    requires { reads ≤ READ_COUNT_LIMIT }
+    ensures { WritesCapture D.transition reads device.old device.new result }
+{
+    let mut writer = FrameWriter { count: 0 };
+    run_translator(alloc, &mut writer, &FILE_HEADER, device, reads)
+}
+
+// Writes the frames that lines hand in.
+#[derive(Drop)]
+struct FrameWriter {
+    // How many lines handed one in.
+    count: u64,
+}
+
+impl Translator for FrameWriter {
+    ghost task = { lines_to_capture };
+
+    ghost most = { INPUT_ROOM * READ_COUNT_LIMIT };
+
+    ghost shows = { λ writer held read written. (frames : List TimedFrame)
+        × Hands read writer.count frames held
+        × IsBegunLine held × (written ≡ capture_of frames) };
+
+    fn translate<'a>(&mut self, bytes: &'a [u8], out: &mut [u8]) -> Translated<'a> {
+        let taken = take_lines(bytes, out);
+        self.count = self.count.saturating_add(taken.count as u64);
+        if taken.is_bad {
+            return Translated {
+                used: taken.used,
+                rest: taken.rest,
+                refusal: Some(Refusal::InLine(self.count.saturating_add(1))),
+            };
+        }
+        Translated {
+            used: taken.used,
+            rest: taken.rest,
+            refusal: None,
+        }
+    }
+
+    // A line that is begun is ended.
+    fn finish(&mut self, input: &mut [u8], left: usize, out: &mut [u8]) -> Finished {
+        if left == 0 {
+            return Finished {
+                used: 0,
+                result: Ok(()),
+            };
+        }
+        input[left] = b'\n';
+        let taken = take_lines(&input[..left + 1], out);
+        self.count = self.count.saturating_add(taken.count as u64);
+        if taken.is_bad {
+            return Finished {
+                used: taken.used,
+                result: Err(Refusal::InLine(self.count.saturating_add(1))),
+            };
+        }
+        Finished {
+            used: taken.used,
+            result: Ok(()),
+        }
+    }
+}

@@ -1,0 +1,145 @@
+//! What a run makes of its input, piece by piece, and such a run.
+ghost use Rattle.std.specs.Prelude.{◌≡◌, ◌≤◌, ◌<◌, ◌*◌, ◌++◌, ℕ, List, [], length, take, IfOk};
+ghost use Rattle.std.specs.Prelude.{None, vec_len};
+ghost use Rattle.runs.specs.Runs.{Task, Goes};
+ghost use Rattle.captures.specs.Endings.{ending_of};
+ghost use Rattle.captures.specs.Translations.{Begins, Translates, Finishes};
+ghost use Rattle.captures.specs.declared.limits.TheConstants.{INPUT_ROOM, OUTPUT_ROOM};
+ghost use Rattle.captures.specs.declared.translation.refusal.Refusal.{Refusal};
+
+use crate::RunError;
+use crate::limits::{INPUT_ROOM, OUTPUT_ROOM};
+use crate::translation::refusal::Refusal;
+use runs::{Device, write_whole};
+use std::alloc::{AllocError, Global};
+
+/// What becomes of a piece.
+#[derive(Drop)]
+pub(crate) struct Translated<'a> {
+    /// How many bytes are to be written.
+    pub used: usize,
+    /// What is to be held of the piece.
+    pub rest: &'a [u8],
+    /// Why nothing can follow.
+    pub refusal: Option<Refusal>,
+}
+
+/// What becomes of the end of the input.
+#[derive(Drop)]
+pub(crate) struct Finished {
+    /// How many bytes are to be written.
+    pub used: usize,
+    pub result: Result<(), Refusal>,
+}
+
+/// Makes some bytes of others, which come in pieces.
+pub(crate) trait Translator {
+    // What a run is to write.
+    ghost task: { Task Refusal };
+
+    // How many bytes a run may read.
+    ghost most: { ℕ };
+
+    // Some bytes are held, after these were read and these written.
+    ghost shows: { Self → List ℕ → List ℕ → List ℕ → Type 0 };
+
+    /// Takes what is held and what was read behind it, and puts what is to be written into the
+    /// front of `out`.
+    fn translate<'a>(&mut self, bytes: &'a [u8], out: &mut [u8]) -> Translated<'a>
+        requires size { length bytes.now ≤ INPUT_ROOM }
+        requires out { length out.old ≡ OUTPUT_ROOM }
+        ensures fits { result.used ≤ length out.new }
+        ensures parts { (front : List ℕ) × (bytes.now ≡ front ++ result.rest.now) }
+        ensures room { result.refusal ≡ None → length result.rest.now < INPUT_ROOM }
+        ensures translates { (held piece read written : List ℕ) → shows self.old held read written
+            → bytes.now ≡ held ++ piece → length (read ++ piece) ≤ most
+            → Translates task (shows self.new) result.rest.now (read ++ piece)
+            (written ++ take result.used out.new) result.refusal };
+
+    /// The same at the end of the input, where `left` bytes are held in front of `input`.
+    fn finish(&mut self, input: &mut [u8], left: usize, out: &mut [u8]) -> Finished
+        requires room { left < length input.old }
+        requires size { length input.old ≡ INPUT_ROOM }
+        requires out { length out.old ≡ OUTPUT_ROOM }
+        ensures fits { result.used ≤ length out.new }
+        ensures finishes { (read written : List ℕ)
+            → shows self.old (take left input.old) read written → length read ≤ most
+            → Finishes task read (written ++ take result.used out.new) result.result };
+}
+
+/// A run of at most so many reads, which begins with this header.
+pub(crate) fn run_translator<T: Translator, D: Device>(
+    alloc: Global,
+    translator: &mut T,
+    header: &[u8],
+    device: &mut D,
+    reads: u64,
+) -> Result<(), RunError>
+    requires begins { Begins T.task (T.shows translator.old) header.now }
+    requires most { INPUT_ROOM * reads ≤ T.most }
+    ensures { Goes T.task D.transition reads device.old device.new (ending_of result) }
+{
+    let Ok((mut input, mut output)) = buffers(alloc) else {
+        return Err(RunError::Memory);
+    };
+    translate_reads(
+        translator,
+        header,
+        input.as_mut_slice(),
+        output.as_mut_slice(),
+        device,
+        reads,
+    )
+}
+
+// All the memory of a run.
+fn buffers(alloc: Global) -> Result<(Vec<u8>, Vec<u8>), AllocError>
+    ensures input { IfOk result (λ made. vec_len made.0 ≡ INPUT_ROOM) }
+    ensures output { IfOk result (λ made. vec_len made.1 ≡ OUTPUT_ROOM) }
+{
+    let input = vec![in alloc; 0; INPUT_ROOM]?;
+    Ok((input, vec![in alloc; 0; OUTPUT_ROOM]?))
+}
+
+// Writes the header, and what is made of that which at most so many reads give.
+fn translate_reads<T: Translator, D: Device>(
+    translator: &mut T,
+    header: &[u8],
+    input: &mut [u8],
+    output: &mut [u8],
+    device: &mut D,
+    reads: u64,
+) -> Result<(), RunError>
+    requires begins { Begins T.task (T.shows translator.old) header.now }
+    requires most { INPUT_ROOM * reads ≤ T.most }
+    requires input { length input.old ≡ INPUT_ROOM }
+    requires output { length output.old ≡ OUTPUT_ROOM }
+    ensures { Goes T.task D.transition reads device.old device.new (ending_of result) }
+{
+    write_whole(device, header)?;
+    // The bytes in front of `input` that are held.
+    let mut left = 0;
+    'reads: for _ in 0..reads {
+        let given = match device.read_some(&mut input[left..]) {
+            Ok(given) => given,
+            Err(_) => return Err(RunError::Read),
+        };
+        if given == 0 {
+            let finished = translator.finish(input, left, output);
+            write_whole(device, &output[..finished.used])?;
+            return match finished.result {
+                Ok(()) => Ok(()),
+                Err(refusal) => Err(RunError::from(refusal)),
+            };
+        }
+        let taken = translator.translate(&input[..left + given], output);
+        write_whole(device, &output[..taken.used])?;
+        if let Some(refusal) = taken.refusal {
+            return Err(RunError::from(refusal));
+        }
+        let kept = taken.rest.len();
+        input.copy_within(left + given - kept..left + given, 0);
+        left = kept;
+    }
+    Err(RunError::TooManyReads)
+}

@@ -1,0 +1,61 @@
+//! All whole units at the front of some bytes.
+ghost use Rattle.std.specs.Prelude.{◌≡◌, ◌≤◌, ◌*◌, length, take};
+ghost use Rattle.captures.specs.Units.{Takes};
+
+use crate::CaptureError;
+use crate::pcap::unit::front_unit;
+use crate::text::line::append_line;
+use crate::translation::state::State;
+
+/// What is known after all whole units of some bytes.
+#[derive(Drop)]
+pub(crate) struct Taken<'a> {
+    /// What the capture is known to be.
+    pub after: State,
+    /// What follows the units.
+    pub rest: &'a [u8],
+    /// How many bytes the lines of their packets have.
+    pub used: usize,
+    /// Why no unit can follow.
+    pub refusal: Option<CaptureError>,
+}
+
+/// Takes all whole units of some bytes, and puts the lines of their packets into the front of
+/// `out`.
+pub(crate) fn take_units<'a>(state: State, bytes: &'a [u8], out: &mut [u8]) -> Taken<'a>
+    requires { 4 * length bytes.now ≤ length out.old }
+    ensures fits { result.used ≤ length out.new }
+    ensures takes { Takes state bytes.now result.after result.rest.now
+        (take result.used out.new) result.refusal }
+{
+    let mut after = state;
+    let mut rest = bytes;
+    let mut used = 0;
+    'units: loop {
+        match front_unit(after, rest) {
+            Ok(Some(unit)) => {
+                if !unit.frame.is_empty() {
+                    used = append_line(out, used, unit.channel, unit.frame);
+                }
+                after = unit.after;
+                rest = unit.rest;
+            }
+            Ok(None) => {
+                return Taken {
+                    after,
+                    rest,
+                    used,
+                    refusal: None,
+                };
+            }
+            Err(error) => {
+                return Taken {
+                    after,
+                    rest,
+                    used,
+                    refusal: Some(error),
+                };
+            }
+        }
+    }
+}

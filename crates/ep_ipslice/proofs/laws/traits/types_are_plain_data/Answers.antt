@@ -1,0 +1,33 @@
+use Rattle.std.proofs.Common.{arith}
+use Rattle.std.proofs.lemmas.Grind.{common_steps, elements}
+use Rattle.ep_ipslice.proofs.SamePayloads.{payload_same}
+use Rattle.ep_ipslice.proofs.SameViews.{exts_same, ipv4_same, ipv6_same}
+use Rattle.ep_ipslice.proofs.laws.traits.types_are_plain_data.Goals as goal
+
+pub returns-clause-ip_payload_slice : goal.returns-clause-ip_payload_slice
+returns-clause-ip_payload_slice c = record {
+  copies = grind (arith, common_steps, elements);
+  never_fails = grind (arith, common_steps);
+  equals = λ a b. payload_same a b;
+}
+
+pub returns-clause-ipv6_extensions_slice : goal.returns-clause-ipv6_extensions_slice
+returns-clause-ipv6_extensions_slice c = record {
+  copies = grind (arith, common_steps, elements);
+  never_fails = grind (arith, common_steps);
+  equals = λ a b. exts_same a b;
+}
+
+pub returns-clause-ipv4_slice : goal.returns-clause-ipv4_slice
+returns-clause-ipv4_slice c = record {
+  copies = grind (arith, common_steps, elements);
+  never_fails = grind (arith, common_steps);
+  equals = λ a b. ipv4_same a b;
+}
+
+pub returns-clause-ipv6_slice : goal.returns-clause-ipv6_slice
+returns-clause-ipv6_slice c = record {
+  copies = grind (arith, common_steps, elements);
+  never_fails = grind (arith, common_steps);
+  equals = λ a b. ipv6_same a b;
+}

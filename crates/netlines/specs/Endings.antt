@@ -1,0 +1,18 @@
+-- How a run ends, by its result.
+use Rattle.std.specs.Prelude.{Result}
+use Rattle.runs.specs.declared.fault.Fault.TheVariants.{ReadFailed, WriteFailed, NothingTaken}
+use Rattle.runs.specs.Endings.{Ending, Stopped, OutOfMemory, OutOfReads, ending_by}
+use Rattle.netlines.specs.declared.lines.run_error.RunError.{RunError}
+use Rattle.netlines.specs.declared.lines.run_error.RunError.TheVariants.{Read, Write, WriteZero}
+use Rattle.netlines.specs.declared.lines.run_error.RunError.TheVariants.{Memory, TooManyReads}
+
+-- no input is refused
+abbrev pub cause : RunError → Ending ⊥
+cause Read = Stopped ReadFailed
+cause Write = Stopped WriteFailed
+cause WriteZero = Stopped NothingTaken
+cause Memory = OutOfMemory
+cause TooManyReads = OutOfReads
+
+abbrev pub ending_of : Result Unit RunError → Ending ⊥
+ending_of result = ending_by cause result

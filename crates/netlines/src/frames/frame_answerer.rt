@@ -1,0 +1,221 @@
+//! Answers to lines by the frames that they and the lines before them hand in.
+ghost use Rattle.std.specs.Prelude.{◌≡◌, ◌≤◌, ◌<◌, ◌*◌, ◌+◌, ℕ, List, [], vec_len, length, take};
+ghost use Rattle.std.specs.Prelude.{IfOk};
+ghost use Rattle.hex.specs.Hex.{decode_of};
+ghost use Rattle.etherparse.specs.PoolCalls.{ShowsLists};
+ghost use Rattle.etherparse.specs.packet.Class.{IdentificationFits, as_class, class_of};
+ghost use Rattle.etherparse.specs.packet.Class.{packet_told};
+ghost use Rattle.etherparse.specs.packet.Class.Class.{Whole};
+ghost use Rattle.etherparse.specs.packet.Readable.{ReadMessage, as_read, message_at};
+ghost use Rattle.etherparse.specs.packet.declared.addresses.Addresses.{Addresses as AddressesValue};
+ghost use Rattle.etherparse.specs.packet.declared.class.Class.TheVariants as told;
+ghost use Rattle.netlines.specs.Answers.{frame_meaning, completed_answer, message_answer};
+ghost use Rattle.netlines.specs.Arrivals.{lists_after_lines};
+ghost use Rattle.netlines.specs.Lines.{command_of, frame_on};
+ghost use Rattle.netlines.specs.Lines.Command.{Forget};
+ghost use Rattle.netlines.specs.PoolAnswers.{AnswersClass, AnswersCommand};
+ghost use Rattle.netlines.specs.Verdict.{verdict_of};
+ghost use Rattle.netlines.specs.declared.frames.frame_answerer.TheConstants.{FRAME_ROOM};
+ghost use Rattle.netlines.specs.declared.lines.limits.TheConstants.{LINE_LIMIT, REPLY_ROOM};
+
+use crate::frames::answer::{refusal_text, write_message};
+use crate::frames::command::{HexFrame, Request, read_request};
+use crate::lines::answerer::Answerer;
+use crate::lines::limits::REPLY_ROOM;
+use crate::lines::output::append;
+use crate::{Addresses, LINE_LIMIT, judge, read_message};
+use etherparse::defrag::{IpDefragPayloadVec, IpDefragPool};
+use etherparse::laws::streams::{a_new_pool_shows_no_lists, packets_are_answered, wants_are_told};
+use etherparse::{Class, CutMessage, SlicedPacket, WholeMessage};
+use std::alloc::{AllocError, Global};
+
+/// The bytes of a line's frame at most.
+pub const FRAME_ROOM: usize = LINE_LIMIT / 2;
+
+const BAD_LINE: &[u8; 8] = b"bad line";
+
+const REFUSED_FRAME: &[u8; 13] = b"refused frame";
+
+/// Answers each line by its frame and by the fragments of the same message in the lines before it,
+/// and drops messages where a line says so.
+#[derive(Drop)]
+pub struct FrameAnswerer {
+    // The messages on their way, each with the line of the fragment that was accepted last.
+    pool: IpDefragPool<u64, u32>,
+    // Room for the bytes of a line's frame.
+    frame: Vec<u8>,
+    ghost frame_len: { vec_len frame ≡ FRAME_ROOM },
+}
+
+impl FrameAnswerer {
+    /// No message is on its way. The room of a line's frame is taken here.
+    pub fn new(alloc: Global) -> Result<FrameAnswerer, AllocError>
+        ensures { IfOk result (λ answerer. ShowsLists answerer.pool (lists_after_lines [])) }
+    {
+        a_new_pool_shows_no_lists();
+        Ok(FrameAnswerer {
+            pool: IpDefragPool::new(alloc),
+            frame: vec![in alloc; 0; FRAME_ROOM]?,
+        })
+    }
+}
+
+impl Answerer for FrameAnswerer {
+    ghost meaning = { frame_meaning };
+
+    ghost shows = { λ answerer earlier. ShowsLists answerer.pool (lists_after_lines earlier) };
+
+    fn answer(&mut self, number: u64, line: &[u8], out: &mut [u8]) -> Result<usize, AllocError> {
+        let end = answer_line(&mut self.pool, self.frame.as_mut_slice(), number, line, out)?;
+        Ok(append(out, end, b"\n"))
+    }
+}
+
+// Writes the answer to a line. `room` is for the bytes of its frame.
+fn answer_line(
+    pool: &mut IpDefragPool<u64, u32>,
+    room: &mut [u8],
+    number: u64,
+    line: &[u8],
+    out: &mut [u8],
+) -> Result<usize, AllocError>
+    requires frame { length room.old ≡ FRAME_ROOM }
+    requires room { REPLY_ROOM ≤ length out.old }
+    ensures fits { IfOk result (λ end. end < length out.new) }
+    ensures answers { AnswersCommand pool.old pool.new number (command_of line.now) out.new result }
+{
+    match read_request(line) {
+        Request::Frame(frame) => answer_hex_frame(pool, room, number, &frame, out),
+        Request::Forget(from) => forget(pool, from, out),
+        Request::Bad => Ok(append(out, 0, BAD_LINE)),
+    }
+}
+
+// Writes the answer to a line with these digits.
+fn answer_hex_frame(
+    pool: &mut IpDefragPool<u64, u32>,
+    room: &mut [u8],
+    number: u64,
+    frame: &HexFrame<'_>,
+    out: &mut [u8],
+) -> Result<usize, AllocError>
+    requires frame { length room.old ≡ FRAME_ROOM }
+    requires short { length frame.now.digits.now < LINE_LIMIT }
+    requires room { REPLY_ROOM ≤ length out.old }
+    ensures fits { IfOk result (λ end. end < length out.new) }
+    ensures answers { AnswersCommand pool.old pool.new number
+        (frame_on frame.now.channel (decode_of frame.now.digits.now)) out.new result }
+{
+    let bytes = &mut room[..frame.digits.len() / 2];
+    if bytes.is_empty() || !digits::decode(frame.digits, bytes) {
+        return Ok(append(out, 0, BAD_LINE));
+    }
+    answer_frame(pool, bytes, number, frame.channel, out)
+}
+
+// Writes the answer to a frame.
+fn answer_frame(
+    pool: &mut IpDefragPool<u64, u32>,
+    frame: &[u8],
+    number: u64,
+    channel: u32,
+    out: &mut [u8],
+) -> Result<usize, AllocError>
+    requires frame { length frame.now ≤ FRAME_ROOM }
+    requires room { REPLY_ROOM ≤ length out.old }
+    ensures fits { IfOk result (λ end. end < length out.new) }
+    ensures answers { AnswersClass pool.old pool.new number
+        (class_of frame.now) channel out.new result }
+{
+    match SlicedPacket::from_ethernet(frame) {
+        Ok(packet) => answer_packet(pool, &packet, number, channel, out),
+        Err(_) => Ok(append(out, 0, REFUSED_FRAME)),
+    }
+}
+
+// Writes the answer to a frame that was sliced.
+fn answer_packet(
+    pool: &mut IpDefragPool<u64, u32>,
+    packet: &SlicedPacket<'_>,
+    number: u64,
+    channel: u32,
+    out: &mut [u8],
+) -> Result<usize, AllocError>
+    requires short { (addresses : AddressesValue) (n : ℕ) (bytes : List ℕ) (read : ReadMessage)
+        → packet_told packet.now ≡ Whole addresses n bytes read → length bytes ≤ FRAME_ROOM }
+    requires room { REPLY_ROOM ≤ length out.old }
+    ensures fits { IfOk result (λ end. end < length out.new) }
+    ensures answers { AnswersClass pool.old pool.new number
+        (packet_told packet.now) channel out.new result }
+{
+    match packet.class() {
+        Class::Whole(message) => Ok(write_whole(&message, out)),
+        Class::Cut(message) => answer_part(pool, message, number, channel, out),
+        Class::Other => Ok(append(out, 0, b"other")),
+        Class::Refused => Ok(append(out, 0, REFUSED_FRAME)),
+    }
+}
+
+// Writes the answer to an uncut message.
+fn write_whole(message: &WholeMessage<'_>, out: &mut [u8]) -> usize
+    requires { 2 * length message.now.bytes.now + 20 ≤ length out.old }
+    ensures end { result < length out.new }
+    ensures bytes { take result out.new ≡ message_answer message.now.ip_number.0
+        (verdict_of message.now.addresses (as_read message.now.message)) message.now.bytes.now }
+{
+    let verdict = judge(&message.addresses, &message.message);
+    write_message(message.ip_number.0, verdict, message.bytes, out)
+}
+
+// Takes a part of a message, and writes the answer to it.
+fn answer_part(
+    pool: &mut IpDefragPool<u64, u32>,
+    message: CutMessage<'_>,
+    number: u64,
+    channel: u32,
+    out: &mut [u8],
+) -> Result<usize, AllocError>
+    requires part { IdentificationFits message.addresses message.identification }
+    requires room { REPLY_ROOM ≤ length out.old }
+    ensures fits { IfOk result (λ end. end < length out.new) }
+    ensures answers { AnswersClass pool.old pool.new number
+        (as_class (told.Cut message.entry)) channel out.new result }
+{
+    packets_are_answered();
+    wants_are_told();
+    let addresses = message.addresses;
+    match pool.process_cut_message(message, number, channel) {
+        Ok(Some(payload)) => Ok(write_completed(&addresses, &payload, out)),
+        Ok(None) => Ok(append(out, 0, b"wait")),
+        Err(error) => match refusal_text(&error) {
+            Some(text) => Ok(append(out, 0, text)),
+            None => Err(AllocError),
+        },
+    }
+}
+
+// Writes the answer to the part that completes a message.
+fn write_completed(addresses: &Addresses, payload: &IpDefragPayloadVec, out: &mut [u8]) -> usize
+    requires short { length payload.now.payload.items ≤ 65535 }
+    requires room { REPLY_ROOM ≤ length out.old }
+    ensures end { result < length out.new }
+    ensures bytes { take result out.new ≡ completed_answer addresses.now payload.now.ip_number.0
+        payload.now.payload.items (message_at payload.now.ip_number.0 payload.now.payload.items) }
+{
+    let bytes = payload.payload.as_slice();
+    match read_message(payload.ip_number, bytes) {
+        Ok(message) => write_message(payload.ip_number.0, judge(addresses, &message), bytes, out),
+        Err(_) => append(out, 0, b"refused message"),
+    }
+}
+
+// Drops the messages whose last fragment stood before the line of this number.
+fn forget(pool: &mut IpDefragPool<u64, u32>, from: u64, out: &mut [u8]) -> Result<usize, AllocError>
+    requires room { REPLY_ROOM ≤ length out.old }
+    ensures fits { IfOk result (λ end. end < length out.new) }
+    ensures answers { (number : ℕ)
+        → AnswersCommand pool.old pool.new number (Forget from) out.new result }
+{
+    pool.retain(|line: &u64| *line >= from)?;
+    Ok(append(out, 0, b"ok"))
+}

@@ -1,0 +1,4 @@
+pub mod CallLemmas
+pub mod Going
+pub mod KnownLemmas
+pub mod WriteLemmas

@@ -1,0 +1,5 @@
+pub mod Calls
+pub mod Endings
+pub mod Known
+pub mod Runs
+pub mod Writes

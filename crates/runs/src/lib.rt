@@ -1,0 +1,11 @@
+//! Runs over a device that gives bytes and takes bytes: the device with its meaning, and what calls
+//! a run may make there.
+#![tactic(auto)]
+
+pub mod device;
+mod fault;
+mod writes;
+
+pub use device::{Device, ReaderWriter};
+pub use fault::Fault;
+pub use writes::write_whole;
