@@ -36,12 +36,12 @@ use Rattle.ep_ipslice.proofs.Fronts.{front_begins}
 use Rattle.ep_ipslice.proofs.Ipv6Parts.{closed_all, not_misplaced}
 
 -- these headers in a row begin the bytes, and no other follows them
-record IsWalk (order : Order) (passed : List Ipv6ExtPlace) (number : ℕ) (bytes : List ℕ)
+pub record IsWalk (order : Order) (passed : List Ipv6ExtPlace) (number : ℕ) (bytes : List ℕ)
     (pieces : List Piece) : Type 0 where
-  rest : List ℕ
-  row : Row order passed number pieces (number_behind number pieces)
-  cut : bytes ≡ bytes_of pieces ++ rest
-  ended : front_piece (order (passed ++ places pieces) (number_behind number pieces)) rest ≡ None
+  pub rest : List ℕ
+  pub row : Row order passed number pieces (number_behind number pieces)
+  pub cut : bytes ≡ bytes_of pieces ++ rest
+  pub ended : front_piece (order (passed ++ places pieces) (number_behind number pieces)) rest ≡ None
 
 piece_len : (place : Ipv6ExtPlace) (header : List ℕ) → IsPiece place header → 0 < length header
 piece_len HopByHop header is = omega (arith, is.least)
@@ -140,7 +140,7 @@ walk_then order passed number bytes most further fits (Some piece) at =
     (subst (λ (xs : List ℕ). IsWalk order ps n front.behind (pieces_within most order ps n xs))
     (sym left) (further ps n front.behind less))
 
-walk : (most : ℕ) (order : Order) (passed : List Ipv6ExtPlace) (number : ℕ) (bytes : List ℕ)
+pub walk : (most : ℕ) (order : Order) (passed : List Ipv6ExtPlace) (number : ℕ) (bytes : List ℕ)
     → length bytes ≤ most → IsWalk order passed number bytes
     (pieces_within most order passed number bytes)
 unfolding pieces_within

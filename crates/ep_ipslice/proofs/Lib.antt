@@ -1,6 +1,7 @@
 mod Cuts
 mod FaultPlaces
 mod Faults
+mod FirstFault
 mod Found
 mod Fronts
 mod IpParts

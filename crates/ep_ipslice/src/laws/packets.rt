@@ -1,5 +1,5 @@
 //! Laws of the definitions of IP packets.
-ghost use Rattle.std.specs.Prelude.{◌≡◌, ◌↔◌, ◌<◌, ◌≤◌, ◌+◌, ◌^◌, ℕ, List, [], ◌∷◌, ◌++◌, length};
+ghost use Rattle.std.specs.Prelude.{◌≡◌, ◌↔◌, ◌<◌, ◌≤◌, ◌+◌, ◌-◌, ◌^◌, ℕ, List, [], ◌∷◌, ◌++◌, length};
 ghost use Rattle.std.specs.Prelude.{None, Some, Ok, Err, IsOkAnd, false, replicate};
 ghost use Rattle.std.specs.Option.{option_map, option_map_or};
 ghost use Rattle.ep_ip.specs.Ipv6.{next_header_of};
@@ -11,9 +11,10 @@ ghost use Rattle.ep_ext.specs.Place.{KeepsNumbers, Order, place_of};
 ghost use Rattle.ep_ext.specs.Value.{Piece, bytes_of, value_of};
 ghost use Rattle.ep_ext.specs.declared.net.ipv6_ext_place.Ipv6ExtPlace.TheVariants as place;
 ghost use Rattle.ep_ipslice.specs.FaultPlace.{ip_place, ipv4_place, ipv6_place};
-ghost use Rattle.ep_ipslice.specs.IpSlice.{IsIpFault, IsIpFaultIn, IsWhole};
+ghost use Rattle.ep_ipslice.specs.IpSlice.{IsIpFault, IsIpFaultIn, IsWhole, ip_packet_at};
 ghost use Rattle.ep_ipslice.specs.Ipv4Packet.{ipv4_packet_at};
-ghost use Rattle.ep_ipslice.specs.Ipv6Packet.{extensions_in, ipv6_packet_at};
+ghost use Rattle.ep_ipslice.specs.Ipv6Packet.{body_of, extensions_in, ipv6_packet_at};
+ghost use Rattle.ep_ipslice.specs.Ipv6Packet.{number_behind, rest_behind};
 ghost use Rattle.ep_ipslice.specs.Ipv6Walk.{pieces_within};
 ghost use Rattle.ep_ipslice.specs.Ipv6Fault.{IsFaultIn, IsIpv6Fault, IsRowFault, of_exts_fault};
 ghost use Rattle.ep_ipslice.specs.declared.err.ip.slice_error.SliceError.{SliceError as IpFault};
@@ -21,7 +22,7 @@ ghost use Rattle.ep_ipslice.specs.declared.err.ipv4.slice_error.SliceError.{Slic
 ghost use Rattle.ep_ipslice.specs.declared.err.ipv6.slice_error.SliceError.{SliceError as Ipv6Fault};
 ghost use Rattle.ep_ipslice.specs.Ipv6Exts.{is_any_fragmenting, view_order};
 ghost use Rattle.ep_ipslice.specs.Packet.{Ipv4Packet, Ipv6Packet, IsIpv4Packet, IsIpv6Body};
-ghost use Rattle.ep_ipslice.specs.Packet.{IsIpv6Packet, body_len, fragment_fields};
+ghost use Rattle.ep_ipslice.specs.Packet.{IsIpv6Packet, body_len, body_source, fragment_fields};
 ghost use Rattle.ep_ipslice.specs.Packet.{ipv4_fragment_fields, ipv6_fragment_fields};
 
 use crate::{IpSlice, Ipv4Slice, Ipv6Slice};
@@ -87,6 +88,24 @@ pub fn ipv6_packet_found_is_there()
     ensures { (bytes : List ℕ) (packet : Ipv6Packet) → ipv6_packet_at bytes ≡ Ok packet
         → IsIpv6Packet bytes packet }
 {}
+
+/// Where no packet is found at the front of bytes, the fault that is found is the first one; and so
+/// is that at which extension headers end, under whatever order.
+pub fn faults_found_are_first()
+    ensures ipv6 { (bytes : List ℕ) (e : Ipv6Fault) → ipv6_packet_at bytes ≡ Err e
+        → IsIpv6Fault bytes e }
+    ensures ip { (bytes : List ℕ) (e : IpFault) → ip_packet_at bytes ≡ Err e → IsIpFault bytes e }
+    ensures row { (order : Order) (bytes header : List ℕ) (fault : Fault)
+        → body_len header (length bytes - 40) ≤ length bytes - 40 → (pieces : List Piece)
+        → pieces ≡ pieces_within (length (body_of bytes header)) order []
+        (next_header_of header) (body_of bytes header)
+        → fault_of order pieces (number_behind (next_header_of header) pieces)
+        (rest_behind bytes header pieces) ≡ Some fault
+        → IsRowFault order bytes header
+        (of_exts_fault (body_source header (length bytes - 40)) fault.0) }
+{
+    laws::row_ends_where_none_is_taken();
+}
 
 /// Headers in a row, each at a place of its own, are headers in a row of a view, with the same
 /// bytes. One of these is that of a part of a message where the fragment header of a value is.
