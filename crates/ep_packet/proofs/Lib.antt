@@ -2,17 +2,20 @@ mod Agreement
 pub mod ClassLemmas
 mod FaultLemmas
 mod FoundLemmas
+mod FrameFaults
 mod HeaderLemmas
 mod HeadersAt
 mod HeadersOfLayers
 mod HeadersOfMessages
 mod HeadersOfPackets
 mod HeadersOfTags
+mod MessageFaults
 mod PacketViewLemmas
 mod PartsLemmas
 mod ReadHeaders
 mod SameNet
 mod SamePackets
 mod SlicedLemmas
+mod TagFaults
 mod TaggedLaws
 mod TagsLemmas

@@ -65,7 +65,7 @@ found_by law false false p o v s e =
     let same : None ≡ o = ok_same _ _ e in
     subst (IsRead p) same (rw (v, s) refl)
 
-tag_read : MacsecIsRead → (p : EtherPayload) (o : Option LinkExtSlice)
+pub tag_read : MacsecIsRead → (p : EtherPayload) (o : Option LinkExtSlice)
     → tag_at p ≡ Ok o → IsRead p o
 tag_read law p o e = found_by law (is_vlan_type p.ether_type)
     (is_macsec_type p.ether_type) p o refl refl e

@@ -1,8 +1,8 @@
 -- Why a frame is refused: the first fault in the order of its layers. It tells in which layer it
 -- is, what that layer needs and what is there, by which length field, and at which offset of the
 -- frame.
-use Rattle.std.specs.Prelude.{◌≡◌, ◌×◌, ◌<◌, ◌≤◌, ◌+◌, ◌-◌, ℕ, true, false, List, length, Option}
-use Rattle.std.specs.Prelude.{Some, Ok, Err}
+use Rattle.std.specs.Prelude.{◌≡◌, ◌<◌, ◌≤◌, ◌+◌, ◌-◌, ℕ, true, false, List, length, Option}
+use Rattle.std.specs.Prelude.{Some, Result, Ok, Err}
 use Rattle.ep_base.specs.LenError.{too_few_bytes}
 use Rattle.ep_base.specs.declared.err.layer.Layer.TheVariants.{Ethernet2Header, VlanHeader}
 use Rattle.ep_base.specs.declared.err.len_error.LenError.{LenError}
@@ -31,6 +31,7 @@ use Rattle.ep_link.specs.declared.err.linux_sll.header_error.HeaderError.{Header
 use Rattle.ep_packet.specs.HeaderLayers.{of_headers, packet_len}
 use Rattle.ep_packet.specs.IpHeadersAt.{ip_headers_at, ipv4_headers_at, ipv6_headers_at}
 use Rattle.ep_packet.specs.IsTagged.{AreTags, IsTagged}
+use Rattle.ep_packet.specs.NetSlice.{of_ip as net_of}
 use Rattle.ep_packet.specs.Parts.{headers_len, tags_len}
 use Rattle.ep_packet.specs.ReadIpHeaders.{IsIpHeadersFault}
 use Rattle.ep_packet.specs.Readable as number

@@ -1,5 +1,6 @@
 pub mod Class
 pub mod Examples
+pub mod FrameFault
 pub mod HeaderLayers
 pub mod HeadersWriteError
 pub mod IpHeaders
