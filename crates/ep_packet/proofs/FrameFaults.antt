@@ -1,6 +1,6 @@
 -- The fault at which a frame is refused is the first one.
 use Rattle.std.proofs.Common.{◌≡◌, ◌∙◌, ℕ, zero, suc, ◌-◌, ◌≤◌, ◌<◌, ◌==◌, Bool, true, false, List, [], length}
-use Rattle.std.proofs.Common.{arith, Option, Some, None, Result, Ok, Err, refl, sym, ap, subst}
+use Rattle.std.proofs.Common.{arith, IfErr, Option, Some, None, Result, Ok, Err, refl, sym, ap, subst}
 use Rattle.std.specs.Prelude.{nat_lt, if◌then◌else◌}
 use Rattle.std.proofs.lemmas.Bool.{eqb-false, eqb-true, ltb-false, ltb-true}
 use Rattle.ep_base.proofs.Fronts.{err_same}
@@ -18,7 +18,7 @@ use Rattle.ep_ip.specs.Ipv6Fault.{header_at}
 use Rattle.ep_ip.specs.declared.err.ipv6.header_error.HeaderError.{HeaderError as Ipv6HeaderFault}
 use Rattle.ep_ipslice.specs.IpFault.{headers_fault}
 use Rattle.ep_ipslice.specs.IpSlice.{IsIpFault, IsIpFaultIn, NoBytes, OfIpv4, OfIpv6, OtherVersion}
-use Rattle.ep_ipslice.specs.IpSlice.{ip_packet_at, ipv4_fault, ipv6_fault, no_version, payload_of}
+use Rattle.ep_ipslice.specs.IpSlice.{ip_packet_at, ipv4_fault, ipv6_fault, no_version}
 use Rattle.ep_ipslice.specs.Ipv4Packet.{ipv4_packet_at}
 use Rattle.ep_ipslice.specs.Ipv6Fault.{IsFaultIn, IsIpv6Fault, IsRowFault, OfExtensions, OfHeader}
 use Rattle.ep_ipslice.specs.Ipv6Fault.{OfLength, not_whole, of_exts_fault}
@@ -37,11 +37,20 @@ use Rattle.ep_ipslice.specs.declared.err.ipv6.slice_error.SliceError.TheVariants
 use Rattle.ep_ipslice.specs.declared.net.ip_slice.IpSlice.{IpSlice}
 use Rattle.ep_ipslice.specs.declared.net.ip_slice.IpSlice.TheVariants as ip
 use Rattle.ep_link.specs.Arp as arp
+use Rattle.ep_link.specs.Ethernet.{ethernet_header_of, ethernet_len, payload_of as payload_of_frame}
+use Rattle.ep_link.specs.Sll.{sll_len}
+use Rattle.ep_link.specs.SllFault as sll_fault
+use Rattle.ep_link.specs.SllPayload as sll
+use Rattle.ep_link.specs.declared.err.linux_sll.header_error.HeaderError.{HeaderError as SllError}
+use Rattle.ep_link.specs.declared.link.link_header.LinkHeader.TheVariants as link_header
+use Rattle.ep_link.specs.declared.link.link_slice.LinkSlice.TheVariants as link
 use Rattle.ep_link.specs.declared.link.link_header.LinkHeader.{LinkHeader}
 use Rattle.ep_link.specs.declared.link.link_slice.LinkSlice.{LinkSlice}
 use Rattle.ep_packet.specs.FrameFault as fault
-use Rattle.ep_packet.specs.FrameFault.{IsFaultBehind, IsHeaderLayersFault, IsIpPacketFault}
-use Rattle.ep_packet.specs.FrameFault.{IsIpPacketHeadersFault, IsLayersFault, IsNetFault}
+use Rattle.ep_packet.specs.FrameFault.{IsCookedFault, IsEtherTypeFault, IsEtherTypeHeadersFault}
+use Rattle.ep_packet.specs.FrameFault.{IsFaultBehind, IsFrameFault, IsFrameHeadersFault}
+use Rattle.ep_packet.specs.FrameFault.{IsHeaderLayersFault, IsIpPacketFault}
+use Rattle.ep_packet.specs.FrameFault.{IsIpPacketHeadersFault, IsLayersFault}
 use Rattle.ep_packet.specs.HeaderLayers as headers
 use Rattle.ep_packet.specs.HeaderLayers.{HeaderLayers, in_packet, of_headers}
 use Rattle.ep_packet.specs.IpHeadersAt.{ip_headers_at, ipv4_headers_at, ipv6_headers_at}
@@ -51,10 +60,16 @@ use Rattle.ep_packet.specs.IpHeadersAt as at
 use Rattle.ep_packet.specs.Payload as payload
 use Rattle.ep_packet.specs.IsTagged.{IsTagged}
 use Rattle.ep_packet.specs.Parts.{tags_len}
-use Rattle.ep_packet.specs.PacketHeaders.{Headers, headers_tagged, headers_with, layers_behind}
+use Rattle.ep_packet.specs.PacketHeaders as packet_headers
+use Rattle.ep_packet.specs.PacketHeaders.{Headers, ether_type_headers, ethernet_headers}
+use Rattle.ep_packet.specs.PacketHeaders.{headers_behind, headers_tagged, headers_with}
+use Rattle.ep_packet.specs.PacketHeaders.{ip_packet_headers, layers_behind, result_told}
 use Rattle.ep_packet.specs.PacketView.{source_behind}
 use Rattle.ep_packet.specs.ReadIpHeaders.{IsIpHeadersFault}
 use Rattle.ep_packet.specs.SliceFault.{later, of_ip, of_ipv4, of_ipv6, offset_by}
+use Rattle.ep_packet.specs.Sliced as sliced
+use Rattle.ep_packet.specs.Sliced.{ether_payload, in_cooked, in_linux_sll, packet_behind}
+use Rattle.ep_packet.specs.Sliced.{sliced_ether_type, sliced_ethernet, sliced_ip, sliced_linux_sll}
 use Rattle.ep_packet.specs.Sliced.{Layers, arp_layers, arp_type, in_ipv4, in_ipv6, ip_layers}
 use Rattle.ep_packet.specs.Sliced.{ipv4_layers, ipv4_type, ipv6_layers, ipv6_type, layers_in}
 use Rattle.ep_packet.specs.Sliced.{layers_of, packet_tagged, packet_with}
@@ -64,6 +79,9 @@ use Rattle.ep_packet.specs.declared.err.packet.slice_error.SliceError.TheVariant
 use Rattle.ep_packet.specs.declared.net.ip_headers.IpHeaders.{IpHeaders}
 use Rattle.ep_packet.specs.declared.net.net_slice.NetSlice.TheVariants as net
 use Rattle.ep_packet.specs.declared.sliced_packet.SlicedPacket.{SlicedPacket}
+use Rattle.ep_packet.specs.declared.packet_headers.PacketHeaders.{PacketHeaders}
+use Rattle.ep_packet.proofs.FaultLemmas.{moved_nothing}
+use Rattle.ep_packet.proofs.SlicedLemmas.{sll_whole}
 use Rattle.ep_packet.proofs.MessageFaults.{payload_faulty, payload_parts_faulty}
 use Rattle.ep_packet.proofs.TagFaults.{AreTagsToFault, tags_first}
 use Rattle.ep_packet.proofs.TaggedLaws.{MacsecIsRead, tags_found}
@@ -150,10 +168,10 @@ layers_by law false false true p e is4 is6 isa is =
     (eqb-true p.ether_type.0 arp_type isa) refl is
 layers_by law false false false p e is4 is6 isa is = cc
 
-with_err : (header : Option LinkSlice) (t : Tagged) (r : Result Layers SliceError) (e : SliceError)
-    → packet_with header t.tags r ≡ Err e → r ≡ Err e
-with_err header t (Ok layers) e is = cc
-with_err header t (Err x) e is = ap Err (err_same {A = SlicedPacket} _ _ is)
+with_err : (header : Option LinkSlice) (tags : List LinkExtSlice) (r : Result Layers SliceError)
+    (e : SliceError) → packet_with header tags r ≡ Err e → r ≡ Err e
+with_err header tags (Ok layers) e is = cc
+with_err header tags (Err x) e is = ap Err (err_same {A = SlicedPacket} _ _ is)
 
 last_faulty : FaultsAreFirst → (p : EtherPayload) (t : Tagged) (o : Option EtherPayload)
     (e f : SliceError) → tags_in most_tags p ≡ Ok t → t.last ≡ o → layers_in o ≡ Err f
@@ -172,7 +190,7 @@ packet_faulty law header p (Err x) e read is =
     in_tags law.macsec IsLayersFault p e (read ∙ ap Err (err_same {A = SlicedPacket} _ _ is))
 packet_faulty law header p (Ok t) e read is =
     let f = later_err t.len (layers_in t.last) e
-    (with_err header t (later t.len (layers_in t.last)) e is) in
+    (with_err header t.tags (later t.len (layers_in t.last)) e is) in
     last_faulty law p t t.last e f.0 read refl f.1 f.2
 
 ip_part : FaultsAreFirst → (bytes : List ℕ) (r : Result IpSlice IpFault) (e : SliceError)
@@ -367,3 +385,107 @@ pub ip_headers_faulty : FaultsAreFirst → (bytes : List ℕ) (e : SliceError)
     → headers.ip_layers (length bytes) (ip_headers_at bytes) ≡ Err e
     → IsIpPacketHeadersFault bytes e
 ip_headers_faulty law bytes e is = ip_headers_part law bytes (ip_headers_at bytes) e refl is
+
+-- an Ethernet II frame
+ethernet_by : FaultsAreFirst → (frame : List ℕ) (short : Bool) (e : SliceError)
+    → nat_lt (length frame) ethernet_len ≡ short
+    → sliced.in_frame (if short then Err (too_few_bytes Ethernet2Header ethernet_len (length frame))
+    else Ok frame) ≡ Err e → IsFrameFault frame e
+ethernet_by law frame true e size is =
+    fault.InHeader (ltb-true (length frame) ethernet_len size)
+    (sym (err_same {A = SlicedPacket} _ _ is))
+ethernet_by law frame false e size is =
+    let p : EtherPayload = payload_of_frame frame in
+    let header : LinkSlice = link.Ethernet2 frame in
+    let f = later_err ethernet_len (packet_behind header p) e is in
+    fault.Behind f.0 (ltb-false (length frame) ethernet_len size)
+    (packet_faulty law (Some header) p (tags_in most_tags p) f.0 refl f.1) f.2
+
+pub ethernet_fault : FaultsAreFirst → (frame : List ℕ) (e : SliceError)
+    → sliced_ethernet frame ≡ Err e → IsFrameFault frame e
+ethernet_fault law frame e is = ethernet_by law frame (nat_lt (length frame) ethernet_len) e refl is
+
+ethernet_headers_by : FaultsAreFirst → (frame : List ℕ) (short : Bool) (e : SliceError)
+    → nat_lt (length frame) ethernet_len ≡ short
+    → packet_headers.in_frame (if short
+    then Err (too_few_bytes Ethernet2Header ethernet_len (length frame)) else Ok frame) ≡ Err e
+    → IsFrameHeadersFault frame e
+ethernet_headers_by law frame true e size is =
+    fault.InHeader (ltb-true (length frame) ethernet_len size)
+    (sym (err_same {A = Headers} _ _ is))
+ethernet_headers_by law frame false e size is =
+    let p : EtherPayload = payload_of_frame frame in
+    let header : LinkHeader = link_header.Ethernet2 (ethernet_header_of frame) in
+    let f = later_err ethernet_len (headers_behind (Some header) p) e is in
+    fault.Behind f.0 (ltb-false (length frame) ethernet_len size)
+    (headers_faulty law (Some header) p (tags_in most_tags p) f.0 refl f.1) f.2
+
+pub ethernet_headers_fault : FaultsAreFirst → (frame : List ℕ) (e : SliceError)
+    → ethernet_headers frame ≡ Err e → IsFrameHeadersFault frame e
+ethernet_headers_fault law frame e is =
+    ethernet_headers_by law frame (nat_lt (length frame) ethernet_len) e refl is
+
+-- bytes behind an ether type
+pub ether_type_fault : FaultsAreFirst → (t : EtherType) (bytes : List ℕ) (e : SliceError)
+    → sliced_ether_type t bytes ≡ Err e → IsEtherTypeFault t bytes e
+ether_type_fault law t bytes e is =
+    let p : EtherPayload = ether_payload t bytes in
+    packet_faulty law (Some (link.EtherPayload p)) p (tags_in most_tags p) e refl is
+
+pub ether_type_headers_fault : FaultsAreFirst → (t : EtherType) (bytes : List ℕ) (e : SliceError)
+    → ether_type_headers t bytes ≡ Err e → IsEtherTypeHeadersFault t bytes e
+ether_type_headers_fault law t bytes e is =
+    let p : EtherPayload = ether_payload t bytes in
+    headers_faulty law None p (tags_in most_tags p) e refl is
+
+-- a packet of a Linux cooked capture
+cooked_by : FaultsAreFirst → (packet : List ℕ) (o : Option EtherPayload) (e : SliceError)
+    → sll_fault.whole_at packet ≡ Ok packet → sll.named_payload (sll.payload_of packet) ≡ o
+    → in_linux_sll packet o ≡ Err e → IsCookedFault packet e
+cooked_by law packet None e whole named is = cc
+cooked_by law packet (Some p) e whole named is =
+    let header : LinkSlice = link.LinuxSll packet in
+    let f = later_err sll_len (packet_behind header p) e is in
+    fault.Behind p f.0 whole named
+    (packet_faulty law (Some header) p (tags_in most_tags p) f.0 refl f.1) f.2
+
+cooked_read : FaultsAreFirst → (packet : List ℕ) (r : Result (List ℕ) (HeaderSliceError SllError))
+    (e : SliceError) → sll_fault.whole_at packet ≡ r → in_cooked r ≡ Err e → IsCookedFault packet e
+cooked_read law packet (Ok taken) e read is =
+    let same : taken ≡ packet = (sll_whole packet taken (sym read)).0 in
+    cooked_by law packet (sll.named_payload (sll.payload_of packet)) e
+    (read ∙ ap Ok same) refl
+    (ap (λ (xs : List ℕ). in_linux_sll xs (sll.named_payload (sll.payload_of xs))) (sym same) ∙ is)
+cooked_read law packet (Err x) e read is =
+    fault.InHeader x read (sym (err_same {A = SlicedPacket} _ _ is))
+
+pub cooked_fault : FaultsAreFirst → (packet : List ℕ) (e : SliceError)
+    → sliced_linux_sll packet ≡ Err e → IsCookedFault packet e
+cooked_fault law packet e is = cooked_read law packet (sll_fault.whole_at packet) e refl is
+
+-- an IP packet
+pub ip_packet_fault : FaultsAreFirst → (bytes : List ℕ) (e : SliceError) → sliced_ip bytes ≡ Err e
+    → IsIpPacketFault bytes e
+ip_packet_fault law bytes e is =
+    ip_faulty law bytes e (with_err None [] (ip_layers (ip_packet_at bytes)) e is)
+
+pub ip_packet_headers_fault : FaultsAreFirst → (bytes : List ℕ) (e : SliceError)
+    → ip_packet_headers bytes ≡ Err e → IsIpPacketHeadersFault bytes e
+ip_packet_headers_fault law bytes e is = ip_headers_faulty law bytes e
+    (headers_with_err None [] (headers.ip_layers (length bytes) (ip_headers_at bytes)) e is)
+
+-- a result with the fault of its definition
+pub if_err : {A E : Type 0} (P : E → Type 0) (r s : Result A E) → r ≡ s
+    → ((e : E) → s ≡ Err e → P e) → IfErr r P
+if_err P (Ok x) s same each = tt
+if_err P (Err e) s same each = each e (sym same)
+
+pub if_err_told : (P : SliceError → Type 0) (r : Result PacketHeaders SliceError)
+    (s : Result Headers SliceError) → result_told r ≡ s
+    → ((e : SliceError) → s ≡ Err e → P e) → IfErr r P
+if_err_told P (Ok h) s same each = tt
+if_err_told P (Err e) s same each = each e (sym same)
+
+pub later_nothing : {A : Type 0} (r : Result A SliceError) → later 0 r ≡ r
+later_nothing (Ok x) = refl
+later_nothing (Err e) = ap Err (moved_nothing e)

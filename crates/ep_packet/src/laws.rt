@@ -1,10 +1,12 @@
 //! Laws: functions that do nothing, and whose contracts are what the definitions promise.
 
+mod faults;
 mod headers;
 mod readable;
 pub mod same_headers;
 pub mod sliced;
 pub mod traits;
 
+pub use faults::refusals_are_first_faults;
 pub use headers::ipv6_headers_agree_with_view;
 pub use readable::{messages_by_hand, readable_messages};

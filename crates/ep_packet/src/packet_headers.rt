@@ -1,5 +1,7 @@
 ghost use Rattle.std.specs.Prelude.{◌≡◌, ◌≤◌, ◌<◌, ◌+◌, ◌^◌, ℕ, length, map, IfErr, IfSome, Ok};
 ghost use Rattle.std.specs.Option.{option_map};
+ghost use Rattle.ep_packet.specs.FrameFault.{IsEtherTypeHeadersFault, IsFrameHeadersFault};
+ghost use Rattle.ep_packet.specs.FrameFault.{IsIpPacketHeadersFault};
 ghost use Rattle.ep_packet.specs.PacketHeaders.{Headers, ether_type_headers, ethernet_headers};
 ghost use Rattle.ep_packet.specs.PacketHeaders.{headers_behind, ids_in, ip_packet_headers};
 ghost use Rattle.ep_packet.specs.PacketHeaders.{layers_behind, modified_behind, result_told};
@@ -12,6 +14,7 @@ ghost use Rattle.ep_packet.specs.declared.sliced_packet.SlicedPacket.{SlicedPack
 ghost use Rattle.ep_tag.specs.LinkExt.{fields_of};
 
 use crate::err::packet::SliceError;
+use crate::laws::refusals_are_first_faults;
 use crate::layer_headers::LayerHeaders;
 use crate::tagged_slice::{TaggedSlice, source_behind};
 use crate::{NetHeaders, PayloadSlice, TransportHeader, slice_fault};
@@ -54,6 +57,8 @@ impl<'a> PacketHeaders<'a> {
     /// layer. The place of a want of bytes counts from the front of the frame; what a header wants
     /// within an IP payload has the source of that payload's length.
     pub fn from_ethernet_slice(slice: &'a [u8]) -> Result<PacketHeaders<'a>, SliceError>
+        // A refusal is the first fault.
+        ensures first { IfErr result (λ e. IsFrameHeadersFault slice.now e) }
         ensures exact { result_told result ≡ ethernet_headers slice.now }
         // The headers of the slices, where their own headers and payloads are all the frame's.
         ensures agrees { (packet : SlicedPacket) (headers : Headers)
@@ -63,6 +68,7 @@ impl<'a> PacketHeaders<'a> {
         laws::rows_are_found();
         laws::placed_rows_are_views();
         laws::ipv6_packet_found_is_there();
+        refusals_are_first_faults();
         Self::in_frame(slice)
     }
 
@@ -83,6 +89,8 @@ impl<'a> PacketHeaders<'a> {
         ether_type: EtherType,
         slice: &'a [u8],
     ) -> Result<PacketHeaders<'a>, SliceError>
+        // A refusal is the first fault.
+        ensures first { IfErr result (λ e. IsEtherTypeHeadersFault ether_type slice.now e) }
         ensures exact { result_told result ≡ ether_type_headers ether_type slice.now }
         // The headers of the slices, as above.
         ensures agrees { (packet : SlicedPacket) (headers : Headers)
@@ -92,6 +100,7 @@ impl<'a> PacketHeaders<'a> {
         laws::rows_are_found();
         laws::placed_rows_are_views();
         laws::ipv6_packet_found_is_there();
+        refusals_are_first_faults();
         let payload = EtherPayloadSlice {
             ether_type,
             len_source: LenSource::Slice,
@@ -103,6 +112,8 @@ impl<'a> PacketHeaders<'a> {
     /// The headers of an IP packet of the version that its first half byte tells, without a link
     /// header. The errors are as those of [`PacketHeaders::from_ethernet_slice`].
     pub fn from_ip_slice(slice: &'a [u8]) -> Result<PacketHeaders<'a>, SliceError>
+        // A refusal is the first fault.
+        ensures first { IfErr result (λ e. IsIpPacketHeadersFault slice.now e) }
         ensures exact { result_told result ≡ ip_packet_headers slice.now }
         // The headers of the slices, as above.
         ensures agrees { (packet : SlicedPacket) (headers : Headers)
@@ -112,6 +123,7 @@ impl<'a> PacketHeaders<'a> {
         laws::rows_are_found();
         laws::placed_rows_are_views();
         laws::ipv6_packet_found_is_there();
+        refusals_are_first_faults();
         Self::in_ip_packet(slice)
     }
 

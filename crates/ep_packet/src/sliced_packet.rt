@@ -1,5 +1,5 @@
-ghost use Rattle.std.specs.Prelude.{◌≡◌, ◌≤◌, ◌<◌, ◌+◌, ◌^◌, ◌↔◌, IfOk, IfSome, IsErr, length, Ok};
-ghost use Rattle.std.specs.Prelude.{Some};
+ghost use Rattle.std.specs.Prelude.{◌≡◌, ◌≤◌, ◌<◌, ◌+◌, ◌^◌, ◌↔◌, IfErr, IfOk, IfSome, IsErr, length};
+ghost use Rattle.std.specs.Prelude.{Ok, Some};
 ghost use Rattle.std.specs.Option.{option_map};
 ghost use Rattle.ep_link.specs.Ethernet.{ethernet_len, payload_of};
 ghost use Rattle.ep_link.specs.Sll.{sll_len};
@@ -7,6 +7,8 @@ ghost use Rattle.ep_link.specs.SllPayload.{named_payload, payload_of as sll_payl
 ghost use Rattle.ep_link.specs.declared.link.link_slice.LinkSlice.TheVariants as link_slice;
 ghost use Rattle.ep_packet.specs.Class.{class_of, class_told};
 ghost use Rattle.ep_packet.specs.Class.Class.{Refused};
+ghost use Rattle.ep_packet.specs.FrameFault.{IsCookedFault, IsEtherTypeFault, IsFrameFault};
+ghost use Rattle.ep_packet.specs.FrameFault.{IsIpPacketFault};
 ghost use Rattle.ep_packet.specs.PacketView.{ether_payload_in, ip_payload_of, is_part};
 ghost use Rattle.ep_packet.specs.PacketView.{last_payload, payload_ether_type_in, vlan_slice_of};
 ghost use Rattle.ep_packet.specs.PacketView.{vlan_tags};
@@ -18,6 +20,7 @@ ghost use Rattle.ep_packet.specs.Sliced.{sliced_linux_sll};
 ghost use Rattle.ep_packet.specs.Tags.{vlan_ids_of};
 
 use crate::err::packet::SliceError;
+use crate::laws::refusals_are_first_faults;
 use crate::layer_slices::LayerSlices;
 use crate::tagged_slice::{TaggedSlice, source_behind};
 use crate::{NetSlice, TransportSlice, slice_fault};
@@ -69,9 +72,11 @@ impl<'a> SlicedPacket<'a> {
         ensures refused { IsErr result ↔ (class_of slice.now ≡ Refused) }
         ensures class { class_told result ≡ class_of slice.now }
         // A refusal is the first fault, with its place in the frame.
+        ensures first { IfErr result (λ e. IsFrameFault slice.now e) }
         ensures exact { result ≡ sliced_ethernet slice.now }
     {
         payload_is_read();
+        refusals_are_first_faults();
         let frame = match Ethernet2Slice::from_slice_without_fcs(slice) {
             Ok(frame) => frame,
             Err(error) => return Err(SliceError::Len(error)),
@@ -90,9 +95,12 @@ impl<'a> SlicedPacket<'a> {
             (λ packet. IfSome (named_payload (sll_payload_of slice.now)) (λ p. IsSliced p packet)) }
         // Each part is the packet from its place on.
         ensures parts { IfOk result (λ packet. ArePartsOf slice.now sll_len packet) }
+        // A refusal is the first fault.
+        ensures first { IfErr result (λ e. IsCookedFault slice.now e) }
         ensures exact { result ≡ sliced_linux_sll slice.now }
     {
         payload_is_read();
+        refusals_are_first_faults();
         let packet = match LinuxSllSlice::from_slice(slice) {
             Ok(packet) => packet,
             Err(error) => return Err(slice_fault::of_linux_sll(error)),
@@ -125,9 +133,12 @@ impl<'a> SlicedPacket<'a> {
             → IsSliced (ether_payload ether_type slice.now) packet → result ≡ Ok packet }
         // Each part is the slice from its place on.
         ensures parts { IfOk result (λ packet. ArePartsOf slice.now 0 packet) }
+        // A refusal is the first fault.
+        ensures first { IfErr result (λ e. IsEtherTypeFault ether_type slice.now e) }
         ensures exact { result ≡ sliced_ether_type ether_type slice.now }
     {
         payload_is_read();
+        refusals_are_first_faults();
         let payload = EtherPayloadSlice {
             ether_type,
             len_source: LenSource::Slice,
@@ -150,8 +161,11 @@ impl<'a> SlicedPacket<'a> {
         ensures only { (packet : SlicedPacket) → IsSlicedIp slice.now packet → result ≡ Ok packet }
         // Each part is the slice from its place on.
         ensures parts { IfOk result (λ packet. ArePartsOf slice.now 0 packet) }
+        // A refusal is the first fault.
+        ensures first { IfErr result (λ e. IsIpPacketFault slice.now e) }
         ensures exact { result ≡ sliced_ip slice.now }
     {
+        refusals_are_first_faults();
         match LayerSlices::from_ip(slice) {
             Ok(layers) => Ok(SlicedPacket {
                 link: None,

@@ -2,6 +2,9 @@ use Rattle.std.proofs.Common.{◌∙◌, ap}
 use Rattle.ep_packet.proofs.HeadersOfPackets.{ether_type_same}
 use Rattle.ep_packet.specs.SliceFault.{later}
 use Rattle.ep_packet.proofs.packet_headers.PacketHeaders.from_ether_type.Goals as goal
+use Rattle.ep_packet.specs.FrameFault.{IsEtherTypeHeadersFault}
+use Rattle.ep_packet.specs.PacketHeaders.{ether_type_headers}
+use Rattle.ep_packet.proofs.FrameFaults.{if_err_told, later_nothing}
 
 pub returns-clause-agrees : goal.returns-clause-agrees
 returns-clause-agrees c = λ packet headers is are.
@@ -14,3 +17,9 @@ returns-clause-agrees c = λ packet headers is are.
       begins = c.ipv6_packet_found_is_there.ensures;
     }) c.args.ether_type
     c.args.slice.now packet headers is are)
+
+pub returns-clause-first : goal.returns-clause-first
+returns-clause-first c = if_err_told (IsEtherTypeHeadersFault c.args.ether_type c.args.slice.now)
+    c.behind_link.result (ether_type_headers c.args.ether_type c.args.slice.now)
+    (c.behind_link.ensures ∙ later_nothing _)
+    (c.refusals_are_first_faults.ensures.ether_type_headers c.args.ether_type c.args.slice.now)

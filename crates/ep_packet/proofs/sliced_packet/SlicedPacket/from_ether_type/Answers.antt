@@ -3,6 +3,10 @@ use Rattle.ep_packet.specs.Sliced.{ether_payload}
 use Rattle.ep_packet.proofs.FoundLemmas.{found_behind, taken_behind}
 use Rattle.ep_packet.proofs.sliced_packet.SlicedPacket.from_ether_type.Goals as goal
 use Rattle.ep_tag.specs.Ether.{EtherPayload}
+use Rattle.std.proofs.Common.{◌∙◌}
+use Rattle.ep_packet.specs.FrameFault.{IsEtherTypeFault}
+use Rattle.ep_packet.specs.Sliced.{sliced_ether_type}
+use Rattle.ep_packet.proofs.FrameFaults.{if_err, later_nothing}
 
 pub returns-clause-found : goal.returns-clause-found
 returns-clause-found c =
@@ -17,3 +21,9 @@ returns-clause-only c =
     taken_behind
     (record { found = c.payload_is_read.ensures.found; only = c.payload_is_read.ensures.only })
     (link.EtherPayload p) p 0 c.behind_link.result c.behind_link.ensures.exact
+
+pub returns-clause-first : goal.returns-clause-first
+returns-clause-first c = if_err (IsEtherTypeFault c.args.ether_type c.args.slice.now)
+    c.behind_link.result (sliced_ether_type c.args.ether_type c.args.slice.now)
+    (c.behind_link.ensures.exact ∙ later_nothing _)
+    (c.refusals_are_first_faults.ensures.ether_type c.args.ether_type c.args.slice.now)

@@ -10,6 +10,10 @@ use Rattle.ep_packet.proofs.PartsLemmas.{at_drop, whole_is}
 use Rattle.ep_packet.proofs.SlicedLemmas.{parts_in_frame}
 use Rattle.ep_packet.proofs.sliced_packet.SlicedPacket.from_ethernet.Goals as goal
 use Rattle.ep_tag.specs.Ether.{EtherPayload}
+use Rattle.std.proofs.Common.{rules, Err}
+use Rattle.ep_packet.specs.FrameFault.{IsFrameFault}
+use Rattle.ep_packet.specs.declared.err.packet.slice_error.SliceError.TheVariants.{Len}
+use Rattle.ep_packet.proofs.FrameFaults.{if_err}
 
 exact : (c : goal.After-behind_link) → c.behind_link.result ≡ sliced_ethernet c.args.slice.now
 exact c =
@@ -60,3 +64,13 @@ returns-clause-class c = class_is_told c.args.slice.now c.behind_link.result (ex
 
 pub returns-clause-exact : goal.returns-clause-exact
 returns-clause-exact c = exact c
+
+pub returns-in-Err-clause-first : goal.returns-in-Err-clause-first
+returns-in-Err-clause-first c =
+    let here : sliced_ethernet c.args.slice.now ≡ Err (Len c.in-Err.error) = search rules in
+    c.refusals_are_first_faults.ensures.ethernet c.args.slice.now (Len c.in-Err.error) here
+
+pub returns-clause-first : goal.returns-clause-first
+returns-clause-first c = if_err (IsFrameFault c.args.slice.now) c.behind_link.result
+    (sliced_ethernet c.args.slice.now) (exact c)
+    (c.refusals_are_first_faults.ensures.ethernet c.args.slice.now)

@@ -23,3 +23,8 @@ returns-in-Err-clause-only c packet is =
     let here : sliced_ip c.args.slice.now ≡ Err c.in-Err.error = search rules in
     sym here ∙ taken_ip c.args.slice.now (ip_layers (ip_packet_at c.args.slice.now))
     (λ layers are. sym c.in-Err.ensures.layers ∙ c.in-Err.ensures.only layers are) packet is
+
+pub returns-in-Err-clause-first : goal.returns-in-Err-clause-first
+returns-in-Err-clause-first c =
+    let here : sliced_ip c.args.slice.now ≡ Err c.in-Err.error = search rules in
+    c.refusals_are_first_faults.ensures.ip c.args.slice.now c.in-Err.error here

@@ -7,6 +7,10 @@ use Rattle.ep_packet.proofs.FoundLemmas.{found_behind}
 use Rattle.ep_packet.proofs.SlicedLemmas.{named_at, parts_in_frame, sll_whole, some_named}
 use Rattle.ep_packet.proofs.sliced_packet.SlicedPacket.from_linux_sll.Goals as goal
 use Rattle.ep_tag.specs.Ether.{EtherPayload}
+use Rattle.std.proofs.Common.{rules, Err}
+use Rattle.ep_packet.specs.FrameFault.{IsCookedFault}
+use Rattle.ep_packet.specs.Sliced.{sliced_linux_sll}
+use Rattle.ep_packet.proofs.FrameFaults.{if_err}
 
 -- what the protocol names is what was handed in behind the header
 named : (c : goal.After-behind_link)
@@ -35,3 +39,15 @@ returns-in-Ok-try_from-clause-parts c =
     parts_in_frame c.args.slice.now c.in-Ok-try_from.payload.payload sll_len c.behind_link.result
     (named_at c.args.slice.now c.in-Ok-try_from.payload whole.1 (named c))
     c.behind_link.ensures.parts
+
+pub returns-in-Err-clause-first : goal.returns-in-Err-clause-first
+returns-in-Err-clause-first c =
+    let here : sliced_linux_sll c.args.slice.now ≡ Err c.of_linux_sll.result = search rules in
+    c.refusals_are_first_faults.ensures.linux_sll c.args.slice.now c.of_linux_sll.result here
+
+pub returns-in-Ok-try_from-clause-first : goal.returns-in-Ok-try_from-clause-first
+returns-in-Ok-try_from-clause-first c =
+    let here : c.behind_link.result ≡ sliced_linux_sll c.args.slice.now = search rules in
+    if_err (IsCookedFault c.args.slice.now) c.behind_link.result
+    (sliced_linux_sll c.args.slice.now) here
+    (c.refusals_are_first_faults.ensures.linux_sll c.args.slice.now)
