@@ -12,7 +12,7 @@ pub(crate) enum ByteOrder {
 }
 
 impl ByteOrder {
-    /// The number that the two bytes at a place spell.
+    /// The number that the two bytes at an offset spell.
     pub(crate) fn half(self, bytes: &[u8], at: usize) -> u16
         requires { at + 2 ≤ length bytes.now }
         ensures { result ≡ half self bytes.now at }
@@ -24,7 +24,7 @@ impl ByteOrder {
         }
     }
 
-    /// The number that the four bytes at a place spell.
+    /// The number that the four bytes at an offset spell.
     pub(crate) fn word(self, bytes: &[u8], at: usize) -> u32
         requires { at + 4 ≤ length bytes.now }
         ensures { result ≡ word self bytes.now at }

@@ -12,7 +12,7 @@ use std::simd::prelude::*;
 ///
 /// The errors are those of [`hex::decode_to_slice`], and come in this order: `OddLength`, then
 /// `InvalidStringLength` where `bytes` is not half as long as the digits, then
-/// `InvalidHexCharacter` for the first byte that is no digit, with its place, and what `bytes` then
+/// `InvalidHexCharacter` for the first byte that is no digit, with its index, and what `bytes` then
 /// holds is open. A refused text is read twice: [`decode`] answers sooner, and names no error.
 pub fn decode_to_slice(digits: &[u8], bytes: &mut [u8]) -> Result<(), FromHexError>
     ensures value { MatchResult (decode_sized digits.now (length bytes.old))

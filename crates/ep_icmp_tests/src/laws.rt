@@ -1,4 +1,4 @@
-//! Each law is called once.
+//! Laws are called once each.
 use ep_icmp::laws::{examples, icmpv4, icmpv6, traits};
 use ep_icmp::{IcmpEchoHeader, Icmpv4Header, Icmpv4Type, Icmpv6Header, Icmpv6Type};
 

@@ -36,7 +36,7 @@ pub struct WholeMessage<'a> {
     pub addresses: Addresses,
     /// The number of its protocol.
     pub ip_number: IpNumber,
-    /// All bytes of the message, also those behind the length that a UDP header states.
+    /// All bytes of the message, also those after the length that a UDP header states.
     pub bytes: &'a [u8],
     /// The same as it is read.
     pub message: Message<'a>,
@@ -61,7 +61,7 @@ pub struct CutMessage<'a> {
 pub struct Part<'a> {
     /// The number of the message's protocol.
     pub ip_number: IpNumber,
-    /// The place of the bytes in the message, in units of 8 bytes.
+    /// The offset of the bytes in the message, in units of 8 bytes.
     pub offset: IpFragOffset,
     /// Whether other parts follow.
     pub more_fragments: bool,

@@ -1,4 +1,4 @@
-//! Laws: functions that do nothing, and whose contracts are what the definitions promise.
+//! Laws of the definitions: the contract of each function is the law.
 
 mod faults;
 mod headers;

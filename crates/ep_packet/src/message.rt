@@ -29,7 +29,7 @@ pub enum Message<'m> {
 /// Reads a message with this number, whichever IP version it came over: 1, 6, 17 and 58 as ICMPv4,
 /// TCP, UDP and ICMPv6, any other as it is.
 ///
-/// The error is that of the protocol's slice, with places counted from the front of the message.
+/// The error is that of the protocol's slice, with offsets counted from the front of the message.
 pub fn read_message(ip_number: IpNumber, message: &[u8]) -> Result<Message<'_>, SliceError>
     ensures { as_answer result ≡ message_at ip_number.0 message.now }
 {

@@ -49,12 +49,12 @@ impl<'a> PacketHeaders<'a> {
     /// The headers of an Ethernet II frame (RFC 894; IEEE 802.3, clause 3).
     ///
     /// They are those of the layers that `SlicedPacket::from_ethernet` slices, but for two: the
-    /// length field of UDP isn't looked at, so that all of an IP payload behind the header is
+    /// length field of UDP is ignored, so that all of an IP payload behind the header is
     /// payload; and extension headers of IPv6 that an `Ipv6Extensions` doesn't take end the
     /// headers, so that the IP payload begins with them.
     ///
     /// Refused is the first layer that isn't whole or breaks its format, with the error of that
-    /// layer. The place of a want of bytes counts from the front of the frame; what a header wants
+    /// layer. The offset of an error counts from the front of the frame; what a header wants
     /// within an IP payload has the source of that payload's length.
     pub fn from_ethernet_slice(slice: &'a [u8]) -> Result<PacketHeaders<'a>, SliceError>
         // A refusal is the first fault.

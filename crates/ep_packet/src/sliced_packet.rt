@@ -52,12 +52,12 @@ impl<'a> SlicedPacket<'a> {
 
     /// The parts of an Ethernet II frame (RFC 894; IEEE 802.3, clause 3).
     ///
-    /// Behind the link header stand up to three tags; a fourth is payload that is not looked into,
+    /// Behind the link header stand up to three tags; a fourth is payload that is not read,
     /// and so is a modified MACsec payload. IPv4, IPv6 and ARP packets are sliced, and the message
     /// in an IP packet that is no fragment: ICMP, TCP and UDP.
     ///
     /// Refused is the first layer that isn't whole or breaks its format, with the error of that
-    /// layer. The place of a want of bytes counts from the front of the frame; what a header or
+    /// layer. The offset of an error counts from the front of the frame; what a header or
     /// message wants within an IP payload has the source of that payload's length.
     pub fn from_ethernet(slice: &'a [u8]) -> Result<SlicedPacket<'a>, SliceError>
         // Tags and layers that are taken stand behind the link header, and no others could.

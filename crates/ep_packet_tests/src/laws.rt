@@ -1,4 +1,4 @@
-//! Each law is called once.
+//! Laws are called once each.
 use ep_packet::laws;
 
 #[test]

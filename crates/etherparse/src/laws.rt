@@ -1,5 +1,5 @@
-//! Laws: functions that do nothing, and whose contracts are what the definitions promise. Those of
-//! the crates that this one stands on are modules of this one, each named as its crate.
+//! Laws of the definitions: the contract of each function is the law. Those of the crates that this
+//! one stands on are modules of this one, each named as its crate.
 
 ghost use Rattle.std.specs.Prelude.{◌≡◌, ◌↔◌, IsTrue, List};
 ghost use Rattle.etherparse.specs.Fragments.{Fragment, is_complete, Complete, MembersAgree};
@@ -34,7 +34,7 @@ pub fn cover()
     ensures { Cover }
 {}
 
-/// Every buffer there is shows some fragments, each of which was accepted behind those before it.
+/// Every buffer there is shows some fragments, each of which was accepted after those before it.
 pub fn every_buffer_is_a_picture(buf: &IpDefragBuf)
     ensures { IsPicture buf.now }
 {

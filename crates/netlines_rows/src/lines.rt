@@ -6,7 +6,7 @@ use hex::FromHexError;
 use std::alloc::Global;
 
 /// The frame of each line `frame`, whatever its channel. A line whose last word isn't whole bytes
-/// in hex has none. The only error is want of memory. It has no contract: what the program prints
+/// in hex has none. The only error is out of memory. It has no contract: what the program prints
 /// is compared with what is stored.
 pub fn count_frames(alloc: Global, text: &[u8], frames: &mut Frames) -> Result<(), FromHexError> {
     for line in text.split_str(b"\n") {

@@ -31,8 +31,8 @@ impl<C> From<LenError> for SliceError<C> {
 impl<C> SliceError<C> {
     /// The same error, seen from a slice that starts `offset` bytes earlier.
     ///
-    /// The place of the layer moves by `offset`, which has to fit a `usize`. A `Content` error
-    /// names no place and stays as it is.
+    /// The layer's offset grows by `offset`, and has to fit a `usize`. A `Content` error has no
+    /// offset and stays as it is.
     pub fn add_slice_offset(self, offset: usize) -> Self
         requires { CanMove self offset }
         ensures { result ≡ offset_by self offset }

@@ -12,7 +12,7 @@ pub struct SliceWriteSpaceError {
     pub len: usize,
     /// The layer that is written.
     pub layer: Layer,
-    /// The place of the layer's first byte in what is written.
+    /// The offset of the layer's first byte in what is written.
     pub layer_start_offset: usize,
 }
 

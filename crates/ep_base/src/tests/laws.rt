@@ -1,4 +1,4 @@
-//! Each law is called once.
+//! Laws are called once each.
 use crate::IpEcn;
 use crate::laws::{
     checksum_sums_to_all_ones, constants, ecn_round_trip, examples, fold_of_pieces,

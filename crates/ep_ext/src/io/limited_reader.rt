@@ -10,7 +10,7 @@ use std::marker::Model;
 /// A reader from which no more than a number of bytes is read, as the headers of a packet before
 /// them allow. It counts what was read of the layer that is read now.
 ///
-/// A contract sees the reader inside, the limit with its source, the layer with its place, and the
+/// A contract sees the reader inside, the limit with its source, the layer with its offset, and the
 /// number of bytes read of it.
 #[derive(Debug, Drop)]
 pub struct LimitedReader<T> {
@@ -90,7 +90,7 @@ impl<T> LimitedReader<T> {
         self.layer
     }
 
-    /// The place of the layer that is read now, from the start of the packet.
+    /// The offset of the layer that is read now, from the start of the packet.
     pub fn layer_offset(&self) -> usize
         ensures { result ≡ self.now.layer_offset }
     {
@@ -105,7 +105,7 @@ impl<T> LimitedReader<T> {
         self.read_len
     }
 
-    /// Begins a layer behind the bytes that were read. The limit goes down by them, the place up.
+    /// Begins a layer after the bytes that were read. The limit goes down by them, the offset up.
     pub fn start_layer(&mut self, layer: Layer)
         ensures { self.new ≡ at_next_layer self.old layer }
     {

@@ -99,7 +99,7 @@ pub fn auth_header_is_read_again<'a>(
     IpAuthHeader::from_slice(slice)
 }
 
-/// A layer that begins doesn't move the place at which a reader's limit lies.
+/// A layer that begins doesn't move the offset at which a reader's limit lies.
 pub fn new_layer_keeps_the_end<T>(reader: &mut LimitedReader<T>, layer: Layer)
     ensures { reader.new.layer_offset + reader.new.max_len
         ≡ reader.old.layer_offset + reader.old.max_len }

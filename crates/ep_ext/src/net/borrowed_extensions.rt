@@ -19,7 +19,7 @@ use crate::err::ipv6_exts::{HeaderError, HeaderSliceError};
 use ep_base::IpNumber;
 use ep_base::err::Layer;
 
-/// Extension headers of an IPv6 packet, borrowed, each at its place. An `Ipv6Extensions` has room
+/// Extension headers of an IPv6 packet, borrowed, each in its slot. An `Ipv6Extensions` has room
 /// for each header in its greatest length, so a walk keeps these, and makes the value at its end.
 #[derive(Drop)]
 pub struct BorrowedExtensions<'a> {
@@ -101,7 +101,7 @@ impl<'a> BorrowedExtensions<'a> {
         }
     }
 
-    /// Puts the headers into their places, each with one copy of its bytes.
+    /// Puts the headers into their slots, each with one copy of its bytes.
     pub fn put_into(&self, extensions: &mut Ipv6Extensions)
         requires { extensions.old ≡ value_of [] }
         ensures { (pieces : List Piece) → Holds self.now pieces → extensions.new ≡ value_of pieces }

@@ -84,7 +84,7 @@ impl<'a> Ipv6FragmentHeaderSlice<'a> {
         IpNumber(self.slice[0])
     }
 
-    /// The place of the payload in the message, in units of 8 bytes.
+    /// The offset of the payload in the message, in units of 8 bytes.
     pub fn fragment_offset(&self) -> IpFragOffset
         ensures { result ≡ (fragment_of self.now).fragment_offset }
     {
@@ -106,7 +106,7 @@ impl<'a> Ipv6FragmentHeaderSlice<'a> {
         u32::from_be_bytes([self.slice[4], self.slice[5], self.slice[6], self.slice[7]])
     }
 
-    /// Whether there are other fragments: more follow this one, or its place isn't 0.
+    /// Whether there are other fragments: more follow this one, or its offset isn't 0.
     pub fn is_fragmenting_payload(&self) -> bool
         ensures { result ≡ fragments (fragment_of self.now) }
     {

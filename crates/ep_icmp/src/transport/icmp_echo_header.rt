@@ -2,7 +2,7 @@
 ghost use Rattle.ep_icmp.specs.Fields.{EchoFits, echo_bytes, echo_in};
 ghost use Rattle.std.specs.Prelude.{◌≡◌};
 
-/// Bytes 5 to 8 of an echo request and of its reply (RFC 792, "Echo or Echo Reply Message"; RFC
+/// Bytes 4 to 7 of an echo request and of its reply (RFC 792, "Echo or Echo Reply Message"; RFC
 /// 4443, sections 4.1 and 4.2).
 #[derive(Clone, Copy, Debug, PartialEq, Eq)]
 pub struct IcmpEchoHeader {

@@ -75,28 +75,28 @@ impl<'a> Icmpv4Slice<'a> {
         self.slice
     }
 
-    /// The type, byte 1.
+    /// The type, byte 0.
     pub fn type_u8(&self) -> u8
         ensures { result ≡ num self.now 0 1 }
     {
         self.slice[0]
     }
 
-    /// The code, byte 2.
+    /// The code, byte 1.
     pub fn code_u8(&self) -> u8
         ensures { result ≡ num self.now 1 1 }
     {
         self.slice[1]
     }
 
-    /// The checksum, bytes 3 and 4.
+    /// The checksum, bytes 2 and 3.
     pub fn checksum(&self) -> u16
         ensures { result ≡ num self.now 2 2 }
     {
         u16::from_be_bytes([self.slice[2], self.slice[3]])
     }
 
-    /// Bytes 5 to 8, whatever the type says of them.
+    /// Bytes 4 to 7, whatever the type says of them.
     pub fn bytes5to8(&self) -> [u8; 4]
         ensures { result ≡ slice_range self.now 4 8 }
     {

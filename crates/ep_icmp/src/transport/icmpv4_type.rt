@@ -24,7 +24,7 @@ pub enum Icmpv4Type {
         type_u8: u8,
         /// The code.
         code_u8: u8,
-        /// What stands behind the checksum, bytes 5 to 8.
+        /// What follows the checksum, bytes 4 to 7.
         bytes5to8: [u8; 4],
     },
     /// The reply to an echo request (type 0, code 0).

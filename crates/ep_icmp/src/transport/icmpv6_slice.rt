@@ -68,21 +68,21 @@ impl<'a> Icmpv6Slice<'a> {
         self.slice
     }
 
-    /// The type, byte 1.
+    /// The type, byte 0.
     pub fn type_u8(&self) -> u8
         ensures { result ≡ num self.now 0 1 }
     {
         self.slice[0]
     }
 
-    /// The code, byte 2.
+    /// The code, byte 1.
     pub fn code_u8(&self) -> u8
         ensures { result ≡ num self.now 1 1 }
     {
         self.slice[1]
     }
 
-    /// The checksum, bytes 3 and 4.
+    /// The checksum, bytes 2 and 3.
     pub fn checksum(&self) -> u16
         ensures { result ≡ num self.now 2 2 }
     {
@@ -101,7 +101,7 @@ impl<'a> Icmpv6Slice<'a> {
         message_sum(pseudo, header, payload).ones_complement() == 0
     }
 
-    /// Bytes 5 to 8, whatever the type says of them.
+    /// Bytes 4 to 7, whatever the type says of them.
     pub fn bytes5to8(&self) -> [u8; 4]
         ensures { result ≡ slice_range self.now 4 8 }
     {
@@ -124,7 +124,7 @@ impl<'a> Icmpv6Slice<'a> {
         }
     }
 
-    // Bytes 5 to 8 as a number.
+    // Bytes 4 to 7 as a number.
     fn number(&self) -> u32
         ensures { result ≡ num self.now 4 4 }
     {

@@ -15,7 +15,7 @@ use ep_base::err::{ValueTooBigError, ValueType};
 use ep_base::ip_number;
 use ep_ip::checksum::pseudo_sum_v6;
 
-/// The kind of an ICMPv6 message: its type, its code and bytes 5 to 8 of its header (RFC 4443,
+/// The kind of an ICMPv6 message: its type, its code and bytes 4 to 7 of its header (RFC 4443,
 /// section 2.1). The kinds of neighbor discovery (types 133 to 137) are `Unknown`.
 #[derive(Clone, Debug, PartialEq, Eq, Drop)]
 pub enum Icmpv6Type {
@@ -25,7 +25,7 @@ pub enum Icmpv6Type {
         type_u8: u8,
         /// The code.
         code_u8: u8,
-        /// What stands behind the checksum, bytes 5 to 8.
+        /// What follows the checksum, bytes 4 to 7.
         bytes5to8: [u8; 4],
     },
     /// A packet couldn't be delivered (type 1, codes 0 to 6).

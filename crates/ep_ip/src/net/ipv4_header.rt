@@ -40,7 +40,7 @@ pub struct Ipv4Header {
     pub dont_fragment: bool,
     /// Whether more fragments follow this one.
     pub more_fragments: bool,
-    /// The place of the payload in the message, in units of 8 bytes.
+    /// The offset of the payload in the message, in units of 8 bytes.
     pub fragment_offset: IpFragOffset,
     /// The time to live, in hops.
     pub time_to_live: u8,

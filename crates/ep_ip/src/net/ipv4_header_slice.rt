@@ -38,7 +38,7 @@ impl<'a> Model for Ipv4HeaderSlice<'a> {
 
 #[tactic(auto, using(ep_base::proofs::Bits::masks))]
 impl<'a> Ipv4HeaderSlice<'a> {
-    /// The header at the front of the slice. What follows it is not looked at.
+    /// The header at the front of the slice. It ignores what follows.
     ///
     /// Tested in this order: 20 bytes are there (`Len`), the version is 4 (`UnexpectedVersion`),
     /// the length field is at least 5 (`HeaderLengthSmallerThanHeader`), and as many words of
@@ -159,7 +159,7 @@ impl<'a> Ipv4HeaderSlice<'a> {
         self.slice[6] & 0x20 != 0
     }
 
-    /// The place of the payload in the message, in units of 8 bytes.
+    /// The offset of the payload in the message, in units of 8 bytes.
     pub fn fragments_offset(&self) -> IpFragOffset
         ensures { result ≡ fragment_offset_of self.now }
     {

@@ -209,7 +209,7 @@ impl Ipv6Header {
     /// Skips the IPv6 extension headers in a row at the front of the slice, of which the first has
     /// the given number, and answers the first number that is none of 0, 43, 44, 51, 60, 135, 139
     /// and 140, and the bytes behind the headers. A header of one of these numbers that is not
-    /// whole is refused, with its place in the slice.
+    /// whole is refused, with its offset in the slice.
     pub fn skip_all_header_extensions_in_slice(
         slice: &[u8],
         next_header: IpNumber,
@@ -227,7 +227,7 @@ impl Ipv6Header {
         Self::skip_counted(slice, next_header).0
     }
 
-    /// The same as `skip_all_header_extensions_in_slice`, and how many numbers it looked at: one
+    /// The same as `skip_all_header_extensions_in_slice`, and how many numbers it tested: one
     /// for each header that it skipped, and one for the number at which it ended.
     pub fn skip_counted(
         slice: &[u8],

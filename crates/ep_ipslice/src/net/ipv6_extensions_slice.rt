@@ -22,7 +22,7 @@ use ep_ext::{Ipv6ExtPlace, Ipv6FragmentHeaderSlice, laws};
 use std::marker::Model;
 
 /// The extension headers behind an IPv6 header (RFC 8200, section 4), borrowed: hop-by-hop options
-/// in first place, routing, fragment, authentication headers and destination options in any order
+/// as the first, routing, fragment, authentication headers and destination options in any order
 /// and number. They were tested when the value was made.
 ///
 /// A contract sees the value as the number of its first header, whether one of them is the fragment

@@ -48,7 +48,7 @@ impl<'a> Ipv6Slice<'a> {
     /// The packet at the front of the slice. Refused are, in this order, what
     /// [`Ipv6HeaderSlice::from_slice`] refuses, a payload length above the bytes that are there,
     /// and the first extension header that isn't whole within that length, breaks its format or
-    /// stands out of its place.
+    /// is out of order.
     #[inline(always)]
     pub fn from_slice(slice: &'a [u8]) -> Result<Ipv6Slice<'a>, SliceError>
         // The slice begins with what is taken.

@@ -33,7 +33,7 @@ impl Part for TcpHeader {
 }
 
 impl<'a> TcpHeaderSlice<'a> {
-    /// The header at the front of the slice. What follows it is not looked at.
+    /// The header at the front of the slice. It ignores what follows.
     ///
     /// Tested in this order: 20 bytes are there (`Len`), the data offset is at least 5
     /// (`DataOffsetTooSmall`), and as many words of 4 bytes are there as it says (`Len`).

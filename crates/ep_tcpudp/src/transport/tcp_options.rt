@@ -42,7 +42,7 @@ impl TcpOptions {
     }
 
     /// The options that these bytes are. Where the last word isn't whole, it is filled up with 0,
-    /// the option that ends the list. What the bytes mean isn't looked at.
+    /// the option that ends the list. What the bytes mean is ignored.
     ///
     /// More than 40 bytes are refused with their number.
     pub fn try_from_slice(slice: &[u8]) -> Result<TcpOptions, TcpOptionWriteError>

@@ -120,7 +120,7 @@ impl UdpHeader {
     /// is never 0: ffff stands in its place.
     ///
     /// A payload above 65527 bytes is refused. Whether the length field fits the payload isn't
-    /// looked at.
+    /// tested.
     pub fn calc_checksum_ipv4(
         &self,
         ip_header: &Ipv4Header,
@@ -217,7 +217,7 @@ impl UdpHeader {
     }
 
     /// The header at the front of the slice, and the bytes behind it. A slice of fewer than 8 bytes
-    /// is refused. The length field isn't looked at.
+    /// is refused. The length field is ignored.
     pub fn from_slice(slice: &[u8]) -> Result<(UdpHeader, &[u8]), LenError>
         // The front of the slice is a header, and is read so.
         ensures found { IfOk result (λ r. IsRead slice.now r.0 r.1.now) }

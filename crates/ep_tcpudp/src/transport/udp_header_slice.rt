@@ -20,7 +20,7 @@ impl Part for UdpHeader {
 
 impl<'a> UdpHeaderSlice<'a> {
     /// The header at the front of the slice. A slice of fewer than 8 bytes is refused. The length
-    /// field isn't looked at, nor what follows the header.
+    /// field is ignored, and so is what follows the header.
     pub fn from_slice(slice: &'a [u8]) -> Result<UdpHeaderSlice<'a>, LenError>
         // What is taken is a header, and a front of the slice.
         ensures found { IfOk result (λ header. IsUdpHeader header

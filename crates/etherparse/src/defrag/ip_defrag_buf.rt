@@ -175,7 +175,7 @@ impl IpDefragBuf {
         self.ip_number
     }
 
-    /// The bytes that are there, with 0 at each place that is open.
+    /// The bytes that are there, with 0 at each offset that is open.
     pub fn data(&self) -> &Vec<u8>
         ensures { result.now.items ≡ self.now.bytes }
     {
@@ -199,9 +199,9 @@ impl IpDefragBuf {
     /// Takes a fragment of the message, whose bytes go over those that are there. A last one names
     /// the end of the message and cuts the data to it.
     ///
-    /// It is refused, and nothing changes, where it ends behind 65535 bytes; else where more
+    /// It is refused, and nothing changes, where it ends after 65535 bytes; else where more
     /// fragments follow and its length is no multiple of 8; else where the end of the message is
-    /// known and it ends behind it, or is a last one with another end; else where no memory is left
+    /// known and it ends after it, or is a last one with another end; else where no memory is left
     /// for it.
     pub fn add(
         &mut self,

@@ -14,7 +14,7 @@ pub enum IpDefragError {
         /// The number of its bytes.
         payload_len: usize,
     },
-    /// The fragment ends behind the greatest length of a message.
+    /// The fragment ends after the greatest length of a message.
     #[error("Overall length of IP fragment (offset {offset}, payload len: {payload_len}) bigger then the maximum allowed size of {max}.")]
     SegmentTooBig {
         /// Where the fragment begins, in units of 8 bytes.
@@ -24,7 +24,7 @@ pub enum IpDefragError {
         /// The greatest length of a message.
         max: u16,
     },
-    /// The fragment ends behind the end of the message, or it is a last one and has another end.
+    /// The fragment ends after the end of the message, or it is a last one and has another end.
     #[error("Received a IP fragment (offset + len: {conflicting_end}) which conflicts a package that previously set the end to {previous_end}.")]
     ConflictingEnd {
         /// The end of the message, in bytes, as an earlier last fragment named it.

@@ -4,9 +4,9 @@
 /// the one ends and the other starts, so they merge.
 #[derive(Clone, Copy, Debug, PartialEq, Eq, Hash, PartialOrd, Ord)]
 pub struct IpFragRange {
-    /// The first place, in bytes.
+    /// The first offset, in bytes.
     pub start: u16,
-    /// The place behind the last one.
+    /// The offset after the last one.
     pub end: u16,
 }
 

@@ -35,7 +35,7 @@ pub fn a_new_pool_shows_no_lists()
 {}
 
 /// What `process_sliced_packet` says of streams, said of the list of each name: the packet is
-/// answered by its name's list, which has its fragment then; or memory is wanting for one that
+/// answered by its name's list, which has its fragment then; or it is out of memory for one that
 /// isn't refused, and all lists stay.
 pub fn packets_are_answered()
     ensures { PacketsAreAnswered }
@@ -43,7 +43,7 @@ pub fn packets_are_answered()
     equal_names::<u32>();
 }
 
-/// No answer to a frame tells of a want of memory, and what may be told in its place always does.
+/// No answer to a frame tells out of memory, and what may be told in its place always does.
 pub fn wants_are_told()
     ensures { WantsAreTold }
 {}
@@ -208,7 +208,7 @@ pub fn lists_from_a_time_on()
         ≡ record { fragments = fs; time = 6 } }
 {}
 
-/// Two replies tell of a want of memory, and others don't.
+/// Two replies tell out of memory, and others don't.
 pub fn replies_without_memory()
     ensures fragment { HasMemory (Refused (AllocationFailure 8)) → ⊥ }
     ensures retain { HasMemory NoMemory → ⊥ }
@@ -216,7 +216,7 @@ pub fn replies_without_memory()
     ensures nothing { HasMemory Nothing }
 {}
 
-/// Want of memory may be told of a fragment that isn't refused, with its end, where the last 8 of
+/// Out of memory may be told of a fragment that isn't refused, with its end, where the last 8 of
 /// 16 bytes came before it, and then its list is as it was; and of nothing else, `RetainFrom`
 /// neither.
 pub fn wants_of_memory()
@@ -240,7 +240,7 @@ pub fn wants_of_memory()
 {}
 
 /// What may be answered to `RetainFrom(5)` where the last 8 of 16 bytes came at time 4: `Retained`,
-/// and the list is empty; no want of memory, and no refusal.
+/// and the list is empty; not out of memory, and no refusal.
 pub fn replies_to_retain_from()
     ensures retained { (name : FragmentName)
         → Replies (λ after. (after name 3).fragments ≡ [])

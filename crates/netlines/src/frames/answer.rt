@@ -38,7 +38,7 @@ fn verdict_text(verdict: Verdict) -> &'static [u8]
     }
 }
 
-/// The answer to a fragment that is refused, if it isn't so for want of memory.
+/// The answer to a fragment that is refused; none where memory ran out for it.
 pub fn refusal_text(error: &IpDefragError) -> Option<&'static [u8]>
     ensures text { MatchOption result (HasMemory (Refused error.now) → ⊥)
         (λ text. HasMemory (Refused error.now) × (text.now ≡ refusal_answer error.now)) }

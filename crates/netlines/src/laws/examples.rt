@@ -159,8 +159,8 @@ pub fn messages_have_packets()
         "88a80005810000090800" }
 {}
 
-/// Memory may be wanting for a fragment, alone or behind the first half of its message. It isn't
-/// for one that is refused, alone or behind another, for a `forget` line, for a line with an uncut
+/// A fragment may take memory, alone or after the first half of its message. None is taken
+/// for one that is refused, alone or after another, for a `forget` line, for a line with an uncut
 /// message, with a frame of another ether type or of 13 bytes, or for one that asks for nothing.
 pub fn lines_that_take_memory()
     ensures fragment { takes_memory []

@@ -62,7 +62,7 @@ pub fn forget()
     equal_names::<u32>();
 }
 
-/// Where no whole line that was read is one for which memory may be wanting, a run ends for want of
+/// Where no whole line that was read is one that may take memory, a run ends out of
 /// memory before it has read or written anything.
 pub fn memory_wants_a_fragment()
     ensures { (told : Bool) (read written : List ℕ)

@@ -38,7 +38,7 @@ impl<'t> Device for TextDevice<'t> {
     }
 }
 
-/// The answers to all lines of a text, each ended by 0a. The only error is want of memory.
+/// The answers to all lines of a text, each ended by 0a. The only error is out of memory.
 pub fn answers(alloc: Global, text: &[u8]) -> Result<Vec<u8>, AllocError>
     ensures { IfOk result (λ answers. answers.items ≡ answers_of text.now) }
 {

@@ -45,7 +45,7 @@ impl ReplyBuffer {
     }
 
     /// Adds the reply to a line. What waits is written first where a reply may have no room; where
-    /// memory is wanting for the reply, all that waits is written before that is told.
+    /// there is no memory for the reply, all that waits is written before that is told.
     pub fn push<A: Answerer, D: Device>(
         &mut self,
         answerer: &mut A,

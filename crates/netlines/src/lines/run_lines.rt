@@ -23,7 +23,7 @@ use std::io::{Read, Write};
 /// is said by [`run_over`] alone: `Read` and `Write` give a failing call no meaning.
 ///
 /// Memory is taken before the first read, and then for fragments that aren't refused alone. Where
-/// it is wanting for one of these, the answers to all lines before it are written.
+/// it runs out for one of these, the answers to all lines before it are written.
 pub fn run<R: Read, W: Write>(alloc: Global, reader: &mut R, writer: &mut W) -> Result<(), RunError>
     // All lines are answered, and no byte is left to read.
     ensures ok { OnOk result (IfSome (R.remaining reader.old) (λ bytes.

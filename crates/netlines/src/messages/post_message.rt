@@ -14,7 +14,7 @@ use std::alloc::{AllocError, Global};
 /// The greatest length of a message in bytes.
 const MESSAGE_LIMIT: usize = 65535;
 
-/// The frames of Ethernet II that bring a message to where a letter says, cut at these places in
+/// The frames of Ethernet II that bring a message to where a letter says, cut at these offsets in
 /// bytes: one for each piece. Their IP packets have 64 hops and no options, over IPv4
 /// don't-fragment is unset, over IPv6 only a message that is cut has an extension header, the
 /// fragment header, and nothing follows the piece.

@@ -13,8 +13,8 @@ use std::alloc::Global;
 const MESSAGE_LIMIT: usize = 65535;
 
 /// The bytes of a message: the header, with the checksum that belongs to the payload and the
-/// addresses of the stream and, of UDP, with the length; and behind it the payload. What the header
-/// has in those fields is not looked at.
+/// addresses of the stream and, of UDP, with the length; and after it the payload. What the header
+/// has in those fields is ignored.
 ///
 /// Where several refusals stand, the first one in the order of [`SealError`] is given.
 pub fn seal_message(

@@ -18,7 +18,7 @@ pub enum DestUnreachableHeader {
     Port,
     /// The packet is too big for the next network and may not be fragmented (code 4).
     FragmentationNeeded {
-        /// The greatest packet in bytes that the next network takes, in bytes 7 and 8 (RFC 1191,
+        /// The greatest packet in bytes that the next network takes, in bytes 6 and 7 (RFC 1191,
         /// section 4). 0 is written by nodes that don't tell it.
         next_hop_mtu: u16,
     },

@@ -7,7 +7,7 @@ ghost use Rattle.ep_icmp.specs.Layout.{bytes_of_fields};
 /// Message"; RFC 1122, section 3.2.2.5).
 #[derive(Clone, Copy, Debug, PartialEq, Eq)]
 pub enum ParameterProblemHeader {
-    /// The fault stands at this byte of the packet, counted from 0 (code 0). The place is byte 5.
+    /// The fault is at this offset in the packet (code 0). The offset is byte 4.
     PointerIndicatesError(u8),
     /// An option that is required is missing (code 1).
     MissingRequiredOption,

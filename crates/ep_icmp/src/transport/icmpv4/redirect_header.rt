@@ -8,6 +8,6 @@ use super::RedirectCode;
 pub struct RedirectHeader {
     /// For which traffic.
     pub code: RedirectCode,
-    /// The address of the gateway to which that traffic should be sent, bytes 5 to 8.
+    /// The address of the gateway to which that traffic should be sent, bytes 4 to 7.
     pub gateway_internet_address: [u8; 4],
 }

@@ -8,6 +8,6 @@ use super::ParameterProblemCode;
 pub struct ParameterProblemHeader {
     /// What is wrong.
     pub code: ParameterProblemCode,
-    /// The byte of the packet, counted from 0, where the fault stands, in bytes 5 to 8.
+    /// The offset of the fault in the packet, in bytes 4 to 7.
     pub pointer: u32,
 }

@@ -11,7 +11,7 @@ pub enum HeadersError {
     /// The authentication header behind an IPv4 header breaks its format.
     #[error("{0}")]
     Ipv4Ext(ip_auth::HeaderError),
-    /// An IPv6 extension header breaks its format, or stands out of its place.
+    /// An IPv6 extension header breaks its format, or is out of order.
     #[error("{0}")]
     Ipv6Ext(ipv6_exts::HeaderError),
 }

@@ -18,7 +18,7 @@ pub enum SliceError {
     /// The base header breaks its format.
     #[error("{0}")]
     Header(HeaderError),
-    /// An extension header breaks its format, or stands out of its place.
+    /// An extension header breaks its format, or is out of order.
     #[error("{0}")]
     Exts(ipv6_exts::HeaderError),
 }

@@ -31,7 +31,7 @@ pub enum SliceError {
     /// The authentication header behind an IPv4 header breaks its format.
     #[error("{0}")]
     Ipv4Exts(ip_auth::HeaderError),
-    /// An IPv6 extension header breaks its format, or stands out of its place.
+    /// An IPv6 extension header breaks its format, or is out of order.
     #[error("{0}")]
     Ipv6Exts(ipv6_exts::HeaderError),
     /// A TCP header breaks its format.
