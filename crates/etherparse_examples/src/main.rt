@@ -1,4 +1,4 @@
-//! The examples of the README, each a module of its own, and what they make of some packets.
+//! The examples of README.md and docs/EXAMPLES.md, each a module of its own, and what they make of some packets.
 #![tactic(auto)]
 
 mod built_segment;
@@ -10,9 +10,14 @@ mod frames;
 mod owned_headers;
 mod sliced_frame;
 mod tags_and_arp;
+mod udp_ports;
 
 /// It has no contract: what it prints is compared with what the packets hold.
 fn main(rt: HostRuntime) -> anyhow::Result<()> {
+    println!(rt; "The ports of UDP:")?;
+    println!(rt; "{:?}", udp_ports::udp_ports(frames::UDP_OVER_IPV4)?)?;
+    println!(rt; "{:?}", udp_ports::udp_ports(frames::TCP_OVER_IPV6)?)?;
+
     println!(rt; "A frame, sliced:")?;
     sliced_frame::print_parts(&rt, frames::UDP_OVER_IPV4)?;
     sliced_frame::print_parts(&rt, frames::TCP_OVER_IPV6)?;
