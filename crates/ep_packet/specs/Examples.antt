@@ -1,10 +1,14 @@
 -- Frames from outside, at which laws state the definitions' values (IEEE 802.3, 802.1Q and 802.1AE;
 -- RFC 768, 791, 826 and 8200).
 use Rattle.std.specs.Prelude.{ℕ, List, [], ◌∷◌, ◌++◌, Option, None}
+use Rattle.ep_base.specs.declared.err.layer.Layer.{Layer}
+use Rattle.ep_base.specs.declared.len_source.LenSource.{LenSource}
 use Rattle.ep_base.specs.declared.len_source.LenSource.TheVariants.{Slice}
 use Rattle.ep_ipslice.specs.Packet.{Ipv4Packet}
 use Rattle.ep_packet.specs.declared.addresses.Addresses.{Addresses}
 use Rattle.ep_packet.specs.declared.addresses.Addresses.TheVariants.{V4}
+use Rattle.ep_packet.specs.declared.err.packet.slice_error.SliceError.{SliceError}
+use Rattle.ep_packet.specs.declared.err.packet.slice_error.SliceError.TheVariants.{Len}
 use Rattle.ep_packet.specs.declared.net.net_slice.NetSlice.{NetSlice}
 use Rattle.ep_packet.specs.declared.sliced_packet.SlicedPacket.{SlicedPacket}
 use Rattle.ep_tag.specs.Ether.{EtherPayload}
@@ -95,6 +99,42 @@ tag_1 = 0 ∷ 1 ∷ 0x88 ∷ 0xa8 ∷ tag_2
 abbrev pub vlan_named : List ℕ → EtherPayload
 vlan_named bytes =
     record { ether_type = record { 0 = 0x8100 }; len_source = Slice; payload = bytes }
+
+-- frames that end within a header: of IPv4 behind a VLAN tag, of ARP behind a MACsec header, of UDP
+-- behind an authentication header (RFC 4302), of ICMPv6 behind hop-by-hop options (RFC 8200), and of
+-- TCP within its options (RFC 9293)
+abbrev pub cut_behind_tag : List ℕ
+cut_behind_tag = frame_addresses ++ 0x81 ∷ 0 ∷ 0 ∷ 5 ∷ 8 ∷ 0 ∷
+    0x45 ∷ 0 ∷ 0 ∷ 28 ∷ 0 ∷ 7 ∷ 0 ∷ 0 ∷ 64 ∷ 17 ∷ []
+
+abbrev pub cut_behind_macsec : List ℕ
+cut_behind_macsec = frame_addresses ++ 0x88 ∷ 0xe5 ∷ 0 ∷ 0 ∷ 0 ∷ 0 ∷ 0 ∷ 1 ∷ 8 ∷ 6 ∷
+    0 ∷ 1 ∷ 8 ∷ 0 ∷ 6 ∷ 4 ∷ []
+
+abbrev pub cut_behind_auth : List ℕ
+cut_behind_auth = frame_addresses ++ 8 ∷ 0 ∷
+    0x45 ∷ 0 ∷ 0 ∷ 36 ∷ 0 ∷ 7 ∷ 0 ∷ 0 ∷ 64 ∷ 51 ∷ 0 ∷ 0 ∷ 10 ∷ 0 ∷ 0 ∷ 1 ∷ 10 ∷ 0 ∷ 0 ∷ 2 ∷
+    17 ∷ 1 ∷ 0 ∷ 0 ∷ 0 ∷ 0 ∷ 0 ∷ 9 ∷ 0 ∷ 0 ∷ 0 ∷ 1 ∷ 0 ∷ 1 ∷ 0 ∷ 2 ∷ []
+
+abbrev pub cut_behind_options : List ℕ
+cut_behind_options = frame_addresses ++ 0x86 ∷ 0xdd ∷
+    0x60 ∷ 0 ∷ 0 ∷ 0 ∷ 0 ∷ 12 ∷ 0 ∷ 64 ∷ ipv6_source ++ ipv6_destination ++
+    58 ∷ 0 ∷ 1 ∷ 4 ∷ 0 ∷ 0 ∷ 0 ∷ 0 ∷ 128 ∷ 0 ∷ 0 ∷ 0 ∷ []
+
+abbrev pub cut_in_options : List ℕ
+cut_in_options = frame_addresses ++ 8 ∷ 0 ∷
+    0x45 ∷ 0 ∷ 0 ∷ 42 ∷ 0 ∷ 7 ∷ 0 ∷ 0 ∷ 64 ∷ 6 ∷ 0 ∷ 0 ∷ 10 ∷ 0 ∷ 0 ∷ 1 ∷ 10 ∷ 0 ∷ 0 ∷ 2 ∷
+    0 ∷ 1 ∷ 0 ∷ 2 ∷ 0 ∷ 0 ∷ 0 ∷ 0 ∷ 0 ∷ 0 ∷ 0 ∷ 0 ∷ 0x60 ∷ 2 ∷ 0 ∷ 0 ∷ 0 ∷ 0 ∷ 0 ∷ 0 ∷ 2 ∷ 4 ∷ []
+
+-- a layer at this offset needs so many bytes, and fewer are there, by this length
+abbrev pub wants : Layer → ℕ → ℕ → LenSource → ℕ → SliceError
+wants layer required found source offset = Len (record {
+  required_len = required;
+  len = found;
+  len_source = source;
+  layer = layer;
+  layer_start_offset = offset;
+})
 
 -- the header of a Linux cooked capture's packet that came from 1:2:3:4:5:6, with this protocol
 abbrev pub cooked_header : List ℕ → List ℕ

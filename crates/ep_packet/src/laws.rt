@@ -7,6 +7,6 @@ pub mod same_headers;
 pub mod sliced;
 pub mod traits;
 
-pub use faults::refusals_are_first_faults;
+pub use faults::{offsets_by_hand, refusals_are_first_faults};
 pub use headers::ipv6_headers_agree_with_view;
 pub use readable::{messages_by_hand, readable_messages};
