@@ -1,6 +1,6 @@
 -- Frames from outside, at which laws state the definitions' values (IEEE 802.3, 802.1Q and 802.1AE;
 -- RFC 768, 791, 826 and 8200).
-use Rattle.std.specs.Prelude.{ℕ, List, [], ◌∷◌, ◌++◌, Option, None}
+use Rattle.std.specs.Prelude.{ℕ, false, List, [], ◌∷◌, ◌++◌, Option, None}
 use Rattle.ep_base.specs.declared.err.layer.Layer.{Layer}
 use Rattle.ep_base.specs.declared.len_source.LenSource.{LenSource}
 use Rattle.ep_base.specs.declared.len_source.LenSource.TheVariants.{Slice}
@@ -14,6 +14,7 @@ use Rattle.ep_packet.specs.declared.sliced_packet.SlicedPacket.{SlicedPacket}
 use Rattle.ep_tag.specs.Ether.{EtherPayload}
 use Rattle.ep_tag.specs.MacsecPayload.{Unmodified}
 use Rattle.ep_tag.specs.declared.link.link_ext_slice.LinkExtSlice.TheVariants as tag
+use Rattle.ep_tag.specs.declared.link.single_vlan_header.SingleVlanHeader.{SingleVlanHeader}
 
 -- the addresses of a frame
 abbrev pub frame_addresses : List ℕ
@@ -94,6 +95,15 @@ tag_2 = 0 ∷ 2 ∷ 0x91 ∷ 0 ∷ tag_3
 
 abbrev pub tag_1 : List ℕ
 tag_1 = 0 ∷ 1 ∷ 0x88 ∷ 0xa8 ∷ tag_2
+
+-- a VLAN tag in front of IPv4 as a value, with this identifier
+abbrev pub tag_header : ℕ → SingleVlanHeader
+tag_header id = record {
+  pcp = 0;
+  drop_eligible_indicator = false;
+  vlan_id = id;
+  ether_type = record { 0 = 0x800 };
+}
 
 -- bytes behind the ether type of a VLAN tag
 abbrev pub vlan_named : List ℕ → EtherPayload

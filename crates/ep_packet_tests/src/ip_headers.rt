@@ -159,6 +159,30 @@ fn written_ipv4_headers(rt: HostRuntime) -> Result<(), Fail> {
     Ok(())
 }
 
+// RFC 8200, sections 3 and 4.5.
+#[test]
+fn written_ipv6_headers(rt: HostRuntime) -> Result<(), Fail> {
+    let mut headers = ipv6_with_fragment(44);
+    if let IpHeaders::Ipv6(header, _) = &mut headers {
+        header.traffic_class = 0x12;
+        header.payload_length = 8;
+        header.hop_limit = 64;
+        header.source = [1; 16];
+        header.destination = [2; 16];
+    }
+    let mut buffer = vec![in rt.alloc(); 0xaau8; 1]?;
+    headers.write(&mut buffer)?;
+    assert!(rt;
+        buffer.as_slice()
+            == [
+                0xaa, 0x61, 0x20, 0, 0, 0, 8, 44, 64, 1, 1, 1, 1, 1, 1, 1, 1, 1, 1, 1, 1, 1, 1, 1,
+                1, 2, 2, 2, 2, 2, 2, 2, 2, 2, 2, 2, 2, 2, 2, 2, 2, 17, 0, 0, 0, 0, 0, 0, 7
+            ]
+            .as_slice()
+    );
+    Ok(())
+}
+
 #[test]
 fn headers_that_are_not_written(rt: HostRuntime) -> Result<(), Fail> {
     let mut buffer = vec![in rt.alloc(); 0xaau8; 1]?;

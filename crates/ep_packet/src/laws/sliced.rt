@@ -15,14 +15,15 @@ ghost use Rattle.ep_packet.specs.Examples.{frame_addresses, ipv4_addresses, ipv4
 ghost use Rattle.ep_packet.specs.Examples.{ipv4_header, ipv4_header_before, ipv4_packet};
 ghost use Rattle.ep_packet.specs.Examples.{ipv6_cut_frame, ipv6_destination, ipv6_other_frame};
 ghost use Rattle.ep_packet.specs.Examples.{ipv6_source, tag_1, tag_2, tag_3, tag_4, udp_message};
-ghost use Rattle.ep_packet.specs.Examples.{vlan_named, whole_frame};
+ghost use Rattle.ep_packet.specs.Examples.{tag_header, vlan_named, whole_frame};
 ghost use Rattle.ep_packet.specs.PacketView.{ether_payload_in, ip_payload_of, is_part};
 ghost use Rattle.ep_packet.specs.PacketView.{last_payload, payload_ether_type_in, source_behind};
 ghost use Rattle.ep_packet.specs.PacketView.{vlan_slice_of};
 ghost use Rattle.ep_packet.specs.Parts.{headers_len, tags_len};
 ghost use Rattle.ep_packet.specs.Readable.ReadMessage.{Udp};
 ghost use Rattle.ep_packet.specs.SliceFault.{bounded_by, offset_by, within};
-ghost use Rattle.ep_packet.specs.Sliced.{sliced_ip, sliced_linux_sll};
+ghost use Rattle.ep_packet.specs.PacketHeaders.{vlan_header_of};
+ghost use Rattle.ep_packet.specs.Sliced.{sliced_ether_type, sliced_ip, sliced_linux_sll};
 ghost use Rattle.ep_packet.specs.Tags.{is_macsec_type, is_vlan_type, tags_in, vlan_ids_of};
 ghost use Rattle.ep_packet.specs.declared.addresses.Addresses.TheVariants.{V6};
 ghost use Rattle.ep_packet.specs.declared.err.packet.slice_error.SliceError.TheVariants as slice_error;
@@ -30,6 +31,7 @@ ghost use Rattle.ep_packet.specs.declared.net.net_slice.NetSlice.TheVariants as 
 ghost use Rattle.ep_packet.specs.declared.transport.transport_slice.TransportSlice.TheVariants as transport;
 ghost use Rattle.ep_tag.specs.MacsecPayload.MacsecPayload.{Modified};
 ghost use Rattle.ep_tag.specs.declared.link.link_ext_slice.LinkExtSlice.TheVariants as tag;
+ghost use Rattle.ep_tag.specs.declared.link.vlan_header.VlanHeader.TheVariants.{Double, Single};
 ghost use Rattle.ep_tag.specs.declared.link.vlan_slice.VlanSlice.TheVariants.{DoubleVlan};
 ghost use Rattle.ep_tag.specs.declared.link.vlan_slice.VlanSlice.TheVariants.{SingleVlan};
 ghost use Rattle.ep_tcpudp.specs.declared.err.tcp.header_error.HeaderError.TheVariants.{DataOffsetTooSmall};
@@ -221,6 +223,25 @@ pub fn cooked_packets_by_hand()
       layer = layer.LinuxSllHeader;
       layer_start_offset = 0;
     })) }
+{}
+
+/// Bytes behind an ether type: it and they stand in the place of the link header. And of three VLAN
+/// tags the first is the outer one and the second the inner one.
+pub fn ether_type_by_hand()
+    ensures ipv4 { sliced_ether_type (record { 0 = 2048 }) (ipv4_header ++ udp_message)
+        ≡ Ok (record {
+          link = Some (link.EtherPayload (record {
+            ether_type = record { 0 = 2048 };
+            len_source = source.Slice;
+            payload = ipv4_header ++ udp_message;
+          }));
+          link_exts = record { items = [] };
+          net = Some (net.Ipv4 ipv4_packet);
+          transport = Some (transport.Udp udp_message);
+        }) }
+    ensures tags { vlan_header_of (tag_header 1 ∷ tag_header 2 ∷ tag_header 3 ∷ [])
+        ≡ Some (Double (record { outer = tag_header 1; inner = tag_header 2 })) }
+    ensures tag { vlan_header_of (tag_header 1 ∷ []) ≡ Some (Single (tag_header 1)) }
 {}
 
 /// IP packets without a link header: a UDP message over IPv4; bytes of another version, and none;
