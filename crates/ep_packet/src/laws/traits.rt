@@ -4,16 +4,18 @@ ghost use Rattle.std.specs.Prelude.{◌≡◌, ◌↔◌, IsTrue};
 ghost use Rattle.std.specs.Cmp.Lexicographic.{slice_cmp};
 ghost use Rattle.std.specs.Ordering.{nat_cmp};
 ghost use Rattle.ep_base.specs.Traits.{CopyIsValue, CopyNeverFails, IsPlainData};
+ghost use Rattle.ep_packet.specs.PacketHeaders.{headers_told};
 ghost use Rattle.ep_packet.specs.Payload.{ordered_as, payload_told};
 ghost use Rattle.ep_packet.specs.Readable.{as_read};
 ghost use Rattle.ep_packet.specs.declared.message.Message.{Message as MessageValue};
+ghost use Rattle.ep_packet.specs.declared.packet_headers.PacketHeaders.{PacketHeaders};
 ghost use Rattle.ep_packet.specs.declared.payload_slice.PayloadSlice.{PayloadSlice};
 
 use crate::err::ip::HeadersWriteError;
 use crate::err::net::NetSetNextHeaderError;
 use crate::err::packet::{SliceError, TransportChecksumError};
 use crate::{
-    Addresses, IpHeaders, Message, NetHeaders, NetSlice, PayloadSlice, SlicedPacket,
+    Addresses, IpHeaders, Message, NetHeaders, NetSlice, PacketHeaders, PayloadSlice, SlicedPacket,
     TransportHeader, TransportSlice,
 };
 use ep_base::laws::traits::Value;
@@ -90,5 +92,23 @@ pub fn payloads_are_told_apart<'a>()
         ≡ slice_cmp nat_cmp (ordered_as (payload_told a)) (ordered_as (payload_told b)) }
 {
     ep_ipslice::laws::traits::types_are_plain_data();
+    ep_tag::laws::traits::types_are_plain_data();
+}
+
+/// So are headers of a packet, and a copy of them takes no memory: equal are those whose link
+/// headers, tags, headers and payloads are.
+pub fn packet_headers_are_told_apart<'a>()
+    ensures copies { (value copy : PacketHeaders)
+        → ⟦<PacketHeaders<'a> as Clone>⟧.is_clone value copy
+        → headers_told copy ≡ headers_told value }
+    ensures fails { CopyNeverFails ⟦<PacketHeaders<'a> as Clone>⟧.is_infallible }
+    ensures equal { (a b : PacketHeaders) → IsTrue (⟦<PacketHeaders<'a> as PartialEq>⟧.eq a b)
+        ↔ (headers_told a ≡ headers_told b) }
+{
+    types_are_plain_data();
+    net_is_plain_data();
+    copies_of_payloads_are_values();
+    payloads_are_told_apart();
+    ep_link::laws::traits::types_are_plain_data();
     ep_tag::laws::traits::types_are_plain_data();
 }
