@@ -31,4 +31,5 @@ fn each_example_is_called() {
     examples::icmpv4_checksums();
     examples::icmpv6_headers();
     examples::icmpv6_checksums();
+    examples::icmpv6_greatest_payload();
 }

@@ -126,6 +126,7 @@ fn udp_zero_checksum(rt: HostRuntime) {
         checksum: 0,
     };
     assert!(rt; header.calc_checksum_ipv4_raw([0; 4], [0; 4], &[]) == Ok(0xffff));
+    assert!(rt; header.calc_checksum_ipv6_raw([0; 16], [0; 16], &[]) == Ok(0xffff));
 }
 
 fn udp_too_long(value_type: ValueType) -> Option<ValueTooBigError<usize>> {
@@ -184,8 +185,8 @@ fn of_ones(rt: &impl Abort, alloc: Global, header: &TcpHeader, len: usize) -> Ch
 }
 
 // The greatest payload over IPv4, of ones, behind headers of 20 and of 60 bytes, and one byte more:
-// other tools give 217b and 817a. (Over IPv6 the limit is above 4 gigabytes; `laws::examples` has
-// it.)
+// other tools give 217b and 817a. Over IPv6, where a program apart gives 873a, the limit is above 4
+// gigabytes; `laws::examples` has it.
 #[test]
 fn tcp_greatest_payload(rt: HostRuntime) {
     let mut header = tcp_header();
@@ -195,7 +196,7 @@ fn tcp_greatest_payload(rt: HostRuntime) {
     assert!(rt; of_ones(&rt, rt.alloc(), &header, 65475) == Ok(0x817a));
     assert!(rt; of_ones(&rt, rt.alloc(), &header, 65476).err() == too_long(65476, 65475));
     let payload = repeated(&rt, rt.alloc(), 1, 65516);
-    assert!(rt; header.calc_checksum_ipv6_raw(V6.0, V6.1, &payload).is_ok());
+    assert!(rt; header.calc_checksum_ipv6_raw(V6.0, V6.1, &payload) == Ok(0x873a));
 }
 
 // Checksums over IPv4 and IPv6 between these addresses: of a whole segment, ..

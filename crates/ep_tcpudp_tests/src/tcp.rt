@@ -277,6 +277,19 @@ fn errors_as_text(rt: HostRuntime) -> Result<(), Fail> {
     Ok(())
 }
 
+// Each view prints its own name, though both are one type.
+#[test]
+fn views_as_text(rt: HostRuntime) -> Result<(), Fail> {
+    let mut bytes = [0; 21];
+    bytes[12] = 0x50;
+    let (header, segment) = (header_slice(&rt, &bytes), segment(&rt, &bytes));
+    let text = format!(in rt.alloc(); "{header:?} {segment:?}")?;
+    let wanted =
+        "TcpHeaderSlice { slice: [0, 0, 0, 0, 0, 0, 0, 0, 0, 0, 0, 0, 80, 0, 0, 0, 0, 0, 0, 0] } TcpSlice { slice: [0, 0, 0, 0, 0, 0, 0, 0, 0, 0, 0, 0, 80, 0, 0, 0, 0, 0, 0, 0, 0] }";
+    assert!(rt; text.as_str() == wanted);
+    Ok(())
+}
+
 #[test]
 fn raw_options(rt: HostRuntime) {
     let mut header = TcpHeader::new(1, 2, 3, 4);

@@ -167,6 +167,18 @@ fn headers_of_payload_lengths(rt: HostRuntime) {
     assert!(rt; UdpHeader::without_ipv4_checksum(1, 2, 65528) == Err(refused));
 }
 
+// Each view prints its own name, though both are one type.
+#[test]
+fn views_as_text(rt: HostRuntime) -> Result<(), Fail> {
+    let bytes = [0, 1, 0, 2, 0, 9, 0, 0, 7];
+    let (header, datagram) = (header_slice(&rt, &bytes), datagram(&rt, &bytes));
+    let text = format!(in rt.alloc(); "{header:?} {datagram:?}")?;
+    let wanted =
+        "UdpHeaderSlice { slice: [0, 1, 0, 2, 0, 9, 0, 0] } UdpSlice { slice: [0, 1, 0, 2, 0, 9, 0, 0, 7] }";
+    assert!(rt; text.as_str() == wanted);
+    Ok(())
+}
+
 #[test]
 fn laws_are_called(rt: HostRuntime) {
     laws::udp::sealed_sums_to_all_ones();
@@ -174,6 +186,7 @@ fn laws_are_called(rt: HostRuntime) {
     let again = laws::udp::header_is_read_again(&fields(), &BYTES);
     assert!(rt; again == Ok((fields(), &BYTES[8..])));
     laws::traits::types_are_plain_data();
+    laws::traits::errors_hash_all_fields();
     laws::udp::header_lengths();
     laws::examples::udp_datagrams();
     laws::examples::udp_refused();

@@ -1,9 +1,10 @@
 //! The definitions at values from outside: each clause is what a standard or a hand gives, so that
 //! a definition can't change with the code.
 
-ghost use Rattle.std.specs.Prelude.{◌≡◌, [], ◌∷◌, ◌++◌, replicate, true, false, Ok, Err};
+ghost use Rattle.std.specs.Prelude.{◌≡◌, ℕ, [], ◌∷◌, ◌++◌, replicate, true, false, Ok, Err};
 ghost use Rattle.ep_base.specs.LenError.{too_few_bytes};
 ghost use Rattle.ep_base.specs.declared.err.layer.Layer.TheVariants as layer;
+ghost use Rattle.ep_base.specs.declared.err.value_type.ValueType.TheVariants as value_type;
 ghost use Rattle.ep_icmp.specs.Examples.{destination, letters, ping, source, three_bytes};
 ghost use Rattle.ep_icmp.specs.Examples.{timestamp, too_big};
 ghost use Rattle.ep_icmp.specs.Icmpv4 as v4;
@@ -11,6 +12,7 @@ ghost use Rattle.ep_icmp.specs.Icmpv4Fault as v4_fault;
 ghost use Rattle.ep_icmp.specs.Icmpv6 as v6;
 ghost use Rattle.ep_icmp.specs.Icmpv6Fault as v6_fault;
 ghost use Rattle.ep_icmp.specs.Layout.{with_unused_bytes_zero};
+ghost use Rattle.ep_icmp.specs.Limit.{IsWithin};
 ghost use Rattle.ep_icmp.specs.declared.transport.icmpv4.dest_unreachable_header.DestUnreachableHeader.TheVariants as unreachable_4;
 ghost use Rattle.ep_icmp.specs.declared.transport.icmpv4_type.Icmpv4Type.TheVariants as kind_4;
 ghost use Rattle.ep_icmp.specs.declared.transport.icmpv6_type.Icmpv6Type.TheVariants as kind_6;
@@ -89,4 +91,15 @@ pub fn icmpv6_headers()
 #[tactic(auto, unfolding(ep_base::specs::Sum::total, ep_base::specs::Sum::fold))]
 pub fn icmpv6_checksums()
     ensures { v6.right_checksum source destination (kind_6.PacketTooBig 1500) three_bytes ≡ 38999 }
+{}
+
+/// The greatest payload of an ICMPv6 message, whose length with the header has 32 bits in the pseudo
+/// header, and one byte more, which is refused with both. (No test has the memory for it.)
+pub fn icmpv6_greatest_payload()
+    ensures greatest { IsWithin {A = ℕ} 1 4294967287 (Ok 1) }
+    ensures more { IsWithin {A = ℕ} 1 4294967288 (Err (record {
+      actual = 4294967288;
+      max_allowed = 4294967287;
+      value_type = value_type.Icmpv6PayloadLength;
+    })) }
 {}

@@ -164,7 +164,8 @@ pub fn udp_refused()
     }) }
 {}
 
-/// Checksums over both IP versions: of UDP with ffff in the place of 0, of TCP with the reserved
+/// Checksums over both IP versions: of UDP with the length field in the pseudo header, whatever the
+/// payload's length is, and with ffff in the place of 0; of TCP with options, and with the reserved
 /// bits as they stand.
 #[tactic(auto, unfolding(ep_base::specs::Sum::total, ep_base::specs::Sum::fold))]
 pub fn checksums()
@@ -172,12 +173,20 @@ pub fn checksums()
         ≡ udp.udp_header_of udp_front }
     ensures udp_v6 { udp_checksum.checksum_v6 source_v6 destination_v6
         (udp.udp_header_of udp_front) one_to_eight ≡ 62898 }
+    ensures udp_length_v4 { udp_checksum.checksum_v4 source_v4 destination_v4
+        (record (udp.udp_header_of udp_front) { length = 9 }) one_to_eight ≡ 56258 }
+    ensures udp_length_v6 { udp_checksum.checksum_v6 source_v6 destination_v6
+        (record (udp.udp_header_of udp_front) { length = 9 }) one_to_eight ≡ 62912 }
     ensures udp_zero { udp_checksum.checksum_v4 (replicate 4 0) (replicate 4 0)
+        (udp.unchecked_header 65502 0 0) [] ≡ 65535 }
+    ensures udp_zero_v6 { udp_checksum.checksum_v6 (replicate 16 0) (replicate 16 0)
         (udp.unchecked_header 65502 0 0) [] ≡ 65535 }
     ensures tcp_v4 { tcp_checksum.checksum_v4 source_v4 destination_v4
         (tcp.tcp_header_of first_segment) [] ≡ 38874 }
     ensures tcp_v6 { tcp_checksum.checksum_v6 source_v6 destination_v6
         (tcp.tcp_header_of first_segment) [] ≡ 45528 }
+    ensures tcp_options { tcp_checksum.checksum_v6 source_v6 destination_v6
+        (record (tcp.tcp_header_of first_segment) { options = replicate 40 1 }) [] ≡ 64923 }
     ensures tcp_zero { tcp_checksum.checksum_v4 (replicate 4 0) (replicate 4 0)
         (tcp.new_header 0 0 40905 0) one_to_eight ≡ 0 }
     ensures segment { tcp_checksum.segment_checksum_v4 source_v4 destination_v4 first_segment
