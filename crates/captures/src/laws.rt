@@ -20,6 +20,7 @@ use crate::limits::{
 use crate::pcapng::section::ETHERNET;
 use crate::{CaptureError, RunError};
 use ep_base::laws::traits::Value;
+use runs::Fault;
 
 /// What is written is read again, as the same frames in the same order.
 pub fn written_frames_are_read()
@@ -79,6 +80,7 @@ pub fn worked_line()
 pub fn types_are_plain_data()
     ensures capture_error { IsPlainData ⟦<CaptureError as Value>⟧ }
     ensures run_error { IsPlainData ⟦<RunError as Value>⟧ }
+    ensures fault { IsPlainData ⟦<Fault as Value>⟧ }
 {}
 
 /// The numbers that the definitions take from the code.

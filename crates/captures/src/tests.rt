@@ -7,6 +7,7 @@ mod classic;
 mod limits;
 mod long_blocks;
 mod pieces;
+mod reads;
 mod text;
 mod writes;
 mod written;

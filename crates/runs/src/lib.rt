@@ -9,3 +9,6 @@ mod writes;
 pub use device::{Device, ReaderWriter};
 pub use fault::Fault;
 pub use writes::write_whole;
+
+#[cfg(test)]
+mod tests;

@@ -127,10 +127,48 @@ fn each_refusal(rt: HostRuntime) -> Result<(), Fail> {
         (108, b"\x0d".as_slice(), bad, 0),
         // a second section without byte order magic
         (160, b"\x1b".as_slice(), bad, 34),
+        // a simple packet of 4 bytes, and other blocks in place of the interfaces before it
+        (
+            192,
+            b"\x00\x00\x00\x05\x00\x00\x00\x14\x00\x01\x00\x00\x00\x00\x00\x04\
+            \x00\x00\x00\x14\x00\x00\x00\x05\x00\x00\x00\x14\x00\x01\x00\x00\
+            \x00\x00\x00\x09\x00\x00\x00\x14\x00\x00\x00\x03\x00\x00\x00\x14\
+            \x00\x00\x00\x04"
+                .as_slice(),
+            bad,
+            34,
+        ),
+        // a packet of the third interface of the file, in a section of two
+        (260, b"\x00\x00\x00\x02".as_slice(), bad, 51),
     ] {
         let (result, lines) = with_bytes(rt.alloc(), at, bytes)?;
         assert!(rt; result == Err(RunError::Capture(error)));
         assert!(rt; lines.len() == len);
+    }
+    Ok(())
+}
+
+#[test]
+fn fields_that_are_ignored(rt: HostRuntime) -> Result<(), Fail> {
+    for (at, bytes) in [
+        // minor version 2, which is to be read as 0
+        (14, b"\x02".as_slice()),
+        // the length of the first section
+        (16, b"\x7c\x00\x00\x00\x00\x00\x00\x00"),
+        // the reserved half of an interface description, in either byte order
+        (38, b"\xff\xff"),
+        (202, b"\xff\xff"),
+        // what a block of another kind holds
+        (76, b"\xff\xff\xff\xff\xff\xff\xff\xff"),
+        // the time of a packet
+        (100, b"\xff\xff\xff\xff\xff\xff\xff\xff"),
+        // the padding of a packet
+        (121, b"\xff\xff\xff"),
+        (147, b"\xff"),
+    ] {
+        let (result, lines) = with_bytes(rt.alloc(), at, bytes)?;
+        assert!(rt; result == Ok(()));
+        assert!(rt; lines.as_slice() == TWO_SECTIONS_LINES.as_slice());
     }
     Ok(())
 }

@@ -132,12 +132,23 @@ fn each_refusal(rt: HostRuntime) -> Result<(), Fail> {
     Ok(())
 }
 
-// The upper half of the last number of a file header may tell of frame check sequences.
 #[test]
-fn frame_check_sequences_are_passed_over(rt: HostRuntime) -> Result<(), Fail> {
-    let (result, lines) = with_bytes(rt.alloc(), 20, b"\x24\x00")?;
-    assert!(rt; result == Ok(()));
-    assert!(rt; lines.as_slice() == LINES.as_slice());
+fn fields_that_are_ignored(rt: HostRuntime) -> Result<(), Fail> {
+    for (at, bytes) in [
+        // The two reserved numbers of the file header.
+        (8, b"\xff\xff\xff\xff\xff\xff\xff\xff".as_slice()),
+        // The upper half of its last number, which may tell of frame check sequences.
+        (20, b"\x24\x00"),
+        // The time of the first packet.
+        (24, b"\xff\xff\xff\xff\xff\xff\xff\xff"),
+        // Its length on the wire: 50 bytes follow whatever it is.
+        (36, b"\x00\x00\x05\xdc"),
+        (36, b"\x00\x00\x00\x01"),
+    ] {
+        let (result, lines) = with_bytes(rt.alloc(), at, bytes)?;
+        assert!(rt; result == Ok(()));
+        assert!(rt; lines.as_slice() == LINES.as_slice());
+    }
     Ok(())
 }
 

@@ -2,7 +2,7 @@
 use super::LINES;
 use super::blocks::{TWO_SECTIONS, TWO_SECTIONS_LINES};
 use super::classic::LITTLE_NANOSECONDS;
-use crate::{RunError, run, write_capture};
+use crate::{CaptureError, RunError, run, write_capture};
 use std::io::{self, ErrorKind, Read, Write};
 use std::test::Fail;
 
@@ -117,8 +117,15 @@ fn writer_without_room(rt: HostRuntime) -> Result<(), Fail> {
 
 #[test]
 fn texts_of_errors(rt: HostRuntime) -> Result<(), Fail> {
-    let error = RunError::Capture(crate::CaptureError::LinkType(113));
-    let text = format!(in rt.alloc(); "{error}")?;
-    assert!(rt; text.as_str() == "link type 113 is not Ethernet");
+    for (error, text) in [
+        (CaptureError::LinkType(113), "link type 113 is not Ethernet"),
+        (
+            CaptureError::BlockTooLong(262_148),
+            "a block of 262148 bytes is too long",
+        ),
+    ] {
+        let told = format!(in rt.alloc(); "{}", RunError::Capture(error))?;
+        assert!(rt; told.as_str() == text);
+    }
     Ok(())
 }

@@ -3,6 +3,7 @@ use super::pieces::ByteReader;
 use super::{LINES, lines_of};
 use crate::{RunError, write_capture};
 use std::alloc::{AllocError, Global};
+use std::io::Read;
 use std::test::Fail;
 
 // The file header, by the draft: low byte first, microseconds, version 2.4, snap length 262,144,
@@ -57,6 +58,7 @@ fn each_line(rt: HostRuntime) -> Result<(), Fail> {
         // a million microseconds, a second beyond 32 bits, half a time
         (b"frame 0 01 0 1000000\n", bad, b""),
         (b"frame 0 01 4294967296 0\n", bad, b""),
+        (b"frame 0 01 \n", bad, b""),
         (b"frame 0 01 5\n", bad, b""),
         (b"frame 0 01 5 6 7\n", bad, b""),
         // no channel, one beyond 32 bits, one of 11 digits
@@ -159,6 +161,23 @@ fn longest_frame(rt: HostRuntime) -> Result<(), Fail> {
         let (result, capture) = capture_of(rt.alloc(), line.as_slice())?;
         assert!(rt; result == wanted);
         assert!(rt; capture.len() == size);
+    }
+    Ok(())
+}
+
+// The longest line that hands a frame in has 200,021 bytes. After one more nothing is read.
+#[test]
+fn line_without_end(rt: HostRuntime) -> Result<(), Fail> {
+    for (len, wanted) in [(200_021, RunError::Read), (200_022, RunError::BadLine(1))] {
+        let text = vec![in rt.alloc(); b'0'; len]?;
+        let mut reader = text.as_slice().chain(ByteReader {
+            rest: b"",
+            fails: true,
+        });
+        let mut capture = Vec::new(rt.alloc());
+        let result = write_capture(rt.alloc(), &mut reader, &mut capture);
+        assert!(rt; result == Err(wanted));
+        assert!(rt; capture.len() == 24);
     }
     Ok(())
 }
