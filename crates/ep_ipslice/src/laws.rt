@@ -1,6 +1,7 @@
 //! Laws of IP packets that no single call's contract states.
 
 mod examples;
+pub mod hashes;
 mod packets;
 pub mod traits;
 

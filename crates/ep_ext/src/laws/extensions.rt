@@ -6,6 +6,8 @@ ghost use Rattle.ep_ext.specs.Place.{place_of};
 ghost use Rattle.ep_ext.specs.Ipv4Exts.{NamesBehind, auth_number, ipv4_exts_of, ipv4_exts_spelling};
 ghost use Rattle.ep_ext.specs.Chain.{Row};
 ghost use Rattle.ep_ext.specs.Value.{Piece, bytes_of, value_of};
+ghost use Rattle.ep_ext.specs.declared.net.ipv4_extensions.Ipv4Extensions.{Ipv4Extensions as Ipv4Value};
+ghost use Rattle.ep_ext.specs.declared.net.ipv6_extensions.Ipv6Extensions.{Ipv6Extensions as Ipv6Value};
 
 use crate::err::ip_auth;
 use crate::err::ipv6_exts::{ExtsWalkError, HeaderSliceError};
@@ -78,12 +80,12 @@ pub fn written_ipv4_chain_reads_back<'a>(
 }
 
 /// No headers are the default, in both versions.
-pub fn default_holds_no_header() -> (Ipv4Extensions, Ipv6Extensions)
-    ensures ipv4 { result.0 ≡ ipv4_exts_of None }
-    ensures ipv6 { result.1 ≡ value_of [] }
-{
-    (Ipv4Extensions::default(), Ipv6Extensions::default())
-}
+pub fn default_holds_no_header()
+    ensures ipv4 { (value : Ipv4Value) → ⟦<Ipv4Extensions as Default>⟧.is_default value
+        → value ≡ ipv4_exts_of None }
+    ensures ipv6 { (value : Ipv6Value) → ⟦<Ipv6Extensions as Default>⟧.is_default value
+        → value ≡ value_of [] }
+{}
 
 /// The least and the greatest length in bytes: of the extension headers of IPv4, of those of IPv6,
 /// and of a routing header with the options behind it.
