@@ -5,7 +5,7 @@ pub mod hashes;
 mod packets;
 pub mod traits;
 
-pub use examples::{ipv4_packet_at_a_literal, ipv6_packet_at_a_literal};
+pub use examples::{ipv4_packet_at_a_literal, ipv6_packet_at_a_literal, payload_hash_at_a_literal};
 pub use packets::{
     bodies_lie_within, extensions_of_a_packet, faults_are_alone, faults_can_be_moved,
     ip_packet_is_whole, ipv4_fragment_fields, ipv4_packet_is_alone, ipv6_fragment_fields,
