@@ -6,7 +6,7 @@ use Rattle.std.specs.List.{concat}
 use Rattle.std.proofs.lemmas.Bool.{eqb-true}
 use Rattle.ep_base.specs.declared.err.len_error.LenError.{LenError}
 use Rattle.ep_base.specs.declared.net.ip_number.IpNumber.{IpNumber}
-use Rattle.ep_ip.specs.Skip.{IsWhole, Skips, Walk, Gives, is_skipped, outcome}
+use Rattle.ep_ip.specs.Skip.{IsWhole, Skips, Walk, Gives, is_skipped, outcome, skip}
 use Rattle.ep_ext.specs.Place.{Order, KeepsNumbers, number_of, is_passed, once, in_front, place_of}
 use Rattle.ep_ext.specs.Value.{Piece, bytes_of}
 use Rattle.ep_ext.specs.Chain.{IsPiece, Row, Chain}
@@ -57,33 +57,36 @@ row_skips order passed number (piece ∷ pieces) last keeps row =
       row_skips order (passed ++ piece.0 ∷ []) _ pieces last keeps row.2,
     )
 
-given : (last : ℕ) (rest : List ℕ) (answer : Result (IpNumber × Bor (List ℕ)) LenError)
-    → Gives (Ok (last, rest)) answer →
-    IsOkAnd answer (λ r. (r.0.0 ≡ last) × (r.1.now ≡ rest))
-given last rest (Ok r) gives =
-    let same : ◌≡◌ {A = ℕ × List ℕ} (last, rest) (r.0.0, r.1.now) =
-    ok_same (last, rest) (r.0.0, r.1.now) gives in
-    (sym (ap (λ (x : ℕ × List ℕ). x.0) same), sym (ap (λ (x : ℕ × List ℕ). x.1) same))
-given last rest (Err e) gives = absurd (ok_err (last, rest) e gives)
-
 -- the walk gives the number and the rest of a chain
-pub chain_skips : (first : ℕ) (bytes : List ℕ) (answer : Result (IpNumber × Bor (List ℕ)) LenError)
-    →
-    ((headers : List (List ℕ)) (last : ℕ) (rest : List ℕ) → Walk first bytes headers last rest
-    → Gives (outcome (length (concat headers)) last rest) answer) →
-    (order : Order) (pieces : List Piece) (last : ℕ) (rest : List ℕ) → KeepsNumbers order
+pub chain_skips : (order : Order) (first : ℕ) (bytes : List ℕ) (pieces : List Piece) (last : ℕ)
+    (rest : List ℕ) →
+    ((number : ℕ) (bytes : List ℕ) (headers : List (List ℕ)) (last : ℕ) (rest : List ℕ)
+    → Walk number bytes headers last rest
+    → skip number bytes ≡ outcome (length (concat headers)) last rest) → KeepsNumbers order
     → Chain order first bytes pieces last rest → is_skipped last ≡ false →
-    IsOkAnd answer (λ r. (r.0.0 ≡ last) × (r.1.now ≡ rest))
-chain_skips first bytes answer only order pieces last rest keeps chain behind =
+    skip first bytes ≡ Ok (last, rest)
+chain_skips order first bytes pieces last rest follows keeps chain behind =
     let walk : Walk first bytes (headers_of pieces) last rest = record {
       named = row_skips order [] first pieces last keeps chain.row;
       cut = chain.cut ∙ ap (λ (xs : List ℕ). xs ++ rest) (sym (concat_headers pieces));
       ended = λ is. absurd (true_false (sym is ∙ behind));
     } in
-    given last rest answer (rw behind at (only (headers_of pieces) last rest walk))
+    let ends : outcome (length (concat (headers_of pieces))) last rest ≡ Ok (last, rest) =
+    rw behind refl in
+    follows first bytes (headers_of pieces) last rest walk ∙ ends
   where
     true_false : true ≡ false → ⊥
     true_false e = cc
+
+-- the answer of a call that gives what the walk does
+pub skip_answer : (wanted : Result (ℕ × List ℕ) LenError) (last : ℕ) (rest : List ℕ)
+    (answer : Result (IpNumber × Bor (List ℕ)) LenError) → Gives wanted answer
+    → wanted ≡ Ok (last, rest) → IsOkAnd answer (λ r. (r.0.0 ≡ last) × (r.1.now ≡ rest))
+skip_answer wanted last rest (Ok r) gives is =
+    let same : ◌≡◌ {A = ℕ × List ℕ} (last, rest) (r.0.0, r.1.now) =
+    ok_same (last, rest) (r.0.0, r.1.now) (sym is ∙ gives) in
+    (sym (ap (λ (x : ℕ × List ℕ). x.0) same), sym (ap (λ (x : ℕ × List ℕ). x.1) same))
+skip_answer wanted last rest (Err e) gives is = absurd (ok_err (last, rest) e (sym is ∙ gives))
 
 number_from : (passed : List Ipv6ExtPlace) (number : ℕ) (p place : Ipv6ExtPlace)
     → eqb number (number_of p) ≡ true → once passed p ≡ Some place → number_of place ≡ number

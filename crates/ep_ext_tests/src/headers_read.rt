@@ -323,3 +323,37 @@ fn headers_in_a_row_within_a_limit(rt: HostRuntime) {
         Err(e) => assert!(rt; wanted(e) == Some(want(8, 7, Layer::Ipv6FragHeader, 26))),
     }
 }
+
+#[test]
+fn raw_headers_of_every_length_are_read(rt: HostRuntime) {
+    let mut bytes = [0x33; 2050];
+    for words in 0..=255u8 {
+        bytes[1] = words;
+        let len = (usize::from(words) + 1) * 8;
+        let mut reader = reader_of(&bytes, 4096);
+        assert!(rt; raw_kind(&mut reader).is_ok());
+        assert!(rt; reader.rest.len() == 2050 - len);
+        let source = LenSource::Slice;
+        let inner = reader_of(&bytes, 4096);
+        let mut reader = LimitedReader::new(inner, len, source, 0, Layer::Ipv6Packet);
+        assert!(rt; Ipv6RawExtHeader::read_limited(&mut reader).is_ok());
+        assert!(rt; reader.read_len() == len);
+    }
+}
+
+#[test]
+fn authentication_headers_of_every_length_are_read(rt: HostRuntime) {
+    let mut bytes = [0x33; 1030];
+    for words in 1..=255u8 {
+        bytes[1] = words;
+        let len = (usize::from(words) + 2) * 4;
+        let mut reader = reader_of(&bytes, 4096);
+        assert!(rt; auth_kind(&mut reader).is_ok());
+        assert!(rt; reader.rest.len() == 1030 - len);
+        let source = LenSource::Slice;
+        let inner = reader_of(&bytes, 4096);
+        let mut reader = LimitedReader::new(inner, len, source, 0, Layer::Ipv6Packet);
+        assert!(rt; IpAuthHeader::read_limited(&mut reader).is_ok());
+        assert!(rt; reader.read_len() == len);
+    }
+}

@@ -4,6 +4,7 @@ use Rattle.std.specs.Hash as fed
 use Rattle.ep_base.specs.LenSource.{source_place}
 use Rattle.ep_base.specs.declared.net.ip_number.IpNumber.{IpNumber}
 use Rattle.ep_ipslice.specs.Ipv6Exts.{Ipv6Exts}
+use Rattle.ep_ipslice.specs.declared.net.lax_ip_payload_slice.LaxIpPayloadSlice.{LaxIpPayloadSlice}
 use Rattle.ep_ipslice.specs.Packet.{IpPayload}
 
 abbrev pub bool_place : Bool → ℕ
@@ -32,3 +33,15 @@ ordered_as p = p.ip_number.0 ∷ bool_place p.fragmented ∷ source_place p.len_
 abbrev pub hashed_as : IpPayload → fed.HashWrites
 hashed_as p = fed.u8 p.ip_number.0 ++ fed.u8 (bool_place p.fragmented)
     ++ fed.u8 (source_place p.len_source) ++ fed.slice fed.u8 p.payload
+
+-- what a payload tells that may have been cut off: whether it was, and all that a payload does
+abbrev pub lax_told : LaxIpPayloadSlice → Bool × IpPayload
+lax_told p = (
+  p.incomplete,
+  record {
+    ip_number = p.ip_number;
+    fragmented = p.fragmented;
+    len_source = p.len_source;
+    payload = p.payload.now;
+  },
+)

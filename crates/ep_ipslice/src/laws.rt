@@ -1,10 +1,11 @@
 //! Laws of IP packets that no single call's contract states.
 
 mod examples;
+pub mod hashes;
 mod packets;
 pub mod traits;
 
-pub use examples::{ipv4_packet_at_a_literal, ipv6_packet_at_a_literal};
+pub use examples::{ipv4_packet_at_a_literal, ipv6_packet_at_a_literal, payload_hash_at_a_literal};
 pub use packets::{
     bodies_lie_within, extensions_of_a_packet, faults_are_alone, faults_can_be_moved,
     faults_found_are_first, ip_packet_is_whole, ipv4_fragment_fields, ipv4_packet_is_alone,

@@ -1,7 +1,7 @@
 //! Laws of headers in a row, under any order of places.
 ghost use Rattle.std.specs.Prelude.{◌≡◌, ◌≤◌, ◌<◌, ◌+◌, ◌^◌, ℕ, List, [], ◌∷◌, ◌++◌, length, Some};
 ghost use Rattle.std.specs.Prelude.{None, Ok, Err, IsOkAnd, false};
-ghost use Rattle.ep_ip.specs.Skip.{is_skipped};
+ghost use Rattle.ep_ip.specs.Skip.{is_skipped, skip};
 ghost use Rattle.ep_base.specs.Bytes.{num};
 ghost use Rattle.ep_ext.specs.Auth.{auth_at};
 ghost use Rattle.ep_ext.specs.Chain.{Chain, Fault, IsEnd, IsPiece, Row, fault_of, front_of};
@@ -74,17 +74,28 @@ pub fn faults_can_be_moved()
         → auth_at bytes ≡ Err error → n < 2 ^ 64 → CanMove error n }
 {}
 
-/// Where bytes are headers in a row and a rest, behind a number that the walk over all skipped
-/// headers doesn't skip, that walk gives the same number and rest.
+/// Where bytes are headers in a row and a rest, under any order in which headers take places of
+/// their own numbers, and the walk over all skipped headers doesn't skip the number behind them, it
+/// ends at that number and rest.
+pub fn chain_is_skipped()
+    ensures ends { (order : Order) (first : ℕ) (bytes : List ℕ) (pieces : List Piece) (last : ℕ)
+        (rest : List ℕ) → KeepsNumbers order → Chain order first bytes pieces last rest
+        → is_skipped last ≡ false → skip first bytes ≡ Ok (last, rest) }
+    ensures own { KeepsNumbers place_of }
+{
+    ep_ip::laws::ipv6::skip_follows_every_walk();
+}
+
+/// The same of the call that walks.
 pub fn skip_agrees_with_chain(first: IpNumber, slice: &[u8]) -> Result<(IpNumber, &[u8]), LenError>
     ensures value { (pieces : List Piece) (last : ℕ) (rest : List ℕ)
         → Chain place_of first.0 slice.now pieces last rest → is_skipped last ≡ false
         → IsOkAnd result (λ r. (r.0.0 ≡ last) × (r.1.now ≡ rest)) }
-    // The same under any order in which headers take places of their own numbers.
     ensures any { (order : Order) (pieces : List Piece) (last : ℕ) (rest : List ℕ)
         → KeepsNumbers order → Chain order first.0 slice.now pieces last rest
         → is_skipped last ≡ false
         → IsOkAnd result (λ r. (r.0.0 ≡ last) × (r.1.now ≡ rest)) }
 {
+    chain_is_skipped();
     Ipv6Header::skip_all_header_extensions_in_slice(slice, first)
 }

@@ -1,19 +1,35 @@
 //! Laws of the extension headers that one value holds.
 ghost use Rattle.std.specs.Prelude.{◌≡◌, ◌≢◌, Ok, ℕ, List, ◌∷◌, ◌++◌, IsOkAnd, false, None, []};
 ghost use Rattle.std.specs.Prelude.{length};
-ghost use Rattle.ep_ext.specs.Follow.{Follows, has_place, walk_fault};
+ghost use Rattle.ep_ext.specs.Follow.{Follows, IsReadAgain, has_place, walk_fault};
 ghost use Rattle.ep_ext.specs.Place.{place_of};
 ghost use Rattle.ep_ext.specs.Ipv4Exts.{NamesBehind, auth_number, ipv4_exts_of, ipv4_exts_spelling};
-ghost use Rattle.ep_ext.specs.Chain.{Row};
+ghost use Rattle.ep_ext.specs.Chain.{Chain, Row, fault_of};
 ghost use Rattle.ep_ext.specs.Value.{Piece, bytes_of, value_of};
+ghost use Rattle.ep_ext.specs.declared.net.ipv4_extensions.Ipv4Extensions.{Ipv4Extensions as Ipv4Value};
+ghost use Rattle.ep_ext.specs.declared.net.ipv6_extensions.Ipv6Extensions.{Ipv6Extensions as Ipv6Value};
 
 use crate::err::ip_auth;
 use crate::err::ipv6_exts::{ExtsWalkError, HeaderSliceError};
 use crate::{Ipv4Extensions, Ipv6Extensions, Ipv6RoutingExtensions};
 use ep_base::IpNumber;
 
+/// Headers of a value that all follow one another are the headers of that value alone. In front of
+/// any rest they are headers in a row, without a fault, where the number behind them is of no header
+/// that has a place.
+pub fn followed_chain_is_the_value()
+    ensures value { (value : Ipv6Value) (first : ℕ) (pieces : List Piece) (last : ℕ)
+        → Follows value first pieces last → walk_fault value pieces last ≡ None
+        → IsReadAgain value → value_of pieces ≡ value }
+    ensures chain { (value : Ipv6Value) (first : ℕ) (pieces : List Piece) (last : ℕ)
+        (rest : List ℕ) → Follows value first pieces last → has_place last ≡ false
+        → Chain place_of first (bytes_of pieces ++ rest) pieces last rest }
+    ensures fault { (pieces : List Piece) (last : ℕ) (rest : List ℕ) → has_place last ≡ false
+        → fault_of place_of pieces last rest ≡ None }
+{}
+
 /// What `write` appends from a first number is read again from that number, whatever follows it,
-/// where the number behind it is of no header that has a place.
+/// where the number behind it is of no header that has a place: the same of the call that reads.
 pub fn written_chain_reads_back<'a>(
     headers: &Ipv6Extensions,
     first: IpNumber,
@@ -24,6 +40,7 @@ pub fn written_chain_reads_back<'a>(
         → has_place last ≡ false → slice.now ≡ bytes_of pieces ++ rest
         → IsOkAnd result (λ r. (r.0 ≡ headers.now) × (r.1.0 ≡ last) × (r.2.now ≡ rest)) }
 {
+    followed_chain_is_the_value();
     headers.has_whole_headers();
     Ipv6Extensions::from_slice(first, slice)
 }
@@ -78,12 +95,12 @@ pub fn written_ipv4_chain_reads_back<'a>(
 }
 
 /// No headers are the default, in both versions.
-pub fn default_holds_no_header() -> (Ipv4Extensions, Ipv6Extensions)
-    ensures ipv4 { result.0 ≡ ipv4_exts_of None }
-    ensures ipv6 { result.1 ≡ value_of [] }
-{
-    (Ipv4Extensions::default(), Ipv6Extensions::default())
-}
+pub fn default_holds_no_header()
+    ensures ipv4 { (value : Ipv4Value) → ⟦<Ipv4Extensions as Default>⟧.is_default value
+        → value ≡ ipv4_exts_of None }
+    ensures ipv6 { (value : Ipv6Value) → ⟦<Ipv6Extensions as Default>⟧.is_default value
+        → value ≡ value_of [] }
+{}
 
 /// The least and the greatest length in bytes: of the extension headers of IPv4, of those of IPv6,
 /// and of a routing header with the options behind it.

@@ -1,7 +1,9 @@
 //! The definitions at packets from outside, by the RFCs' layouts, so that a definition can't change
 //! with the code.
-ghost use Rattle.std.specs.Prelude.{◌≡◌, true, false, Ok, Some};
+ghost use Rattle.std.specs.Prelude.{◌≡◌, true, false, [], ◌∷◌, Ok, Some};
+ghost use Rattle.std.specs.Hash as fed;
 ghost use Rattle.ep_base.specs.declared.len_source.LenSource.TheVariants as source;
+ghost use Rattle.ep_ipslice.specs.Compared.{hashed_as};
 ghost use Rattle.ep_ipslice.specs.Examples.{example_header, example_ipv4, example_ipv4_packet};
 ghost use Rattle.ep_ipslice.specs.Examples.{example_ipv6, example_ipv6_packet, example_pieces};
 ghost use Rattle.ep_ipslice.specs.Examples.{fragment_header};
@@ -33,4 +35,11 @@ pub fn ipv6_packet_at_a_literal()
     ensures packet { IsIpv6Packet example_ipv6 example_ipv6_packet }
     ensures fragment { ipv6_fragment_fields example_pieces
         ≡ Some (record { identification = 16909060; offset = 1; more = true }) }
+{}
+
+/// What a hasher is fed of one payload: number, flag, the place of its length's source among the
+/// sources, and the bytes.
+pub fn payload_hash_at_a_literal()
+    ensures { hashed_as example_ipv6_packet.payload
+        ≡ (17 ∷ []) ∷ (1 ∷ []) ∷ (3 ∷ []) ∷ fed.slice fed.u8 (1 ∷ 2 ∷ 3 ∷ 4 ∷ 5 ∷ 6 ∷ 7 ∷ 8 ∷ []) }
 {}

@@ -1,12 +1,15 @@
-//! What `Clone`, `PartialEq`, `Ord` and `Hash` of the types here mean, each clause about the
-//! relation that the type's own impl names.
-ghost use Rattle.std.specs.Prelude.{◌≡◌, fold};
+//! What `Clone`, `PartialEq`, `Ord`, `Default` and `Hash` of the types here mean, each clause about
+//! the relation that the type's own impl names. `laws::hashes` has the hashes of errors.
+ghost use Rattle.std.specs.Prelude.{◌≡◌, ◌↔◌, IsTrue, List, [], None, fold};
 ghost use Rattle.std.specs.Cmp.Lexicographic.{slice_cmp};
 ghost use Rattle.std.specs.Ordering.{nat_cmp, ordering_then};
 ghost use Rattle.ep_base.specs.LenSource.{source_place};
 ghost use Rattle.ep_base.specs.Traits.{CopyIsValue, CopyNeverFails, EqualIsSame, IsPlainData};
-ghost use Rattle.ep_ipslice.specs.Compared.{bool_place, hashed_as};
+ghost use Rattle.ep_ext.specs.Value.{Piece};
+ghost use Rattle.ep_ipslice.specs.Compared.{bool_place, hashed_as, lax_told};
 ghost use Rattle.ep_ipslice.specs.Packet.{IpPayload};
+ghost use Rattle.ep_ipslice.specs.declared.net.ipv4_extensions_slice.Ipv4ExtensionsSlice.{Ipv4ExtensionsSlice};
+ghost use Rattle.ep_ipslice.specs.declared.net.lax_ip_payload_slice.LaxIpPayloadSlice.{LaxIpPayloadSlice};
 
 use crate::err::{ip, ipv4, ipv6};
 use crate::{
@@ -59,6 +62,22 @@ pub fn equal_packets_are_same<'a>()
 {
     types_are_plain_data();
 }
+
+/// Payloads that may have been cut off are equal where all that they tell is the same.
+pub fn lax_payloads_are_equal_as_told<'a>()
+    ensures { (a b : LaxIpPayloadSlice) → IsTrue (⟦<LaxIpPayloadSlice<'a> as PartialEq>⟧.eq a b)
+        ↔ (lax_told a ≡ lax_told b) }
+{
+    ep_base::laws::traits::types_are_plain_data();
+}
+
+/// No header is the default of extension headers, and nothing more that of going over them.
+pub fn defaults_hold_no_header<'a>()
+    ensures ipv4_extensions_slice { (value : Ipv4ExtensionsSlice)
+        → ⟦<Ipv4ExtensionsSlice<'a> as Default>⟧.is_default value → value.auth ≡ None }
+    ensures ipv6_extension_slice_iter { (left : List Piece)
+        → ⟦<Ipv6ExtensionSliceIter<'a> as Default>⟧.is_default left → left ≡ [] }
+{}
 
 /// Payloads are ordered by their protocol numbers, then whole ones first, then by the sources of
 /// their lengths, then by their bytes.

@@ -5,7 +5,7 @@ use ep_base::{IpNumber, LenSource};
 /// The payload of an IP packet, behind its extension headers, borrowed; it may be a front of it,
 /// where fewer bytes were there than the packet's own length says.
 ///
-/// It is data alone: no call of this crate makes one, since none takes a packet that was cut off.
+/// It is data alone: no call makes one yet, since none takes a packet that was cut off.
 #[derive(Clone, Debug, PartialEq, Eq, Drop)]
 pub struct LaxIpPayloadSlice<'a> {
     /// Whether bytes of the payload are missing.
