@@ -1,6 +1,7 @@
 """What the crates' files name: modules, what they hand out, and functions with their text."""
 
 import functools
+import glob
 import os
 import re
 
@@ -97,3 +98,29 @@ def listed():
     """Returns the crates in crates.txt, and of each the libraries that it names."""
     with open(os.path.join(TOP, "crates.txt"), encoding="utf-8") as rows:
         return {row.split(":")[0].split()[0]: row.split(":")[1].split() for row in rows if ":" in row}
+
+
+def is_tests(crate):
+    return crate.endswith(("_tests", "_examples", "_rows"))
+
+
+def libraries():
+    return [it for it in listed() if not is_tests(it) and os.path.exists(os.path.join(ROOT, it, "src", "lib.rt"))]
+
+
+def files_of(crate):
+    """Yields module path and text of each module, and whether it is one of tests."""
+    top = os.path.join(ROOT, crate, "src")
+    for file in sorted(glob.glob(os.path.join(top, "**", "*.rt"), recursive=True)):
+        path = tuple(os.path.relpath(file, top)[:-3].split(os.sep))
+        yield () if path == ("lib",) else path, code_of(file), is_tests(crate) or path[0] == "tests"
+
+
+def brought(crate, path, text):
+    """Returns what the names mean that the `use`s of a file bring."""
+    known = {}
+    for use in re.finditer(r"(?m)^\s*(?:pub )?use ([^;]+);", text):
+        for written, name in leaves(use[1]):
+            end = end_of(*home(crate, path, written.removesuffix("::*")))
+            known |= (outside(*end) or {}) if name == "*" else {name: end}
+    return known
