@@ -103,6 +103,8 @@ def fields_of(it):
         dei = it.id if "id" in it.fields else it.dei
         return "vlan", {"pcp": it.prio, "drop_eligible_indicator": dei, "vlan_id": it.vlan, "ether_type": it.type}
     if isinstance(it, macsec.MACsec):
+        if "PN" not in it.fields or (it.SC and it.SCI is None):
+            return None
         return "macsec", {
             "endstation_id": it.ES,
             "scb": it.SCB,
