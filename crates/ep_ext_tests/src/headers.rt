@@ -74,6 +74,7 @@ fn a_view_of_a_raw_header(rt: HostRuntime) -> Result<(), Fail> {
     let bytes = RAW;
     let view = Ipv6RawExtHeaderSlice::from_slice(&bytes)?;
     assert!(rt; view.slice() == &RAW[..16]);
+    assert!(rt; Ipv6RawExtHeaderSlice::of_bytes(view.slice()) == view);
     assert!(rt; view.next_header() == IpNumber::UDP);
     assert!(rt; view.payload() == &RAW[2..16]);
     assert!(rt; view.to_header().to_bytes().as_slice() == &RAW[..16]);
@@ -192,6 +193,7 @@ fn a_view_of_a_fragment_header(rt: HostRuntime) -> Result<(), Fail> {
     let bytes = FRAGMENT;
     let view = Ipv6FragmentHeaderSlice::from_slice(&bytes)?;
     assert!(rt; view.slice() == &FRAGMENT[..8]);
+    assert!(rt; Ipv6FragmentHeaderSlice::of_bytes(view.slice()) == view);
     let fields = (
         view.next_header(),
         view.fragment_offset().value(),
@@ -285,6 +287,7 @@ fn a_view_of_an_authentication_header(rt: HostRuntime) -> Result<(), Fail> {
     let bytes = AUTH;
     let view = IpAuthHeaderSlice::from_slice(&bytes)?;
     assert!(rt; has_slice(&view, &AUTH[..24]));
+    assert!(rt; IpAuthHeaderSlice::of_bytes(view.slice()) == view);
     assert!(rt; view.next_header() == IpNumber::TCP);
     assert!(rt; view.spi() == 0x0102_0304);
     assert!(rt; view.sequence_number() == 0x0506_0708);

@@ -2,8 +2,10 @@
 use crate::packets::IPV6;
 use ep_base::LenSource;
 use ep_base::err::{Layer, LenError};
+use ep_ext::err::ipv6_exts;
 use ep_ipslice::Ipv6Slice;
-use ep_ipslice::err::ip::{HeadersSliceError, SliceError};
+use ep_ipslice::err::ip::{HeaderError, HeadersError, HeadersSliceError, SliceError};
+use ep_ipslice::err::{ipv4, ipv6};
 
 #[test]
 fn body_of_a_packet(rt: HostRuntime) {
@@ -29,4 +31,38 @@ fn faults_of_packets_are_of_headers(rt: HostRuntime) {
     };
     let fault = HeadersSliceError::of_packet(SliceError::Len(want));
     assert!(rt; fault == HeadersSliceError::Len(want));
+}
+
+#[test]
+fn faults_of_either_version(rt: HostRuntime) {
+    let other = HeadersError::Ip(HeaderError::UnsupportedIpVersion { version_number: 5 });
+    let error = ep_ip::err::ipv4::HeaderError::UnexpectedVersion { version_number: 5 };
+    let fault = SliceError::of_ipv4(ipv4::SliceError::Header(error));
+    assert!(rt; fault == SliceError::IpHeaders(other));
+    let error = ep_ip::err::ipv6::HeaderError::UnexpectedVersion { version_number: 5 };
+    let fault = SliceError::of_ipv6(ipv6::SliceError::Header(error));
+    assert!(rt; fault == SliceError::IpHeaders(other));
+}
+
+#[test]
+fn faults_of_ipv6_headers(rt: HostRuntime) {
+    let error = ep_ip::err::ipv6::HeaderError::UnexpectedVersion { version_number: 4 };
+    let fault = ipv6::SliceError::of_header(ep_ip::err::ipv6::HeaderSliceError::Content(error));
+    assert!(rt; fault == ipv6::SliceError::Header(error));
+    // Behind the header of 40 bytes.
+    let want = LenError {
+        required_len: 8,
+        len: 7,
+        len_source: LenSource::Slice,
+        layer: Layer::Ipv6FragHeader,
+        layer_start_offset: 16,
+    };
+    let source = LenSource::Ipv6HeaderPayloadLen;
+    let fault = ipv6::SliceError::of_extensions(ipv6_exts::HeaderSliceError::Len(want), source);
+    let moved = LenError {
+        len_source: source,
+        layer_start_offset: 56,
+        ..want
+    };
+    assert!(rt; fault == ipv6::SliceError::Len(moved));
 }

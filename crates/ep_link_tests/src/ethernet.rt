@@ -53,6 +53,7 @@ fn fields_of_a_frame(rt: HostRuntime) -> Result<(), Fail> {
     assert!(rt; frame.header_len() == 14);
     assert!(rt; frame.destination() == [1, 2, 3, 4, 5, 6]);
     assert!(rt; frame.source() == [7, 8, 9, 10, 11, 12]);
+    assert!(rt; frame.ether_type() == EtherType::IPV4);
     assert!(rt; frame.payload().ether_type == EtherType::IPV4);
     assert!(rt; frame.payload().len_source == LenSource::Slice);
     assert!(rt; frame.payload_slice() == [21, 22].as_slice());

@@ -56,8 +56,10 @@ fn fields_of_a_packet(rt: HostRuntime) -> Result<(), Fail> {
     assert!(rt; slice.slice() == bytes.as_slice());
     assert!(rt; slice.header_len() == 16);
     assert!(rt; slice.packet_type() == LinuxSllPacketType::HOST);
+    assert!(rt; slice.arp_hrd_type() == ArpHardwareId::ETHERNET);
     assert!(rt; slice.sender_address_valid_length() == 6);
     assert!(rt; slice.sender_address() == [1, 2, 3, 4, 5, 6, 0, 0]);
+    assert!(rt; slice.protocol_type() == LinuxSllProtocolType::EtherType(EtherType::IPV4));
     assert!(rt; slice.payload_slice() == [21, 22].as_slice());
     assert!(rt; slice.to_header() == header());
     Ok(())

@@ -54,6 +54,33 @@ fn headers_of_a_udp_frame(rt: HostRuntime) {
     }
 }
 
+// The packet alone, without a link header and tags.
+#[test]
+fn headers_of_a_packet(rt: HostRuntime) {
+    let frame = udp_frame(16);
+    let headers = PacketHeaders::from_ip_slice(&frame[22..]);
+    assert!(rt; headers.is_ok());
+    if let Ok(headers) = headers {
+        assert!(rt; headers.link.is_none());
+        assert!(rt; headers.link_exts.is_empty());
+        assert!(rt; headers.vlan().is_none());
+        assert!(rt; headers.payload == PayloadSlice::Udp(&[1, 2, 3, 4, 5, 6, 7, 8]));
+    }
+}
+
+// What the first ether type of the frame names.
+#[test]
+fn headers_behind_an_ether_type(rt: HostRuntime) {
+    let frame = udp_frame(16);
+    let headers = PacketHeaders::from_ether_type(EtherType(0x88a8), &frame[14..]);
+    assert!(rt; headers.is_ok());
+    if let Ok(headers) = headers {
+        assert!(rt; headers.link.is_none());
+        assert!(rt; headers.link_exts.len() == 2);
+        assert!(rt; headers.payload == PayloadSlice::Udp(&[1, 2, 3, 4, 5, 6, 7, 8]));
+    }
+}
+
 #[test]
 fn tags_of_a_frame(rt: HostRuntime) {
     let frame = udp_frame(16);

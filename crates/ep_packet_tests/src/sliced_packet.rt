@@ -73,6 +73,32 @@ fn identification_of_a_part(frame: &[u8]) -> Option<u32> {
     }
 }
 
+// Where a datagram in a packet that was sliced alone comes from and goes to.
+fn ends_of_a_datagram(packet: &[u8]) -> Option<([u8; 4], [u8; 4])> {
+    let Ok(packet) = SlicedPacket::from_ip(packet) else {
+        return None;
+    };
+    match packet.class() {
+        Class::Whole(
+            WholeMessage {
+                addresses: Addresses::V4 {
+                    source,
+                    destination,
+                },
+                message: Message::Udp(_),
+                ..
+            },
+        ) => Some((source, destination)),
+        _ => None,
+    }
+}
+
+#[test]
+fn class_of_a_packet(rt: HostRuntime) {
+    let ends = Some(([10, 0, 0, 1], [10, 0, 0, 2]));
+    assert!(rt; ends_of_a_datagram(&IPV4) == ends);
+}
+
 fn is_refused(frame: &[u8]) -> bool {
     matches!(Class::from_ethernet(frame), Class::Refused)
 }

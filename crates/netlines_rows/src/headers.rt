@@ -1,14 +1,16 @@
-//! The headers of frames as values, beside their slices.
+//! The headers of frames as values, beside their slices, and what refuses a frame.
 
 use ep_ext::Ipv6Extensions;
+use ep_packet::err::packet::SliceError;
 use ep_packet::{
     NetHeaders, NetSlice, PacketHeaders, PayloadSlice, SlicedPacket, TransportHeader,
     TransportSlice,
 };
 use ep_tag::{LinkExtSlice, MacsecPayloadSlice};
+use std::alloc::{AllocError, Global};
 
 /// How many frames there are, by what their two readers tell.
-#[derive(Default, Drop)]
+#[derive(Drop)]
 pub struct Frames {
     /// Frames whose headers and payload are those of the slices.
     pub same: usize,
@@ -17,19 +19,61 @@ pub struct Frames {
     /// Frames of which they tell different things: those where the length field of UDP counts other
     /// bytes than the payload's, and those with an extension header that has no place among values.
     pub apart: usize,
+    /// A line for each frame that is refused: its row, the number of its line there, and by what.
+    pub refusals: String,
 }
 
 impl Frames {
+    /// No frames.
+    pub fn new(alloc: Global) -> Frames {
+        Frames {
+            same: 0,
+            refused: 0,
+            apart: 0,
+            refusals: String::new(alloc),
+        }
+    }
+
     /// One frame more. (The numbers stay at the greatest one.)
     /// It has no contract: what the program prints is compared with what is stored.
-    pub fn count(&mut self, frame: &[u8]) {
+    pub fn count(
+        &mut self,
+        alloc: Global,
+        row: &str,
+        line: usize,
+        frame: &[u8],
+    ) -> Result<(), AllocError> {
+        if let Err(error) = SlicedPacket::from_ethernet(frame) {
+            let fault = fault_of(alloc, &error)?;
+            let told = format!(in alloc; "{row} {line} {fault}\n")?;
+            self.refusals.push_str(told.as_str())?;
+        }
         let number = match compare(frame) {
             Comparison::Same => &mut self.same,
             Comparison::Refused => &mut self.refused,
             Comparison::Apart => &mut self.apart,
         };
         *number = number.saturating_add(1);
+        Ok(())
     }
+}
+
+// The layer that wants bytes and where it begins, or the header that breaks its format.
+fn fault_of(alloc: Global, error: &SliceError) -> Result<String, AllocError> {
+    let header = match error {
+        SliceError::Len(want) => {
+            return format!(in alloc; "{:?} {}", want.layer, want.layer_start_offset);
+        }
+        SliceError::LinuxSll(_) => "LinuxSll",
+        SliceError::Macsec(_) => "Macsec",
+        SliceError::Ip(_) => "Ip",
+        SliceError::Ipv4(_) => "Ipv4",
+        SliceError::Ipv6(_) => "Ipv6",
+        SliceError::Ipv4Exts(_) => "Ipv4Exts",
+        SliceError::Ipv6Exts(_) => "Ipv6Exts",
+        SliceError::Tcp(_) => "Tcp",
+    };
+    String::from_str(alloc, header)
 }
 
 #[derive(Drop)]

@@ -2,7 +2,8 @@
 //!
 //! A row NAME is an input, `NAME.in`, and the output that it has to give, `NAME.out`. The rows were
 //! worked out by a program that is independent of this project. The arguments name the rows that
-//! are compared. Those that differ are told, and then the program fails.
+//! are compared. Those that differ are told, and then the program fails. The file `refusals` says of
+//! each frame that is refused which layer breaks, and where that begins.
 #![tactic(auto)]
 
 mod comparison;
@@ -20,7 +21,7 @@ use std::{env, fs};
 fn main(rt: HostRuntime) -> Result<ExitCode> {
     let names: Vec<String> = env::args(&rt)?.skip(1).collect(rt.alloc())?;
     let mut differing = 0usize;
-    let mut frames = Frames::default();
+    let mut frames = Frames::new(rt.alloc());
     for name in &names {
         let input = read(&rt, name.as_str(), "in")?;
         let wanted = read(&rt, name.as_str(), "out")?;
@@ -28,14 +29,20 @@ fn main(rt: HostRuntime) -> Result<ExitCode> {
             println!(rt; "{name} differs")?;
             differing += 1;
         }
-        count_frames(rt.alloc(), input.as_slice(), &mut frames)?;
+        count_frames(rt.alloc(), name.as_str(), input.as_slice(), &mut frames)?;
     }
     println!(rt; "{} rows compared, {differing} of them differ", names.len())?;
     println!(rt;
         "{} frames have the same headers as slices, {} are refused alike, {} are read otherwise",
         frames.same, frames.refused, frames.apart,
     )?;
-    Ok(if differing == 0 {
+    let refusals = fs::read(&rt, "refusals").context("reading refusals")?;
+    let agrees = frames.refusals.as_bytes() == refusals.as_slice();
+    println!(rt;
+        "the layers and offsets of refused frames {}",
+        if agrees { "agree" } else { "differ" }
+    )?;
+    Ok(if differing == 0 && agrees {
         ExitCode::SUCCESS
     } else {
         ExitCode::FAILURE

@@ -3,7 +3,9 @@
 use super::LINES;
 use super::classic::LITTLE_MICROSECONDS;
 use super::pieces::ByteReader;
+use crate::device::ReaderWriter;
 use crate::{RunError, run, write_capture};
+use runs::{Fault, write_whole};
 use std::alloc::Global;
 use std::io::{self, ErrorKind, Write};
 use std::test::Fail;
@@ -62,6 +64,25 @@ fn ended_by(odd: Odd) -> Result<(), RunError> {
         Odd::TakesNothing => Err(RunError::WriteZero),
         Odd::TakesOne => Ok(()),
     }
+}
+
+#[test]
+fn each_write_of_some_bytes(rt: HostRuntime) -> Result<(), Fail> {
+    for (odd, result, len) in [
+        (Odd::Fails, Err(Fault::WriteFailed), 50),
+        (Odd::TakesNothing, Err(Fault::NothingTaken), 50),
+        (Odd::TakesOne, Ok(()), 202),
+    ] {
+        let mut nothing = io::empty();
+        let mut writer = OddWriter::new(rt.alloc(), 1, odd);
+        let mut device = ReaderWriter {
+            reader: &mut nothing,
+            writer: &mut writer,
+        };
+        assert!(rt; write_whole(&mut device, LINES) == result);
+        assert!(rt; writer.taken.as_slice() == &LINES[..len]);
+    }
+    Ok(())
 }
 
 // The lines have 109 and 93 bytes, and reads of one byte let each be written by itself: so the

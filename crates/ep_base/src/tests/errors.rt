@@ -5,6 +5,18 @@ use crate::{IpDscpUnknownValueError, LenSource};
 use std::test::Fail;
 
 #[test]
+fn want_at_the_front(rt: HostRuntime) {
+    let error = LenError {
+        required_len: 20,
+        len: 19,
+        len_source: LenSource::Slice,
+        layer: Layer::Ipv4Header,
+        layer_start_offset: 0,
+    };
+    assert!(rt; LenError::too_few_bytes(Layer::Ipv4Header, 20, 19) == error);
+}
+
+#[test]
 fn texts_of_len_errors(rt: HostRuntime) -> Result<(), Fail> {
     let error = LenError {
         required_len: 20,
