@@ -177,13 +177,13 @@ def fields_of(it):
             **{name: bits >> at & 1 for at, name in enumerate(flags)},
         }
     if isinstance(it, ICMP):
-        found = {"type": it.type, "code": it.code, "checksum": it.chksum}
+        found = {"type": it.type, "code": it.code, "checksum": it.chksum, "unknown": raw(it)[4:8]}
         for name in ("id", "seq", "gw", "ptr", "nexthopmtu", "ts_ori", "ts_rx", "ts_tx"):
             if it.getfield_and_val(name) and name in it.fields and it.fields[name] not in (None, ""):
                 found[name] = address(it.gw) if name == "gw" else it.fields[name]
         return "icmp", found
     if isinstance(it, _ICMPv6):
-        found = {"type": it.type, "code": it.code, "checksum": it.cksum}
+        found = {"type": it.type, "code": it.code, "checksum": it.cksum, "unknown": raw(it)[4:8]}
         for name in ("id", "seq", "mtu", "ptr"):
             if name in it.fields:
                 found[name] = it.fields[name]
