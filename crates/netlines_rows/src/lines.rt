@@ -5,14 +5,8 @@ use bstr::ByteSlice;
 use hex::FromHexError;
 use std::alloc::{AllocError, Global};
 
-<<<<<<< HEAD
-/// The frame of each line `frame`, whatever its channel. A line whose last word isn't whole bytes
-/// in hex has none. The only error is out of memory. It has no contract: what the program prints
-/// is compared with what is stored.
-pub fn count_frames(alloc: Global, text: &[u8], frames: &mut Frames) -> Result<(), FromHexError> {
-=======
 /// The frame of each line `frame` of a row, whatever its channel. A line whose last word isn't whole
-/// bytes in hex has none. The only error is want of memory. It has no contract: what the program
+/// bytes in hex has none. The only error is out of memory. It has no contract: what the program
 /// prints is compared with what is stored.
 pub fn count_frames(
     alloc: Global,
@@ -21,7 +15,6 @@ pub fn count_frames(
     frames: &mut Frames,
 ) -> Result<(), AllocError> {
     let mut number = 0usize;
->>>>>>> c9fcb335eda8b430db21b5be9c9aa76ba1999475
     for line in text.split_str(b"\n") {
         number = number.saturating_add(1);
         if line.starts_with(b"frame ") {

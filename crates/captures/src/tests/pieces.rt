@@ -2,8 +2,7 @@
 use super::LINES;
 use super::blocks::{TWO_SECTIONS, TWO_SECTIONS_LINES};
 use super::classic::LITTLE_NANOSECONDS;
-use crate::device::ReaderWriter;
-use crate::{CaptureError, RunError, run, run_over, write_capture, write_capture_over};
+use crate::{CaptureError, RunError, run, write_capture};
 use std::io::{self, ErrorKind, Read, Write};
 use std::test::Fail;
 
@@ -49,37 +48,6 @@ impl Write for ByteWriter {
     fn flush(&mut self) -> io::Result<()> {
         Ok(())
     }
-}
-
-// All is read at once, and a second read tells the end.
-#[test]
-fn no_more_reads_than_allowed(rt: HostRuntime) -> Result<(), Fail> {
-    for (reads, result) in [(1, Err(RunError::TooManyReads)), (2, Ok(()))] {
-        let mut reader = LITTLE_NANOSECONDS.as_slice();
-        let mut lines = Vec::new(rt.alloc());
-        let mut device = ReaderWriter {
-            reader: &mut reader,
-            writer: &mut lines,
-        };
-        assert!(rt; run_over(rt.alloc(), &mut device, reads) == result);
-        assert!(rt; lines.as_slice() == LINES.as_slice());
-    }
-    Ok(())
-}
-
-// The file header, of 24 bytes, is written first, and no read is left that tells the end.
-#[test]
-fn no_more_reads_of_lines_than_allowed(rt: HostRuntime) -> Result<(), Fail> {
-    let mut reader = b"".as_slice();
-    let mut file = Vec::new(rt.alloc());
-    let mut device = ReaderWriter {
-        reader: &mut reader,
-        writer: &mut file,
-    };
-    let result = write_capture_over(rt.alloc(), &mut device, 0);
-    assert!(rt; result == Err(RunError::TooManyReads));
-    assert!(rt; file.len() == 24);
-    Ok(())
 }
 
 #[test]

@@ -60,12 +60,12 @@ impl<'a> Read for OddReader<'a> {
     }
 }
 
-// How many bytes of the lines a front of the capture gives.
-fn line_bytes(n: usize) -> usize {
+// The lines that a front of the capture gives.
+fn lines_of(n: usize) -> &'static [u8] {
     match n {
-        0..=40 => 0,
-        41..=58 => 11,
-        _ => 24,
+        0..=40 => b"",
+        41..=58 => b"frame 0 01\n",
+        _ => LINES,
     }
 }
 
@@ -91,18 +91,18 @@ fn each_read_of_a_run(rt: HostRuntime) -> Result<(), Fail> {
             };
             assert!(rt; result == wanted);
             assert!(rt; reader.calls == before.saturating_add(1));
-            assert!(rt; lines.as_slice() == &LINES[..line_bytes(before)]);
+            assert!(rt; lines.as_slice() == lines_of(before));
         }
     }
     Ok(())
 }
 
-// How many bytes of the capture a front of the lines gives, where more may come.
-fn capture_bytes(n: usize) -> usize {
+// The front of the capture that a front of the lines gives, where more may come.
+fn capture_of(n: usize) -> &'static [u8] {
     match n {
-        0..=14 => 24,
-        15..=31 => 41,
-        _ => 59,
+        0..=14 => &CAPTURE[..24],
+        15..=31 => &CAPTURE[..41],
+        _ => CAPTURE,
     }
 }
 
@@ -115,7 +115,7 @@ fn each_read_of_lines(rt: HostRuntime) -> Result<(), Fail> {
             let result = write_capture(rt.alloc(), &mut reader, &mut capture);
             assert!(rt; result == Err(RunError::Read));
             assert!(rt; reader.calls == before.saturating_add(1));
-            assert!(rt; capture.as_slice() == &CAPTURE[..capture_bytes(before)]);
+            assert!(rt; capture.as_slice() == capture_of(before));
         }
     }
     Ok(())
@@ -139,7 +139,7 @@ fn runs_of_few_reads(rt: HostRuntime) -> Result<(), Fail> {
         };
         assert!(rt; result == wanted);
         assert!(rt; reader.calls == calls);
-        assert!(rt; lines.as_slice() == &LINES[..line_bytes(reads)]);
+        assert!(rt; lines.as_slice() == lines_of(reads));
     }
     Ok(())
 }
@@ -161,7 +161,7 @@ fn runs_of_few_reads_of_lines(rt: HostRuntime) -> Result<(), Fail> {
         };
         assert!(rt; result == wanted);
         assert!(rt; reader.calls == calls);
-        assert!(rt; capture.as_slice() == &CAPTURE[..capture_bytes(reads)]);
+        assert!(rt; capture.as_slice() == capture_of(reads));
     }
     Ok(())
 }
