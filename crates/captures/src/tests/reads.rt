@@ -3,6 +3,7 @@
 use super::pieces::ByteReader;
 use crate::device::ReaderWriter;
 use crate::{CaptureError, RunError, run, run_over, write_capture, write_capture_over};
+use std::alloc::Global;
 use std::io::{self, ErrorKind, Read};
 use std::test::Fail;
 
@@ -121,47 +122,59 @@ fn each_read_of_lines(rt: HostRuntime) -> Result<(), Fail> {
     Ok(())
 }
 
+fn run_of(
+    alloc: Global,
+    reader: &mut OddReader<'_>,
+    writer: &mut Vec<u8>,
+    reads: u8,
+) -> Result<(), RunError> {
+    let mut device = ReaderWriter { reader, writer };
+    run_over(alloc, &mut device, u64::from(reads))
+}
+
 // The read that gives nothing counts: so a run of 59 bytes makes 60 reads.
 #[test]
 fn runs_of_few_reads(rt: HostRuntime) -> Result<(), Fail> {
-    for reads in [0, 1, 41, 59, 60, 61] {
+    for reads in [0u8, 1, 41, 59, 60, 61] {
         let mut reader = OddReader::new(CAPTURE, 100, Odd::Fails);
         let mut lines = Vec::new(rt.alloc());
-        let mut device = ReaderWriter {
-            reader: &mut reader,
-            writer: &mut lines,
-        };
-        let result = run_over(rt.alloc(), &mut device, reads as u64);
+        let result = run_of(rt.alloc(), &mut reader, &mut lines, reads);
         let (wanted, calls) = if reads < 60 {
             (Err(RunError::TooManyReads), reads)
         } else {
             (Ok(()), 60)
         };
         assert!(rt; result == wanted);
-        assert!(rt; reader.calls == calls);
-        assert!(rt; lines.as_slice() == lines_of(reads));
+        assert!(rt; reader.calls == usize::from(calls));
+        assert!(rt; lines.as_slice() == lines_of(usize::from(reads)));
     }
     Ok(())
 }
 
+fn run_of_lines(
+    alloc: Global,
+    reader: &mut OddReader<'_>,
+    writer: &mut Vec<u8>,
+    reads: u8,
+) -> Result<(), RunError> {
+    let mut device = ReaderWriter { reader, writer };
+    write_capture_over(alloc, &mut device, u64::from(reads))
+}
+
 #[test]
 fn runs_of_few_reads_of_lines(rt: HostRuntime) -> Result<(), Fail> {
-    for reads in [0, 1, 15, 32, 33, 34] {
+    for reads in [0u8, 1, 15, 32, 33, 34] {
         let mut reader = OddReader::new(TIMED_LINES, 100, Odd::Fails);
         let mut capture = Vec::new(rt.alloc());
-        let mut device = ReaderWriter {
-            reader: &mut reader,
-            writer: &mut capture,
-        };
-        let result = write_capture_over(rt.alloc(), &mut device, reads as u64);
+        let result = run_of_lines(rt.alloc(), &mut reader, &mut capture, reads);
         let (wanted, calls) = if reads < 33 {
             (Err(RunError::TooManyReads), reads)
         } else {
             (Ok(()), 33)
         };
         assert!(rt; result == wanted);
-        assert!(rt; reader.calls == calls);
-        assert!(rt; capture.as_slice() == capture_of(reads));
+        assert!(rt; reader.calls == usize::from(calls));
+        assert!(rt; capture.as_slice() == capture_of(usize::from(reads)));
     }
     Ok(())
 }
