@@ -18,6 +18,3 @@ pub use runs::device;
 pub use translation::run_captures::{run, run_over};
 pub use translation::run_error::RunError;
 pub use translation::run_lines::{write_capture, write_capture_over};
-
-#[cfg(test)]
-mod tests;

@@ -1,6 +1,6 @@
 //! Blocks that are skipped and longer than what a run holds, in a section with one Ethernet
 //! interface. The files are made by hand from the format's description.
-use crate::{CaptureError, RunError, run};
+use captures::{CaptureError, RunError, run};
 use std::alloc::{AllocError, Global};
 use std::io::{self, Read};
 use std::test::Fail;
@@ -18,10 +18,8 @@ const PACKET: &[u8; 20] = b"\
 // The kind of a custom block.
 const CUSTOM: u32 = 0x0bad;
 
-// A packet, a block of this kind and length, which ends with another one, and two packets.
-fn with_long_block(alloc: Global, kind: u32, len: u32, second: u32) -> Result<Vec<u8>, AllocError> {
-    let mut file = Vec::from_slice(alloc, FRONT)?;
-    file.extend_from_slice(PACKET)?;
+// A block of this kind and length, which ends with another one.
+fn append_block(file: &mut Vec<u8>, kind: u32, len: u32, second: u32) -> Result<(), AllocError> {
     file.extend_from_slice(&kind.to_le_bytes())?;
     file.extend_from_slice(&len.to_le_bytes())?;
     // What could be taken for the end of the block stands within it.
@@ -29,7 +27,14 @@ fn with_long_block(alloc: Global, kind: u32, len: u32, second: u32) -> Result<Ve
         let word = if place % 3 == 0 { len } else { place };
         file.extend_from_slice(&word.to_le_bytes())?;
     }
-    file.extend_from_slice(&second.to_le_bytes())?;
+    file.extend_from_slice(&second.to_le_bytes())
+}
+
+// A packet, such a block, and two packets.
+fn with_long_block(alloc: Global, kind: u32, len: u32, second: u32) -> Result<Vec<u8>, AllocError> {
+    let mut file = Vec::from_slice(alloc, FRONT)?;
+    file.extend_from_slice(PACKET)?;
+    append_block(&mut file, kind, len, second)?;
     file.extend_from_slice(PACKET)?;
     file.extend_from_slice(PACKET)?;
     Ok(file)

@@ -1,23 +1,13 @@
-//! Captures as lines.
-use crate::{RunError, run};
+//! The lines that the captures of these tests hold, and what a run gives.
+use captures::{RunError, run};
 use std::alloc::{AllocError, Global};
 
-mod blocks;
-mod classic;
-mod limits;
-mod long_blocks;
-mod pieces;
-mod reads;
-mod text;
-mod writes;
-mod written;
-
 // The packets that the files hold.
-const LINES: &[u8; 202] =
+pub const LINES: &[u8; 202] =
     b"frame 0 02000000000202000000000108004500002400010000401166c60a0000010a000002000100020010dbb40102030405060708\n\
     frame 0 ffffffffffff020000000001080600010800060400010200000000010a0000010000000000000a000002\n";
 
-fn lines_of(alloc: Global, file: &[u8]) -> Result<(Result<(), RunError>, Vec<u8>), AllocError> {
+pub fn lines_of(alloc: Global, file: &[u8]) -> Result<(Result<(), RunError>, Vec<u8>), AllocError> {
     let mut lines = Vec::new(alloc);
     let mut reader = file;
     let result = run(alloc, &mut reader, &mut lines);

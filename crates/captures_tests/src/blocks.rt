@@ -2,8 +2,8 @@
 //! description.
 ghost use Rattle.std.specs.Prelude.{◌+◌, ◌≤◌, length};
 
-use super::{LINES, lines_of};
-use crate::{CaptureError, RunError};
+use crate::lines::{LINES, lines_of};
+use captures::{CaptureError, RunError};
 use std::alloc::{AllocError, Global};
 use std::test::Fail;
 

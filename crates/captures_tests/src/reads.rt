@@ -1,8 +1,8 @@
 //! Runs of which one read fails or gives nothing, before and after the last byte of each header and
 //! packet, and runs of few reads. Each other read gives a byte.
-use super::pieces::ByteReader;
-use crate::device::ReaderWriter;
-use crate::{CaptureError, RunError, run, run_over, write_capture, write_capture_over};
+use crate::pieces::ByteReader;
+use captures::device::ReaderWriter;
+use captures::{CaptureError, RunError, run, run_over, write_capture, write_capture_over};
 use std::alloc::Global;
 use std::io::{self, ErrorKind, Read};
 use std::test::Fail;

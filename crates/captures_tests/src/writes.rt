@@ -1,10 +1,10 @@
 //! Runs of which one write fails, takes nothing or takes one byte, whichever it is. All other
 //! writes take 50 bytes at most.
-use super::LINES;
-use super::classic::LITTLE_MICROSECONDS;
-use super::pieces::ByteReader;
-use crate::device::ReaderWriter;
-use crate::{RunError, run, write_capture};
+use crate::classic::LITTLE_MICROSECONDS;
+use crate::lines::LINES;
+use crate::pieces::ByteReader;
+use captures::device::ReaderWriter;
+use captures::{RunError, run, write_capture};
 use runs::{Fault, write_whole};
 use std::alloc::Global;
 use std::io::{self, ErrorKind, Write};

@@ -1,8 +1,8 @@
 //! Runs whose reads and writes move one byte, fail, or move none.
-use super::LINES;
-use super::blocks::{TWO_SECTIONS, TWO_SECTIONS_LINES};
-use super::classic::LITTLE_NANOSECONDS;
-use crate::{CaptureError, RunError, run, write_capture};
+use crate::blocks::{TWO_SECTIONS, TWO_SECTIONS_LINES};
+use crate::classic::LITTLE_NANOSECONDS;
+use crate::lines::LINES;
+use captures::{CaptureError, RunError, run, write_capture};
 use std::io::{self, ErrorKind, Read, Write};
 use std::test::Fail;
 

@@ -1,7 +1,7 @@
 //! Blocks of least and greatest lengths, in a section with one Ethernet interface that cuts
 //! nothing.
-use super::lines_of;
-use crate::{CaptureError, RunError};
+use crate::lines::lines_of;
+use captures::{CaptureError, RunError};
 use std::alloc::{AllocError, Global};
 use std::test::Fail;
 
@@ -10,9 +10,8 @@ const FRONT: &[u8; 48] = b"\
     \xff\xff\xff\xff\x1c\x00\x00\x00\x01\x00\x00\x00\x14\x00\x00\x00\x01\x00\x00\x00\
     \x00\x00\x00\x00\x14\x00\x00\x00";
 
-// The front and a block of this kind and length, 0 but for these words behind its two lengths.
-fn with_block(alloc: Global, kind: u32, len: u32, words: &[u32]) -> Result<Vec<u8>, AllocError> {
-    let mut file = Vec::from_slice(alloc, FRONT)?;
+// A block of this kind and length, 0 but for these words behind its two lengths.
+fn append_block(file: &mut Vec<u8>, kind: u32, len: u32, words: &[u32]) -> Result<(), AllocError> {
     file.extend_from_slice(&kind.to_le_bytes())?;
     file.extend_from_slice(&len.to_le_bytes())?;
     let mut left = (len as usize).saturating_sub(12);
@@ -25,7 +24,12 @@ fn with_block(alloc: Global, kind: u32, len: u32, words: &[u32]) -> Result<Vec<u
     for _ in 0..left {
         file.push(0)?;
     }
-    file.extend_from_slice(&len.to_le_bytes())?;
+    file.extend_from_slice(&len.to_le_bytes())
+}
+
+fn with_block(alloc: Global, kind: u32, len: u32, words: &[u32]) -> Result<Vec<u8>, AllocError> {
+    let mut file = Vec::from_slice(alloc, FRONT)?;
+    append_block(&mut file, kind, len, words)?;
     Ok(file)
 }
 

@@ -1,7 +1,7 @@
 //! Captures that are written of lines.
-use super::pieces::ByteReader;
-use super::{LINES, lines_of};
-use crate::{RunError, write_capture};
+use crate::lines::{LINES, lines_of};
+use crate::pieces::ByteReader;
+use captures::{RunError, write_capture};
 use std::alloc::{AllocError, Global};
 use std::io::Read;
 use std::test::Fail;

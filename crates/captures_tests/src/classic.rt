@@ -1,8 +1,8 @@
 //! Classic captures. The files were written by scapy 2.5.0.
 ghost use Rattle.std.specs.Prelude.{◌+◌, ◌≤◌, length};
 
-use super::{LINES, lines_of};
-use crate::{CaptureError, RunError};
+use crate::lines::{LINES, lines_of};
+use captures::{CaptureError, RunError};
 use std::alloc::{AllocError, Global};
 use std::test::Fail;
 

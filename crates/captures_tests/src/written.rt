@@ -1,8 +1,8 @@
 //! Captures that are written.
-use super::classic::LITTLE_MICROSECONDS;
-use super::lines_of;
-use crate::Writer;
-use crate::device::ReaderWriter;
+use crate::classic::LITTLE_MICROSECONDS;
+use crate::lines::lines_of;
+use captures::Writer;
+use captures::device::ReaderWriter;
 use std::io;
 use std::test::Fail;
 
@@ -27,6 +27,6 @@ fn packets_are_those_of_scapy(rt: HostRuntime) -> Result<(), Fail> {
     assert!(rt; &file.as_slice()[20..] == &wanted[20..]);
     let (result, lines) = lines_of(rt.alloc(), file.as_slice())?;
     assert!(rt; result == Ok(()));
-    assert!(rt; lines.as_slice() == super::LINES.as_slice());
+    assert!(rt; lines.as_slice() == crate::lines::LINES.as_slice());
     Ok(())
 }

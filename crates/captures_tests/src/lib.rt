@@ -1,0 +1,24 @@
+//! Tests of `captures` over its public calls. They stand in a crate of their own, so that they
+//! are proved beside it and not with each of its functions once more.
+#![tactic(auto)]
+
+#[cfg(test)]
+mod blocks;
+#[cfg(test)]
+mod classic;
+#[cfg(test)]
+mod limits;
+#[cfg(test)]
+mod lines;
+#[cfg(test)]
+mod long_blocks;
+#[cfg(test)]
+mod pieces;
+#[cfg(test)]
+mod reads;
+#[cfg(test)]
+mod text;
+#[cfg(test)]
+mod writes;
+#[cfg(test)]
+mod written;
