@@ -42,7 +42,7 @@ unfolding fold
 fold_rest zero = (0, refl)
 fold_rest (suc n) = (n / 65535, omega arith)
 
-zero_or_pos : (n : ℕ) → (n ≡ 0) ⊎ (0 < n)
+pub zero_or_pos : (n : ℕ) → (n ≡ 0) ⊎ (0 < n)
 zero_or_pos zero = inl refl
 zero_or_pos (suc n) = inr (omega arith)
 
