@@ -82,10 +82,10 @@ pub fn add_slice(start: u64, slice: &[u8]) -> u64
 pub(crate) fn to_word(sum: u64) -> u16
     ensures { result ≡ fold sum }
 {
-    let first = (sum >> 48) + (sum >> 32 & 0xffff) + (sum >> 16 & 0xffff) + (sum & 0xffff);
-    let second = (first >> 16) + (first & 0xffff);
-    let third = (second >> 16) + (second & 0xffff);
-    third as u16
+    let (half, carry) = ((sum & 0xffff_ffff) as u32).overflowing_add((sum >> 32) as u32);
+    let half = half + carry as u32;
+    let (word, carry) = ((half & 0xffff) as u16).overflowing_add((half >> 16) as u16);
+    word + carry as u16
 }
 
 /// The complement of the sum, low byte first.
