@@ -67,7 +67,7 @@ lanes_more sums words blocks i h so len small sum = (
   length-zip2 (λ x y. x + y) sums words (so.0 ∙ sym len) ∙ so.0,
   lanes_grow i sums words so.1 small,
   sum-zip2 sums words (so.0 ∙ sym len) ∙ ap₂ (λ x y. x + y) so.2 sum
-  ∙ sym (sum_by_more total_low blocks i [] h),
+      ∙ sym (sum_by_more total_low blocks i [] h),
 )
 
 -- the lanes after all blocks, which are few enough for the sum of all lanes to fit one

@@ -17,7 +17,9 @@ fn udp(payload: &[u8]) -> [Option<u16>; 2] {
     };
     [
         header.calc_checksum_ipv4_raw([0; 4], [0; 4], payload).ok(),
-        header.calc_checksum_ipv6_raw([0; 16], [0; 16], payload).ok(),
+        header
+            .calc_checksum_ipv6_raw([0; 16], [0; 16], payload)
+            .ok(),
     ]
 }
 
@@ -26,7 +28,9 @@ fn tcp(payload: &[u8]) -> [Option<u16>; 2] {
     let header = TcpHeader::new(0, 0, 0, 0);
     [
         header.calc_checksum_ipv4_raw([0; 4], [0; 4], payload).ok(),
-        header.calc_checksum_ipv6_raw([0; 16], [0; 16], payload).ok(),
+        header
+            .calc_checksum_ipv6_raw([0; 16], [0; 16], payload)
+            .ok(),
     ]
 }
 
