@@ -77,5 +77,6 @@ fn ones(rt: &impl Abort, alloc: Global, len: usize) -> Vec<u8> {
 fn greatest_payloads(rt: HostRuntime) {
     let payload = ones(&rt, rt.alloc(), 65527);
     assert!(rt; udp(&payload) == [Some(0x00ee); 2]);
-    assert!(rt; tcp(&payload[..65515]) == [Some(0xb0f8); 2]);
+    let payload = ones(&rt, rt.alloc(), 65515);
+    assert!(rt; tcp(&payload) == [Some(0xb0f8); 2]);
 }
