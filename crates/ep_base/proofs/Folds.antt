@@ -42,7 +42,7 @@ unfolding fold
 fold_rest zero = (0, refl)
 fold_rest (suc n) = (n / 65535, omega arith)
 
-zero_or_pos : (n : ℕ) → (n ≡ 0) ⊎ (0 < n)
+pub zero_or_pos : (n : ℕ) → (n ≡ 0) ⊎ (0 < n)
 zero_or_pos zero = inl refl
 zero_or_pos (suc n) = inr (omega arith)
 
@@ -125,36 +125,59 @@ fold_carry_32 a b s true p q e wraps =
     sym (ap fold w ∙ fold_around_32 s 1)
 fold_carry_32 a b s false p q e fits = let w : s + 0 ≡ a + b = omega (arith, fits) in ap fold w
 
+pub fold_carry_16 : (a b s : ℕ) (carry : Bool) → a < 2 ^ 16 → b < 2 ^ 16 → s ≡ (a + b) % 2 ^ 16
+    → FalseIff carry (a + b < 2 ^ 16) → fold (s + bool_byte carry) ≡ fold (a + b)
+fold_carry_16 a b s true p q e wraps =
+    let w : a + b ≡ s + 65536 * 1 = omega (arith, wraps) in
+    sym (ap fold w ∙ fold_around_16 s 1)
+fold_carry_16 a b s false p q e fits = let w : s + 0 ≡ a + b = omega (arith, fits) in ap fold w
+
+-- with its carry the sum still fits
+carried_fits_32 : (a b s : ℕ) (carry : Bool) → a < 2 ^ 32 → b < 2 ^ 32 → s ≡ (a + b) % 2 ^ 32
+    → FalseIff carry (a + b < 2 ^ 32) → s + bool_byte carry < 2 ^ 32
+carried_fits_32 a b s true p q e wraps = omega (arith, wraps)
+carried_fits_32 a b s false p q e fits = omega (arith, fits)
+
+carried_fits_16 : (a b s : ℕ) (carry : Bool) → a < 2 ^ 16 → b < 2 ^ 16 → s ≡ (a + b) % 2 ^ 16
+    → FalseIff carry (a + b < 2 ^ 16) → s + bool_byte carry < 2 ^ 16
+carried_fits_16 a b s true p q e wraps = omega (arith, wraps)
+carried_fits_16 a b s false p q e fits = omega (arith, fits)
+
 pub complement_swap_bytes : (f : ℕ) → f ≤ 65535
     → 65535 - swap_bytes w16 f ≡ swap_bytes w16 (65535 - f)
 complement_swap_bytes f h = omega arith
 
--- the four words of a wide number, added, and the sum's two words added twice
-pub fold_words : (n : ℕ)
-    → fold (n / 281474976710656 + n / 4294967296 % 65536 + n / 65536 % 65536 + n % 65536) ≡ fold n
+-- the two halves of a wide number added, and then the two words of that sum
+pub fold_halves : (n : ℕ) → fold (n % 4294967296 + n / 4294967296) ≡ fold n
+fold_halves n =
+    let whole : n ≡ n % 4294967296 + 4294967296 * (n / 4294967296) = omega arith in
+    sym (ap fold whole ∙ fold_around_32 (n % 4294967296) (n / 4294967296))
+
+pub fold_words : (n : ℕ) → fold (n % 65536 + n / 65536) ≡ fold n
 fold_words n =
-    let w0 : ℕ = n % 65536 in
-    let w1 : ℕ = n / 65536 % 65536 in
-    let w2 : ℕ = n / 4294967296 % 65536 in
-    let w3 : ℕ = n / 281474976710656 in
-    let whole : n ≡ (w0 + 65536 * w1) + 4294967296 * (w2 + 65536 * w3) = omega arith in
-    let pairs : (w0 + 65536 * w1) + (w2 + 65536 * w3)
-    ≡ (w0 + w2) + 65536 * (w1 + w3) = omega arith in
-    let sum : (w0 + w2) + (w1 + w3) ≡ w3 + w2 + w1 + w0 = omega arith in
-    sym (ap fold whole ∙ fold_around_32 (w0 + 65536 * w1) (w2 + 65536 * w3) ∙ ap fold pairs
-    ∙ fold_around_16 (w0 + w2) (w1 + w3) ∙ ap fold sum)
-
-pub fold_once : (n : ℕ) → fold (n / 65536 + n % 65536) ≡ fold n
-fold_once n =
     let whole : n ≡ n % 65536 + 65536 * (n / 65536) = omega arith in
-    let sum : n % 65536 + n / 65536 ≡ n / 65536 + n % 65536 = omega arith in
-    sym (ap fold whole ∙ fold_around_16 (n % 65536) (n / 65536) ∙ ap fold sum)
+    sym (ap fold whole ∙ fold_around_16 (n % 65536) (n / 65536))
 
-pub fold_twice : (n : ℕ) → n ≤ 262140
-    → (n / 65536 + n % 65536) / 65536 + (n / 65536 + n % 65536) % 65536 ≡ fold n
-fold_twice n h =
-    let m : ℕ = n / 65536 + n % 65536 in
-    sym (fold_id (m / 65536 + m % 65536) (omega arith)) ∙ fold_once m ∙ fold_once n
+pub fold_of_halves : (n low half low_word word : ℕ) (carry over : Bool) → n < 2 ^ 64
+    → low ≡ n % 4294967296 → half ≡ (low + n / 4294967296) % 2 ^ 32
+    → FalseIff carry (low + n / 4294967296 < 2 ^ 32)
+    → low_word ≡ (half + bool_byte carry) % 65536
+    → word ≡ (low_word + (half + bool_byte carry) / 65536) % 2 ^ 16
+    → FalseIff over (low_word + (half + bool_byte carry) / 65536 < 2 ^ 16)
+    → word + bool_byte over ≡ fold n
+fold_of_halves n low half low_word word carry over fits lows halves carries low_words words overs =
+    let m : ℕ = half + bool_byte carry in
+    let whole : low + n / 4294967296 ≡ n % 4294967296 + n / 4294967296 = omega arith in
+    let parts : low_word + m / 65536 ≡ m % 65536 + m / 65536 = omega arith in
+    let in_half : m < 2 ^ 32 =
+    carried_fits_32 low (n / 4294967296) half carry (omega arith) (omega arith) halves carries in
+    let in_word : word + bool_byte over < 2 ^ 16 =
+    carried_fits_16 low_word (m / 65536) word over (omega arith) (omega arith) words overs in
+    sym (fold_id (word + bool_byte over) (omega arith))
+    ∙ fold_carry_16 low_word (m / 65536) word over (omega arith) (omega arith) words overs
+    ∙ ap fold parts ∙ fold_words m
+    ∙ fold_carry_32 low (n / 4294967296) half carry (omega arith) (omega arith) halves carries
+    ∙ ap fold whole ∙ fold_halves n
 
 -- ---- numbers into which words were added low byte first
 
@@ -195,10 +218,8 @@ accumulator_sum_carry_32 a b s carry p q e wraps =
 pub accumulator_sum_halves : (n : ℕ)
     → fold (accumulator_sum (n % 4294967296) + accumulator_sum (n / 4294967296)) ≡ accumulator_sum n
 accumulator_sum_halves n =
-    let whole : n ≡ n % 4294967296 + 4294967296 * (n / 4294967296) = omega arith in
     sym (accumulator_sum-add (n % 4294967296) (n / 4294967296))
-    ∙ accumulator_sum_cong _ n
-    (sym (ap fold whole ∙ fold_around_32 (n % 4294967296) (n / 4294967296)))
+    ∙ accumulator_sum_cong _ n (fold_halves n)
 
 -- the complement of a number's fold is that of its sum with the bytes swapped
 pub complement_of_accumulator_sum : (n : ℕ)

@@ -1,13 +1,14 @@
 -- Laws of `total`, and words that are read low byte first.
 use Rattle.std.proofs.Common.{replicate, ◌≡◌, ℕ, zero, suc, ◌+◌, ◌*◌, ◌%◌, ◌≤◌, List, [], ◌∷◌, ◌++◌}
-use Rattle.std.proofs.Common.{length, take, drop, sym, ap, ◌∙◌, refl, arith}
+use Rattle.std.proofs.Common.{length, take, drop, sym, ap, ◌∙◌, refl, arith, inl, inr}
 use Rattle.std.specs.Int.{from_le_bytes, w16, w32, w64}
 use Rattle.std.specs.Simd.{first_chunks}
 use Rattle.std.specs.List.{sum_by}
 use Rattle.std.proofs.lemmas.List.Sums.{sum_by-cons}
 use Rattle.std.proofs.lemmas.List.{take-append-drop, length-take-le, drop-drop, length-drop}
-use Rattle.ep_base.specs.Sum.{fold, total, accumulator_sum, whole_words}
+use Rattle.ep_base.specs.Sum.{fold, total, total_low, accumulator_sum, whole_words}
 use Rattle.ep_base.proofs.Folds.{fold_add, fold_add_right, fold_around_16, fold_around_32}
+use Rattle.ep_base.proofs.Folds.{fold_step, zero_or_pos}
 
 -- a front of even length ends at a word's end
 pub total-append : (xs ys : List ℕ) → length xs % 2 ≡ 0 → total (xs ++ ys) ≡ total xs + total ys
@@ -68,6 +69,29 @@ pub word_more : (sum word next : ℕ) (text : List ℕ) → next ≡ fold (sum +
     → word ≡ fold (total text) → next ≡ fold (sum + total text)
 word_more sum word next text step is = step ∙ ap (λ w. fold (sum + w)) is
     ∙ fold_add_right sum (total text)
+
+-- ---- a text whose words are read low byte first
+
+-- 256 times this sum is the total and a multiple of 65535
+total_low_times : (t : List ℕ) → (k : ℕ) × (256 * total_low t ≡ total t + 65535 * k)
+unfolding total total_low
+total_low_times [] = (0, refl)
+total_low_times (a ∷ []) = (0, omega arith)
+total_low_times (a ∷ b ∷ t) = let r = total_low_times t in (b + r.0, omega (arith, r.1))
+
+-- and they are 0 together
+total_low_zero : (t : List ℕ) → total t ≡ 0 → total_low t ≡ 0
+unfolding total total_low
+total_low_zero [] none = refl
+total_low_zero (a ∷ []) none = omega arith
+total_low_zero (a ∷ b ∷ t) none = omega (arith, total_low_zero t (omega arith))
+
+pub accumulator_sum_total_low : (t : List ℕ) → accumulator_sum (total_low t) ≡ fold (total t)
+accumulator_sum_total_low t = elim (zero_or_pos (total t)) [
+  | inl none ↦ ap fold (let e : 256 * total_low t ≡ total t =
+      omega (arith, total_low_zero t none) in e)
+  | inr some ↦ let r = total_low_times t in ap fold r.1 ∙ fold_step (total t) r.0 some
+]
 
 -- ---- a text cut into blocks
 

@@ -11,6 +11,12 @@ total [] = 0
 total (a ∷ []) = 256 * a
 total (a ∷ b ∷ rest) = 256 * a + b + total rest
 
+-- the same with the low byte first
+unfoldable pub total_low : List ℕ → ℕ
+total_low [] = 0
+total_low (a ∷ []) = a
+total_low (a ∷ b ∷ rest) = a + 256 * b + total_low rest
+
 -- what a ones-complement sum keeps of a total: whether it is 0, and its residue by 65535
 unfoldable pub fold : ℕ → ℕ
 fold zero = 0

@@ -8,6 +8,7 @@ ghost use Rattle.std.specs.List.{flat_map};
 ghost use Rattle.ep_base.specs.Sum.{AddsText, accumulator_sum, all_ones, checksum, fold, no_zero};
 ghost use Rattle.ep_base.specs.Sum.{total, whole_words};
 
+mod lanes;
 mod message;
 pub mod u32_16bit_word;
 pub mod u64_16bit_word;

@@ -2,6 +2,7 @@
 
 mod errors;
 mod ip_number;
+mod lanes;
 mod laws;
 mod numbers;
 mod sums;

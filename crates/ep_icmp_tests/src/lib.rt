@@ -12,3 +12,5 @@ mod icmpv6;
 mod icmpv6_messages;
 #[cfg(test)]
 mod laws;
+#[cfg(test)]
+mod long_payloads;

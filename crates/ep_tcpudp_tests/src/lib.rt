@@ -5,6 +5,8 @@
 #[cfg(test)]
 mod checksums;
 #[cfg(test)]
+mod long_payloads;
+#[cfg(test)]
 mod options;
 #[cfg(test)]
 mod tcp;

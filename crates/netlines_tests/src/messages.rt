@@ -80,6 +80,46 @@ fn messages_with_checksum(rt: HostRuntime) {
     assert!(rt; verdict(&OVER_V4, 6, &segment) == Some(Verdict::Good));
 }
 
+// What is told of an echo reply of zeros with this checksum in front of a payload, to whose sum it
+// adds nothing else.
+fn verdict_of_reply(checksum: u16, payload: &[u8]) -> Option<Verdict> {
+    let mut message = [0; 138];
+    message[2..4].copy_from_slice(&checksum.to_be_bytes());
+    let len = payload.len().min(130);
+    message[8..8 + len].copy_from_slice(&payload[..len]);
+    verdict(&OVER_V4, 1, &message[..8 + len])
+}
+
+// Words of ffff and of 0, and 16 words 0101 with 0100 behind them.
+#[test]
+fn payloads_of_one_byte_repeated(rt: HostRuntime) {
+    assert!(rt; verdict_of_reply(0, &[0xff; 64]) == Some(Verdict::Good));
+    assert!(rt; verdict_of_reply(0xffff, &[0xff; 64]) == Some(Verdict::Good));
+    assert!(rt; verdict_of_reply(0xffff, &[0; 64]) == Some(Verdict::Good));
+    assert!(rt; verdict_of_reply(0, &[0; 64]) == Some(Verdict::Bad));
+    assert!(rt; verdict_of_reply(0xeeef, &[1; 33]) == Some(Verdict::Good));
+    assert!(rt; verdict_of_reply(0xefee, &[1; 33]) == Some(Verdict::Bad));
+}
+
+// Payloads of 1, 2, 3, .. of each length up to 130, of which the longest are summed in lanes, with
+// their checksum and with one more.
+#[test]
+fn payloads_of_every_length(rt: HostRuntime) {
+    let mut payload = [0u8; 131];
+    let mut byte = 0u8;
+    let mut total = 0u32;
+    for len in 0..=130usize {
+        let checksum = (65535 - total % 65535) as u16;
+        let front = &payload[..len];
+        assert!(rt; verdict_of_reply(checksum, front) == Some(Verdict::Good));
+        assert!(rt; verdict_of_reply(checksum ^ 1, front) == Some(Verdict::Bad));
+        byte = byte.wrapping_add(1);
+        payload[len] = byte;
+        let weight = if len % 2 == 0 { 256 } else { 1 };
+        total = total.wrapping_add(u32::from(byte) * weight);
+    }
+}
+
 #[test]
 fn a_message_is_the_slice_of_its_protocol(rt: HostRuntime) {
     let bytes = [

@@ -7,7 +7,12 @@ ghost use Rattle.std.specs.Prelude.{◌≡◌, ◌+◌, ◌-◌};
 ghost use Rattle.std.specs.Int.{swap_bytes, w16};
 ghost use Rattle.ep_base.specs.Sum.{accumulator_sum, fold, no_zero, total};
 
-fn add_carrying(start: u64, word: u64) -> u64
+use super::lanes;
+
+// Below it, to fill the lanes and to join them costs more than they save.
+const LANES_FROM: usize = 128;
+
+pub(crate) fn add_carrying(start: u64, word: u64) -> u64
     ensures { accumulator_sum result ≡ fold (accumulator_sum start + accumulator_sum word) }
 {
     let (sum, carry) = start.overflowing_add(word);
@@ -35,7 +40,7 @@ pub fn add_8bytes(start: u64, value: [u8; 8]) -> u64
     add_carrying(start, u64::from_le_bytes(value))
 }
 
-// The number with the words of a short slice added, one by one.
+// The number with the words of a slice of two bytes each added.
 fn add_words(start: u64, slice: &[u8]) -> u64
     ensures { accumulator_sum result ≡ fold (accumulator_sum start + total slice.now) }
 {
@@ -50,8 +55,8 @@ fn add_words(start: u64, slice: &[u8]) -> u64
     }
 }
 
-/// The number with the words of a slice added. An odd last byte is followed by a zero byte.
-pub fn add_slice(start: u64, slice: &[u8]) -> u64
+// The same by eight bytes at once.
+fn add_short(start: u64, slice: &[u8]) -> u64
     ensures { accumulator_sum result ≡ fold (accumulator_sum start + total slice.now) }
 {
     let (blocks, rest) = slice.as_chunks::<8>();
@@ -62,14 +67,25 @@ pub fn add_slice(start: u64, slice: &[u8]) -> u64
     add_words(sum, rest)
 }
 
+/// The number with the words of a slice added. An odd last byte is followed by a zero byte.
+pub fn add_slice(start: u64, slice: &[u8]) -> u64
+    ensures { accumulator_sum result ≡ fold (accumulator_sum start + total slice.now) }
+{
+    if slice.len() < LANES_FROM {
+        return add_short(start, slice);
+    }
+    let (blocks, rest) = slice.as_chunks::<32>();
+    add_short(lanes::add_blocks(start, blocks), rest)
+}
+
 // The number's own fold, low byte first.
 pub(crate) fn to_word(sum: u64) -> u16
     ensures { result ≡ fold sum }
 {
-    let first = (sum >> 48) + (sum >> 32 & 0xffff) + (sum >> 16 & 0xffff) + (sum & 0xffff);
-    let second = (first >> 16) + (first & 0xffff);
-    let third = (second >> 16) + (second & 0xffff);
-    third as u16
+    let (half, carry) = ((sum & 0xffff_ffff) as u32).overflowing_add((sum >> 32) as u32);
+    let half = half + carry as u32;
+    let (word, carry) = ((half & 0xffff) as u16).overflowing_add((half >> 16) as u16);
+    word + carry as u16
 }
 
 /// The complement of the sum, low byte first.

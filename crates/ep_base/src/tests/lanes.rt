@@ -1,0 +1,82 @@
+//! Sums of texts that are long enough for lanes, and of shorter ones.
+
+use crate::checksum::{Sum16BitWords, sum_pieces, u32_16bit_word, u64_16bit_word};
+use std::alloc::Global;
+use std::process::Abort;
+
+// The checksum of a text, which both widths agree on.
+fn checksum(rt: &impl Abort, text: &[u8]) -> u16 {
+    let sum = Sum16BitWords::new().add_slice(text).ones_complement();
+    let narrow = u32_16bit_word::add_slice(0, text);
+    let wide = u64_16bit_word::add_slice(0, text);
+    assert!(rt; u32_16bit_word::ones_complement(narrow) == sum);
+    assert!(rt; u64_16bit_word::ones_complement(wide) == sum);
+    sum.swap_bytes()
+}
+
+// The same byte by byte (RFC 1071, section 1). A text of 2^40 bytes would be too long for it.
+fn plain_checksum(text: &[u8]) -> u16 {
+    let mut total = 0u64;
+    let mut weight = 256u64;
+    for byte in text {
+        total = total.wrapping_add(weight.wrapping_mul(u64::from(*byte)));
+        weight = if weight == 256 { 1 } else { 256 };
+    }
+    for _ in 0..4usize {
+        total = (total >> 16) + (total & 0xffff);
+    }
+    !((total & 0xffff) as u16)
+}
+
+// The sums of 64 and of 256 bytes are multiples of ffff. 16 words 0101 and 0100 sum to 1110, 144
+// of them and 0100 to 9190.
+#[test]
+fn sums_of_one_byte_repeated(rt: HostRuntime) {
+    for ones in [&[0xff; 64][..], &[0xff; 256]] {
+        let sum = Sum16BitWords::new().add_slice(ones);
+        assert!(rt; sum.ones_complement() == 0);
+        assert!(rt; sum.to_ones_complement_with_no_zero() == 0xffff);
+    }
+    assert!(rt; checksum(&rt, &[0; 64]) == 0xffff);
+    assert!(rt; checksum(&rt, &[0; 256]) == 0xffff);
+    assert!(rt; Sum16BitWords::new().add_slice(&[1; 33]).ones_complement() == 0xefee);
+    assert!(rt; checksum(&rt, &[1; 33]) == 0xeeef);
+    assert!(rt; checksum(&rt, &[1; 289]) == 0x6e6f);
+}
+
+// Texts of 1, 2, 3, .., with 0 behind 255, whole and cut at every even place.
+#[test]
+fn sums_of_every_length(rt: HostRuntime) {
+    let mut bytes = [0u8; 300];
+    let mut next = 0u8;
+    for byte in bytes.iter_mut() {
+        next = next.wrapping_add(1);
+        *byte = next;
+    }
+    for len in 0..=300usize {
+        let text = &bytes[..len];
+        let wanted = plain_checksum(text);
+        assert!(rt; checksum(&rt, text) == wanted);
+        for words in 0..=len / 2 {
+            let (front, back) = text.split_at(2 * words);
+            assert!(rt; sum_pieces(&[front, back]).swap_bytes() == wanted);
+        }
+    }
+}
+
+fn repeated(rt: &impl Abort, alloc: Global, byte: u8, len: usize) -> Vec<u8> {
+    let Ok(bytes) = vec![in alloc; byte; len] else {
+        panic!(rt; "no memory");
+    };
+    bytes
+}
+
+// Words ffff and a last ff00 leave ff00, by residue; 65552 words 0101 and 0100 leave 1211. Lanes
+// of 32 bits would wrap in the last text.
+#[test]
+fn sums_of_long_texts(rt: HostRuntime) {
+    assert!(rt; checksum(&rt, &repeated(&rt, rt.alloc(), 0xff, 65535)) == 0x00ff);
+    assert!(rt; checksum(&rt, &repeated(&rt, rt.alloc(), 0xff, 131105)) == 0x00ff);
+    assert!(rt; checksum(&rt, &repeated(&rt, rt.alloc(), 1, 131105)) == 0xedee);
+    assert!(rt; checksum(&rt, &repeated(&rt, rt.alloc(), 0xff, 2097281)) == 0x00ff);
+}

@@ -1,0 +1,66 @@
+//! Checksums over payloads of each length up to 130, of which the longest are summed in lanes, and
+//! of a long one. Wanted values are worked out by hand, or go on from the last length.
+
+use ep_icmp::{IcmpEchoHeader, Icmpv4Type, Icmpv6Type};
+use std::alloc::Global;
+use std::process::Abort;
+use std::test::*;
+
+const NOTHING: IcmpEchoHeader = IcmpEchoHeader { id: 0, seq: 0 };
+
+// An echo reply of zeros, which adds nothing to the sum of its payload.
+fn over_v4(payload: &[u8]) -> u16 {
+    Icmpv4Type::EchoReply(NOTHING).calc_checksum(payload)
+}
+
+// The same over IPv6 from and to no address: 8100 for its type and 3a for its number are added,
+// and the length, which is 8 more than that of the payload.
+fn over_v6(payload: &[u8]) -> Option<u16> {
+    let kind = Icmpv6Type::EchoReply(NOTHING);
+    kind.calc_checksum([0; 16], [0; 16], payload).ok()
+}
+
+#[test]
+fn payloads_of_one_byte_repeated(rt: HostRuntime) {
+    assert!(rt; over_v4(&[0xff; 64]) == 0 && over_v6(&[0xff; 64]) == Some(0x7e7d));
+    assert!(rt; over_v4(&[0; 64]) == 0xffff && over_v6(&[0; 64]) == Some(0x7e7d));
+    assert!(rt; over_v4(&[1; 33]) == 0xeeef && over_v6(&[1; 33]) == Some(0x6d8c));
+}
+
+// The complement of a sum that is 0 or no multiple of ffff.
+fn complement(total: u32) -> u16 {
+    (65535 - total % 65535) as u16
+}
+
+// The bytes 1, 2, 3, .., one more each time.
+#[test]
+fn payloads_of_every_length(rt: HostRuntime) {
+    let mut payload = [0u8; 131];
+    let mut byte = 0u8;
+    let mut total = 0u32;
+    for len in 0..=130usize {
+        let front = &payload[..len];
+        assert!(rt; over_v4(front) == complement(total));
+        let with_pseudo = total.wrapping_add(0x8100 + 0x3a + 8 + len as u32);
+        assert!(rt; over_v6(front) == Some(complement(with_pseudo)));
+        byte = byte.wrapping_add(1);
+        payload[len] = byte;
+        let weight = if len % 2 == 0 { 256 } else { 1 };
+        total = total.wrapping_add(u32::from(byte) * weight);
+    }
+}
+
+fn ones(rt: &impl Abort, alloc: Global, len: usize) -> Vec<u8> {
+    let Ok(bytes) = vec![in alloc; 0xff; len] else {
+        panic!(rt; "no memory");
+    };
+    bytes
+}
+
+// Words ffff and a last ff00. Over IPv6 the length of the message is 10007.
+#[test]
+fn a_long_payload(rt: HostRuntime) {
+    let payload = ones(&rt, rt.alloc(), 65535);
+    assert!(rt; over_v4(&payload) == 0x00ff);
+    assert!(rt; over_v6(&payload) == Some(0x7fbc));
+}
