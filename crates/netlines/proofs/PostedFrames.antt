@@ -148,7 +148,8 @@ module _ (letter : Letter) where
       ∙ law (ethernet_of letter) (tags_of letter.vlans.items)
       (ip_headers_of letter.stream false 0 false) letter.number.0 message
       (frames letter false 0 false message
-      (headers_fit letter false 0 false (omega arith) fit) carries) read (uncut_headers letter.stream) is
+      (headers_fit letter false 0 false (omega arith) fit) carries) read
+      (uncut_headers letter.stream) is
       ∙ ap (λ a. Whole a letter.number.0 message read) (addresses_are letter.stream false 0 false)
 
   pub frame_is_refused : RefusedIsRead → LetterFits letter

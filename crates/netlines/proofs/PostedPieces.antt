@@ -4,7 +4,7 @@ use Rattle.std.proofs.Common.{◌==◌, Bool, true, false, if◌then◌else◌, 
 use Rattle.std.proofs.Common.{drop, map, Option, Some, None, arith}
 use Rattle.std.specs.Prelude.{nat_lt}
 use Rattle.std.proofs.lemmas.List.{length-take, length-drop}
-use Rattle.std.proofs.lemmas.Bool.{and_parts, eqb-true, eq-eqb, ne_eqb, ltb-true, ltb-false, lt-ltb}
+use Rattle.std.proofs.lemmas.Bool.{and_parts, eqb-true, ltb-true, ltb-false, lt-ltb}
 use Rattle.etherparse.specs.ip.Ipv4.{is_fragmenting}
 use Rattle.etherparse.specs.packet.Class.{class_of}
 use Rattle.netlines.specs.Letter.{LetterFits, piece_class}

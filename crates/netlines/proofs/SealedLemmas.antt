@@ -195,7 +195,8 @@ icmpv6_is_good laws source destination h payload read fit eight is =
 
 -- which refusal stands, by the version and by the length of all
 abbrev refusal : Bool → Bool → Option SealError
-refusal other long = if other then Some IcmpOfOtherVersion else (if long then Some TooLong else None)
+refusal other long = if other then Some IcmpOfOtherVersion
+    else (if long then Some TooLong else None)
 
 no_refusal : (other long : Bool) → refusal other long ≡ None → (other ≡ false) × (long ≡ false)
 no_refusal true long is = cc

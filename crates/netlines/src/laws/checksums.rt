@@ -1,4 +1,4 @@
-//! Laws of checksums.
+//! Laws of checksums. What they want of addresses and headers every value has (`super::values`).
 ghost use Rattle.std.specs.Prelude.{◌≡◌, ◌≢◌, ◌↔◌, ◌+◌, ◌≤◌, ◌<◌, ℕ, true, false, List, ◌++◌};
 ghost use Rattle.std.specs.Prelude.{length, None, Some, Ok};
 ghost use Rattle.netlines.specs.ChangedWord.{DifferInOneWord, verdict_after};
