@@ -1,6 +1,6 @@
 //! Reassembly of fragmented IP packets (RFC 791, section 3.2; RFC 8200, section 4.5).
 
-mod ip_defrag_buf;
+pub(crate) mod ip_defrag_buf;
 mod ip_defrag_error;
 mod ip_defrag_payload_vec;
 mod ip_defrag_pool;

@@ -3,12 +3,10 @@
 
 ghost use Rattle.std.specs.Prelude.{◌≡◌, ◌↔◌, IsTrue, List};
 ghost use Rattle.etherparse.specs.Fragments.{Fragment, is_complete, Complete, MembersAgree};
-ghost use Rattle.etherparse.specs.IpDefragBuf.{Cover, IsPicture};
+ghost use Rattle.etherparse.specs.IpDefragBuf.{Cover};
 ghost use Rattle.etherparse.specs.Picture.{LastByteCounts, OpenPlaceHasNone};
 ghost use Rattle.etherparse.specs.declared.defrag.TheConstants.{MAX_IP_DEFRAG_LEN};
 ghost use Rattle.etherparse.specs.declared.defrag.TheConstants.{MAX_IP_DEFRAG_LEN_U16};
-
-use crate::defrag::IpDefragBuf;
 
 pub mod builder;
 pub mod examples;
@@ -17,6 +15,7 @@ pub mod names;
 pub mod streams;
 pub mod traits;
 
+pub use crate::defrag::ip_defrag_buf::every_buffer_is_a_picture;
 pub use ep_base::laws as base;
 pub use ep_ext::laws as ext;
 pub use ep_icmp::laws as icmp;
@@ -33,14 +32,6 @@ pub use ep_tcpudp::laws as tcpudp;
 pub fn cover()
     ensures { Cover }
 {}
-
-/// Every buffer there is shows some fragments, each of which was accepted after those before it.
-pub fn every_buffer_is_a_picture(buf: &IpDefragBuf)
-    ensures { IsPicture buf.now }
-{
-    // For the proof alone.
-    let _whole = buf.is_complete();
-}
 
 /// In a list of accepted fragments each ends at 65535 at most, more follows only behind whole units
 /// of 8 bytes, and all last ones name the same end (RFC 791, section 3.2).

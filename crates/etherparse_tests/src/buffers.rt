@@ -3,6 +3,7 @@
 use crate::fragments::{ZEROS, add_zeros, completes, empty, holds, is_one_section, offset};
 use ep_base::IpNumber;
 use etherparse::defrag::IpDefragError;
+use etherparse::laws::every_buffer_is_a_picture;
 use std::test::*;
 
 #[test]
@@ -15,6 +16,7 @@ fn ranges_and_buffer(rt: HostRuntime) {
     assert!(rt; is_one_section(&buf, 0, 64));
     assert!(rt; holds(&buf, &ZEROS));
     assert!(rt; buf.ip_number() == IpNumber::UDP);
+    every_buffer_is_a_picture(&buf);
 }
 
 #[test]

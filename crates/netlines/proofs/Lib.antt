@@ -9,6 +9,7 @@ mod FrameLemmas
 mod Going
 mod HexFrameLemmas
 mod InOrder
+mod LetterLemmas
 mod LineLemmas
 mod MemoryLemmas
 mod PartLemmas

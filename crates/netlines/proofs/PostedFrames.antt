@@ -20,12 +20,13 @@ use Rattle.etherparse.specs.packet.Readable.{ReadMessage, message_at}
 use Rattle.etherparse.specs.packet.declared.err.packet.slice_error.SliceError.{SliceError}
 use Rattle.etherparse.specs.packet.declared.net.ip_headers.IpHeaders.{IpHeaders}
 use Rattle.etherparse.specs.tag.declared.link.vlan_header.VlanHeader.{VlanHeader}
-use Rattle.netlines.specs.Letter.{HeadersFit, ethernet_of, identification_of, name_of}
+use Rattle.netlines.specs.Letter.{LetterFits, identification_of, name_of}
 use Rattle.netlines.specs.Sealed.{addresses_of}
 use Rattle.netlines.specs.Posted.{frame}
 use Rattle.netlines.specs.PostRefusal.{names_extension, room}
 use Rattle.netlines.specs.PostedHeaders.{ip_headers_of, tags_of}
 use Rattle.netlines.specs.declared.messages.letter.Letter.{Letter}
+use Rattle.netlines.proofs.LetterLemmas.{HeadersFit, ethernet_of, headers_fit}
 use Rattle.netlines.proofs.PostLemmas.{framed, unrefused_piece}
 
 -- a letter's number names no extension header, and a packet has room for a message or a piece of
@@ -136,28 +137,33 @@ PartIsRead = (link : Ethernet2Header) (vlan : Option VlanHeader) (ip : IpHeaders
     ≡ part_with vlan ip number payload told
 
 module _ (letter : Letter) where
-  pub frame_is_whole : WholeIsRead → HeadersFit letter false 0 false
+  pub frame_is_whole : WholeIsRead → LetterFits letter
       → (message : List ℕ) (read : ReadMessage) → CanCarry letter false message
       → message_at letter.number.0 message ≡ Ok read
       → class_of (frame letter false (record { offset = 0; more = false; text = message }))
       ≡ Whole (addresses_of letter.stream) letter.number.0 message read
   frame_is_whole law fit message read carries is =
-      as_built letter false 0 false message fit carries
+      as_built letter false 0 false message
+      (headers_fit letter false 0 false (omega arith) fit) carries
       ∙ law (ethernet_of letter) (tags_of letter.vlans.items)
       (ip_headers_of letter.stream false 0 false) letter.number.0 message
-      (frames letter false 0 false message fit carries) read (uncut_headers letter.stream) is
+      (frames letter false 0 false message
+      (headers_fit letter false 0 false (omega arith) fit) carries) read
+      (uncut_headers letter.stream) is
       ∙ ap (λ a. Whole a letter.number.0 message read) (addresses_are letter.stream false 0 false)
 
-  pub frame_is_refused : RefusedIsRead → HeadersFit letter false 0 false
+  pub frame_is_refused : RefusedIsRead → LetterFits letter
       → (message : List ℕ) (e : SliceError) → CanCarry letter false message
       → message_at letter.number.0 message ≡ Err e
       → class_of (frame letter false (record { offset = 0; more = false; text = message }))
       ≡ Refused
   frame_is_refused law fit message e carries is =
-      as_built letter false 0 false message fit carries
+      as_built letter false 0 false message
+      (headers_fit letter false 0 false (omega arith) fit) carries
       ∙ law (ethernet_of letter) (tags_of letter.vlans.items)
       (ip_headers_of letter.stream false 0 false) letter.number.0 message
-      (frames letter false 0 false message fit carries) e (uncut_headers letter.stream) is
+      (frames letter false 0 false message
+      (headers_fit letter false 0 false (omega arith) fit) carries) e (uncut_headers letter.stream) is
 
   pub frame_is_part : PartIsRead → (offset : ℕ) (more : Bool) → HeadersFit letter true offset more
       → (text : List ℕ) → CanCarry letter true text → is_fragmenting more offset ≡ true

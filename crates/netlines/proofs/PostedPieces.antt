@@ -4,70 +4,17 @@ use Rattle.std.proofs.Common.{◌==◌, Bool, true, false, if◌then◌else◌, 
 use Rattle.std.proofs.Common.{drop, map, Option, Some, None, arith}
 use Rattle.std.specs.Prelude.{nat_lt}
 use Rattle.std.proofs.lemmas.List.{length-take, length-drop}
-use Rattle.std.proofs.lemmas.Bool.{and_parts, eqb-true, eq-eqb, ne_eqb, ltb-true, ltb-false, lt-ltb}
-use Rattle.etherparse.specs.BuiltFrames.{IpFits}
-use Rattle.etherparse.specs.declared.defrag.ip_frag_version_spec_id.IpFragVersionSpecId.{IpFragVersionSpecId}
-use Rattle.etherparse.specs.declared.defrag.ip_frag_version_spec_id.IpFragVersionSpecId.TheVariants.{Ipv4}
-use Rattle.etherparse.specs.declared.defrag.ip_frag_version_spec_id.IpFragVersionSpecId.TheVariants.{Ipv6}
-use Rattle.etherparse.specs.ext.declared.net.ipv6_fragment_header.Ipv6FragmentHeader.{Ipv6FragmentHeader}
+use Rattle.std.proofs.lemmas.Bool.{and_parts, eqb-true, ltb-true, ltb-false, lt-ltb}
 use Rattle.etherparse.specs.ip.Ipv4.{is_fragmenting}
 use Rattle.etherparse.specs.packet.Class.{class_of}
-use Rattle.netlines.specs.Letter.{HeadersFit, piece_class}
+use Rattle.netlines.specs.Letter.{LetterFits, piece_class}
 use Rattle.netlines.specs.Posted.{Piece, frame, is_cut, pieces_from, posted_frames}
 use Rattle.netlines.specs.PostRefusal.{bad_cut_from, is_good_cut, long_piece_from, names_extension}
 use Rattle.netlines.specs.PostRefusal.{post_refusal, room}
-use Rattle.netlines.specs.PostedHeaders.{ip_headers_of}
 use Rattle.netlines.specs.declared.messages.letter.Letter.{Letter}
+use Rattle.netlines.proofs.LetterLemmas.{headers_fit}
 use Rattle.netlines.proofs.PostedFrames.{PartIsRead, frame_is_part}
 use Rattle.netlines.proofs.UnrefusedLemmas.{unrefused}
-
--- headers that fit at the front of a message fit at every place of it
-offset_is : (more : Bool) (offset : ℕ) → offset < 8192
-    → (256 * ((8 * offset + (if more then 1 else 0)) / 256 % 256) +
-    (8 * offset + (if more then 1 else 0)) % 256) / 8 ≡ offset
-offset_is true offset small = omega arith
-offset_is false offset small = omega arith
-
-flag_is : (more : Bool) (offset : ℕ) → offset < 8192
-    → ((8 * offset + (if more then 1 else 0)) % 256 % 2 == 1) ≡ more
-flag_is true offset small = eq-eqb _ 1 (omega arith)
-flag_is false offset small = ne_eqb _ 1 (λ is. absurd (omega arith))
-
-fits_at : (stream : IpFragVersionSpecId) (number offset : ℕ) (more : Bool) → offset < 8192
-    → IpFits (ip_headers_of stream true 0 false) number
-    → IpFits (ip_headers_of stream true offset more) number
-fits_at (Ipv4 source destination identification) number offset more small fits = (
-  record {
-    dscp = fits.0.dscp;
-    total_len = fits.0.total_len;
-    identification = fits.0.identification;
-    fragment_offset = small;
-    header_checksum = fits.0.header_checksum;
-    source = fits.0.source;
-    destination = fits.0.destination;
-    options = fits.0.options;
-  },
-  fits.1,
-)
-fits_at (Ipv6 source destination identification) number offset more small fits = (
-  fits.0,
-  (λ i. record {
-    next_header = record { 0 = 0 };
-    fragment_offset = offset_is more offset small i;
-    more_fragments = flag_is more offset small i;
-    identification = ap (λ (h : Ipv6FragmentHeader). h.identification) fits.1 i;
-  }),
-  (refl, record { whole = refl }, refl),
-)
-
-pub all_fit : (letter : Letter) (offset : ℕ) (more : Bool) → offset < 8192
-    → HeadersFit letter true 0 false → HeadersFit letter true offset more
-all_fit letter offset more small fit = record {
-  link = fit.link;
-  tags = fit.tags;
-  few = fit.few;
-  ip = fits_at letter.stream letter.number.0 offset more small fit.ip;
-}
 
 fragmenting : (more : Bool) (offset : ℕ) → (more ≡ false → 0 < offset)
     → is_fragmenting more offset ≡ true
@@ -178,14 +125,14 @@ goes_from_start letter message cuts sent cut =
           (sym cut) ∙ holds.fits;
     }
 
-module _ (letter : Letter) (law : PartIsRead) (fit : HeadersFit letter true 0 false)
+module _ (letter : Letter) (law : PartIsRead) (fit : LetterFits letter)
     (number : names_extension letter.stream letter.number.0 ≡ false) where
   pub piece_is_read : (piece : Piece) → length piece.text ≤ room letter.stream true
       → piece.offset < 8192 → (piece.more ≡ false → 0 < piece.offset)
       → class_of (frame letter true piece) ≡ piece_class letter piece
   piece_is_read piece short small some =
       frame_is_part letter law piece.offset piece.more
-      (all_fit letter piece.offset piece.more small fit) piece.text
+      (headers_fit letter true piece.offset piece.more small fit) piece.text
       (record { number = number; fits = short }) (fragmenting piece.more piece.offset some)
 
   pub last_is_read : (len start : ℕ) (rest : List ℕ)
@@ -219,7 +166,7 @@ module _ (letter : Letter) (law : PartIsRead) (fit : HeadersFit letter true 0 fa
       (goes_behind (room letter.stream true) len start cut later rest goes) in
       λ i. first i ∷ behind i
 
-pub posted_cut : (letter : Letter) → PartIsRead → HeadersFit letter true 0 false
+pub posted_cut : (letter : Letter) → PartIsRead → LetterFits letter
     → (message cuts : List ℕ) → post_refusal letter message cuts ≡ None → is_cut cuts ≡ true
     → map class_of (posted_frames letter message cuts)
     ≡ map (piece_class letter) (pieces_from 0 cuts message)

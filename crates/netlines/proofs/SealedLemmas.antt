@@ -1,10 +1,11 @@
 -- What is told of a sealed message.
-use Rattle.std.proofs.Common.{◌≡◌, ◌∙◌, sym, ap, refl, ℕ, zero, suc, ◌+◌, ◌%◌, ◌≤◌, ◌==◌, Bool}
-use Rattle.std.proofs.Common.{true, false, IsTrue, List, [], ◌∷◌, ◌++◌, length, Ok, Some, None}
+use Rattle.std.proofs.Common.{◌≡◌, ◌↔◌, ◌∙◌, sym, ap, refl, ℕ, zero, suc, ◌+◌, ◌%◌, ◌<◌, ◌≤◌, ◌==◌}
+use Rattle.std.proofs.Common.{Bool, true, false, IsTrue, List, [], ◌∷◌, ◌++◌, length, Ok, Option}
+use Rattle.std.proofs.Common.{Some, None}
 use Rattle.std.proofs.Common.{arith, append_assoc, length-append}
 use Rattle.std.specs.Prelude.{nat_lt, if◌then◌else◌}
 use Rattle.std.specs.Int.{w16, w32, to_be_bytes}
-use Rattle.std.proofs.lemmas.Bool.{le-ltb, ltb-false, ne_eqb}
+use Rattle.std.proofs.lemmas.Bool.{le-ltb, lt-ltb, ltb-false, ltb-true, ne_eqb}
 use Rattle.std.proofs.lemmas.List.{take_all}
 use Rattle.etherparse.specs.base.Sum.{all_ones, checksum, no_zero}
 use Rattle.etherparse.specs.icmp.Icmpv4 as icmpv4_spec
@@ -27,18 +28,20 @@ use Rattle.etherparse.specs.packet.Readable.ReadMessage.{Udp}
 use Rattle.etherparse.specs.icmp.declared.transport.icmpv4_header.Icmpv4Header.{Icmpv4Header}
 use Rattle.etherparse.specs.icmp.declared.transport.icmpv6_header.Icmpv6Header.{Icmpv6Header}
 use Rattle.etherparse.specs.Built.{with_message_checksum as built_header}
-use Rattle.etherparse.specs.packet.Transport.{transport_spelling}
+use Rattle.etherparse.specs.packet.Transport.{transport_len, transport_spelling}
 use Rattle.etherparse.specs.packet.declared.net.ip_headers.IpHeaders.{IpHeaders}
 use Rattle.etherparse.specs.packet.declared.net.ip_headers.IpHeaders.TheVariants as packet
 use Rattle.etherparse.specs.declared.defrag.ip_frag_version_spec_id.IpFragVersionSpecId.{IpFragVersionSpecId}
 use Rattle.etherparse.specs.declared.defrag.ip_frag_version_spec_id.IpFragVersionSpecId.TheVariants.{Ipv4}
 use Rattle.etherparse.specs.declared.defrag.ip_frag_version_spec_id.IpFragVersionSpecId.TheVariants.{Ipv6}
+use Rattle.netlines.specs.declared.messages.seal_error.SealError.{SealError}
 use Rattle.netlines.specs.declared.messages.seal_error.SealError.TheVariants.{IcmpOfOtherVersion}
 use Rattle.netlines.specs.declared.messages.seal_error.SealError.TheVariants.{TooLong}
 use Rattle.etherparse.specs.packet.declared.transport.transport_header.TransportHeader.{TransportHeader}
 use Rattle.etherparse.specs.packet.declared.transport.transport_header.TransportHeader.TheVariants as header
-use Rattle.netlines.specs.Sealed.{HeaderFits, addresses_of, is_icmp_of_other_version, number_of}
-use Rattle.netlines.specs.Sealed.{seal_refusal, sealed_message_bytes, sealed_header, stream_between}
+use Rattle.netlines.specs.Sealed.{HeaderFits, IsSealable, addresses_of, is_icmp_of_other_version}
+use Rattle.netlines.specs.Sealed.{number_of, seal_refusal, sealed_header, sealed_message_bytes}
+use Rattle.netlines.specs.Sealed.{stream_between}
 use Rattle.netlines.specs.Verdict.{AddressesFit, verdict_by_sum, pseudo, verdict_of}
 use Rattle.etherparse.specs.packet.declared.addresses.Addresses.{Addresses}
 use Rattle.etherparse.specs.packet.declared.addresses.Addresses.TheVariants.{V4, V6}
@@ -190,35 +193,84 @@ icmpv6_is_good laws source destination h payload read fit eight is =
     ∙ joined (icmpv6_spec.pseudo source destination (8 + length payload)) header payload
     (laws.icmpv6 h.icmp_type source destination payload fit.0 fit.1)
 
-no_refusal : (other long : Bool)
-    → (if other then Some IcmpOfOtherVersion else (if long then Some TooLong else None)) ≡ None
-    → (other ≡ false) × (long ≡ false)
+-- which refusal stands, by the version and by the length of all
+abbrev refusal : Bool → Bool → Option SealError
+refusal other long = if other then Some IcmpOfOtherVersion
+    else (if long then Some TooLong else None)
+
+no_refusal : (other long : Bool) → refusal other long ≡ None → (other ≡ false) × (long ≡ false)
 no_refusal true long is = cc
 no_refusal false true is = cc
 no_refusal false false is = (refl, refl)
 
+refused_as_long : (other long : Bool) → refusal other long ≡ Some TooLong
+    → (other ≡ false) × (long ≡ true)
+refused_as_long true long is = cc
+refused_as_long false true is = (refl, refl)
+refused_as_long false false is = cc
+
+pub sealed_where : (other : Bool) (len : ℕ)
+    → (refusal other (nat_lt 65535 len) ≡ None) ↔ ((other ≡ false) × (len ≤ 65535))
+sealed_where other len = (
+  λ is. let parts = no_refusal other (nat_lt 65535 len) is in
+      (parts.0, ltb-false 65535 len parts.1),
+  λ fits. rw (fits.0, le-ltb 65535 len fits.1) refl,
+)
+
+pub other_where : (other long : Bool)
+    → (refusal other long ≡ Some IcmpOfOtherVersion) ↔ (other ≡ true)
+other_where true long = (λ is. refl, λ is. refl)
+other_where false true = (λ is. cc, λ is. cc)
+other_where false false = (λ is. cc, λ is. cc)
+
+pub long_where : (other : Bool) (len : ℕ)
+    → (refusal other (nat_lt 65535 len) ≡ Some TooLong) ↔ ((other ≡ false) × (65535 < len))
+long_where other len = (
+  λ is. let parts = refused_as_long other (nat_lt 65535 len) is in
+      (parts.0, ltb-true 65535 len parts.1),
+  λ long. rw (long.0, lt-ltb 65535 len long.1) refl,
+)
+
+-- UDP's field tells the length of all that is short enough
+told_of : (h : TransportHeader) (payload : List ℕ) → transport_len h + length payload ≤ 65535
+    → number_of h ≡ 17 → 8 + length payload ≤ 65535
+told_of (header.Udp h) payload short same = short
+told_of (header.Tcp h) payload short same = absurd (omega arith)
+told_of (header.Icmpv4 h) payload short same = absurd (omega arith)
+told_of (header.Icmpv6 h) payload short same = absurd (omega arith)
+
+pub unrefused : (stream : IpFragVersionSpecId) (h : TransportHeader) (payload : List ℕ)
+    → AddressesFit (addresses_of stream) → HeaderFits h → seal_refusal stream h payload ≡ None
+    → IsSealable stream h payload
+unrefused stream h payload addresses fits is =
+    let other : Bool = is_icmp_of_other_version stream h in
+    let parts = (sealed_where other (transport_len h + length payload)).0 is in
+    record {
+      addresses = addresses;
+      fits = fits;
+      version = parts.0;
+      told = told_of h payload parts.1;
+    }
+
 pub sealed_good : Laws → (stream : IpFragVersionSpecId) (h : TransportHeader) (payload : List ℕ)
-    (read : ReadMessage) → AddressesFit (addresses_of stream) → HeaderFits h
-    → seal_refusal stream h payload ≡ None
+    (read : ReadMessage) → IsSealable stream h payload
     → message_at (number_of h) (sealed_message_bytes stream h payload) ≡ Ok read
     → verdict_of (addresses_of stream) read ≡ verdict.Good
-sealed_good laws stream (header.Udp h) payload read fit fits sealable is =
-    let parts = no_refusal (is_icmp_of_other_version stream (header.Udp h))
-    (nat_lt 65535 (8 + length payload)) sealable in
-    udp_is_good laws (addresses_of stream) h payload read fit
-    (ltb-false 65535 (8 + length payload) parts.1) is
-sealed_good laws stream (header.Tcp h) payload read fit fits sealable is =
-    tcp_is_good laws (addresses_of stream) h payload read fit fits is
+sealed_good laws stream (header.Udp h) payload read sealable is =
+    udp_is_good laws (addresses_of stream) h payload read sealable.addresses
+    (sealable.told refl) is
+sealed_good laws stream (header.Tcp h) payload read sealable is =
+    tcp_is_good laws (addresses_of stream) h payload read sealable.addresses sealable.fits is
 sealed_good laws (Ipv4 source destination identification)
-    (header.Icmpv4 h) payload read fit fits sealable is =
+    (header.Icmpv4 h) payload read sealable is =
     icmpv4_is_good laws source destination h payload read is
 sealed_good laws (Ipv6 source destination identification)
-    (header.Icmpv4 h) payload read fit fits sealable is = cc
+    (header.Icmpv4 h) payload read sealable is = let other : true ≡ false = sealable.version in cc
 sealed_good laws (Ipv4 source destination identification)
-    (header.Icmpv6 h) payload read fit fits sealable is = cc
+    (header.Icmpv6 h) payload read sealable is = let other : true ≡ false = sealable.version in cc
 sealed_good laws (Ipv6 source destination identification)
-    (header.Icmpv6 h) payload read fit fits sealable is =
-    icmpv6_is_good laws source destination h payload read fit fits is
+    (header.Icmpv6 h) payload read sealable is =
+    icmpv6_is_good laws source destination h payload read sealable.addresses sealable.fits is
 
 -- what the builder writes is the same
 built_same : (ip : IpHeaders) (h : TransportHeader) (payload : List ℕ)
@@ -234,10 +286,9 @@ built_same (packet.Ipv6 ip e) (header.Icmpv4 h) payload = refl
 built_same (packet.Ipv6 ip e) (header.Icmpv6 h) payload = refl
 
 pub built_good : Laws → (ip : IpHeaders) (h : TransportHeader) (payload : List ℕ)
-    (read : ReadMessage) → AddressesFit (addresses_of (stream_between ip)) → HeaderFits h
-    → seal_refusal (stream_between ip) h payload ≡ None
+    (read : ReadMessage) → IsSealable (stream_between ip) h payload
     → message_at (number_of h) (transport_spelling (built_header ip payload h) ++ payload) ≡ Ok read
     → verdict_of (addresses_of (stream_between ip)) read ≡ verdict.Good
-built_good laws ip h payload read fit fits sealable is =
-    sealed_good laws (stream_between ip) h payload read fit fits sealable
+built_good laws ip h payload read sealable is =
+    sealed_good laws (stream_between ip) h payload read sealable
     (ap (message_at (number_of h)) (sym (built_same ip h payload)) ∙ is)

@@ -1,16 +1,13 @@
 -- Letters: the name and the headers of the packets in which a message is sent.
-use Rattle.std.specs.Prelude.{ℕ, ◌≤◌, Bool, length}
-use Rattle.etherparse.specs.BuiltFrames.{IpFits, TagsFit}
+use Rattle.std.specs.Prelude.{◌≡◌, ℕ, ◌^◌, ◌<◌, ◌≤◌, length, All}
 use Rattle.etherparse.specs.declared.defrag.ip_frag_version_spec_id.IpFragVersionSpecId.{IpFragVersionSpecId}
 use Rattle.etherparse.specs.declared.defrag.ip_frag_version_spec_id.IpFragVersionSpecId.TheVariants.{Ipv4}
 use Rattle.etherparse.specs.declared.defrag.ip_frag_version_spec_id.IpFragVersionSpecId.TheVariants.{Ipv6}
-use Rattle.etherparse.specs.link.Ethernet.{Fits}
-use Rattle.etherparse.specs.link.declared.link.ethernet2_header.Ethernet2Header.{Ethernet2Header}
 use Rattle.etherparse.specs.packet.Class.{Class, FragmentName}
 use Rattle.etherparse.specs.packet.Class.Class.{Cut}
-use Rattle.netlines.specs.PostedHeaders.{ip_headers_of, tags_of}
 use Rattle.netlines.specs.Posted.{Piece}
 use Rattle.netlines.specs.Sealed.{addresses_of}
+use Rattle.netlines.specs.Verdict.{AddressesFit}
 use Rattle.netlines.specs.declared.messages.letter.Letter.{Letter}
 
 abbrev pub identification_of : IpFragVersionSpecId → ℕ
@@ -30,18 +27,17 @@ name_of letter = record {
 abbrev pub piece_class : Letter → Piece → Class
 piece_class letter piece = Cut (name_of letter) piece.offset piece.more piece.text
 
--- the link header of a letter's frames
-abbrev pub ethernet_of : Letter → Ethernet2Header
-ethernet_of letter =
-    record {
-      source = letter.ethernet_source;
-      destination = letter.ethernet_destination;
-      ether_type = record { 0 = 0 };
-    }
+-- an identification of the bits that its IP version has for it
+abbrev pub IdentificationFits : IpFragVersionSpecId → Type 0
+IdentificationFits (Ipv4 source destination identification) = identification < 2 ^ 16
+IdentificationFits (Ipv6 source destination identification) = identification < 2 ^ 32
 
--- the headers of such a frame are as their types hold them
-pub record HeadersFit (letter : Letter) (cut : Bool) (offset : ℕ) (more : Bool) : Type 0 where
-  pub link : Fits (ethernet_of letter)
-  pub tags : TagsFit (tags_of letter.vlans.items)
+-- a letter as its type holds it: Ethernet addresses of 6 bytes, at most two identifiers of VLANs,
+-- of 12 bits each, and the addresses and the identification of an IP version
+pub record LetterFits (letter : Letter) : Type 0 where
+  pub source : length letter.ethernet_source ≡ 6
+  pub destination : length letter.ethernet_destination ≡ 6
+  pub ids : All (λ id. id ≤ 4095) letter.vlans.items
   pub few : length letter.vlans.items ≤ 2
-  pub ip : IpFits (ip_headers_of letter.stream cut offset more) letter.number.0
+  pub addresses : AddressesFit (addresses_of letter.stream)
+  pub identification : IdentificationFits letter.stream

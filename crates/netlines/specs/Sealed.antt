@@ -1,7 +1,7 @@
 -- Messages with the length and the checksum that belong to them (RFC 768; RFC 792; RFC 4443,
 -- section
 -- 2.3; RFC 9293, section 3.1; RFC 8200, section 8.1).
-use Rattle.std.specs.Prelude.{◌≡◌, ℕ, ⊤, ◌+◌, nat_lt, Bool, true, false, List, [], ◌∷◌, ◌++◌}
+use Rattle.std.specs.Prelude.{◌≡◌, ℕ, ⊤, ◌+◌, ◌≤◌, nat_lt, Bool, true, false, List, [], ◌∷◌, ◌++◌}
 use Rattle.std.specs.Prelude.{length, Option}
 use Rattle.etherparse.specs.base.Refusals.{first_refusal}
 use Rattle.etherparse.specs.icmp.Icmpv4 as icmpv4_spec
@@ -18,7 +18,7 @@ use Rattle.etherparse.specs.tcpudp.TcpChecksum as tcp_checksum
 use Rattle.etherparse.specs.tcpudp.TcpOptions.{IsTcpOptions}
 use Rattle.etherparse.specs.tcpudp.UdpChecksum as udp_checksum
 use Rattle.etherparse.specs.packet.Readable.{icmpv4, icmpv6, tcp, udp}
-use Rattle.netlines.specs.Verdict.{pseudo}
+use Rattle.netlines.specs.Verdict.{AddressesFit, pseudo}
 use Rattle.etherparse.specs.packet.declared.addresses.Addresses.{Addresses}
 use Rattle.etherparse.specs.packet.declared.addresses.Addresses.TheVariants.{V4, V6}
 use Rattle.etherparse.specs.declared.defrag.ip_frag_version_spec_id.IpFragVersionSpecId.{IpFragVersionSpecId}
@@ -89,6 +89,15 @@ abbrev pub is_icmp_of_other_version : IpFragVersionSpecId → TransportHeader �
 is_icmp_of_other_version (Ipv4 source destination identification) (Icmpv6 h) = true
 is_icmp_of_other_version (Ipv6 source destination identification) (Icmpv4 h) = true
 is_icmp_of_other_version stream header = false
+
+-- there is such a message: between addresses of their length, ICMP over its own version, and UDP of
+-- a length that 16 bits can tell
+pub record IsSealable (stream : IpFragVersionSpecId) (header : TransportHeader)
+    (payload : List ℕ) : Type 0 where
+  pub addresses : AddressesFit (addresses_of stream)
+  pub fits : HeaderFits header
+  pub version : is_icmp_of_other_version stream header ≡ false
+  pub told : number_of header ≡ udp → 8 + length payload ≤ 65535
 
 -- the first refusal, want of memory aside
 abbrev pub seal_refusal : IpFragVersionSpecId → TransportHeader → List ℕ → Option SealError

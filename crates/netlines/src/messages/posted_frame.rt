@@ -65,7 +65,7 @@ fn headers(letter: &Letter, ip: IpHeaders) -> PacketBuilderStep<IpHeaders>
 
 // The IP headers of a piece. Their lengths, numbers and checksum are set when the packet is
 // written.
-pub(crate) fn ip_headers(
+fn ip_headers(
     stream: &IpFragVersionSpecId,
     is_cut: bool,
     offset: IpFragOffset,

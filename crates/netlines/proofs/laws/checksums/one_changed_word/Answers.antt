@@ -2,6 +2,6 @@ use Rattle.netlines.proofs.ChangedMessage.{changed_word}
 use Rattle.netlines.proofs.laws.checksums.one_changed_word.Goals as goal
 
 pub returns : goal.returns
-returns c = λ number bytes behind new message changed is good cut words other changed_is.
-    changed_word c.args.addresses.now c.addresses_fit.ensures number bytes behind new message
-    changed is good cut words other changed_is
+returns c =
+    λ addresses number bytes behind new message changed fit.
+    changed_word addresses fit number bytes behind new message changed

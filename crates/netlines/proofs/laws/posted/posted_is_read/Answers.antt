@@ -6,19 +6,19 @@ use Rattle.netlines.proofs.laws.posted.posted_is_read.Goals as goal
 
 pub returns-clause-whole : goal.returns-clause-whole
 returns-clause-whole c =
-    λ message read sent is.
+    λ letter message read fit sent is.
     ap (λ class. class ∷ [])
-    (frame_is_whole c.args.letter.now c.built_frames_are_read.ensures.whole
-    c.whole_headers_fit.ensures message read
-    (carried_whole c.args.letter.now message sent) is)
+    (frame_is_whole letter c.built_frames_are_read.ensures.whole fit message read
+    (carried_whole letter message sent) is)
 
 pub returns-clause-refused : goal.returns-clause-refused
 returns-clause-refused c =
-    λ message e sent is.
+    λ letter message e fit sent is.
     ap (λ class. class ∷ [])
-    (frame_is_refused c.args.letter.now c.built_frames_are_read.ensures.refused
-    c.whole_headers_fit.ensures message e (carried_whole c.args.letter.now message sent) is)
+    (frame_is_refused letter c.built_frames_are_read.ensures.refused fit message e
+    (carried_whole letter message sent) is)
 
 pub returns-clause-cut : goal.returns-clause-cut
-returns-clause-cut c = posted_cut c.args.letter.now c.built_frames_are_read.ensures.part
-    c.piece_headers_fit.ensures
+returns-clause-cut c =
+    λ letter message cuts fit.
+    posted_cut letter c.built_frames_are_read.ensures.part fit message cuts
