@@ -26,12 +26,12 @@ accepted_more {P} piece fs pieces i x lt is =
     (sym is)
 
 -- that piece is where it stops
-pub stops : {P : Type 0} (piece : P → Fragment) (fs : List Fragment) (pieces : List P) (i : ℕ)
-    (x : P) (old buf : Contents) (error : IpDefragError) → i < length pieces → x ≡ get_or pieces i x
+pub stops : {P N : Type 0} (piece : P → Fragment) (fs : List Fragment) (pieces : List P) (i : ℕ)
+    (x : P) (old buf : Contents N) (error : IpDefragError) → i < length pieces → x ≡ get_or pieces i x
     → let before = with_all_accepted fs (map piece (take i pieces)) in Shows old before → buf ≡ old
     → refusal_of before (piece x) ≡ None → error ≡ AllocationFailure (end_of (piece x))
     → Stops fs (map piece pieces) buf error
-stops {P} piece fs pieces i x old buf error lt is shown same unrefused memory =
+stops {P} {N} piece fs pieces i x old buf error lt is shown same unrefused memory =
     let parts : pieces ≡ take i pieces ++ x ∷ drop (i + 1) pieces =
     sym (take-append-drop i pieces) ∙ ap (λ (ps : List P). take i pieces ++ ps)
     (rw add-one (drop-cons pieces i x lt) ∙ ap (λ (y : P). y ∷ drop (i + 1) pieces) (sym is)) in
@@ -40,7 +40,7 @@ stops {P} piece fs pieces i x old buf error lt is shown same unrefused memory =
       next = piece x;
       behind = map piece (drop (i + 1) pieces);
       in_order = ap (map piece) parts ∙ map-append piece (take i pieces) (x ∷ drop (i + 1) pieces);
-      shown = subst (λ (b : Contents). Shows b (with_all_accepted fs (map piece (take i pieces))))
+      shown = subst (λ (b : Contents N). Shows b (with_all_accepted fs (map piece (take i pieces))))
           (sym same) shown;
       unrefused = unrefused;
       memory = memory;

@@ -1,5 +1,5 @@
 -- What a packet makes of the lists that a pool shows, and what is answered to it.
-use Rattle.std.proofs.Common.{◌≡◌, ◌≢◌, ◌∙◌, ◌⊎◌, sym, ap, subst, refl, arith, ℕ, Bool, true, false}
+use Rattle.std.proofs.Common.{◌≡◌, ◌≢◌, ◌∙◌, ◌⊎◌, sym, ap, subst, refl, arith, ℕ, Bool}
 use Rattle.std.proofs.Common.{cond, ◌&&◌, inl, inr, Option, Some, None, Result, Ok, Err, List, []}
 use Rattle.std.proofs.Common.{◌∷◌, ◌++◌, length, length-append, IsTrue, ◌↔◌}
 use Rattle.std.proofs.lemmas.Bool.{and_parts, cases_Bool, eqb-true}

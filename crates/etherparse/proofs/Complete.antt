@@ -83,7 +83,7 @@ greatest_number [] h = absurd (false≢true h)
 greatest_number (f ∷ fs) h = greatest_touched f fs
 
 -- an end and one section from 0 on: the message is complete
-complete_if : (buf : Contents) (fs : List Fragment) → Shows buf fs → IsSome buf.end
+complete_if : {N : Type 0} (buf : Contents N) (fs : List Fragment) → Shows buf fs → IsSome buf.end
     → is_one_from_zero buf.sections ≡ true → Complete fs
 complete_if buf fs shows ends one =
     let named = subst (λ (o : Option ℕ). IsSome o) shows.ended ends in
@@ -98,7 +98,7 @@ complete_if buf fs shows ends one =
     }
 
 -- and only then
-complete_only : (buf : Contents) (fs : List Fragment) → Shows buf fs → Complete fs
+complete_only : {N : Type 0} (buf : Contents N) (fs : List Fragment) → Shows buf fs → Complete fs
     → IsSome buf.end × (is_one_from_zero buf.sections ≡ true)
 complete_only buf fs shows complete =
     let top : NumberOf buf.sections (greatest_end fs) =
@@ -114,7 +114,7 @@ complete_only buf fs shows complete =
           ((shows.places p).1 (complete.covered p h))),
     )
 
-pub whole_iff : (buf : Contents) (fs : List Fragment) → Shows buf fs
+pub whole_iff : {N : Type 0} (buf : Contents N) (fs : List Fragment) → Shows buf fs
     → (is_whole buf ≡ true) ↔ Complete fs
 whole_iff buf fs shows = (
   (λ h. let both = and_parts _ _ h in complete_if buf fs shows both.0 both.1),

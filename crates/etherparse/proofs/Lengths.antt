@@ -26,7 +26,7 @@ named_short fs (g ∷ gs) other h short =
       | false ↦ h.0.short
     ]
 
-kept_short : (buf : Contents) (fs : List Fragment) → IsAccepted fs → Shows buf fs
+kept_short : {N : Type 0} (buf : Contents N) (fs : List Fragment) → IsAccepted fs → Shows buf fs
     → length buf.bytes ≤ 65535
 kept_short buf fs is shows =
     let agree = members [] fs is tt in
@@ -35,5 +35,5 @@ kept_short buf fs is shows =
     omega (arith, len, named_short fs fs (greatest_end fs) agree (greatest_short fs fs agree))
 
 -- the bytes of a buffer fit into the greatest message
-pub picture_short : (buf : Contents) → IsPicture buf → length buf.bytes ≤ 65535
+pub picture_short : {N : Type 0} (buf : Contents N) → IsPicture buf → length buf.bytes ≤ 65535
 picture_short buf picture = ∥∥₁_elim picture le_prop (λ p. kept_short buf p.0 p.1 p.2)

@@ -83,7 +83,7 @@ byte_of-before f p h = grind (arith, nat_tests)
 -- ---- buffers that show the same
 
 -- an empty buffer
-pub shows_none : (buf : Contents) → buf.bytes ≡ [] → buf.sections ≡ []
+pub shows_none : {N : Type 0} (buf : Contents N) → buf.bytes ≡ [] → buf.sections ≡ []
     → buf.end ≡ None → Shows buf []
 shows_none buf bytes sections end = record {
   ended = end;
@@ -102,8 +102,8 @@ shows_none buf bytes sections end = record {
 }
 
 -- a buffer of the same fields
-pub picture_same : (old new : Contents) → new.ip_number ≡ old.ip_number → new.bytes ≡ old.bytes
-    → new.sections ≡ old.sections → new.end ≡ old.end → IsPicture old → IsPicture new
+pub picture_same : {N : Type 0} (old new : Contents N) → new.ip_number ≡ old.ip_number
+    → new.bytes ≡ old.bytes → new.sections ≡ old.sections → new.end ≡ old.end → IsPicture old → IsPicture new
 picture_same old new number bytes sections end =
     subst IsPicture
     (λ i. record {
@@ -279,8 +279,8 @@ any_push Q old new fs f had adds = (
 )
 
 -- the buffer with one more fragment shows one more fragment
-shows_push : (old new : Contents) (fs : List Fragment) (f : Fragment) (mid : List ℕ) → Shows old fs
-    → refusal_at old.end f ≡ None
+shows_push : {N : Type 0} (old new : Contents N) (fs : List Fragment) (f : Fragment) (mid : List ℕ)
+    → Shows old fs → refusal_at old.end f ≡ None
     → Writes old.bytes mid (start_of f) f.bytes → new.bytes ≡ bytes_after f mid
     → AddsRange old.sections new.sections (range_of f) → new.end ≡ end_after old.end f
     → Shows new (fs ++ f ∷ [])
@@ -303,7 +303,7 @@ unless_ok None x y h = (refl, cc)
 unless_ok (Some e) x y h = cc
 
 -- what `add` does: the memory made first, the write, the range, and the cut
-pub record Goes (old new : Contents) (f : Fragment) (reserved mid : List ℕ)
+pub record Goes {N : Type 0} (old new : Contents N) (f : Fragment) (reserved mid : List ℕ)
     (sections : List IpFragRange) (place start end : ℕ) : Type 0 where
   pub checked : Ok end ≡ unless_refused (refusal_at old.end f) (end_of f)
   pub same_bytes : reserved ≡ old.bytes
@@ -316,8 +316,8 @@ pub record Goes (old new : Contents) (f : Fragment) (reserved mid : List ℕ)
   pub cut : ((f.more ≡ true) × (new.bytes ≡ mid) × (new.end ≡ old.end))
       ⊎ ((f.more ≡ false) × (new.bytes ≡ take end mid) × (new.end ≡ Some end))
 
-pub shows_add : (old new : Contents) (fs : List Fragment) (f : Fragment) (reserved mid : List ℕ)
-    (sections : List IpFragRange) (place start end : ℕ) → Shows old fs
+pub shows_add : {N : Type 0} (old new : Contents N) (fs : List Fragment) (f : Fragment)
+    (reserved mid : List ℕ) (sections : List IpFragRange) (place start end : ℕ) → Shows old fs
     → Goes old new f reserved mid sections place start end → Shows new (fs ++ f ∷ [])
 shows_add old new fs f reserved mid sections place start end shows goes =
     let ok = unless_ok (refusal_at old.end f) (end_of f) end goes.checked in
@@ -340,15 +340,15 @@ shows_add old new fs f reserved mid sections place start end shows goes =
           (h.2 ∙ rw (h.0, ok.1) refl)
     ]
 
-accepted_after : (fs : List Fragment) (f : Fragment) (old : Contents) → IsAccepted fs → Shows old fs
-    → refusal_at old.end f ≡ None → IsAccepted (fs ++ f ∷ [])
+accepted_after : {N : Type 0} (fs : List Fragment) (f : Fragment) (old : Contents N)
+    → IsAccepted fs → Shows old fs → refusal_at old.end f ≡ None → IsAccepted (fs ++ f ∷ [])
 accepted_after fs f old is shows none =
     with_all_accepted-push [] fs f ∙ ap (λ (gs : List Fragment). with_accepted gs f) is
     ∙ ap (λ (o : Option IpDefragError). cond (is_some o) fs (fs ++ f ∷ []))
     (subst (λ (o : Option ℕ). refusal_at o f ≡ None) shows.ended none)
 
 -- the same, of a buffer that shows some accepted fragments
-pub picture_add : (old new : Contents) (f : Fragment) (reserved mid : List ℕ)
+pub picture_add : {N : Type 0} (old new : Contents N) (f : Fragment) (reserved mid : List ℕ)
     (sections : List IpFragRange) (place start end : ℕ) → IsPicture old
     → Goes old new f reserved mid sections place start end → IsPicture new
 picture_add old new f reserved mid sections place start end picture goes =

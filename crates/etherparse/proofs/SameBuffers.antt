@@ -1,5 +1,5 @@
 -- Buffers that are compared as the same are the same.
-use Rattle.std.proofs.Common.{ℕ, ◌&&◌, Option, IsTrue, ◌↔◌, ◌≡◌, nat_eq, ap}
+use Rattle.std.proofs.Common.{◌&&◌, IsTrue, ◌↔◌, ◌≡◌, nat_eq, ap}
 use Rattle.std.proofs.lemmas.Bool.Decides.{Decides-eqb}
 use Rattle.std.specs.Cmp.Lexicographic.{pointwise, pointwise_decides, bytes_decides}
 use Rattle.std.specs.Option.{option_eq}
@@ -17,7 +17,7 @@ ranges_same a b = record_same
     (field Decides-eqb (λ r. r.start) (last_field Decides-eqb (λ r. r.end)))
     (λ start end i. record { start = start i; end = end i })
 
-pub contents_same : (a b : Contents)
+pub contents_same : (a b : Contents IpNumber)
     → IsTrue (nat_eq a.ip_number.0 b.ip_number.0
     && (pointwise nat_eq a.bytes b.bytes
     && (pointwise same_range a.sections b.sections && option_eq nat_eq a.end b.end))) ↔ (a ≡ b)

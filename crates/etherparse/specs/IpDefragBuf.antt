@@ -11,15 +11,15 @@ use Rattle.etherparse.specs.Fragments.{IsAccepted, Covered, Complete}
 use Rattle.etherparse.specs.IpFragRange.{AreApart, HasNumber, HasPlace, is_one_from_zero}
 use Rattle.etherparse.specs.Picture.{kept_bytes, Touched}
 
--- what a buffer holds
-pub record Contents : Type 0 where
-  pub ip_number : IpNumber
+-- what a buffer holds, beside the number of the protocol or nothing
+pub record Contents (Number : Type 0) : Type 0 where
+  pub ip_number : Number
   pub bytes : List ℕ
   pub sections : List IpFragRange
   pub end : Option ℕ
 
 -- the buffer is the picture of these fragments, the oldest first
-pub record Shows (buf : Contents) (fs : List Fragment) : Type 0 where
+pub record Shows {Number : Type 0} (buf : Contents Number) (fs : List Fragment) : Type 0 where
   pub ended : buf.end ≡ named_end fs
   pub kept : buf.bytes ≡ kept_bytes fs
   pub apart : AreApart buf.sections
@@ -27,11 +27,11 @@ pub record Shows (buf : Contents) (fs : List Fragment) : Type 0 where
   pub places : (p : ℕ) → Any (λ s. HasPlace s p) buf.sections ↔ Covered fs p
 
 -- the buffer is the picture of fragments, each of which was accepted
-abbrev pub IsPicture : Contents → Type 0
+abbrev pub IsPicture : {Number : Type 0} → Contents Number → Type 0
 IsPicture buf = ∥ ((fs : List Fragment) × IsAccepted fs × Shows buf fs) ∥₁
 
 -- an end is known, and there is one section, from 0 on
-abbrev pub is_whole : Contents → Bool
+abbrev pub is_whole : {Number : Type 0} → Contents Number → Bool
 is_whole buf = is_some buf.end && is_one_from_zero buf.sections
 
 -- a fragment is taken unless there is a reason to refuse it, which is answered, or memory is wanted
@@ -41,7 +41,7 @@ AnswersAdd refusal end result = MatchResult result (λ _. refusal ≡ None)
 
 -- adding these fragments behind the members stopped at one that isn't refused but wants memory, and
 -- the buffer shows the accepted ones before it
-pub record Stops (fs fragments : List Fragment) (buf : Contents)
+pub record Stops {Number : Type 0} (fs fragments : List Fragment) (buf : Contents Number)
     (error : IpDefragError) : Type 0 where
   pub before : List Fragment
   pub next : Fragment
@@ -67,4 +67,5 @@ unless_refused (Some e) x = Err e
 -- of every buffer that shows fragments: an end is known and there is one section, from 0 on,
 -- exactly where they are complete
 abbrev pub Cover : Type 0
-Cover = (buf : Contents) (fs : List Fragment) → Shows buf fs → IsTrue (is_whole buf) ↔ Complete fs
+Cover = (buf : Contents IpNumber) (fs : List Fragment) → Shows buf fs
+    → IsTrue (is_whole buf) ↔ Complete fs

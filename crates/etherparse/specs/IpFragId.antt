@@ -1,6 +1,6 @@
 -- The names of fragmented messages (RFC 791, section 3.2; RFC 8200, section 4.5), and which part of
 -- one a packet is.
-use Rattle.std.specs.Prelude.{ℕ, Bool, false, ◌&&◌, ◌==◌, ◌∷◌, nat_eq, List, Option, Some, None}
+use Rattle.std.specs.Prelude.{ℕ, Bool, false, ◌&&◌, ◌==◌, ◌∷◌, nat_eq, Option, Some, None}
 use Rattle.std.specs.Cmp.Lexicographic.{pointwise}
 use Rattle.std.specs.Hash as fed
 use Rattle.ep_base.specs.declared.len_source.LenSource.{LenSource}

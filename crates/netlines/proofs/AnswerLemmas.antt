@@ -12,22 +12,22 @@ use Rattle.netlines.specs.Answers.{reply_after, takes_memory}
 use Rattle.netlines.specs.Arrivals.{held_behind, held_with_line, lists_after_lines, lists_with_line}
 use Rattle.netlines.specs.Lines.{Command, command_of}
 use Rattle.netlines.specs.Lines.Command.{Frame, Forget, Bad}
-use Rattle.netlines.specs.Replies.{Asks, number_after, number_behind}
+use Rattle.netlines.specs.Replies.{Asks, number_after}
 use Rattle.netlines.proofs.CommandLemmas.{command_of-first}
 
 held_behind-push : (name : FragmentName) (channel count : ℕ) (h : Held)
     (lines : List (List ℕ)) (line : List ℕ)
     → held_behind name channel count h (lines ++ line ∷ [])
-    ≡ held_with_line name channel (number_behind (count + length lines)) (command_of line)
+    ≡ held_with_line name channel (count + length lines + 1) (command_of line)
     (held_behind name channel count h lines)
 held_behind-push name channel count h [] line =
     let e : count ≡ count + length {A = List ℕ} [] = omega arith in
-    ap (λ k. held_with_line name channel (number_behind k) (command_of line) h) e
+    ap (λ k. held_with_line name channel (k + 1) (command_of line) h) e
 held_behind-push name channel count h (x ∷ lines) line =
-    let next = held_with_line name channel (number_behind count) (command_of x) h in
+    let next = held_with_line name channel (count + 1) (command_of x) h in
     let e : count + 1 + length lines ≡ count + length (x ∷ lines) = omega arith in
     held_behind-push name channel (count + 1) next lines line
-    ∙ ap (λ k. held_with_line name channel (number_behind k) (command_of line)
+    ∙ ap (λ k. held_with_line name channel (k + 1) (command_of line)
     (held_behind name channel (count + 1) next lines)) e
 
 -- what is held of a message after one line more
@@ -40,7 +40,7 @@ unfolding lists_after_lines
 held_after_lines-push lines line name channel =
     let e : 0 + length lines ≡ length lines = omega arith in
     held_behind-push name channel 0 (no_lists name channel) lines line
-    ∙ ap (λ k. held_with_line name channel (number_behind k) (command_of line)
+    ∙ ap (λ k. held_with_line name channel (k + 1) (command_of line)
     (held_behind name channel 0 (no_lists name channel) lines)) e
 
 pub lists_after_lines-push : (lines : List (List ℕ)) (line : List ℕ)

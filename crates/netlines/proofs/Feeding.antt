@@ -2,7 +2,6 @@
 use Rattle.std.proofs.Common.{◌≡◌, ◌∙◌, sym, ap, refl, subst, ℕ, zero, suc, ◌+◌, ◌-◌, ◌<◌, Bool}
 use Rattle.std.proofs.Common.{true, false, ◌==◌, List, [], ◌∷◌, ◌++◌, length, take, drop, get_or}
 use Rattle.std.proofs.Common.{arith, append_assoc, append-nil, length-append, take-append-drop}
-use Rattle.std.specs.Io.Iter.{u64_saturate}
 use Rattle.std.proofs.lemmas.List.{take_rest, drop_more, take_all, drop-drop}
 use Rattle.memchr.specs.Find.{NoneBefore, Nowhere, Passes, is_byte}
 use Rattle.runs.specs.Calls.{Call}
@@ -14,7 +13,7 @@ use Rattle.netlines.specs.declared.lines.run_error.RunError.{RunError}
 use Rattle.netlines.specs.declared.lines.limits.TheConstants.{LINE_ROOM}
 use Rattle.netlines.specs.Endings.{cause}
 use Rattle.netlines.specs.Lines.{Split, split, HasNoNewline}
-use Rattle.netlines.specs.Replies.{Asks, Kept, Meaning, number_after, replies_after}
+use Rattle.netlines.specs.Replies.{Asks, Kept, Meaning, replies_after}
 use Rattle.netlines.specs.Writes.{Gathers, Serves}
 use Rattle.netlines.proofs.LineLemmas.{take-kept}
 use Rattle.netlines.proofs.RepliesLemmas.{replies_after-append}
@@ -85,32 +84,23 @@ replies-more m earlier lines line front waiting front' waiting' before here =
     ∙ append_assoc front waiting reply ∙ ap (λ l. front ++ l) here
     ∙ sym (append_assoc front front' waiting')
 
-saturate-more : (n : ℕ) → u64_saturate (u64_saturate n + 1) ≡ u64_saturate (n + 1)
-saturate-more n = omega arith
-
-next_number : (earlier : List (List ℕ)) (count number : ℕ) → count ≡ u64_saturate (length earlier)
-    → number ≡ u64_saturate (count + 1) → number ≡ number_after earlier
-next_number earlier count number counted next =
-    next ∙ ap (λ n. u64_saturate (n + 1)) counted ∙ saturate-more (length earlier)
-
 -- one more line is counted
 counted-more : (earlier lines : List (List ℕ)) (line : List ℕ) (count count' : ℕ)
-    → count ≡ u64_saturate (length (earlier ++ lines)) → count' ≡ u64_saturate (count + 1)
-    → count' ≡ u64_saturate (length (earlier ++ (lines ++ line ∷ [])))
+    → count ≡ length (earlier ++ lines) → count' ≡ count + 1
+    → count' ≡ length (earlier ++ (lines ++ line ∷ []))
 counted-more earlier lines line count count' before more =
-    next_number (earlier ++ lines) count count' before more
-    ∙ ap u64_saturate (sym (length-append (earlier ++ lines) (line ∷ []))
-    ∙ ap length (append_assoc earlier lines (line ∷ [])))
+    more ∙ ap (λ n. n + 1) before ∙ sym (length-append (earlier ++ lines) (line ∷ []))
+    ∙ ap length (append_assoc earlier lines (line ∷ []))
 
 -- the line that ends with these bytes is asked for
 pub asks_kept : (shown : List (List ℕ) → Type 0) (count number : ℕ) (kept : List ℕ)
     (earlier : List (List ℕ)) (start tail line : List ℕ) → Kept shown count kept earlier start
-    → number ≡ u64_saturate (count + 1) → take LINE_ROOM line ≡ take LINE_ROOM (start ++ tail)
+    → number ≡ count + 1 → take LINE_ROOM line ≡ take LINE_ROOM (start ++ tail)
     → Asks shown earlier number line (start ++ tail)
 asks_kept shown count number kept earlier start tail line keeps next first =
     record {
       shows = keeps.shows;
-      numbered = next_number earlier count number keeps.counted next;
+      numbered = next ∙ ap (λ n. n + 1) keeps.counted;
       first = first;
     }
 
@@ -177,7 +167,7 @@ module _ {D : Type 0} (transition : D → Call → D → Type 0) (m : Meaning) w
     pub fed_line : (waiting' : List ℕ)
         → Gathers transition (m.takes_memory (earlier ++ f.lines) (f.begun ++ take n rest)) mid
         waiting (m.reply (earlier ++ f.lines) (f.begun ++ take n rest)) Done waiting' new
-        → (count' : ℕ) → count' ≡ u64_saturate (count + 1) → (shown' : List (List ℕ) → Type 0)
+        → (count' : ℕ) → count' ≡ count + 1 → (shown' : List (List ℕ) → Type 0)
         → shown' ((earlier ++ f.lines) ++ (f.begun ++ take n rest) ∷ [])
         → (empty : List ℕ) → empty ≡ []
         → Fed transition m old earlier text empty (drop (n + 1) rest) waiting' count' shown' new

@@ -1,31 +1,32 @@
 -- A run, call by call.
 use Rattle.std.proofs.Common.{◌≡◌, ◌∙◌, sym, ap, refl, subst, ℕ, ◌+◌, ◌<◌, ◌≤◌, arith, Bool, true}
 use Rattle.std.proofs.Common.{false, List, [], ◌∷◌, ◌++◌, length, Some, None, Result, Err, IfSome}
-use Rattle.std.proofs.Common.{append_assoc, append-nil, inl, inr}
+use Rattle.std.proofs.Common.{append_assoc, append-nil, inl, inr, ◌*◌, ◌^◌, length-append}
 use Rattle.std.specs.Prelude.{OnOk}
 use Rattle.std.specs.Io.KnownBytes.{Appends}
-use Rattle.runs.specs.Calls.{Call, Reads}
+use Rattle.runs.specs.Calls.{Call, Reads, Writes, bytes_given, bytes_read, read_count}
 use Rattle.runs.specs.Endings.{Ending, Done, OutOfMemory}
 use Rattle.runs.specs.Known.{Known, KnownCall}
-use Rattle.runs.specs.Runs.{Goes}
+use Rattle.runs.specs.Runs.{EachFollows, Goes}
 use Rattle.runs.specs.Writes.{Written}
 use Rattle.runs.proofs.Going.{Going, going_start, going_piece, going_end, going_write, going_ends}
-use Rattle.runs.proofs.Going.{going_cut, going_stops, going_unread, going_all, goes_nothing}
+use Rattle.runs.proofs.Going.{going_stops, going_unread, going_all, goes_nothing}
+use Rattle.runs.proofs.CallLemmas.{read_count-append}
 use Rattle.runs.proofs.KnownLemmas.{goes_ok}
 use Rattle.netlines.specs.declared.lines.run_error.RunError.{RunError}
 use Rattle.netlines.specs.declared.lines.run_error.RunError.TheVariants.{Read, Memory, TooManyReads}
-use Rattle.netlines.specs.declared.lines.limits.TheConstants.{READ_SIZE_LIMIT}
+use Rattle.netlines.specs.declared.lines.limits.TheConstants.{READ_COUNT_LIMIT, READ_SIZE_LIMIT}
 use Rattle.netlines.specs.Answers.{frame_meaning, answers_of}
 use Rattle.netlines.specs.Endings.{cause}
 use Rattle.netlines.specs.Lines.{Split, split, last_line, ended_lines_of}
 use Rattle.netlines.specs.Replies.{EndsBefore, Meaning, replies_after, replies_to, replies_to_ended}
 use Rattle.netlines.specs.Replies.{whole_lines_of}
-use Rattle.netlines.specs.Runs.{Runs, RunsBy, reply_task}
+use Rattle.netlines.specs.Runs.{NumbersFit, Runs, RunsBy, reply_task}
 use Rattle.netlines.specs.Writes.{Serves}
 use Rattle.netlines.proofs.RepliesLemmas.{EndsBefore-after, ended-append, replies_to_ended-append}
 use Rattle.netlines.proofs.RepliesLemmas.{replies_to_ended-nil, replies_to-parts}
 use Rattle.netlines.proofs.RepliesLemmas.{whole_lines_of-nil}
-use Rattle.netlines.proofs.SplitLemmas.{split-append, split-nil}
+use Rattle.netlines.proofs.SplitLemmas.{ended_count, split-append, split-nil}
 use Rattle.netlines.proofs.WriteLemmas.{Serves-cases, cause_fails}
 
 not_nil : (before : List (List ℕ)) (line : List ℕ) (later : List (List ℕ))
@@ -39,6 +40,25 @@ some_line : {m : Meaning} (told : Bool) (read written : List ℕ)
 some_line told read written ends nothing =
     not_nil ends.before ends.line ends.later
     (sym ends.parts ∙ ap (whole_lines_of told) nothing ∙ whole_lines_of-nil told)
+
+-- what these reads give
+few_bytes : (m : Meaning) (before calls : List Call) → EachFollows (reply_task m) before calls
+    → length (bytes_read calls) ≤ READ_SIZE_LIMIT * read_count calls
+few_bytes m before [] each = omega arith
+few_bytes m before (Reads given ∷ calls) each =
+    let later = few_bytes m (before ++ Reads given ∷ []) calls each.1 in
+    let here = each.0.1 in
+    let count = read_count-append (Reads given ∷ []) calls in
+    let size = length-append (bytes_given (Reads given)) (bytes_read calls) in
+    omega arith
+few_bytes m before (Writes bytes taken ∷ calls) each =
+    few_bytes m (before ++ Writes bytes taken ∷ []) calls each.1
+
+-- the lines of as many reads as a run may make can be numbered
+pub numbers_fit : {D : Type 0} (transition : D → Call → D → Type 0) (m : Meaning) (limit : ℕ)
+    (old : D) → limit ≤ READ_COUNT_LIMIT → NumbersFit transition m limit old
+numbers_fit transition m limit old le new calls made each reads =
+    let few = few_bytes m [] calls each in omega arith
 
 module _ {D : Type 0} (transition : D → Call → D → Type 0) (m : Meaning) where
   -- so many reads are answered, and the line that they have begun is kept
@@ -90,7 +110,18 @@ module _ {D : Type 0} (transition : D → Call → D → Type 0) (m : Meaning) w
       asked = going_piece (reply_task m) transition a.came
           (replies_to_ended m a.came) n old mid later a.going refl piece call size some
 
-      -- a piece is read, and the lines that end in it are answered
+      -- the lines of a piece can be numbered,
+      pub answered_numbers : (limit : ℕ) → n < limit → NumbersFit transition m limit old
+          → (count : ℕ) → count ≡ length (ended_lines_of a.came) → count + length piece < 2 ^ 64
+      answered_numbers limit fits numbers count counted =
+          let reads = asked.reads in
+          let few = numbers later asked.calls asked.made asked.each (omega arith) in
+          let came = ap length asked.gave in
+          let lines = ended_count a.came in
+          let both = length-append a.came piece in
+          omega arith
+
+      -- and where it is read, the lines that end in it are answered
       pub answered_more : Written transition later
           (replies_after m (ended_lines_of a.came)
           (ended_lines_of ((split a.came).rest ++ piece))) new
@@ -125,17 +156,23 @@ module _ {D : Type 0} (transition : D → Call → D → Type 0) (m : Meaning) w
           (omega arith) replies w
           (subst (λ ls. EndsBefore m [] ls (written ++ replies)) (sym (ended-append a.came piece))
           (EndsBefore-after m [] earlier here replies ends)))
-          (λ fault stops. going_cut (reply_task m) transition limit read written false
-          (n + 1) old later new asked (omega arith)
-          (replies_after m earlier here)
-          (replies_after m (ended_lines_of read) (last_line (split read).rest)) fault
-          (replies_to-parts m read
-          ∙ ap (λ l. l ++ replies_after m (ended_lines_of read) (last_line (split read).rest))
-          (replies_to_ended-append m a.came piece)) stops)
+          (λ fault stops. going_stops (reply_task m) transition limit read written false
+          (n + 1) old later new asked (omega arith) (replies_after m earlier here) fault
+          (replies_to_ended-append m a.came piece) stops)
           fails
 
     module _ (limit : ℕ) (fits : n < limit) where
-      -- the end is told, and a last line is answered
+      -- a last line can be numbered,
+      pub answered_number : NumbersFit transition m limit old → (count : ℕ)
+          → count ≡ length (ended_lines_of a.came) → count + 1 < 2 ^ 64
+      answered_number numbers count counted =
+          let reads = a.going.reads in
+          let few = numbers mid a.going.calls a.going.made a.going.each (omega arith) in
+          let came = ap length a.going.gave in
+          let lines = ended_count a.came in
+          omega arith
+
+      -- and where the end is told, it is answered
       pub answered_end : (piece : List ℕ) → piece ≡ []
           → transition mid (Reads (Some piece)) later → (ending : Ending ⊥)
           → Serves transition m later (ended_lines_of a.came)

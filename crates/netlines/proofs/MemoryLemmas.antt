@@ -1,12 +1,12 @@
 -- A run over a device in memory.
 use Rattle.std.proofs.Common.{◌≡◌, ◌∙◌, ap, subst, ℕ, ◌+◌, ◌≤◌, arith, zero, suc, List, [], ◌∷◌}
-use Rattle.std.proofs.Common.{◌++◌, length, Some, None, Ok, Err}
+use Rattle.std.proofs.Common.{◌++◌, ◌<◌, ◌^◌, length, length-append, Some, None, Ok, Err}
 use Rattle.runs.specs.declared.fault.Fault.TheVariants.{ReadFailed, NothingTaken}
-use Rattle.runs.specs.Calls.{Call, Reads, Writes, Makes, faults_of}
+use Rattle.runs.specs.Calls.{Call, Reads, Writes, Makes, bytes_read, faults_of}
 use Rattle.runs.specs.Endings.{Ending, Done, OutOfReads}
 use Rattle.runs.specs.Known.{Known, KnownCall, known_of}
 use Rattle.runs.specs.Runs.{EachFollows, Goes}
-use Rattle.runs.proofs.KnownLemmas.{Goes-map, goes_too_many}
+use Rattle.runs.proofs.KnownLemmas.{Goes-map, goes_too_many, known_read}
 use Rattle.netlines.specs.declared.lines.run_error.RunError.{RunError}
 use Rattle.netlines.specs.declared.lines.run_error.RunError.TheVariants.{Read, WriteZero}
 use Rattle.netlines.specs.declared.lines.run_error.RunError.TheVariants.{TooManyReads}
@@ -21,6 +21,15 @@ known_run : (limit : ℕ) (a b : Known) (ending : Ending ⊥)
     → Goes (reply_task frame_meaning) KnownCall limit a b ending
 known_run limit a b ending runs = Goes-map (reply_task frame_meaning) MemoryCall KnownCall (λ s. s)
     (λ s t call moved. moved.0) limit a b ending runs
+
+-- no more bytes are read than there are
+pub memory_fits : (text rest start output : List ℕ) (calls : List Call)
+    → Makes KnownCall (known_of (Some text) (Some start)) calls (known_of (Some rest) (Some output))
+    → length text + 1 < 2 ^ 64 → length (bytes_read calls) + 1 < 2 ^ 64
+memory_fits text rest start output calls made few =
+    let all = ap length (known_read (known_of (Some text) (Some start))
+    (known_of (Some rest) (Some output)) calls made) in
+    omega (arith, length-append (bytes_read calls) rest)
 
 -- what is written into an empty vector is the answers
 pub memory_ok : (limit : ℕ) (text start rest output : List ℕ) → start ≡ []

@@ -9,7 +9,7 @@ use Rattle.etherparse.specs.packet.Class.{FragmentName, class_of}
 use Rattle.etherparse.specs.packet.Class.Class.{Cut}
 use Rattle.netlines.specs.Lines.{Command, command_of}
 use Rattle.netlines.specs.Lines.Command.{Frame, Forget, Bad}
-use Rattle.netlines.specs.Replies.{number_after, number_behind}
+use Rattle.netlines.specs.Replies.{number_after}
 
 -- the line hands in a frame on this channel, which is this fragment of the message with this name
 pub record HandsInFragment (line : List ℕ) (name : FragmentName) (channel : ℕ)
@@ -30,7 +30,7 @@ abbrev pub held_behind : FragmentName → (channel count : ℕ) → Held → Lis
 held_behind name channel count h [] = h
 held_behind name channel count h (line ∷ lines) =
     held_behind name channel (count + 1)
-    (held_with_line name channel (number_behind count) (command_of line) h) lines
+    (held_with_line name channel (count + 1) (command_of line) h) lines
 
 -- the accepted fragments of each message after a line of this number that asks for this
 abbrev pub lists_with_line : Lists → ℕ → Command → Lists

@@ -1,6 +1,5 @@
 -- What is replied to lines, one after another, where a reply may depend on the lines before it.
 use Rattle.std.specs.Prelude.{◌≡◌, ℕ, ◌+◌, Bool, true, false, List, [], ◌∷◌, ◌++◌, length, take}
-use Rattle.std.specs.Io.Iter.{u64_saturate}
 use Rattle.netlines.specs.Lines.{HasNoNewline, lines_of, ended_lines_of}
 use Rattle.netlines.specs.declared.lines.limits.TheConstants.{LINE_ROOM}
 
@@ -39,13 +38,9 @@ pub record EndsBefore (meaning : Meaning) (earlier lines : List (List ℕ))
   pub takes : meaning.takes_memory (earlier ++ before) line ≡ true
   pub same : replies ≡ replies_after meaning earlier before
 
--- the number of the line behind so many, from 1 on; the greatest number of 64 bits is that of all
--- lines from there on
-abbrev pub number_behind : ℕ → ℕ
-number_behind count = u64_saturate (count + 1)
-
+-- the number of the line after these, from 1 on
 abbrev pub number_after : List (List ℕ) → ℕ
-number_after earlier = number_behind (length earlier)
+number_after earlier = length earlier + 1
 
 -- an answerer that has answered the earlier lines is asked for the next one, by its number,
 -- and by a line that is its first bytes, as far as they matter
@@ -60,6 +55,6 @@ pub record Asks (shown : List (List ℕ) → Type 0) (earlier : List (List ℕ))
 pub record Kept (shown : List (List ℕ) → Type 0) (count : ℕ) (line : List ℕ)
     (earlier : List (List ℕ)) (begun : List ℕ) : Type 0 where
   pub shows : shown earlier
-  pub counted : count ≡ u64_saturate (length earlier)
+  pub counted : count ≡ length earlier
   pub kept : line ≡ take LINE_ROOM begun
   pub unended : HasNoNewline begun

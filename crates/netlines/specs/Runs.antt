@@ -1,13 +1,13 @@
 -- A run over the lines of its input, which are replied to.
-use Rattle.std.specs.Prelude.{◌≡◌, ◌⊎◌, ℕ, Bool, List, [], Result}
-use Rattle.runs.specs.Calls.{Call}
-use Rattle.runs.specs.Runs.{Task, IsOutcome, Goes}
+use Rattle.std.specs.Prelude.{◌≡◌, ◌⊎◌, ℕ, ◌+◌, ◌<◌, ◌≤◌, ◌^◌, Bool, List, [], length, Result}
+use Rattle.runs.specs.Calls.{Call, Makes, bytes_read, read_count}
+use Rattle.runs.specs.Runs.{Task, IsOutcome, EachFollows, Goes}
 use Rattle.netlines.specs.declared.lines.run_error.RunError.{RunError}
 use Rattle.netlines.specs.declared.lines.limits.TheConstants.{READ_SIZE_LIMIT}
 use Rattle.netlines.specs.Answers.{frame_meaning}
 use Rattle.netlines.specs.Endings.{ending_of}
-use Rattle.netlines.specs.Replies.{Meaning, EndsBefore, replies_to, replies_to_ended}
-use Rattle.netlines.specs.Replies.{whole_lines_of}
+use Rattle.netlines.specs.Replies.{Meaning, EndsBefore, replies_after, replies_to}
+use Rattle.netlines.specs.Replies.{replies_to_ended, whole_lines_of}
 
 -- the replies to lines that mean this: those to the lines that 0a ends before the next read, and
 -- all at the end
@@ -15,7 +15,7 @@ abbrev pub reply_task : Meaning → Task ⊥
 reply_task meaning = record {
   room = READ_SIZE_LIMIT;
   due = λ read written. written ≡ replies_to_ended meaning read;
-  full = λ told read text. replies_to meaning read ≡ text;
+  full = λ told read text. replies_after meaning [] (whole_lines_of told read) ≡ text;
   whole = λ read written. written ≡ replies_to meaning read;
   starved = λ told read written. ((read ≡ []) × (written ≡ []))
       ⊎ EndsBefore meaning [] (whole_lines_of told read) written;
@@ -37,3 +37,9 @@ RunsBy transition meaning limit old new result =
 -- the same where each line gets its answer after those before it
 abbrev pub Runs : {D : Type 0} → (D → Call → D → Type 0) → ℕ → D → D → Result Unit RunError → Type 0
 Runs transition limit old new result = RunsBy transition frame_meaning limit old new result
+
+-- so many reads give fewer bytes than 64 bits count, so that each line has its number
+abbrev pub NumbersFit : {D : Type 0} → (D → Call → D → Type 0) → Meaning → ℕ → D → Type 0
+NumbersFit {D} transition meaning limit old = (new : D) (calls : List Call)
+    → Makes transition old calls new → EachFollows (reply_task meaning) [] calls
+    → read_count calls ≤ limit → length (bytes_read calls) + 1 < 2 ^ 64

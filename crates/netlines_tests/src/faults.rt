@@ -257,7 +257,7 @@ fn stops_at_each_write_that_fails(rt: HostRuntime) -> Result<(), Fail> {
 fn makes_no_more_reads_than_it_may(rt: HostRuntime) -> Result<(), Fail> {
     let text = b"a\nb";
     for (reads, calls, answer, written) in [
-        (0, 0, Err(RunError::TooManyReads), ""),
+        (0u8, 0, Err(RunError::TooManyReads), ""),
         (2, 2, Err(RunError::TooManyReads), "bad line\n"),
         (3, 3, Err(RunError::TooManyReads), "bad line\n"),
         (4, 4, Ok(()), "bad line\nbad line\n"),
@@ -268,7 +268,7 @@ fn makes_no_more_reads_than_it_may(rt: HostRuntime) -> Result<(), Fail> {
             reader: &mut reader,
             writer: &mut writer,
         };
-        assert!(rt; run_over(rt.alloc(), &mut device, reads) == answer);
+        assert!(rt; run_over(rt.alloc(), &mut device, u64::from(reads)) == answer);
         assert!(rt; reader.calls == calls);
         assert!(rt; writer.taken.as_slice() == written.as_bytes());
     }

@@ -208,29 +208,20 @@ module _ {R : Type 0} (task : Task R) where
           output = rw (tells, gave, took) outcome;
         }
 
-    -- a write of this text, behind which more would be written, stops a run
-    pub going_cut : (limit : ℕ) (read written : List ℕ) (told : Bool) (count : ℕ) (old mid new : D)
-        → Going read written told count old mid → count ≤ limit
-        → (text more : List ℕ) (fault : Fault) → task.full told read ((written ++ text) ++ more)
-        → Stops transition fault mid text new
-        → Goes task transition limit old new (Stopped fault)
-    going_cut limit read written told count old mid new g fits text more fault full s =
-        let before = going_write read written told count old mid s.mid g s.front s.before in
-        let n = before.reads in
-        let parts : (written ++ text) ++ more ≡ (written ++ s.front) ++ (s.missing ++ more) =
-        ap (λ l. (written ++ l) ++ more) s.whole ∙ simp append_assoc in
-        going_fails limit read (written ++ s.front) told count old s.mid new before
-        (Writes s.handed s.taken) s.stop (before.faults, s.some) fault s.is_fault (omega arith)
-        (stop_outcome fault s.handed s.taken s.is_fault told read (written ++ s.front)
-        (s.missing ++ more) (subst (task.full told read) parts full))
-
+    -- a write of this text stops a run
     pub going_stops : (limit : ℕ) (read written : List ℕ) (told : Bool) (count : ℕ)
         (old mid new : D) → Going read written told count old mid → count ≤ limit
         → (text : List ℕ) (fault : Fault) → task.full told read (written ++ text)
         → Stops transition fault mid text new → Goes task transition limit old new (Stopped fault)
     going_stops limit read written told count old mid new g fits text fault full s =
-        going_cut limit read written told count old mid new g fits text [] fault
-        (subst (task.full told read) (sym (append-nil (written ++ text))) full) s
+        let before = going_write read written told count old mid s.mid g s.front s.before in
+        let n = before.reads in
+        let parts : written ++ text ≡ (written ++ s.front) ++ s.missing =
+        ap (λ l. written ++ l) s.whole ∙ sym (append_assoc written s.front s.missing) in
+        going_fails limit read (written ++ s.front) told count old s.mid new before
+        (Writes s.handed s.taken) s.stop (before.faults, s.some) fault s.is_fault (omega arith)
+        (stop_outcome fault s.handed s.taken s.is_fault told read (written ++ s.front) s.missing
+        (subst (task.full told read) parts full))
 
     -- a read fails
     pub going_unread : (limit : ℕ) (read written : List ℕ) (count : ℕ) (old mid new : D)

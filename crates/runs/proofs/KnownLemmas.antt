@@ -24,7 +24,7 @@ Makes-keep transition name keep old new (call ∷ calls) made =
     Makes-keep transition name keep made.0 new calls made.2 ∙ keep old made.0 call made.1
 
 -- calls on what is seen of a device
-Makes-map : {D E : Type 0} (transition : D → Call → D → Type 0) (transition' : E → Call → E
+pub Makes-map : {D E : Type 0} (transition : D → Call → D → Type 0) (transition' : E → Call → E
     → Type 0) (seen : D → E)
     → ((s t : D) (call : Call) → transition s call t → transition' (seen s) call (seen t))
     → (old new : D) (calls : List Call) → Makes transition old calls new
@@ -59,7 +59,7 @@ output_moves a b (Writes bytes None) known =
     Appends-kept a.output a.output b.output [] (Appends-nil a.output) known.0
 
 -- and many
-known_read : (a b : Known) (calls : List Call) → Makes KnownCall a calls b
+pub known_read : (a b : Known) (calls : List Call) → Makes KnownCall a calls b
     → Consumes a.input b.input (bytes_read calls)
 known_read a b [] made = subst (λ k. Consumes a.input k.input []) (sym made) (Consumes-nil a.input)
 known_read a b (call ∷ calls) made =

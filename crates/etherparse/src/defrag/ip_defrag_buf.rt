@@ -21,17 +21,18 @@ use ep_base::{IpFragOffset, IpNumber};
 use std::alloc::AllocError;
 use std::marker::Model;
 
-/// The fragments of one message, put together as they come.
+/// The fragments of one message, put together as they come, beside the number of the protocol that
+/// the message is of, or nothing where that is told elsewhere.
 #[derive(Debug, Drop)]
-pub struct IpDefragBuf {
-    ip_number: IpNumber,
+pub struct IpDefragBuf<Number = IpNumber> {
+    ip_number: Number,
     data: Vec<u8>,
     sections: Vec<IpFragRange>,
     end: Option<u16>,
 }
 
-impl Model for IpDefragBuf {
-    ghost Value = { Contents };
+impl<Number> Model for IpDefragBuf<Number> {
+    ghost Value = { Contents Number };
 
     ghost view = { λ buf. record {
       ip_number = buf.ip_number;
@@ -146,14 +147,14 @@ fn checked_end(
     Ok(end)
 }
 
-impl IpDefragBuf {
+impl<Number: Drop> IpDefragBuf<Number> {
     /// An empty buffer for a message of this protocol, over memory that is there already. Both
     /// lists are emptied.
     pub fn new(
-        ip_number: IpNumber,
+        ip_number: Number,
         mut data: Vec<u8>,
         mut sections: Vec<IpFragRange>,
-    ) -> IpDefragBuf
+    ) -> IpDefragBuf<Number>
         ensures empty { Shows result [] }
         ensures value { result
             ≡ record { ip_number = ip_number; bytes = []; sections = []; end = None } }
@@ -166,13 +167,6 @@ impl IpDefragBuf {
             sections,
             end: None,
         }
-    }
-
-    /// The number of the protocol that the message is of.
-    pub fn ip_number(&self) -> IpNumber
-        ensures { result ≡ self.now.ip_number }
-    {
-        self.ip_number
     }
 
     /// The bytes that are there, with 0 at each offset that is open.
@@ -236,6 +230,38 @@ impl IpDefragBuf {
             self.end = Some(end);
         }
         Ok(())
+    }
+
+    /// Whether the message is there as a whole.
+    pub fn is_complete(&self) -> bool
+        ensures picture { IsPicture self.now }
+        ensures test { result ≡ is_whole self.now }
+        ensures decided { (fs : List Fragment) → Shows self.now fs → result ≡ is_complete fs }
+        ensures text { (fs : List Fragment) → Shows self.now fs → IsTrue result
+            → self.now.bytes ≡ text_of fs }
+        ensures complete { (fs : List Fragment) → Shows self.now fs → IsTrue result ↔ Complete fs }
+    {
+        is_one_whole(self.end, &self.sections)
+    }
+
+    /// The bytes and the sections, whose memory may serve another message.
+    pub fn take_bufs(self) -> (Vec<u8>, Vec<IpFragRange>)
+        ensures bytes { result.0.items ≡ self.bytes }
+        ensures sections { result.1.items ≡ self.sections }
+        ensures text { (fs : List Fragment) → Shows self fs → Complete fs
+            → result.0.items ≡ text_of fs }
+        ensures short { length result.0.items ≤ 65535 }
+    {
+        (self.data, self.sections)
+    }
+}
+
+impl IpDefragBuf {
+    /// The number of the protocol that the message is of.
+    pub fn ip_number(&self) -> IpNumber
+        ensures { result ≡ self.now.ip_number }
+    {
+        self.ip_number
     }
 
     /// A buffer that is equal to this one, in memory of its own. An empty one takes none.
@@ -313,29 +339,6 @@ impl IpDefragBuf {
             }
             Err(_) => Ok(false),
         }
-    }
-
-    /// Whether the message is there as a whole.
-    pub fn is_complete(&self) -> bool
-        ensures picture { IsPicture self.now }
-        ensures test { result ≡ is_whole self.now }
-        ensures decided { (fs : List Fragment) → Shows self.now fs → result ≡ is_complete fs }
-        ensures text { (fs : List Fragment) → Shows self.now fs → IsTrue result
-            → self.now.bytes ≡ text_of fs }
-        ensures complete { (fs : List Fragment) → Shows self.now fs → IsTrue result ↔ Complete fs }
-    {
-        is_one_whole(self.end, &self.sections)
-    }
-
-    /// The bytes and the sections, whose memory may serve another message.
-    pub fn take_bufs(self) -> (Vec<u8>, Vec<IpFragRange>)
-        ensures bytes { result.0.items ≡ self.bytes }
-        ensures sections { result.1.items ≡ self.sections }
-        ensures text { (fs : List Fragment) → Shows self fs → Complete fs
-            → result.0.items ≡ text_of fs }
-        ensures short { length result.0.items ≤ 65535 }
-    {
-        (self.data, self.sections)
     }
 }
 

@@ -19,7 +19,8 @@ use std::hash::{BuildHasher, Hash};
 /// A message that is on its way, and when its last fragment came.
 #[derive(Drop)]
 pub(crate) struct Stream<T> {
-    pub buf: IpDefragBuf,
+    // The protocol is told by the stream's name.
+    pub buf: IpDefragBuf<()>,
     pub timestamp: T,
 }
 
@@ -41,12 +42,12 @@ impl<T: Drop> Stream<T> {
 }
 
 // The buffer of a message of which this is the first part.
-fn begin(alloc: Global, part: &Part<'_>) -> Result<IpDefragBuf, IpDefragError>
+fn begin(alloc: Global, part: &Part<'_>) -> Result<IpDefragBuf<()>, IpDefragError>
     ensures accepted { IfOk result (λ buf. Shows buf (fragment_of part.now ∷ [])) }
     ensures refused { let f = fragment_of part.now in
         AnswersAdd (refusal_at None f) (end_of f) result }
 {
-    let mut buf = IpDefragBuf::new(part.ip_number, Vec::new(alloc), Vec::new(alloc));
+    let mut buf = IpDefragBuf::new((), Vec::new(alloc), Vec::new(alloc));
     buf.add(part.offset, part.more_fragments, part.bytes)?;
     Ok(buf)
 }
@@ -60,7 +61,7 @@ pub(crate) fn add_part<K: Eq + Hash + Drop, T: Drop, S: BuildHasher>(
     name: K,
     part: &Part<'_>,
     timestamp: T,
-) -> Result<Option<IpDefragBuf>, IpDefragError>
+) -> Result<Option<IpDefragBuf<()>>, IpDefragError>
     ensures accepted { let f = fragment_of part.now in (fs : List Fragment)
         → ShowsStream (get K.eq streams.old name) fs →
         IfOk result (λ told. Becomes (λ text. text) (outcome fs f) timestamp

@@ -4,6 +4,7 @@ ghost use Rattle.std.specs.Prelude.{◌≡◌, ℕ, true, false, [], ◌∷◌, 
 ghost use Rattle.std.specs.Prelude.{replicate};
 ghost use Rattle.ep_base.specs.declared.len_source.LenSource.TheVariants.{Ipv4HeaderTotalLen};
 ghost use Rattle.ep_base.specs.declared.len_source.LenSource.TheVariants.{Ipv6HeaderPayloadLen};
+ghost use Rattle.ep_base.specs.declared.net.ip_number.IpNumber.{IpNumber};
 ghost use Rattle.ep_packet.specs.Class.{FragmentName};
 ghost use Rattle.ep_packet.specs.Class.Class.{Cut, Other, Whole, Refused as Faulty};
 ghost use Rattle.ep_packet.specs.Readable.{ReadMessage};
@@ -255,7 +256,7 @@ pub fn replies_to_retain_from()
 
 /// A buffer with the second 8 bytes of a message shows that fragment, and not the first one.
 pub fn a_part_that_is_shown()
-    ensures shown { Shows
+    ensures shown { Shows {Number = IpNumber}
         (record {
           ip_number = record { 0 = 17 };
           bytes = replicate 8 0 ++ replicate 8 2;
@@ -263,7 +264,7 @@ pub fn a_part_that_is_shown()
           end = None;
         })
         (fragment 1 true (replicate 8 2) ∷ []) }
-    ensures not_shown { Shows
+    ensures not_shown { Shows {Number = IpNumber}
         (record {
           ip_number = record { 0 = 17 };
           bytes = replicate 8 0 ++ replicate 8 2;

@@ -9,7 +9,7 @@ ghost use Rattle.netlines.specs.Answers.{answer_after, frame_meaning, outcome_an
 ghost use Rattle.netlines.specs.Arrivals.{HandsInFragment, LastAccepted, lists_after_lines};
 ghost use Rattle.netlines.specs.Lines.{command_of};
 ghost use Rattle.netlines.specs.Lines.Command.{Forget};
-ghost use Rattle.netlines.specs.Replies.{number_after, number_behind, whole_lines_of};
+ghost use Rattle.netlines.specs.Replies.{number_after, whole_lines_of};
 ghost use Rattle.netlines.specs.Runs.{IsOutput};
 ghost use Rattle.netlines.specs.declared.lines.run_error.RunError.TheVariants.{Memory};
 
@@ -69,9 +69,4 @@ pub fn memory_wants_a_fragment()
         → ((before : List (List ℕ)) (line : List ℕ) (later : List (List ℕ))
         → whole_lines_of told read ≡ before ++ line ∷ later → takes_memory before line ≡ false)
         → IsOutput frame_meaning (Err Memory) told read written → (read ≡ []) × (written ≡ []) }
-{}
-
-/// Each line has its own number, as far as 64 bits can tell it.
-pub fn lines_have_numbers()
-    ensures { (count : ℕ) → count < 2 ^ 64 - 1 → number_behind count ≡ count + 1 }
 {}

@@ -15,9 +15,8 @@ pub trait Answerer {
     ghost shows: { Self → List (List ℕ) → Type 0 };
 
     /// Writes the reply to the next line, ended by 0a, to the front of `out`, and tells how many
-    /// bytes that are. Lines are numbered from 1; those after number 2^64 - 1 have this number
-    /// too. Of a line that is too long a front is given. The only error is out of memory, and
-    /// nothing is told of what is known after it.
+    /// bytes that are. Lines are numbered from 1. Of a line that is too long a front is given.
+    /// The only error is out of memory, and nothing is told of what is known after it.
     fn answer(&mut self, number: u64, line: &[u8], out: &mut [u8]) -> Result<usize, AllocError>
         requires { REPLY_ROOM ≤ length out.old }
         ensures fits { IfOk result (λ end. end ≤ length out.new) }

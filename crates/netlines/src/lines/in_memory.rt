@@ -5,7 +5,8 @@ ghost use Rattle.netlines.specs.Answers.{answers_of};
 ghost use Rattle.netlines.specs.Known.{MemoryCall};
 
 use crate::RunError;
-use crate::lines::run_lines::run_over;
+use crate::frames::frame_answerer::FrameAnswerer;
+use crate::lines::run_lines::answer_input;
 use runs::Device;
 use std::alloc::{AllocError, Global};
 use std::io;
@@ -48,7 +49,8 @@ pub fn answers(alloc: Global, text: &[u8]) -> Result<Vec<u8>, AllocError>
     };
     // Each read but the last one gives a byte at least.
     let reads = text.len() as u64 + 1;
-    match run_over(alloc, &mut device, reads) {
+    let answerer = FrameAnswerer::new(alloc)?;
+    match answer_input(alloc, answerer, &mut device, reads) {
         Ok(()) => Ok(device.output),
         Err(error) => match error {
             RunError::Write | RunError::Memory => Err(AllocError),

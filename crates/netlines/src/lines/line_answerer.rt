@@ -1,7 +1,6 @@
 //! Lines out of pieces of a stream, and their replies.
-ghost use Rattle.std.specs.Prelude.{◌≡◌, ◌≤◌, ◌+◌, ◌++◌, ◌∷◌, ℕ, List, [], take, vec_len};
-ghost use Rattle.std.specs.Prelude.{vec_capacity, OnOk, IfOk};
-ghost use Rattle.std.specs.Io.Iter.{u64_saturate};
+ghost use Rattle.std.specs.Prelude.{◌≡◌, ◌≤◌, ◌<◌, ◌+◌, ◌^◌, ◌++◌, ◌∷◌, ℕ, List, [], take};
+ghost use Rattle.std.specs.Prelude.{vec_len, vec_capacity, length, OnOk, IfOk};
 ghost use Rattle.netlines.specs.Endings.{ending_of};
 ghost use Rattle.netlines.specs.Lines.{split, last_line};
 ghost use Rattle.netlines.specs.Replies.{Kept};
@@ -20,7 +19,7 @@ use std::alloc::{AllocError, Global};
 #[derive(Drop)]
 pub struct LineAnswerer<A> {
     pub answerer: A,
-    /// The lines that are answered, as far as they can be counted.
+    /// The lines that are answered.
     pub count: u64,
     /// The first bytes of a line that has begun in an earlier piece.
     pub line: Vec<u8>,
@@ -59,6 +58,7 @@ impl<A: Answerer + Drop> LineAnswerer<A> {
 
     // Answers the line that ends with these bytes.
     fn end_line<D: Device>(&mut self, tail: &[u8], device: &mut D) -> Result<(), RunError>
+        requires { self.old.count + 1 < 2 ^ 64 }
         ensures gathers { (earlier : List (List ℕ)) (start : List ℕ)
             → Kept (A.shows self.old.answerer) self.old.count self.old.line.items earlier start
             → Gathers D.transition (A.meaning.takes_memory earlier (start ++ tail.now)) device.old
@@ -67,10 +67,10 @@ impl<A: Answerer + Drop> LineAnswerer<A> {
         ensures shows { (earlier : List (List ℕ)) (start : List ℕ)
             → Kept (A.shows self.old.answerer) self.old.count self.old.line.items earlier start
             → OnOk result (A.shows self.new.answerer (earlier ++ (start ++ tail.now) ∷ [])) }
-        ensures count { self.new.count ≡ u64_saturate (self.old.count + 1) }
+        ensures count { self.new.count ≡ self.old.count + 1 }
         ensures line { self.new.line.items ≡ [] }
     {
-        self.count = self.count.saturating_add(1);
+        self.count += 1;
         if self.line.is_empty() {
             return self
                 .replies
@@ -89,7 +89,8 @@ impl<A: Answerer + Drop> LineAnswerer<A> {
 
     /// Goes on with a piece: answers each line that 0a ends in it, and writes all that waits.
     pub fn feed<D: Device>(&mut self, piece: &[u8], device: &mut D) -> Result<(), RunError>
-        requires { self.old.replies ≡ [] }
+        requires replies { self.old.replies ≡ [] }
+        requires numbers { self.old.count + length piece.now < 2 ^ 64 }
         ensures serves { (earlier : List (List ℕ)) (start : List ℕ)
             → Kept (A.shows self.old.answerer) self.old.count self.old.line.items earlier start
             → Serves D.transition A.meaning device.old earlier (split (start ++ piece.now)).ended
@@ -112,7 +113,8 @@ impl<A: Answerer + Drop> LineAnswerer<A> {
 
     /// Answers a last line that no 0a ended, if there is one.
     pub fn finish<D: Device>(&mut self, device: &mut D) -> Result<(), RunError>
-        requires { self.old.replies ≡ [] }
+        requires replies { self.old.replies ≡ [] }
+        requires number { self.old.count + 1 < 2 ^ 64 }
         ensures { (earlier : List (List ℕ)) (start : List ℕ)
             → Kept (A.shows self.old.answerer) self.old.count self.old.line.items earlier start
             → Serves D.transition A.meaning device.old earlier (last_line start)

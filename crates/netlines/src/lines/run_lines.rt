@@ -6,7 +6,7 @@ ghost use Rattle.runs.specs.Known.{KnownCall, known_of};
 ghost use Rattle.netlines.specs.Answers.{answers_of};
 ghost use Rattle.netlines.specs.Known.{Transfers};
 ghost use Rattle.netlines.specs.Replies.{Kept};
-ghost use Rattle.netlines.specs.Runs.{Runs, RunsBy};
+ghost use Rattle.netlines.specs.Runs.{NumbersFit, Runs, RunsBy};
 
 use crate::frames::frame_answerer::FrameAnswerer;
 use crate::lines::answerer::Answerer;
@@ -54,6 +54,7 @@ pub fn run<R: Read, W: Write>(alloc: Global, reader: &mut R, writer: &mut W) -> 
 /// A run of at most so many reads over any device: each call that it makes, in its order, and how
 /// these calls end it.
 pub fn run_over<D: Device>(alloc: Global, device: &mut D, reads: u64) -> Result<(), RunError>
+    requires { reads ≤ READ_COUNT_LIMIT }
     ensures { Runs D.transition reads device.old device.new result }
 {
     let Ok(answerer) = FrameAnswerer::new(alloc) else {
@@ -69,7 +70,22 @@ pub fn run_with<A: Answerer + Drop, D: Device>(
     device: &mut D,
     reads: u64,
 ) -> Result<(), RunError>
-    requires { A.shows answerer [] }
+    requires answerer { A.shows answerer [] }
+    requires reads { reads ≤ READ_COUNT_LIMIT }
+    ensures { RunsBy D.transition A.meaning reads device.old device.new result }
+{
+    answer_input(alloc, answerer, device, reads)
+}
+
+/// The same where the bytes that may be read are few enough to number the lines.
+pub(crate) fn answer_input<A: Answerer + Drop, D: Device>(
+    alloc: Global,
+    answerer: A,
+    device: &mut D,
+    reads: u64,
+) -> Result<(), RunError>
+    requires answerer { A.shows answerer [] }
+    requires numbers { NumbersFit D.transition A.meaning reads device.old }
     ensures { RunsBy D.transition A.meaning reads device.old device.new result }
 {
     let Ok((mut piece, mut lines)) = buffers(alloc, answerer) else {
@@ -103,6 +119,7 @@ fn answer_reads<A: Answerer + Drop, D: Device>(
     requires room { length piece.old ≡ READ_SIZE_LIMIT }
     requires kept { Kept (A.shows lines.old.answerer) lines.old.count lines.old.line.items [] [] }
     requires replies { lines.old.replies ≡ [] }
+    requires numbers { NumbersFit D.transition A.meaning reads device.old }
     ensures { RunsBy D.transition A.meaning reads device.old device.new result }
 {
     'reads: for _ in 0..reads {

@@ -1,13 +1,20 @@
-use Rattle.std.proofs.Common.{Some, Ok, Err}
-use Rattle.runs.specs.Known.{known_of}
-use Rattle.runs.proofs.KnownLemmas.{Goes-map}
+use Rattle.std.proofs.Common.{Some, Ok, Err, arith}
+use Rattle.runs.specs.Known.{KnownCall, known_of}
+use Rattle.runs.proofs.KnownLemmas.{Goes-map, Makes-map}
 use Rattle.netlines.specs.Answers.{frame_meaning}
 use Rattle.netlines.specs.Endings.{ending_of}
 use Rattle.netlines.specs.Known.{MemoryCall}
 use Rattle.netlines.specs.Runs.{reply_task}
 use Rattle.netlines.specs.declared.lines.in_memory.TextDevice.{TextDevice}
-use Rattle.netlines.proofs.MemoryLemmas.{memory_ok, memory_read, memory_write_zero, memory_too_many}
+use Rattle.netlines.proofs.MemoryLemmas.{memory_fits, memory_ok, memory_read, memory_write_zero}
+use Rattle.netlines.proofs.MemoryLemmas.{memory_too_many}
 use Rattle.netlines.proofs.lines.in_memory.answers.Goals as goal
+
+pub answer_input-requires-clause-numbers : goal.answer_input-requires-clause-numbers
+answer_input-requires-clause-numbers c new calls made each few =
+    memory_fits c.args.text.now new.input.now _ new.output.items calls
+    (Makes-map _ KnownCall (λ (s : TextDevice). known_of (Some s.input.now) (Some s.output.items))
+    (λ s t call h. h.0) _ new calls made) (omega arith)
 
 pub unreachable-requires : goal.unreachable-requires
 unreachable-requires c =
@@ -35,5 +42,5 @@ returns-in-Ok c =
     let runs = Goes-map (reply_task frame_meaning) _ MemoryCall
     (λ (s : TextDevice). known_of (Some s.input.now) (Some s.output.items))
     (λ s t call h. h) _ _ _ (ending_of (Ok tt)) c.in-Ok.ensures in
-    memory_ok _ c.args.text.now c.new.result.items c.run_over.new.device.input.now
-    c.run_over.new.device.output.items c.new.ensures.items runs
+    memory_ok _ c.args.text.now c.new.result.items c.answer_input.new.device.input.now
+    c.answer_input.new.device.output.items c.new.ensures.items runs

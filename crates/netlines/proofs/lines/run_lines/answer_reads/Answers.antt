@@ -6,6 +6,7 @@ use Rattle.netlines.specs.Replies.{Kept}
 use Rattle.netlines.specs.declared.lines.limits.TheConstants.{READ_SIZE_LIMIT}
 use Rattle.netlines.proofs.Going.{Answered, answered_start, answered_more, answered_stops}
 use Rattle.netlines.proofs.Going.{answered_end, answered_fails, answered_all}
+use Rattle.netlines.proofs.Going.{answered_number, answered_numbers}
 use Rattle.netlines.proofs.lines.run_lines.answer_reads.Goals as goal
 
 pub reads-init : goal.reads-init
@@ -22,6 +23,26 @@ returns-in-Ok-eq0 g c =
     (ap (λ n. take n c.read_some.new.buf) c.in-Ok-eq0.field-0-test)
     (c.in-Ok-eq0.ensures.call some) (ending_of c.finish.result)
     (c.finish.ensures (ended_lines_of answered.came) (split answered.came).rest answered.keeps)
+
+pub finish-requires-clause-number : goal.finish-requires-clause-number
+finish-requires-clause-number g c =
+    let answered = c.reads.invariant in
+    answered_number g.D.Device.transition g.A.Answerer.meaning c.reads.counter c.args.device.now
+    c.reads.device c.reads.device c.reads.device _ _ answered c.args.reads c.reads-test.true
+    c.requires.numbers c.reads.lines.count answered.keeps.counted
+
+pub feed-requires-clause-numbers : goal.feed-requires-clause-numbers
+feed-requires-clause-numbers g c =
+    let answered = c.reads.invariant in
+    let some : 0 < length c.reads.piece = search rules in
+    let given : 0 < length (take c.in-Ok.n c.read_some.new.buf) =
+    omega (arith, c.in-Ok.ensures.bound.1, c.in-Ok.n-test.1) in
+    let size : length (take c.in-Ok.n c.read_some.new.buf) ≤ READ_SIZE_LIMIT =
+    omega (arith, c.in-Ok.ensures.bound.0, c.in-Ok.ensures.bound.1) in
+    answered_numbers g.D.Device.transition g.A.Answerer.meaning c.reads.counter c.args.device.now
+    c.reads.device _ c.reads.device _ _ answered
+    (take c.in-Ok.n c.read_some.new.buf) (c.in-Ok.ensures.call some) size given c.args.reads
+    c.reads-test.true c.requires.numbers c.reads.lines.count answered.keeps.counted
 
 pub reads-preserved : goal.reads-preserved
 reads-preserved g c =

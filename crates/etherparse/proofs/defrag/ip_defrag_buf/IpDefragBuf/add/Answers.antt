@@ -7,11 +7,11 @@ use Rattle.etherparse.proofs.defrag.ip_defrag_buf.IpDefragBuf.add.Goals.{then-no
 use Rattle.etherparse.proofs.defrag.ip_defrag_buf.IpDefragBuf.add.Goals.{else-not-more_fragments}
 
 pub returns-clause-accepted : goal.returns-clause-accepted
-returns-clause-accepted c fs shows =
-    let had = subst (λ (b : Contents). Shows b fs) (sym c.self.view_is) shows in
+returns-clause-accepted g c fs shows =
+    let had = subst (λ (b : Contents _). Shows b fs) (sym c.self.view_is) shows in
     elim c.if-not-more_fragments.branch [
       | then-not-more_fragments w ↦
-          subst (λ (b : Contents). Shows b
+          subst (λ (b : Contents _). Shows b
           (fs ++ fragment c.args.offset c.args.more_fragments c.args.bytes.now ∷ []))
           (sym w.self-is)
           (shows_add _ _ fs (fragment c.args.offset c.args.more_fragments c.args.bytes.now)
@@ -33,7 +33,7 @@ returns-clause-accepted c fs shows =
             );
           })
       | else-not-more_fragments w ↦
-          subst (λ (b : Contents). Shows b
+          subst (λ (b : Contents _). Shows b
           (fs ++ fragment c.args.offset c.args.more_fragments c.args.bytes.now ∷ []))
           (sym w.self-is)
           (shows_add _ _ fs (fragment c.args.offset c.args.more_fragments c.args.bytes.now)
@@ -52,7 +52,7 @@ returns-clause-accepted c fs shows =
     ]
 
 pub invariant_of-self-then-not-more_fragments : goal.invariant_of-self-then-not-more_fragments
-invariant_of-self-then-not-more_fragments c =
+invariant_of-self-then-not-more_fragments g c =
     picture_add _ _ (fragment c.args.offset c.args.more_fragments c.args.bytes.now)
     c.try_reserve.new.self.items c.write_at.new.buffer.items
     c.try_reserve-else-is_err.new.self.items c.from.result c.byte_offset-start.result
@@ -73,7 +73,7 @@ invariant_of-self-then-not-more_fragments c =
     }
 
 pub invariant_of-self-else-not-more_fragments : goal.invariant_of-self-else-not-more_fragments
-invariant_of-self-else-not-more_fragments c =
+invariant_of-self-else-not-more_fragments g c =
     picture_add _ _ (fragment c.args.offset c.args.more_fragments c.args.bytes.now)
     c.try_reserve.new.self.items c.write_at.new.buffer.items
     c.try_reserve-else-is_err.new.self.items c.from.result c.byte_offset-start.result
@@ -89,9 +89,9 @@ invariant_of-self-else-not-more_fragments c =
     }
 
 pub invariant_of-self : goal.invariant_of-self
-invariant_of-self c = picture_same _ _ refl c.try_reserve.ensures.items refl refl c.self.invariant
+invariant_of-self g c = picture_same _ _ refl c.try_reserve.ensures.items refl refl c.self.invariant
 
 pub invariant_of-self-then-is_err-2 : goal.invariant_of-self-then-is_err-2
-invariant_of-self-then-is_err-2 c =
+invariant_of-self-then-is_err-2 g c =
     picture_same _ _ refl c.try_reserve.ensures.items
     c.try_reserve-else-is_err.ensures.items refl c.self.invariant

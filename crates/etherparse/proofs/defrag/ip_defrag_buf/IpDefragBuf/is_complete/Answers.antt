@@ -10,14 +10,14 @@ test_is : (b : Bool) (fs : List Fragment) → (b ≡ true) ↔ Complete fs → b
 test_is b fs h = same_from_decides b (is_complete fs) (h.0, h.1) (complete_Decides fs)
 
 pub returns-clause-decided : goal.returns-clause-decided
-returns-clause-decided c fs shows =
+returns-clause-decided g c fs shows =
     let test = rw c.deref.ensures.value at c.is_one_whole.ensures ∙ ap is_whole c.self.view_is in
     test ∙ test_is _ fs (whole_iff c.args.self.now fs shows)
 
 pub returns-clause-complete : goal.returns-clause-complete
-returns-clause-complete c fs shows =
+returns-clause-complete g c fs shows =
     let test = rw c.deref.ensures.value at c.is_one_whole.ensures ∙ ap is_whole c.self.view_is in
     subst (λ (b : Bool). IsTrue b ↔ Complete fs) (sym test) (whole_iff c.args.self.now fs shows)
 
 pub returns-clause-picture : goal.returns-clause-picture
-returns-clause-picture c = subst IsPicture c.self.view_is c.self.invariant
+returns-clause-picture g c = subst IsPicture c.self.view_is c.self.invariant

@@ -1,4 +1,4 @@
-use Rattle.std.proofs.Common.{rules, ◌≡◌, ◌++◌, ◌∙◌, sym, ap, subst, length, take, List, ℕ}
+use Rattle.std.proofs.Common.{rules, ◌≡◌, ◌++◌, ◌∙◌, sym, ap, refl, subst, length, take, List, ℕ}
 use Rattle.netlines.proofs.Feeding.{asks_kept}
 use Rattle.netlines.proofs.LineLemmas.{nothing_kept, first_kept}
 use Rattle.netlines.specs.Endings.{ending_of}
@@ -15,7 +15,7 @@ returns-then-is_empty-clause-gathers g c earlier start keeps =
     (search rules) keeps.kept none in
     c.push.ensures.gathers earlier (start ++ tail)
     (asks_kept _ c.args.self.now.count _ c.args.self.now.line.items earlier start tail tail keeps
-    c.saturating_add-self.ensures
+    refl
     (ap (λ (l : List ℕ). take LINE_ROOM (l ++ tail)) (sym nothing)))
 
 pub returns-then-is_empty-clause-shows : goal.returns-then-is_empty-clause-shows
@@ -26,7 +26,7 @@ returns-then-is_empty-clause-shows g c earlier start keeps =
     (search rules) keeps.kept none in
     c.push.ensures.shows earlier (start ++ tail)
     (asks_kept _ c.args.self.now.count _ c.args.self.now.line.items earlier start tail tail keeps
-    c.saturating_add-self.ensures
+    refl
     (ap (λ (l : List ℕ). take LINE_ROOM (l ++ tail)) (sym nothing)))
 
 pub returns-clause-gathers : goal.returns-clause-gathers
@@ -38,7 +38,7 @@ returns-clause-gathers g c earlier start keeps =
     c.as_slice.result.now (start ++ tail) =
     rw (c.keep.ensures.answerer, c.keep.ensures.count)
     (asks_kept _ c.args.self.now.count _ c.args.self.now.line.items earlier start tail
-    c.as_slice.result.now keeps c.saturating_add-self.ensures first) in
+    c.as_slice.result.now keeps refl first) in
     subst (λ (w : List ℕ). Gathers g.D.Device.transition
     (g.A.Answerer.meaning.takes_memory earlier (start ++ tail)) c.args.device.now w
     (g.A.Answerer.meaning.reply earlier (start ++ tail))
@@ -54,5 +54,5 @@ returns-clause-shows g c earlier start keeps =
     c.as_slice.result.now (start ++ tail) =
     rw (c.keep.ensures.answerer, c.keep.ensures.count)
     (asks_kept _ c.args.self.now.count _ c.args.self.now.line.items earlier start tail
-    c.as_slice.result.now keeps c.saturating_add-self.ensures first) in
+    c.as_slice.result.now keeps refl first) in
     c.push-pushed.ensures.shows earlier (start ++ tail) asks

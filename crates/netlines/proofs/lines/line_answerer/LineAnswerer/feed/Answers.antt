@@ -1,5 +1,5 @@
 use Rattle.std.proofs.Common.{◌≡◌, ◌++◌, ◌+◌, ◌-◌, ◌∷◌, ◌∙◌, sym, ap, subst, take, drop, length}
-use Rattle.std.proofs.Common.{get_or, List, [], ℕ, eqb-true}
+use Rattle.std.proofs.Common.{get_or, List, [], ℕ, eqb-true, arith, length-drop}
 use Rattle.std.proofs.lemmas.Result.{err_from_is_err_and}
 use Rattle.netlines.proofs.Feeding.{Fed, fed_start, fed_line, fed_fails, fed_written, fed_kept}
 use Rattle.netlines.proofs.Feeding.{found_end, found_none, after_line}
@@ -11,16 +11,26 @@ use Rattle.netlines.specs.Writes.{Gathers}
 use Rattle.netlines.proofs.lines.line_answerer.LineAnswerer.feed.Goals as goal
 
 pub lines-init : goal.lines-init
-lines-init g c earlier start keeps =
-    fed_start g.D.Device.transition g.A.Answerer.meaning c.args.device.now earlier start
-    c.args.piece.now c.args.self.now.line.items c.args.self.now.replies
-    c.args.self.now.count (g.A.Answerer.shows c.args.self.now.answerer) keeps c.requires
+lines-init g c = record {
+  fed = λ earlier start keeps.
+      fed_start g.D.Device.transition g.A.Answerer.meaning c.args.device.now earlier start
+      c.args.piece.now c.args.self.now.line.items c.args.self.now.replies
+      c.args.self.now.count (g.A.Answerer.shows c.args.self.now.answerer) keeps
+      c.requires.replies;
+  few = omega arith;
+}
+
+pub end_line-requires : goal.end_line-requires
+end_line-requires g c =
+    let few = c.lines.invariant.few in
+    let most = c.requires.numbers in
+    omega (arith, c.in-Some.ensures.0.high)
 
 pub returns-in_err-end_line-clause-serves : goal.returns-in_err-end_line-clause-serves
 returns-in_err-end_line-clause-serves g c earlier start keeps =
     let transition = g.D.Device.transition in
     let m = g.A.Answerer.meaning in
-    let fed = c.lines.invariant earlier start keeps in
+    let fed = c.lines.invariant.fed earlier start keeps in
     let rest = c.lines.rest.now in
     let n = c.in-Some.end in
     let found = c.in-Some.ensures in
@@ -38,7 +48,7 @@ returns-in_err-end_line-clause-serves g c earlier start keeps =
     (found_end rest n found.0) c.in_err-end_line.field-0.0 c.end_line.new.self.replies fails)
 
 pub lines-preserved : goal.lines-preserved
-lines-preserved g c earlier start keeps =
+lines-preserved g c =
     let transition = g.D.Device.transition in
     let m = g.A.Answerer.meaning in
     let rest = c.lines.rest.now in
@@ -48,31 +58,42 @@ lines-preserved g c earlier start keeps =
     let after : next ≡ drop (n + 1) rest =
     ap (λ (l : List ℕ). take (length l - 1) (drop 1 l)) {y = drop n rest}
     c.split_at.ensures.back ∙ after_line rest n found.0.high in
-    let fed = c.lines.invariant earlier start keeps in
     let front = c.split_at.ensures.front in
-    let more = subst (λ (l : List ℕ). Gathers transition
-    (m.takes_memory (earlier ++ fed.lines) (fed.begun ++ l)) c.lines.device
-    c.lines.self.replies (m.reply (earlier ++ fed.lines) (fed.begun ++ l))
-    Done c.end_line.new.self.replies c.end_line.new.device) {y = take n rest} front
-    (c.in_ok-end_line.ensures.gathers (earlier ++ fed.lines) fed.begun fed.keeps) in
-    let shows = subst (λ (l : List ℕ). g.A.Answerer.shows c.end_line.new.self.answerer
-    ((earlier ++ fed.lines) ++ (fed.begun ++ l) ∷ [])) {y = take n rest} front
-    (c.in_ok-end_line.ensures.shows (earlier ++ fed.lines) fed.begun fed.keeps) in
-    subst (λ (l : List ℕ). Fed transition m c.args.device.now earlier
-    (start ++ c.args.piece.now) c.end_line.new.self.line.items l c.end_line.new.self.replies
-    c.end_line.new.self.count (g.A.Answerer.shows c.end_line.new.self.answerer)
-    c.end_line.new.device) (sym after)
-    (fed_line transition m c.args.device.now c.lines.device c.end_line.new.device earlier _ _ rest _
-    _ (g.A.Answerer.shows c.lines.self.answerer) n fed found.0.high
-    (eqb-true (get_or rest n 0) 10 found.1)
-    (found_end rest n found.0) c.end_line.new.self.replies more c.end_line.new.self.count
-    c.end_line.ensures.count
-    (g.A.Answerer.shows c.end_line.new.self.answerer) shows c.end_line.new.self.line.items
-    c.end_line.ensures.line)
+    record {
+      fed = λ earlier start keeps.
+          let fed = c.lines.invariant.fed earlier start keeps in
+          let more = subst (λ (l : List ℕ). Gathers transition
+          (m.takes_memory (earlier ++ fed.lines) (fed.begun ++ l)) c.lines.device
+          c.lines.self.replies (m.reply (earlier ++ fed.lines) (fed.begun ++ l))
+          Done c.end_line.new.self.replies c.end_line.new.device) {y = take n rest} front
+          (c.in_ok-end_line.ensures.gathers (earlier ++ fed.lines) fed.begun fed.keeps) in
+          let shows = subst (λ (l : List ℕ). g.A.Answerer.shows c.end_line.new.self.answerer
+          ((earlier ++ fed.lines) ++ (fed.begun ++ l) ∷ [])) {y = take n rest} front
+          (c.in_ok-end_line.ensures.shows (earlier ++ fed.lines) fed.begun fed.keeps) in
+          subst (λ (l : List ℕ). Fed transition m c.args.device.now earlier
+          (start ++ c.args.piece.now) c.end_line.new.self.line.items l
+          c.end_line.new.self.replies
+          c.end_line.new.self.count (g.A.Answerer.shows c.end_line.new.self.answerer)
+          c.end_line.new.device) (sym after)
+          (fed_line transition m c.args.device.now c.lines.device c.end_line.new.device earlier _ _
+          rest _
+          _ (g.A.Answerer.shows c.lines.self.answerer) n fed found.0.high
+          (eqb-true (get_or rest n 0) 10 found.1)
+          (found_end rest n found.0) c.end_line.new.self.replies more c.end_line.new.self.count
+          c.end_line.ensures.count
+          (g.A.Answerer.shows c.end_line.new.self.answerer) shows c.end_line.new.self.line.items
+          c.end_line.ensures.line);
+      few =
+          let few = c.lines.invariant.few in
+          let count = c.end_line.ensures.count in
+          let left = ap length after in
+          let size = length-drop (n + 1) rest in
+          omega (arith, found.0.high);
+    }
 
 pub returns-clause-serves : goal.returns-clause-serves
 returns-clause-serves g c earlier start keeps =
-    let fed = c.lines.invariant earlier start keeps in
+    let fed = c.lines.invariant.fed earlier start keeps in
     fed_written g.D.Device.transition g.A.Answerer.meaning c.args.device.now c.lines.device earlier
     _ _ c.lines.rest.now _ _ (g.A.Answerer.shows c.lines.self.answerer) fed
     (found_none c.lines.rest.now c.in_default.ensures) c.write_out.new.device
@@ -83,7 +104,7 @@ returns-clause-serves g c earlier start keeps =
 
 pub returns-clause-keeps : goal.returns-clause-keeps
 returns-clause-keeps g c earlier start keeps =
-    let fed = c.lines.invariant earlier start keeps in
+    let fed = c.lines.invariant.fed earlier start keeps in
     on_ok c.write_out.result (rw (c.keep.ensures.answerer, c.keep.ensures.count)
     (fed_kept g.D.Device.transition g.A.Answerer.meaning c.args.device.now c.lines.device earlier _
     _ c.lines.rest.now _ _ (g.A.Answerer.shows c.lines.self.answerer) fed

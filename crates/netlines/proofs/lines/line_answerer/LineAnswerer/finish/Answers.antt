@@ -34,7 +34,7 @@ returns-in_err-end_line g c earlier start keeps =
     c.args.device.now earlier ls (cause c.in_err-end_line.field-0.0) c.end_line.new.device)
     (sym (some_kept LINE_ROOM line start keeps.kept some))
     (serves_fails g.D.Device.transition g.A.Answerer.meaning c.args.device.now c.end_line.new.device
-    earlier (start ++ []) c.args.self.now.replies c.end_line.new.self.replies c.requires
+    earlier (start ++ []) c.args.self.now.replies c.end_line.new.self.replies c.requires.replies
     c.in_err-end_line.field-0.0 (c.in_err-end_line.ensures.gathers earlier start keeps)))
 
 pub returns : goal.returns
@@ -49,5 +49,5 @@ returns g c earlier start keeps =
     (serves_line g.D.Device.transition g.A.Answerer.meaning c.args.device.now c.end_line.new.device
     c.write_out.new.device earlier (start ++ []) c.args.self.now.replies
     c.end_line.new.self.replies
-    c.requires (ending_of c.write_out.result)
+    c.requires.replies (ending_of c.write_out.result)
     (c.in_ok-end_line.ensures.gathers earlier start keeps) c.write_out.ensures.delivers)
