@@ -21,6 +21,7 @@ mod PutBack
 mod Retaining
 mod Runs
 mod SameBuffers
+mod SameCalls
 mod Sections
 mod ViewedRows
 mod Written
