@@ -19,6 +19,7 @@ fn laws_are_called() {
     laws::hashes::slice_errors_hash_all_fields();
     laws::hashes::write_errors_hash_all_fields();
     laws::hashes::checksum_errors_hash_all_fields();
+    laws::hashes::payload_hashes_by_hand();
     laws::traits::types_are_plain_data();
     laws::traits::copies_of_parts_are_values();
     laws::traits::addresses_hash_all_fields();

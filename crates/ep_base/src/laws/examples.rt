@@ -19,7 +19,7 @@ ghost use Rattle.ep_base.specs.IpEcn.{IsEcn};
 ghost use Rattle.ep_base.specs.LenError.{CanMove, offset_by, too_few_bytes};
 ghost use Rattle.ep_base.specs.SliceError as slice_error;
 ghost use Rattle.ep_base.specs.Traits.{CopyIsValue, CopyNeverFails, DefaultIs, EqualIsSame};
-ghost use Rattle.ep_base.specs.Traits.{HashIsOf, OrderIsOf};
+ghost use Rattle.ep_base.specs.Traits.{HashIsOf, OrderIsOf, VariantFeeds};
 ghost use Rattle.ep_base.specs.Sum.{IsCutAtWords, accumulator_sum, all_ones, checksum, fold};
 ghost use Rattle.ep_base.specs.Sum.{no_zero, total, whole_words};
 
@@ -112,6 +112,7 @@ pub fn traits_ruled_out()
     ensures order { ¬ (OrderIsOf (λ (n : ℕ). n) (λ a b. nat_cmp b a)) }
     ensures fails { ¬ (CopyNeverFails (λ (n : ℕ). n ≡ 0)) }
     ensures hash { ¬ (HashIsOf (λ (n : ℕ). (n ∷ []) ∷ []) (λ n. [])) }
+    ensures variant { ¬ (VariantFeeds (λ (n : ℕ). []) 0 (λ (n : ℕ). n) (λ n. [])) }
     ensures default { ¬ (DefaultIs 0 (λ (n : ℕ). ⊤)) }
 {}
 

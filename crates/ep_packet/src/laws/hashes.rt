@@ -1,8 +1,10 @@
 //! What `Hash` of the errors here feeds a hasher: which variant one is, as they are declared, and
 //! then what it holds.
-ghost use Rattle.std.specs.Prelude.{◌≡◌, [], pos};
+ghost use Rattle.std.specs.Prelude.{◌≡◌, ◌++◌, [], ◌∷◌, pos};
 ghost use Rattle.std.specs.Hash as fed;
 ghost use Rattle.ep_base.specs.Traits.{VariantFeeds};
+ghost use Rattle.ep_packet.specs.Payload.{hashed_as};
+ghost use Rattle.ep_packet.specs.Payload.Payload.{Empty, Tcp};
 ghost use Rattle.ep_packet.specs.declared.err.ip.headers_write_error.HeadersWriteError.TheVariants as write;
 ghost use Rattle.ep_packet.specs.declared.err.net.net_set_next_header_error.NetSetNextHeaderError.TheVariants as next;
 ghost use Rattle.ep_packet.specs.declared.err.packet.slice_error.SliceError.TheVariants as packet;
@@ -59,4 +61,12 @@ pub fn checksum_errors_hash_all_fields()
         0 checksum.PayloadLen ⟦<ValueTooBigError<usize> as Hash>⟧.hash_input }
     ensures icmpv6 { ⟦<TransportChecksumError as Hash>⟧.hash_input checksum.Icmpv6InIpv4
         ≡ fed.isize (pos 1) }
+{}
+
+/// What a hasher is fed of a payload: the place of the kind, as Rust's derive feeds it, and of bytes
+/// their number, then each.
+pub fn payload_hashes_by_hand()
+    ensures empty { hashed_as Empty ≡ fed.isize (pos 0) }
+    ensures bytes { hashed_as (Tcp (1 ∷ 2 ∷ []))
+        ≡ fed.isize (pos 5) ++ fed.usize 2 ++ fed.u8 1 ++ fed.u8 2 }
 {}
