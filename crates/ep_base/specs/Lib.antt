@@ -4,6 +4,7 @@ pub mod Fronts
 pub mod IpDscpKnown
 pub mod IpEcn
 pub mod IpNumber
+pub mod Layer
 pub mod LenError
 pub mod LenSource
 pub mod MessageSum
@@ -11,3 +12,4 @@ pub mod Refusals
 pub mod SliceError
 pub mod Sum
 pub mod Traits
+pub mod ValueType

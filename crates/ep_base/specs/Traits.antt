@@ -1,6 +1,7 @@
--- What `Clone`, `PartialEq`, `Ord` and `Hash` of a type mean: laws of the relations that its impls
--- name.
-use Rattle.std.specs.Prelude.{◌≡◌, ℕ, Bool, IsTrue, ◌↔◌, List}
+-- What `Clone`, `PartialEq`, `Ord`, `Hash` and `Default` of a type mean: laws of the relations that
+-- its impls name.
+use Rattle.std.specs.Prelude.{◌≡◌, ℕ, Bool, IsTrue, ◌↔◌, List, ◌++◌, pos}
+use Rattle.std.specs.Hash as fed
 use Rattle.std.specs.Ordering.{nat_cmp}
 use Rattle.std.specs.declared.cmp.Ordering.{Ordering}
 
@@ -32,3 +33,17 @@ OrderIsOf number cmp = (a b : _) → cmp a b ≡ nat_cmp (number a) (number b)
 -- a hasher is fed this
 abbrev pub HashIsOf : {T : Type 0} → (T → List (List ℕ)) → (T → List (List ℕ)) → Type 0
 HashIsOf feed hash_input = (value : _) → hash_input value ≡ feed value
+
+-- a hasher is fed which variant it is, by its place among them
+abbrev pub HashIsOfPlace : {T : Type 0} → (T → ℕ) → (T → List (List ℕ)) → Type 0
+HashIsOfPlace place hash_input = HashIsOf (λ variant. fed.isize (pos (place variant))) hash_input
+
+-- a variant feeds it its place, and then what the value that it holds does
+abbrev pub VariantFeeds : {T U : Type 0} → (T → List (List ℕ)) → ℕ → (U → T)
+    → (U → List (List ℕ)) → Type 0
+VariantFeeds hash_input place variant feed =
+    (held : _) → hash_input (variant held) ≡ fed.isize (pos place) ++ feed held
+
+-- the default is this value
+abbrev pub DefaultIs : {T : Type 0} → T → (T → Type 0) → Type 0
+DefaultIs value is_default = (given : _) → is_default given → given ≡ value

@@ -17,4 +17,5 @@ fn laws_are_called(rt: HostRuntime) {
     examples::fields_without_the_reserved_bit();
     examples::walk_over_two_headers();
     traits::types_are_plain_data();
+    traits::errors_hash_all_fields();
 }

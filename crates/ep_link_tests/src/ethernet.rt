@@ -134,4 +134,6 @@ fn laws(rt: HostRuntime) {
     orders_are_of_numbers();
     protocols_by_kind_and_number();
     hashes_are_of_numbers();
+    defaults_are_zero();
+    errors_hash_all_fields();
 }

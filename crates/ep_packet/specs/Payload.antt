@@ -1,10 +1,12 @@
 -- What stands behind the headers of a packet.
-use Rattle.std.specs.Prelude.{ℕ, List, [], ◌∷◌}
-use Rattle.ep_ipslice.specs.Compared.{ordered_as as ip_ordered_as}
+use Rattle.std.specs.Prelude.{ℕ, List, [], ◌∷◌, ◌++◌, pos}
+use Rattle.std.specs.Hash as fed
+use Rattle.ep_ipslice.specs.Compared.{hashed_as as ip_hashed_as, ordered_as as ip_ordered_as}
 use Rattle.ep_ipslice.specs.Packet.{IpPayload}
 use Rattle.ep_packet.specs.declared.payload_slice.PayloadSlice.{PayloadSlice}
 use Rattle.ep_packet.specs.declared.payload_slice.PayloadSlice.TheVariants as slice
 use Rattle.ep_tag.specs.Ether.{EtherPayload}
+use Rattle.ep_tag.specs.EtherOrder.{hashed_as as ether_hashed_as}
 use Rattle.ep_tag.specs.EtherOrder.{ordered_as as ether_ordered_as}
 
 -- nothing that is known; bytes that an ether type names; bytes that MACsec changed; bytes of an IP
@@ -50,3 +52,18 @@ ordered_as (Udp bytes) = 4 ∷ bytes
 ordered_as (Tcp bytes) = 5 ∷ bytes
 ordered_as (Icmpv4 bytes) = 6 ∷ bytes
 ordered_as (Icmpv6 bytes) = 7 ∷ bytes
+
+-- the place of the kind among the variants, and bytes with their number
+abbrev pub bytes_hashed_as : ℕ → List ℕ → fed.HashWrites
+bytes_hashed_as place bytes = fed.isize (pos place) ++ fed.slice fed.u8 bytes
+
+-- what a hasher is fed: the place of the kind, and then all of the payload
+abbrev pub hashed_as : Payload → fed.HashWrites
+hashed_as Empty = fed.isize (pos 0)
+hashed_as (Ether p) = fed.isize (pos 1) ++ ether_hashed_as p
+hashed_as (MacsecMod bytes) = bytes_hashed_as 2 bytes
+hashed_as (Ip p) = fed.isize (pos 3) ++ ip_hashed_as p
+hashed_as (Udp bytes) = bytes_hashed_as 4 bytes
+hashed_as (Tcp bytes) = bytes_hashed_as 5 bytes
+hashed_as (Icmpv4 bytes) = bytes_hashed_as 6 bytes
+hashed_as (Icmpv6 bytes) = bytes_hashed_as 7 bytes

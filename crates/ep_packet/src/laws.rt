@@ -1,6 +1,7 @@
 //! Laws of the definitions: the contract of each function is the law.
 
 mod faults;
+pub mod hashes;
 mod headers;
 mod readable;
 pub mod same_headers;

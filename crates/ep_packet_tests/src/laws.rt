@@ -16,7 +16,13 @@ fn laws_are_called() {
     laws::sliced::cooked_packets_by_hand();
     laws::sliced::ip_packets_by_hand();
     laws::sliced::lengths_by_hand();
+    laws::hashes::slice_errors_hash_all_fields();
+    laws::hashes::write_errors_hash_all_fields();
+    laws::hashes::checksum_errors_hash_all_fields();
+    laws::hashes::payload_hashes_by_hand();
     laws::traits::types_are_plain_data();
+    laws::traits::copies_of_parts_are_values();
+    laws::traits::addresses_hash_all_fields();
     laws::traits::copies_of_messages_are_values();
     laws::traits::equal_messages_are_read_alike();
     laws::traits::net_is_plain_data();

@@ -112,6 +112,7 @@ fn laws(rt: HostRuntime) {
     macsec_payloads_are_equal_as_told();
     orders_are_of_numbers();
     macsec_p_types_by_kind();
+    errors_hash_as_places();
     hashes_are_of_numbers();
     ether_payloads_by_all_fields();
 }

@@ -4,6 +4,7 @@ pub mod FrameTags
 pub mod Members
 pub mod OutcomeLemmas
 pub mod Push
+pub use Rattle.ep_base.proofs.Same
 mod Accepted
 mod AcceptedLists
 mod AppendIp
@@ -21,6 +22,7 @@ mod PutBack
 mod Retaining
 mod Runs
 mod SameBuffers
+mod SameCalls
 mod Sections
 mod ViewedRows
 mod Written

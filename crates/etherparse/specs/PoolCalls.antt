@@ -48,6 +48,16 @@ as_told (reply.NotSliced error) = NotSliced (Some error)
 as_told reply.Retained = Retained
 as_told reply.NoMemory = NoMemory
 
+-- what a call tells: the bytes of a frame, its time and channel; or the time from which messages
+-- stay
+pub data Asked : Type 0 where
+  Came : (bytes : List ℕ) → (time channel : ℕ) → Asked
+  Stays : (from : ℕ) → Asked
+
+abbrev pub call_told : PoolCall → Asked
+call_told (Frame frame time channel) = Came frame.now time channel
+call_told (RetainFrom from) = Stays from
+
 -- what becomes of a packet, told
 abbrev pub told_outcome : Result (Option IpDefragPayloadVec) IpDefragError → Told
 told_outcome (Ok None) = Nothing

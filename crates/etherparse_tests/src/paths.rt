@@ -254,3 +254,19 @@ fn laws_of_members() {
     laws::tag::traits::types_are_plain_data();
     laws::tcpudp::traits::types_are_plain_data();
 }
+
+/// Those of this crate's own traits.
+#[test]
+fn laws_of_traits() {
+    laws::traits::types_are_plain_data();
+    laws::traits::copies_are_values();
+    laws::traits::copies_never_fail();
+    laws::traits::equals_are_same();
+    laws::traits::equal_payloads_are_told_alike();
+    laws::traits::equal_calls_are_told_alike();
+    laws::traits::errors_by_kind_and_fields();
+    laws::traits::ranges_by_start_and_end();
+    laws::traits::names_by_addresses_and_identification();
+    laws::traits::names_hash_all_fields::<u32>();
+    laws::traits::write_errors_hash_all_fields();
+}

@@ -1,7 +1,8 @@
 //! The definitions and laws at values from outside: each clause is what a standard or a hand gives,
 //! so that a definition can't change with the code.
 
-ghost use Rattle.std.specs.Prelude.{◌≡◌, ◌==◌, ◌%◌, ℕ, ⊤, [], ◌∷◌, true, false, Ok, Err};
+ghost use Rattle.std.specs.Prelude.{◌≡◌, ◌==◌, ◌%◌, ℕ, ⊤, [], ◌∷◌, true, false, Ok, Err, pos};
+ghost use Rattle.std.specs.Hash as fed;
 ghost use Rattle.std.specs.List.{flat_map};
 ghost use Rattle.std.specs.Ordering.{nat_cmp};
 ghost use Rattle.ep_base.specs.Bounded.{IsBounded};
@@ -17,12 +18,15 @@ ghost use Rattle.ep_base.specs.IpDscpKnown.{IsKnown};
 ghost use Rattle.ep_base.specs.IpEcn.{IsEcn};
 ghost use Rattle.ep_base.specs.LenError.{CanMove, offset_by, too_few_bytes};
 ghost use Rattle.ep_base.specs.SliceError as slice_error;
-ghost use Rattle.ep_base.specs.Traits.{CopyIsValue, CopyNeverFails, EqualIsSame, HashIsOf};
-ghost use Rattle.ep_base.specs.Traits.{OrderIsOf};
+ghost use Rattle.ep_base.specs.Traits.{CopyIsValue, CopyNeverFails, DefaultIs, EqualIsSame};
+ghost use Rattle.ep_base.specs.Traits.{HashIsOf, OrderIsOf, VariantFeeds};
 ghost use Rattle.ep_base.specs.Sum.{IsCutAtWords, accumulator_sum, all_ones, checksum, fold};
 ghost use Rattle.ep_base.specs.Sum.{no_zero, total, whole_words};
 
 use super::{fold_of_pieces, one_changed_byte};
+use crate::LenSource;
+use crate::err::{Layer, ValueType};
+use std::hash::Hash;
 
 /// Numbers are spelled high byte first, and past the end stands 0. Bytes are 0 to 255.
 pub fn numbers_by_place()
@@ -100,13 +104,25 @@ pub fn places_further_on()
 {}
 
 /// What the words on traits rule out: a copy of every value, equality modulo 2, the order turned
-/// round, copies of 0 alone, and a hasher that is fed nothing.
+/// round, copies of 0 alone, a hasher that is fed nothing, and a default that may be
+/// anything.
 pub fn traits_ruled_out()
     ensures copies { ¬ (CopyIsValue (λ (value copy : ℕ). ⊤)) }
     ensures equals { ¬ (EqualIsSame (λ (a b : ℕ). a % 2 == b % 2)) }
     ensures order { ¬ (OrderIsOf (λ (n : ℕ). n) (λ a b. nat_cmp b a)) }
     ensures fails { ¬ (CopyNeverFails (λ (n : ℕ). n ≡ 0)) }
     ensures hash { ¬ (HashIsOf (λ (n : ℕ). (n ∷ []) ∷ []) (λ n. [])) }
+    ensures variant { ¬ (VariantFeeds (λ (n : ℕ). []) 0 (λ (n : ℕ). n) (λ n. [])) }
+    ensures default { ¬ (DefaultIs 0 (λ (n : ℕ). ⊤)) }
+{}
+
+/// What a hasher is fed of a layer, a kind of number and the source of a length, as Rust's derive
+/// does: the place of the variant among those that are declared, from 0 on.
+pub fn hashes_of_variants()
+    ensures first { ⟦<Layer as Hash>⟧.hash_input layer.LinuxSllHeader ≡ fed.isize (pos 0) }
+    ensures last { ⟦<Layer as Hash>⟧.hash_input layer.Arp ≡ fed.isize (pos 24) }
+    ensures kind { ⟦<ValueType as Hash>⟧.hash_input kind.IpDscp ≡ fed.isize (pos 5) }
+    ensures source { ⟦<LenSource as Hash>⟧.hash_input source.UdpHeaderLen ≡ fed.isize (pos 4) }
 {}
 
 /// The eight bytes of RFC 1071, section 3, sum to 2ddf0, and so to ddf2. An odd last byte is the

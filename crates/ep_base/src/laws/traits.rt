@@ -1,15 +1,22 @@
-//! What `Clone`, `PartialEq`, `Ord` and `Hash` of the types here mean. Each clause is about the
+//! What `Clone`, `PartialEq`, `Ord`, `Default` and `Hash` of the types here mean. Each clause is about the
 //! relation that the type's own impl names and that its calls keep.
 
-ghost use Rattle.std.specs.Prelude.{◌≡◌, ◌++◌, pos};
+ghost use Rattle.std.specs.Prelude.{◌++◌};
 ghost use Rattle.std.specs.Hash as fed;
 ghost use Rattle.ep_base.specs.declared.err.len_error.LenError.{LenError};
 ghost use Rattle.ep_base.specs.declared.err.slice_error.SliceError.TheVariants as slice_error;
+ghost use Rattle.ep_base.specs.declared.err.slice_write_space_error.SliceWriteSpaceError.{SliceWriteSpaceError};
+ghost use Rattle.ep_base.specs.declared.err.value_too_big_error.ValueTooBigError.{ValueTooBigError};
+ghost use Rattle.ep_base.specs.declared.net.ip_dscp_unknown_value_error.IpDscpUnknownValueError.{IpDscpUnknownValueError};
+ghost use Rattle.ep_base.specs.declared.net.ip_ecn.IpEcn.TheVariants.{NotEct};
 ghost use Rattle.ep_base.specs.IpDscpKnown.{code_point};
 ghost use Rattle.ep_base.specs.IpEcn.{ecn_number};
+ghost use Rattle.ep_base.specs.Layer.{layer_place};
 ghost use Rattle.ep_base.specs.LenSource.{source_place};
-ghost use Rattle.ep_base.specs.Traits.{CopyIsValue, CopyNeverFails, EqualIsSame, HashIsOf};
-ghost use Rattle.ep_base.specs.Traits.{IsPlainData, OrderIsOf};
+ghost use Rattle.ep_base.specs.Traits.{CopyIsValue, CopyNeverFails, DefaultIs, EqualIsSame};
+ghost use Rattle.ep_base.specs.Traits.{HashIsOf, HashIsOfPlace, IsPlainData, OrderIsOf};
+ghost use Rattle.ep_base.specs.Traits.{VariantFeeds};
+ghost use Rattle.ep_base.specs.ValueType.{kind_place};
 
 use crate::checksum::Sum16BitWords;
 use crate::err::{Layer, LenError, SliceError, SliceWriteSpaceError, ValueTooBigError, ValueType};
@@ -44,12 +51,17 @@ pub fn types_are_plain_data()
     ensures unknown_value_error { IsPlainData ⟦<IpDscpUnknownValueError as Value>⟧ }
 {}
 
-/// A refusal of a number of any type is copied and compared by all its fields.
-pub fn value_too_big_errors<T: Clone + PartialEq>()
+/// A refusal of a number of any type is copied, compared and hashed by all its fields.
+pub fn value_too_big_errors<T: Clone + PartialEq + Hash>()
     requires copies { CopyIsValue T.is_clone }
+    requires never_fails { CopyNeverFails T.is_infallible }
     requires equals { EqualIsSame T.eq }
     ensures copies { CopyIsValue ⟦<ValueTooBigError<T> as Clone>⟧.is_clone }
+    ensures never_fails { CopyNeverFails ⟦<ValueTooBigError<T> as Clone>⟧.is_infallible }
     ensures equals { EqualIsSame ⟦<ValueTooBigError<T> as PartialEq>⟧.eq }
+    ensures hash { HashIsOf (λ (e : ValueTooBigError T). T.hash_input e.actual
+        ++ T.hash_input e.max_allowed ++ ⟦<ValueType as Hash>⟧.hash_input e.value_type)
+        ⟦<ValueTooBigError<T> as Hash>⟧.hash_input }
 {}
 
 /// An error of a slice is copied, compared and hashed as what it holds is, whatever the format: a
@@ -61,10 +73,10 @@ pub fn slice_errors<C: Clone + PartialEq + Hash>()
     ensures copies { CopyIsValue ⟦<SliceError<C> as Clone>⟧.is_clone }
     ensures never_fails { CopyNeverFails ⟦<SliceError<C> as Clone>⟧.is_infallible }
     ensures equals { EqualIsSame ⟦<SliceError<C> as PartialEq>⟧.eq }
-    ensures len { (e : LenError) → ⟦<SliceError<C> as Hash>⟧.hash_input (slice_error.Len e)
-        ≡ fed.isize (pos 0) ++ ⟦<LenError as Hash>⟧.hash_input e }
-    ensures content { (e : C) → ⟦<SliceError<C> as Hash>⟧.hash_input (slice_error.Content e)
-        ≡ fed.isize (pos 1) ++ C.hash_input e }
+    ensures len { VariantFeeds ⟦<SliceError<C> as Hash>⟧.hash_input 0 slice_error.Len
+        ⟦<LenError as Hash>⟧.hash_input }
+    ensures content { VariantFeeds ⟦<SliceError<C> as Hash>⟧.hash_input 1 slice_error.Content
+        C.hash_input }
 {}
 
 /// Numbers are ordered as numbers, named code points by their number, and sources of lengths as
@@ -80,9 +92,41 @@ pub fn orders_are_of_numbers()
     ensures len_source { OrderIsOf source_place ⟦<LenSource as Ord>⟧.cmp }
 {}
 
-/// A want of bytes feeds a hasher all its fields.
-pub fn len_errors_hash_all_fields()
-    ensures { HashIsOf (λ (e : LenError). fed.usize e.required_len ++ fed.usize e.len
+/// The number 0 is the default, as a notification too.
+pub fn defaults_are_zero()
+    ensures ip_dscp { DefaultIs 0 ⟦<IpDscp as Default>⟧.is_default }
+    ensures ip_ecn { DefaultIs NotEct ⟦<IpEcn as Default>⟧.is_default }
+    ensures ip_frag_offset { DefaultIs 0 ⟦<IpFragOffset as Default>⟧.is_default }
+    ensures ip_number { DefaultIs (record { 0 = 0 }) ⟦<IpNumber as Default>⟧.is_default }
+    ensures ipv6_flow_label { DefaultIs 0 ⟦<Ipv6FlowLabel as Default>⟧.is_default }
+    ensures ether_type { DefaultIs (record { 0 = 0 }) ⟦<EtherType as Default>⟧.is_default }
+    ensures sum_16_bit_words { DefaultIs 0 ⟦<Sum16BitWords as Default>⟧.is_default }
+{}
+
+/// A hasher is fed a number as it is, and of a named code point its number.
+pub fn hashes_are_of_numbers()
+    ensures ip_dscp { HashIsOf fed.u8 ⟦<IpDscp as Hash>⟧.hash_input }
+    ensures ip_dscp_known { HashIsOf (λ name. fed.u8 (code_point name))
+        ⟦<IpDscpKnown as Hash>⟧.hash_input }
+    ensures ip_frag_offset { HashIsOf fed.u16 ⟦<IpFragOffset as Hash>⟧.hash_input }
+    ensures ip_number { HashIsOf (λ number. fed.u8 number.0) ⟦<IpNumber as Hash>⟧.hash_input }
+    ensures ipv6_flow_label { HashIsOf fed.u32 ⟦<Ipv6FlowLabel as Hash>⟧.hash_input }
+    ensures ether_type { HashIsOf (λ ether_type. fed.u16 ether_type.0)
+        ⟦<EtherType as Hash>⟧.hash_input }
+    ensures ip_ecn { HashIsOfPlace ecn_number ⟦<IpEcn as Hash>⟧.hash_input }
+    ensures len_source { HashIsOfPlace source_place ⟦<LenSource as Hash>⟧.hash_input }
+    ensures layer { HashIsOfPlace layer_place ⟦<Layer as Hash>⟧.hash_input }
+    ensures value_type { HashIsOfPlace kind_place ⟦<ValueType as Hash>⟧.hash_input }
+{}
+
+/// An error feeds a hasher all its fields.
+pub fn errors_hash_all_fields()
+    ensures len_error { HashIsOf (λ (e : LenError). fed.usize e.required_len ++ fed.usize e.len
         ++ ⟦<LenSource as Hash>⟧.hash_input e.len_source ++ ⟦<Layer as Hash>⟧.hash_input e.layer
         ++ fed.usize e.layer_start_offset) ⟦<LenError as Hash>⟧.hash_input }
+    ensures slice_write_space_error { HashIsOf (λ (e : SliceWriteSpaceError).
+        fed.usize e.required_len ++ fed.usize e.len ++ ⟦<Layer as Hash>⟧.hash_input e.layer
+        ++ fed.usize e.layer_start_offset) ⟦<SliceWriteSpaceError as Hash>⟧.hash_input }
+    ensures unknown_value_error { HashIsOf (λ (e : IpDscpUnknownValueError). fed.u8 e.value)
+        ⟦<IpDscpUnknownValueError as Hash>⟧.hash_input }
 {}

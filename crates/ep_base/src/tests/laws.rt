@@ -1,9 +1,9 @@
 //! Laws are called once each.
-use crate::IpEcn;
 use crate::laws::{
     checksum_sums_to_all_ones, constants, ecn_round_trip, examples, fold_of_pieces,
     known_round_trip, one_changed_byte, traits,
 };
+use crate::{IpDscpUnknownValueError, IpEcn};
 
 #[test]
 fn laws_are_called(rt: HostRuntime) {
@@ -28,6 +28,7 @@ fn examples_and_traits_are_called(rt: HostRuntime) {
     examples::bounded_numbers();
     examples::places_further_on();
     examples::traits_ruled_out();
+    examples::hashes_of_variants();
     examples::sums_of_words();
     examples::folds();
     examples::texts_of_all_ones();
@@ -38,6 +39,9 @@ fn examples_and_traits_are_called(rt: HostRuntime) {
     traits::types_are_plain_data();
     traits::value_too_big_errors::<u8>();
     traits::value_too_big_errors::<usize>();
+    traits::slice_errors::<IpDscpUnknownValueError>();
     traits::orders_are_of_numbers();
-    traits::len_errors_hash_all_fields();
+    traits::defaults_are_zero();
+    traits::hashes_are_of_numbers();
+    traits::errors_hash_all_fields();
 }

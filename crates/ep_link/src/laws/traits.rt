@@ -1,11 +1,16 @@
-//! What `Clone`, `PartialEq`, `Ord` and `Hash` of the types here mean, each clause about the
-//! relation that the type's own impl names.
-ghost use Rattle.std.specs.Prelude.{◌≡◌, ℕ};
+//! What `Clone`, `PartialEq`, `Ord`, `Default` and `Hash` of the types here mean, each clause about
+//! the relation that the type's own impl names.
+ghost use Rattle.std.specs.Prelude.{◌≡◌, ◌++◌, ℕ, pos};
 ghost use Rattle.std.specs.Cmp.Lexicographic.{slice_cmp};
 ghost use Rattle.std.specs.Hash as fed;
 ghost use Rattle.std.specs.Ordering.{nat_cmp};
-ghost use Rattle.ep_base.specs.Traits.{HashIsOf, IsPlainData, OrderIsOf};
-ghost use Rattle.ep_link.specs.SllPayload.{protocol_ordered_as};
+ghost use Rattle.ep_base.specs.Traits.{DefaultIs, HashIsOf, IsPlainData, OrderIsOf, VariantFeeds};
+ghost use Rattle.ep_link.specs.Sll.{number_of};
+ghost use Rattle.ep_link.specs.SllPayload.{kind_place, protocol_ordered_as};
+ghost use Rattle.ep_link.specs.declared.err.arp.arp_hw_addr_error.ArpHwAddrError.TheVariants as hardware;
+ghost use Rattle.ep_link.specs.declared.err.arp.arp_new_error.ArpNewError.TheVariants as new;
+ghost use Rattle.ep_link.specs.declared.err.arp.arp_proto_addr_error.ArpProtoAddrError.TheVariants as protocol;
+ghost use Rattle.ep_link.specs.declared.err.linux_sll.header_error.HeaderError.TheVariants as cooked;
 ghost use Rattle.ep_link.specs.declared.link.arp_hardware_id.ArpHardwareId.{ArpHardwareId};
 ghost use Rattle.ep_link.specs.declared.link.arp_operation.ArpOperation.{ArpOperation};
 ghost use Rattle.ep_link.specs.declared.link.linux_sll_protocol_type.LinuxSllProtocolType.{LinuxSllProtocolType};
@@ -53,10 +58,20 @@ pub fn orders_are_of_numbers()
     ensures linux_sll_packet_type { OrderIsOf (λ n. n) ⟦<LinuxSllPacketType as Ord>⟧.cmp }
 {}
 
-/// Protocols are ordered by their kind, as it is declared, then by their number.
+/// Protocols are ordered by their kind, as it is declared, then by their number; a hasher is fed
+/// both.
 pub fn protocols_by_kind_and_number()
-    ensures { (a b : LinuxSllProtocolType) → ⟦<LinuxSllProtocolType as Ord>⟧.cmp a b
+    ensures order { (a b : LinuxSllProtocolType) → ⟦<LinuxSllProtocolType as Ord>⟧.cmp a b
         ≡ slice_cmp nat_cmp (protocol_ordered_as a) (protocol_ordered_as b) }
+    ensures hash { HashIsOf (λ p. fed.isize (pos (kind_place p)) ++ fed.u16 (number_of p))
+        ⟦<LinuxSllProtocolType as Hash>⟧.hash_input }
+{}
+
+/// The number 0 is the default.
+pub fn defaults_are_zero()
+    ensures arp_hardware_id { DefaultIs (record { 0 = 0 })
+        ⟦<ArpHardwareId as Default>⟧.is_default }
+    ensures arp_operation { DefaultIs (record { 0 = 0 }) ⟦<ArpOperation as Default>⟧.is_default }
 {}
 
 /// A hasher is fed a number as it is.
@@ -65,4 +80,24 @@ pub fn hashes_are_of_numbers()
     ensures arp_operation { HashIsOf (λ operation. fed.u16 operation.0)
         ⟦<ArpOperation as Hash>⟧.hash_input }
     ensures linux_sll_packet_type { HashIsOf fed.u16 ⟦<LinuxSllPacketType as Hash>⟧.hash_input }
+{}
+
+/// A hasher is fed which error one is, as they are declared, and then all its fields.
+pub fn errors_hash_all_fields()
+    ensures hardware_lens { (m n : ℕ) → ⟦<arp::ArpHwAddrError as Hash>⟧.hash_input
+        (hardware.LenNonMatching m n) ≡ fed.isize (pos 0) ++ fed.usize m ++ fed.usize n }
+    ensures hardware_len { VariantFeeds ⟦<arp::ArpHwAddrError as Hash>⟧.hash_input
+        1 hardware.LenTooBig fed.usize }
+    ensures protocol_lens { (m n : ℕ) → ⟦<arp::ArpProtoAddrError as Hash>⟧.hash_input
+        (protocol.LenNonMatching m n) ≡ fed.isize (pos 0) ++ fed.usize m ++ fed.usize n }
+    ensures protocol_len { VariantFeeds ⟦<arp::ArpProtoAddrError as Hash>⟧.hash_input
+        1 protocol.LenTooBig fed.usize }
+    ensures hardware { VariantFeeds ⟦<arp::ArpNewError as Hash>⟧.hash_input
+        0 new.HwAddr ⟦<arp::ArpHwAddrError as Hash>⟧.hash_input }
+    ensures protocol { VariantFeeds ⟦<arp::ArpNewError as Hash>⟧.hash_input
+        1 new.ProtoAddr ⟦<arp::ArpProtoAddrError as Hash>⟧.hash_input }
+    ensures packet_type { VariantFeeds ⟦<linux_sll::HeaderError as Hash>⟧.hash_input
+        0 cooked.UnsupportedPacketTypeField fed.u16 }
+    ensures hardware_id { VariantFeeds ⟦<linux_sll::HeaderError as Hash>⟧.hash_input
+        1 cooked.UnsupportedArpHardwareId ⟦<ArpHardwareId as Hash>⟧.hash_input }
 {}

@@ -1,12 +1,14 @@
-//! What `Clone` and `PartialEq` of the types here mean, each clause about the relation that the
-//! type's own impl names.
-ghost use Rattle.std.specs.Prelude.{◌≡◌, ◌↔◌, IsTrue};
+//! What `Clone`, `PartialEq`, `Ord` and `Hash` of the types here mean, each clause about the
+//! relation that the type's own impl names. `laws::hashes` has the hashes of errors.
+ghost use Rattle.std.specs.Prelude.{◌≡◌, ◌↔◌, ◌++◌, IsTrue, List, pos, ℕ};
 ghost use Rattle.std.specs.Cmp.Lexicographic.{slice_cmp};
+ghost use Rattle.std.specs.Hash as fed;
 ghost use Rattle.std.specs.Ordering.{nat_cmp};
-ghost use Rattle.ep_base.specs.Traits.{CopyIsValue, CopyNeverFails, IsPlainData};
+ghost use Rattle.ep_base.specs.Traits.{CopyIsValue, CopyNeverFails, HashIsOf, IsPlainData};
 ghost use Rattle.ep_packet.specs.PacketHeaders.{headers_told};
-ghost use Rattle.ep_packet.specs.Payload.{ordered_as, payload_told};
+ghost use Rattle.ep_packet.specs.Payload.{hashed_as, ordered_as, payload_told};
 ghost use Rattle.ep_packet.specs.Readable.{as_read};
+ghost use Rattle.ep_packet.specs.declared.addresses.Addresses.TheVariants as version;
 ghost use Rattle.ep_packet.specs.declared.message.Message.{Message as MessageValue};
 ghost use Rattle.ep_packet.specs.declared.packet_headers.PacketHeaders.{PacketHeaders};
 ghost use Rattle.ep_packet.specs.declared.payload_slice.PayloadSlice.{PayloadSlice};
@@ -15,10 +17,11 @@ use crate::err::ip::HeadersWriteError;
 use crate::err::net::NetSetNextHeaderError;
 use crate::err::packet::{SliceError, TransportChecksumError};
 use crate::{
-    Addresses, IpHeaders, Message, NetHeaders, NetSlice, PacketHeaders, PayloadSlice, SlicedPacket,
-    TransportHeader, TransportSlice,
+    Addresses, IpHeaders, Message, NetHeaders, NetSlice, PacketHeaders, Part, PayloadSlice,
+    SlicedPacket, TransportHeader, TransportSlice,
 };
 use ep_base::laws::traits::Value;
+use std::hash::Hash;
 
 /// A copy is the value and takes no memory. Equal are the values that are the same: all fields of a
 /// header, all bytes of a slice.
@@ -76,6 +79,23 @@ pub fn equal_messages_are_read_alike<'a>()
         ↔ (as_read a ≡ as_read b) }
 {}
 
+/// A copy of a part of a message is the part and takes no memory.
+pub fn copies_of_parts_are_values<'a>()
+    ensures copies { CopyIsValue ⟦<Part<'a> as Clone>⟧.is_clone }
+    ensures never_fails { CopyNeverFails ⟦<Part<'a> as Clone>⟧.is_infallible }
+{}
+
+/// Addresses feed a hasher their version, as it is declared, and then source and destination, each
+/// with its number of bytes.
+pub fn addresses_hash_all_fields()
+    ensures v4 { (source destination : List ℕ) → ⟦<Addresses as Hash>⟧.hash_input
+        (version.V4 source destination)
+        ≡ fed.isize (pos 0) ++ fed.slice fed.u8 source ++ fed.slice fed.u8 destination }
+    ensures v6 { (source destination : List ℕ) → ⟦<Addresses as Hash>⟧.hash_input
+        (version.V6 source destination)
+        ≡ fed.isize (pos 1) ++ fed.slice fed.u8 source ++ fed.slice fed.u8 destination }
+{}
+
 /// A copy of a payload tells the same.
 pub fn copies_of_payloads_are_values<'a>()
     ensures value { (value copy : PayloadSlice) → ⟦<PayloadSlice<'a> as Clone>⟧.is_clone value copy
@@ -84,12 +104,14 @@ pub fn copies_of_payloads_are_values<'a>()
 {}
 
 /// Equal are payloads that tell the same. They are ordered by their kinds, as the variants stand,
-/// then as what they hold.
+/// then as what they hold; a hasher is fed the kind and all that they hold.
 pub fn payloads_are_told_apart<'a>()
     ensures equal { (a b : PayloadSlice) → IsTrue (⟦<PayloadSlice<'a> as PartialEq>⟧.eq a b)
         ↔ (payload_told a ≡ payload_told b) }
     ensures order { (a b : PayloadSlice) → ⟦<PayloadSlice<'a> as Ord>⟧.cmp a b
         ≡ slice_cmp nat_cmp (ordered_as (payload_told a)) (ordered_as (payload_told b)) }
+    ensures hash { HashIsOf (λ p. hashed_as (payload_told p))
+        ⟦<PayloadSlice<'a> as Hash>⟧.hash_input }
 {
     ep_ipslice::laws::traits::types_are_plain_data();
     ep_tag::laws::traits::types_are_plain_data();

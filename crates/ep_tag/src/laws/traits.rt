@@ -1,16 +1,18 @@
 //! What `Clone`, `PartialEq`, `Ord` and `Hash` of the types here mean, each clause about the
 //! relation that the type's own impl names.
-ghost use Rattle.std.specs.Prelude.{◌≡◌, ◌↔◌, ℕ, IsTrue};
+ghost use Rattle.std.specs.Prelude.{◌≡◌, ◌↔◌, ℕ, IsTrue, pos};
 ghost use Rattle.std.specs.Cmp.Lexicographic.{slice_cmp};
 ghost use Rattle.std.specs.Hash as fed;
 ghost use Rattle.std.specs.Ordering.{nat_cmp};
 ghost use Rattle.ep_base.specs.Traits.{CopyIsValue, CopyNeverFails, HashIsOf, IsPlainData};
-ghost use Rattle.ep_base.specs.Traits.{OrderIsOf};
+ghost use Rattle.ep_base.specs.Traits.{OrderIsOf, VariantFeeds};
 ghost use Rattle.ep_tag.specs.Ether.{EtherPayload};
 ghost use Rattle.ep_tag.specs.EtherOrder.{hashed_as, ordered_as};
 ghost use Rattle.ep_tag.specs.MacsecOrder.{ptype_ordered_as};
 ghost use Rattle.ep_tag.specs.MacsecView.{payload_told};
+ghost use Rattle.ep_tag.specs.declared.err.macsec.header_error.HeaderError.TheVariants as fault;
 ghost use Rattle.ep_tag.specs.declared.link.macsec_p_type.MacsecPType.{MacsecPType};
+ghost use Rattle.ep_tag.specs.declared.link.macsec_p_type.MacsecPType.TheVariants as ptype;
 ghost use Rattle.ep_tag.specs.declared.link.macsec_payload_slice.MacsecPayloadSlice.{MacsecPayloadSlice};
 
 use crate::err::macsec;
@@ -20,6 +22,7 @@ use crate::{
     SingleVlanHeader, SingleVlanHeaderSlice, SingleVlanSlice, VlanHeader, VlanId, VlanPcp,
     VlanSlice,
 };
+use ep_base::EtherType;
 use ep_base::laws::traits::Value;
 use std::hash::Hash;
 
@@ -76,10 +79,24 @@ pub fn orders_are_of_numbers()
 {}
 
 /// Kinds of MACsec payloads are ordered as they are declared, and unmodified ones by their ether
-/// type.
+/// type. A hasher is fed the place of the kind, and of an unmodified one the ether type.
 pub fn macsec_p_types_by_kind()
-    ensures { (a b : MacsecPType) → ⟦<MacsecPType as Ord>⟧.cmp a b
+    ensures order { (a b : MacsecPType) → ⟦<MacsecPType as Ord>⟧.cmp a b
         ≡ slice_cmp nat_cmp (ptype_ordered_as a) (ptype_ordered_as b) }
+    ensures unmodified { VariantFeeds ⟦<MacsecPType as Hash>⟧.hash_input 0 ptype.Unmodified
+        ⟦<EtherType as Hash>⟧.hash_input }
+    ensures modified { ⟦<MacsecPType as Hash>⟧.hash_input ptype.Modified ≡ fed.isize (pos 1) }
+    ensures encrypted { ⟦<MacsecPType as Hash>⟧.hash_input ptype.Encrypted ≡ fed.isize (pos 2) }
+    ensures encrypted_unmodified { ⟦<MacsecPType as Hash>⟧.hash_input ptype.EncryptedUnmodified
+        ≡ fed.isize (pos 3) }
+{}
+
+/// A hasher is fed which fault a MACsec header has, by its place among them.
+pub fn errors_hash_as_places()
+    ensures version { ⟦<macsec::HeaderError as Hash>⟧.hash_input fault.UnexpectedVersion
+        ≡ fed.isize (pos 0) }
+    ensures short_len { ⟦<macsec::HeaderError as Hash>⟧.hash_input fault.InvalidUnmodifiedShortLen
+        ≡ fed.isize (pos 1) }
 {}
 
 /// A hasher is fed a number as it is.

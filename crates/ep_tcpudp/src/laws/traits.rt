@@ -3,7 +3,7 @@
 
 ghost use Rattle.std.specs.Prelude.{◌≡◌, ◌++◌, ℕ, pos};
 ghost use Rattle.std.specs.Hash as fed;
-ghost use Rattle.ep_base.specs.Traits.{IsPlainData};
+ghost use Rattle.ep_base.specs.Traits.{IsPlainData, VariantFeeds};
 ghost use Rattle.ep_tcpudp.specs.declared.err.tcp.header_error.HeaderError.TheVariants as fault;
 ghost use Rattle.ep_tcpudp.specs.declared.transport.tcp_option_read_error.TcpOptionReadError.TheVariants as wrong;
 ghost use Rattle.ep_tcpudp.specs.declared.transport.tcp_option_write_error.TcpOptionWriteError.TheVariants as space;
@@ -45,8 +45,8 @@ pub fn errors_hash_all_fields()
         ≡ fed.isize (pos 0) ++ fed.u8 kind ++ fed.u8 needed ++ fed.usize left }
     ensures size { (kind size : ℕ) → ⟦<TcpOptionReadError as Hash>⟧.hash_input
         (wrong.UnexpectedSize kind size) ≡ fed.isize (pos 1) ++ fed.u8 kind ++ fed.u8 size }
-    ensures unknown { (kind : ℕ) → ⟦<TcpOptionReadError as Hash>⟧.hash_input
-        (wrong.UnknownId kind) ≡ fed.isize (pos 2) ++ fed.u8 kind }
+    ensures unknown { VariantFeeds ⟦<TcpOptionReadError as Hash>⟧.hash_input
+        2 wrong.UnknownId fed.u8 }
     ensures space { (needed : ℕ) → ⟦<TcpOptionWriteError as Hash>⟧.hash_input
         (space.NotEnoughSpace needed) ≡ fed.usize needed }
 {}

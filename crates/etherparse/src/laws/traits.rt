@@ -1,25 +1,32 @@
 //! What `Clone`, `PartialEq`, `Ord` and `Hash` of the types here mean, each clause about the
 //! relation that the type's own impl names.
-ghost use Rattle.std.specs.Prelude.{◌≡◌, ◌↔◌, ◌++◌, IsTrue, ℕ, List, [], ◌∷◌};
+ghost use Rattle.std.specs.Prelude.{◌≡◌, ◌↔◌, ◌++◌, IsTrue, ℕ, List, [], ◌∷◌, pos};
 ghost use Rattle.std.specs.Cmp.Lexicographic.{slice_cmp};
 ghost use Rattle.std.specs.Hash as fed;
 ghost use Rattle.std.specs.Ordering.{nat_cmp};
 ghost use Rattle.ep_base.specs.Traits.{CopyIsValue, CopyNeverFails, EqualIsSame, HashIsOf};
-ghost use Rattle.ep_base.specs.Traits.{IsPlainData};
+ghost use Rattle.ep_base.specs.Traits.{IsPlainData, VariantFeeds};
 ghost use Rattle.etherparse.specs.IpDefragError.{hashed_as, ordered_as};
 ghost use Rattle.etherparse.specs.IpDefragPool.{payload_told};
+ghost use Rattle.etherparse.specs.PoolCalls.{as_told, call_told};
 ghost use Rattle.etherparse.specs.declared.defrag.ip_defrag_error.IpDefragError.{IpDefragError};
 ghost use Rattle.etherparse.specs.declared.defrag.ip_defrag_payload_vec.IpDefragPayloadVec.{IpDefragPayloadVec};
+ghost use Rattle.etherparse.specs.declared.defrag.ip_frag_id.IpFragId.{IpFragId};
 ghost use Rattle.etherparse.specs.declared.defrag.ip_frag_range.IpFragRange.{IpFragRange};
 ghost use Rattle.etherparse.specs.declared.defrag.ip_frag_version_spec_id.IpFragVersionSpecId.TheVariants.{Ipv4};
 ghost use Rattle.etherparse.specs.declared.defrag.ip_frag_version_spec_id.IpFragVersionSpecId.TheVariants.{Ipv6};
+ghost use Rattle.etherparse.specs.declared.defrag.pool_calls.PoolCall.{PoolCall};
+ghost use Rattle.etherparse.specs.declared.defrag.pool_calls.PoolReply.{PoolReply};
+ghost use Rattle.etherparse.specs.declared.err.packet.build_write_error.BuildWriteError.TheVariants as write;
 
 use crate::defrag::{
     IpDefragBuf, IpDefragError, IpDefragPayloadVec, IpFragId, IpFragRange, IpFragVersionSpecId,
-    PoolCall,
+    PoolCall, PoolReply,
 };
 use crate::err::packet::BuildWriteError;
+use ep_base::err::ValueTooBigError;
 use ep_base::laws::traits::Value;
+use ep_ext::err::{ipv4_exts, ipv6_exts};
 use std::hash::Hash;
 
 /// A copy is the value and takes no memory. Equal are the values that are the same.
@@ -56,6 +63,19 @@ pub fn equal_payloads_are_told_alike()
         ↔ (payload_told a ≡ payload_told b) }
 {}
 
+/// Calls and replies of a pool are equal where they tell the same: the kind, and its bytes and
+/// numbers.
+pub fn equal_calls_are_told_alike<'a>()
+    ensures calls { (a b : PoolCall) → IsTrue (⟦<PoolCall<'a> as PartialEq>⟧.eq a b)
+        ↔ (call_told a ≡ call_told b) }
+    ensures replies { (a b : PoolReply) → IsTrue (⟦<PoolReply as PartialEq>⟧.eq a b)
+        ↔ (as_told a ≡ as_told b) }
+{
+    types_are_plain_data();
+    equal_payloads_are_told_alike();
+    ep_packet::laws::traits::types_are_plain_data();
+}
+
 /// Refusals are ordered as they are declared, and one kind by its fields in their order; a hasher
 /// is fed the kind and the fields.
 pub fn errors_by_kind_and_fields()
@@ -81,4 +101,28 @@ pub fn names_by_addresses_and_identification()
     ensures ipv6 { (source destination : List ℕ) (identification : ℕ) →
         ⟦<IpFragVersionSpecId as Hash>⟧.hash_input (Ipv6 source destination identification)
         ≡ source ∷ destination ∷ fed.u32 identification }
+{}
+
+/// The whole name feeds a hasher the identifiers of its VLAN tags with their number, then all other
+/// fields in their order.
+pub fn names_hash_all_fields<C: Hash>()
+    ensures { HashIsOf (λ (id : IpFragId C). fed.slice fed.u16 id.vlan_ids.items
+        ++ ⟦<IpFragVersionSpecId as Hash>⟧.hash_input id.ip ++ fed.u8 id.payload_ip_number.0
+        ++ C.hash_input id.channel_id) ⟦<IpFragId<C> as Hash>⟧.hash_input }
+{}
+
+/// Why no packet was written comes as the place of the reason, as they are declared, and then what
+/// it holds.
+pub fn write_errors_hash_all_fields()
+    ensures memory { ⟦<BuildWriteError as Hash>⟧.hash_input write.Memory ≡ fed.isize (pos 0) }
+    ensures payload_len { VariantFeeds ⟦<BuildWriteError as Hash>⟧.hash_input
+        1 write.PayloadLen ⟦<ValueTooBigError<usize> as Hash>⟧.hash_input }
+    ensures ipv4_exts { VariantFeeds ⟦<BuildWriteError as Hash>⟧.hash_input
+        2 write.Ipv4Exts ⟦<ipv4_exts::ExtsWalkError as Hash>⟧.hash_input }
+    ensures ipv6_exts { VariantFeeds ⟦<BuildWriteError as Hash>⟧.hash_input
+        3 write.Ipv6Exts ⟦<ipv6_exts::ExtsWalkError as Hash>⟧.hash_input }
+    ensures icmpv6 { ⟦<BuildWriteError as Hash>⟧.hash_input write.Icmpv6InIpv4
+        ≡ fed.isize (pos 4) }
+    ensures arp { ⟦<BuildWriteError as Hash>⟧.hash_input write.ArpHeaderNotMatch
+        ≡ fed.isize (pos 5) }
 {}

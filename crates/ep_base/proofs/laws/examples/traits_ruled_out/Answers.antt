@@ -15,3 +15,9 @@ returns-clause-fails c = λ h. absurd (omega (arith, h 1))
 
 pub returns-clause-hash : goal.returns-clause-hash
 returns-clause-hash c = λ h. let nothing_fed = h 0 in cc
+
+pub returns-clause-default : goal.returns-clause-default
+returns-clause-default c = λ h. absurd (omega (arith, h 1 tt))
+
+pub returns-clause-variant : goal.returns-clause-variant
+returns-clause-variant c = λ h. let no_place_fed = h 0 in cc
