@@ -14,6 +14,3 @@ pub use net::{
     IpDscp, IpDscpKnown, IpDscpUnknownValueError, IpEcn, IpFragOffset, IpNumber, IpTrafficClass,
     Ipv4Dscp, Ipv4Ecn, Ipv6FlowLabel, ip_numbers as ip_number,
 };
-
-#[cfg(test)]
-mod tests;

@@ -1,6 +1,6 @@
 //! Sums of texts that are long enough for lanes, and of shorter ones.
 
-use crate::checksum::{Sum16BitWords, sum_pieces, u32_16bit_word, u64_16bit_word};
+use ep_base::checksum::{Sum16BitWords, sum_pieces, u32_16bit_word, u64_16bit_word};
 use std::alloc::Global;
 use std::process::Abort;
 

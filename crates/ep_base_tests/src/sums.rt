@@ -1,6 +1,6 @@
 //! The Internet checksum against values from outside.
 
-use crate::checksum::{Sum16BitWords, message_sum, sum_pieces, u32_16bit_word, u64_16bit_word};
+use ep_base::checksum::{Sum16BitWords, message_sum, sum_pieces, u32_16bit_word, u64_16bit_word};
 
 // The eight bytes of RFC 1071, section 3, whose words sum to ddf2.
 const RFC_1071: [u8; 8] = [0x00, 0x01, 0xf2, 0x03, 0xf4, 0xf5, 0xf6, 0xf7];

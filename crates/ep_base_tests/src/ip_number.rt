@@ -1,6 +1,6 @@
 //! The internet protocol numbers against the registry.
 
-use crate::{IpNumber, IpTrafficClass, ip_number};
+use ep_base::{IpNumber, IpTrafficClass, ip_number};
 use std::test::Fail;
 
 #[test]

@@ -1,7 +1,7 @@
 //! Bounded numbers, named code points and ether types.
 
-use crate::err::{ValueTooBigError, ValueType};
-use crate::{
+use ep_base::err::{ValueTooBigError, ValueType};
+use ep_base::{
     EtherType, IpDscp, IpDscpKnown, IpDscpUnknownValueError, IpEcn, IpFragOffset, Ipv4Dscp,
     Ipv4Ecn, Ipv6FlowLabel, LenSource, ether_type,
 };

@@ -1,9 +1,9 @@
 //! Laws are called once each.
-use crate::laws::{
+use ep_base::laws::{
     checksum_sums_to_all_ones, constants, ecn_round_trip, examples, fold_of_pieces,
     known_round_trip, one_changed_byte, traits,
 };
-use crate::{IpDscpUnknownValueError, IpEcn};
+use ep_base::{IpDscpUnknownValueError, IpEcn};
 
 #[test]
 fn laws_are_called(rt: HostRuntime) {

@@ -1,7 +1,7 @@
 //! The texts of errors, one of each form.
 
-use crate::err::{Layer, LenError, SliceWriteSpaceError, ValueTooBigError, ValueType};
-use crate::{IpDscpUnknownValueError, LenSource};
+use ep_base::err::{Layer, LenError, SliceWriteSpaceError, ValueTooBigError, ValueType};
+use ep_base::{IpDscpUnknownValueError, LenSource};
 use std::test::Fail;
 
 #[test]
