@@ -71,6 +71,7 @@ impl Icmpv4Type {
     /// The checksum of the message of this kind with this payload: the complement of the
     /// ones-complement sum of the 16-bit words of the header, with its checksum as 0, and of the
     /// payload (RFC 792; RFC 1071). There is no pseudo header.
+    #[inline(always)]
     pub fn calc_checksum(&self, payload: &[u8]) -> u16
         ensures { result ≡ right_checksum self.now payload.now }
     {
@@ -78,6 +79,7 @@ impl Icmpv4Type {
     }
 
     // The sum of the message with this payload, its checksum as 0.
+    #[inline(always)]
     fn sum_with(&self, payload: &[u8]) -> Sum16BitWords
         ensures { result ≡ fold (total (bytes_of_layout (layout_of self.now) 0 ++ payload.now)) }
     {

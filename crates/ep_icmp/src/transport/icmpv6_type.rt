@@ -96,6 +96,7 @@ impl Icmpv6Type {
     ///
     /// A payload of more than 4294967287 bytes is refused, since the pseudo header has 32 bits for
     /// the message's length.
+    #[inline(always)]
     pub fn calc_checksum(
         &self,
         source: [u8; 16],

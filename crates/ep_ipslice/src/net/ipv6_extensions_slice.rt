@@ -50,6 +50,7 @@ impl<'a> Ipv6ExtensionsSlice<'a> {
     ///
     /// Refused is the first header that isn't whole, or breaks its format, and hop-by-hop options
     /// behind another header.
+    #[inline(always)]
     pub fn from_slice(
         first: IpNumber,
         slice: &'a [u8],
@@ -92,6 +93,7 @@ impl<'a> Ipv6ExtensionsSlice<'a> {
         Self::walk(first, slice)
     }
 
+    #[inline(always)]
     fn walk(
         first: IpNumber,
         slice: &'a [u8],
@@ -134,6 +136,7 @@ impl<'a> Ipv6ExtensionsSlice<'a> {
     }
 
     // The headers whose bytes these are.
+    #[inline(always)]
     fn of_parts(
         first: IpNumber,
         begun: bool,
