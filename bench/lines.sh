@@ -1,6 +1,6 @@
 #!/usr/bin/env bash
-# Bytes of input a second of the program `netlines` and of a plain Rust program of the same job.
-# Usage: bench/lines.sh [CPU]: with CPU, such as x86-64-v3, both are built for that processor.
+# Bytes of input a second of the program `netlines` and of two plain Rust programs of the same job, the second one tuned.
+# Usage: bench/lines.sh [CPU]: with CPU, such as x86-64-v3, all are built for that processor.
 set -euo pipefail
 cd "$(dirname "$0")/.."
 cpu=${1:-}
@@ -9,6 +9,7 @@ source bench/common.sh
 rounds=40
 ours=netlines_cli
 plain=plain_lines
+tuned=tuned_lines
 
 to_null() {
     "$1" <"$2" >/dev/null
@@ -18,39 +19,44 @@ to_pipe() {
     "$1" <"$2" | cat >/dev/null
 }
 
-# The plain program gives what the worked rows want. (One row is wrong on purpose.)
+# The plain programs give what the worked rows want. (One row is wrong on purpose.)
 compare_rows() {
-    local input
-    for input in crates/netlines_rows/data/*.in; do
-        [[ $input == */wrong_on_purpose.in ]] && continue
-        "$work/$plain" <"$input" | cmp - "${input%.in}.out" >&2 || fail "the answers to $input are wrong"
+    local program input
+    for program in "$plain" "$tuned"; do
+        for input in crates/netlines_rows/data/*.in; do
+            [[ $input == */wrong_on_purpose.in ]] && continue
+            "$work/$program" <"$input" | cmp - "${input%.in}.out" >&2 || fail "the answers to $input are wrong"
+        done
     done
 }
 
-# Both write the same answers to the file.
+# All write the same answers to the file.
 compare() {
     local program
-    for program in "$ours" "$plain"; do
+    for program in "$ours" "$plain" "$tuned"; do
         "$work/$program" <"$1" >"$work/$program.out" || fail "$program stopped on $2"
+        cmp "$work/$ours.out" "$work/$program.out" >&2 || fail "the answers to $2 differ"
     done
-    cmp "$work/$ours.out" "$work/$plain.out" >&2 || fail "the answers to $2 differ"
-    rm "$work/$ours.out" "$work/$plain.out"
+    rm "$work"/*.out
 }
 
-# measure INPUT SINK LABEL: both in turns, the best of all rounds of each.
+# measure INPUT SINK LABEL: all in turns, the best of all rounds of each.
 measure() {
     local round program began size
     best=()
     for ((round = 0; round < rounds; round++)); do
-        for program in "$ours" "$plain"; do
+        for program in "$ours" "$plain" "$tuned"; do
             began=${EPOCHREALTIME//./}
             "to_$2" "$work/$program" "$1"
             keep_best "$program" $((${EPOCHREALTIME//./} - began))
         done
     done
     size=$(stat -c %s "$1")
-    printf '%-44s %-5s %12d %12d %7s\n' "$3" "$2" "$(per_second "$size" "${best[$ours]}")" \
-        "$(per_second "$size" "${best[$plain]}")" "$(quotient "${best[$plain]}" "${best[$ours]}")"
+    printf '%-44s %-5s %12d' "$3" "$2" "$(per_second "$size" "${best[$ours]}")"
+    for program in "$plain" "$tuned"; do
+        printf ' %12d %7s' "$(per_second "$size" "${best[$program]}")" "$(quotient "${best[$program]}" "${best[$ours]}")"
+    done
+    echo
 }
 
 # race LABEL ARGUMENT...: over the lines that make_lines writes for these arguments.
@@ -66,11 +72,13 @@ race() {
 
 build_plain make_lines
 build_plain "$plain"
+# It chooses hex and sums at run time; the rest is for the processor that ours is for.
+build_plain "$tuned" -C lto=fat -C codegen-units=1 -C panic=abort -C target-cpu="${cpu:-x86-64-v2}"
 compare_rows
 build_proved "$ours" </dev/null
 compare bench/edges.in "bench/edges.in"
 
-printf '%-44s %-5s %12s %12s %7s\n' input to netlines plain ratio
+printf '%-44s %-5s %12s %12s %7s %12s %7s\n' input to netlines plain ratio tuned ratio
 race "200,000 frames of 64 bytes" whole 200000 64
 race "20,000 frames of 1,500 bytes" whole 20000 1500
 for version in 4 6; do
