@@ -5,6 +5,8 @@ ghost use Rattle.std.specs.Hash as fed;
 ghost use Rattle.etherparse.specs.base.Traits.{HashIsOfPlace, IsPlainData, VariantFeeds};
 ghost use Rattle.netlines.specs.Endings.{error_place};
 ghost use Rattle.netlines.specs.Verdict.{verdict_place};
+ghost use Rattle.netlines.specs.declared.frames.verdict.Verdict.TheVariants as verdict;
+ghost use Rattle.netlines.specs.declared.lines.run_error.RunError.TheVariants as run;
 ghost use Rattle.netlines.specs.declared.messages.post_error.PostError.TheVariants as post;
 ghost use Rattle.netlines.specs.declared.messages.seal_error.SealError.TheVariants as seal;
 
@@ -31,6 +33,10 @@ pub fn types_are_plain_data()
 pub fn hashes_are_of_places()
     ensures verdict { HashIsOfPlace verdict_place ⟦<Verdict as Hash>⟧.hash_input }
     ensures run_error { HashIsOfPlace error_place ⟦<RunError as Hash>⟧.hash_input }
+    ensures bad { ⟦<Verdict as Hash>⟧.hash_input verdict.Bad ≡ fed.isize (pos 1) }
+    ensures no_checksum { ⟦<Verdict as Hash>⟧.hash_input verdict.None ≡ fed.isize (pos 2) }
+    ensures write_zero { ⟦<RunError as Hash>⟧.hash_input run.WriteZero ≡ fed.isize (pos 2) }
+    ensures reads { ⟦<RunError as Hash>⟧.hash_input run.TooManyReads ≡ fed.isize (pos 4) }
 {}
 
 /// Why a message is not posted or not sealed comes as the place of the reason, as they are declared,
