@@ -20,6 +20,7 @@ enum Order {
     Ascending,
     Descending,
     EvenFirst,
+    Shuffled,
 }
 
 impl Order {
@@ -28,6 +29,7 @@ impl Order {
             "ascending" => Some(Order::Ascending),
             "descending" => Some(Order::Descending),
             "even_first" => Some(Order::EvenFirst),
+            "shuffled" => Some(Order::Shuffled),
             _ => None,
         }
     }
@@ -38,8 +40,15 @@ impl Order {
             Order::Descending => FRAGMENTS - 1 - place,
             Order::EvenFirst if place < FRAGMENTS / 2 => 2 * place,
             Order::EvenFirst => 2 * (place - FRAGMENTS / 2) + 1,
+            Order::Shuffled => shuffled(shuffled(place)),
         }
     }
+}
+
+/// A permutation of the places.
+fn shuffled(place: u16) -> u16 {
+    let product = place.wrapping_mul(0x1d35) % FRAGMENTS;
+    (product ^ (product >> 6)) % FRAGMENTS
 }
 
 /// The message that a frame completes.

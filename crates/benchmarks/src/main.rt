@@ -104,6 +104,7 @@ fn measure(rt: &HostRuntime, name: &str, repeats: Repeats) -> io::Result<Option<
         "ascending" => reassembly::measure(rt, Order::Ascending, repeats.turns)?,
         "descending" => reassembly::measure(rt, Order::Descending, repeats.turns)?,
         "even_first" => reassembly::measure(rt, Order::EvenFirst, repeats.turns)?,
+        "shuffled" => reassembly::measure(rt, Order::Shuffled, repeats.turns)?,
         "interleaved" => reassembly::measure_interleaved(rt, repeats.turns)?,
         _ => return Ok(None),
     };

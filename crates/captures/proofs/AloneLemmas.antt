@@ -12,7 +12,7 @@ use Rattle.captures.specs.Numbers.{half, word}
 use Rattle.captures.specs.Pcap.{is_magic, IsPacketRecord}
 use Rattle.captures.specs.Pcapng.{Content, HasOrder, Says, Becomes, captured_len, section_header}
 use Rattle.captures.specs.Pcapng.{byte_order_magic, enhanced_packet, interface_description}
-use Rattle.captures.specs.Pcapng.{simple_packet}
+use Rattle.captures.specs.Pcapng.{obsolete_packet, simple_packet}
 use Rattle.captures.specs.Pcapng.Content.{Opens, Describes, Holds, Nothing}
 use Rattle.captures.specs.Units.{IsUnit, IsBlockUnit, OpensFile, no_section}
 use Rattle.captures.specs.declared.byte_order.ByteOrder.{ByteOrder}
@@ -140,8 +140,10 @@ content_at section order block kind =
     else (if kind == interface_description then Describes (half order block 8) (word order block 12)
     else (if kind == enhanced_packet then Holds (section.first + word order block 8)
     (take (word order block 20) (drop 28 block))
+    else (if kind == obsolete_packet then Holds (section.first + half order block 8)
+    (take (word order block 20) (drop 28 block))
     else (if kind == simple_packet then Holds section.first
-    (take (captured_len section.snap_len (word order block 8)) (drop 12 block)) else Nothing)))
+    (take (captured_len section.snap_len (word order block 8)) (drop 12 block)) else Nothing))))
 
 pub content_is : (section : Section) (order : ByteOrder) (block : List ℕ) (content : Content)
     → Says section order block content
@@ -151,9 +153,12 @@ content_is section order block (Opens first) says =
 content_is section order block (Describes link snap) says =
     ap (content_at section order block) says.0 ∙ ap₂ Describes says.2 says.3
 content_is section order block (Holds number bytes) (inl says) =
-    ap (content_at section order block) says.kind
-    ∙ ap₂ Holds says.number (ap (λ n. take n (drop 28 block)) says.captured ∙ sym says.bytes)
-content_is section order block (Holds number bytes) (inr says) =
+    ap (content_at section order block) says.0
+    ∙ ap₂ Holds says.1.number (ap (λ n. take n (drop 28 block)) says.1.captured ∙ sym says.1.bytes)
+content_is section order block (Holds number bytes) (inr (inl says)) =
+    ap (content_at section order block) says.0
+    ∙ ap₂ Holds says.1.number (ap (λ n. take n (drop 28 block)) says.1.captured ∙ sym says.1.bytes)
+content_is section order block (Holds number bytes) (inr (inr says)) =
     ap (content_at section order block) says.kind
     ∙ ap₂ Holds says.number (ap (λ n. take n (drop 12 block)) says.captured ∙ sym says.bytes)
 content_is section order block Nothing says =
@@ -161,7 +166,8 @@ content_is section order block Nothing says =
       ne_eqb (word order block 0) section_header says.0,
       ne_eqb (word order block 0) interface_description says.1,
       ne_eqb (word order block 0) enhanced_packet says.2,
-      ne_eqb (word order block 0) simple_packet says.3,
+      ne_eqb (word order block 0) obsolete_packet says.3,
+      ne_eqb (word order block 0) simple_packet says.4,
     ) refl
 
 pub becomes_as : (section : Section) (order : ByteOrder) (block : List ℕ)

@@ -1,10 +1,11 @@
 -- What a block can't say.
 use Rattle.std.proofs.Common.{◌≡◌, ◌∙◌, sym, ap, refl, ℕ, ◌+◌, ◌≤◌, List, ◌++◌, length, inl, inr}
 use Rattle.std.proofs.Common.{arith}
-use Rattle.std.specs.Prelude.{slice_index}
+use Rattle.std.specs.Prelude.{slice_index, Option, Some, None, MatchOption}
 use Rattle.std.proofs.lemmas.List.{get_or_append_left, get_or-append-add}
-use Rattle.captures.specs.Numbers.{word}
-use Rattle.captures.specs.Pcapng.{Content, Says, IsEnhancedPacket, enhanced_packet, HasOrder}
+use Rattle.captures.specs.Numbers.{half, word}
+use Rattle.captures.specs.Pcapng.{Content, Says, IsTimedPacket, IsSimplePacket, HasOrder}
+use Rattle.captures.specs.Pcapng.{enhanced_packet, obsolete_packet, simple_packet}
 use Rattle.captures.specs.Pcapng.{IsBlock, IsSkipped, IsTaken, RefusesBlock}
 use Rattle.captures.specs.Units.{HasRefusedBlock, RefusesAt}
 use Rattle.captures.specs.declared.byte_order.ByteOrder.TheVariants.{Big, Little}
@@ -16,19 +17,61 @@ use Rattle.captures.specs.Pcapng.Content.{Opens, Describes, Holds, Nothing}
 use Rattle.captures.specs.declared.byte_order.ByteOrder.{ByteOrder}
 use Rattle.captures.specs.declared.pcapng.section.Section.{Section}
 
--- where it holds no enhanced packet and is of that kind
+pub match_as : {A : Type 0} (found : Option A) (P P' : Type 0) (Q Q' : A → Type 0) → (P → P')
+    → ((x : A) → Q x → Q' x) → MatchOption found P Q → MatchOption found P' Q'
+match_as None P P' Q Q' none some m = none m
+match_as (Some x) P P' Q Q' none some m = some x m
+
+-- where it is of a kind that holds packets, and holds none
 pub no_enhanced : (section : Section) (order : ByteOrder) (block : List ℕ)
     → word order block 0 ≡ enhanced_packet
-    → ((channel : ℕ) (frame : List ℕ) → IsEnhancedPacket section order block channel frame → ⊥)
+    → ((channel : ℕ) (frame : List ℕ)
+    → IsTimedPacket (word order block 8) section order block channel frame → ⊥)
     → (content : Content) → Says section order block content → ⊥
 no_enhanced section order block kind none (Opens first) says = let other =
     says.0 in absurd (omega arith)
 no_enhanced section order block kind none (Describes link_type snap_len) says = let other =
     says.0 in absurd (omega arith)
-no_enhanced section order block kind none (Holds channel frame) (inl says) = none channel frame says
-no_enhanced section order block kind none (Holds channel frame) (inr says) = let other =
+no_enhanced section order block kind none (Holds channel frame) (inl says) =
+    none channel frame says.1
+no_enhanced section order block kind none (Holds channel frame) (inr (inl says)) = let other =
+    says.0 in absurd (omega arith)
+no_enhanced section order block kind none (Holds channel frame) (inr (inr says)) = let other =
     says.kind in absurd (omega arith)
 no_enhanced section order block kind none Nothing says = says.2 kind
+
+pub no_obsolete : (section : Section) (order : ByteOrder) (block : List ℕ)
+    → word order block 0 ≡ obsolete_packet
+    → ((channel : ℕ) (frame : List ℕ)
+    → IsTimedPacket (half order block 8) section order block channel frame → ⊥)
+    → (content : Content) → Says section order block content → ⊥
+no_obsolete section order block kind none (Opens first) says = let other =
+    says.0 in absurd (omega arith)
+no_obsolete section order block kind none (Describes link_type snap_len) says = let other =
+    says.0 in absurd (omega arith)
+no_obsolete section order block kind none (Holds channel frame) (inl says) = let other =
+    says.0 in absurd (omega arith)
+no_obsolete section order block kind none (Holds channel frame) (inr (inl says)) =
+    none channel frame says.1
+no_obsolete section order block kind none (Holds channel frame) (inr (inr says)) = let other =
+    says.kind in absurd (omega arith)
+no_obsolete section order block kind none Nothing says = says.3 kind
+
+pub no_simple : (section : Section) (order : ByteOrder) (block : List ℕ)
+    → word order block 0 ≡ simple_packet
+    → ((channel : ℕ) (frame : List ℕ) → IsSimplePacket section order block channel frame → ⊥)
+    → (content : Content) → Says section order block content → ⊥
+no_simple section order block kind none (Opens first) says = let other =
+    says.0 in absurd (omega arith)
+no_simple section order block kind none (Describes link_type snap_len) says = let other =
+    says.0 in absurd (omega arith)
+no_simple section order block kind none (Holds channel frame) (inl says) = let other =
+    says.0 in absurd (omega arith)
+no_simple section order block kind none (Holds channel frame) (inr (inl says)) = let other =
+    says.0 in absurd (omega arith)
+no_simple section order block kind none (Holds channel frame) (inr (inr says)) =
+    none channel frame says
+no_simple section order block kind none Nothing says = says.4 kind
 
 -- a number of the front
 pub word_front : (order : ByteOrder) (front rest : List ℕ) (p : ℕ) → p + 4 ≤ length front
@@ -106,6 +149,7 @@ skipped_same order bytes bytes' big own s = (
     λ e. s.1.1 (own ∙ e),
     λ e. s.1.2 (own ∙ e),
     λ e. s.1.3 (own ∙ e),
+    λ e. s.1.4 (own ∙ e),
   ),
 )
 

@@ -5,7 +5,8 @@ use Rattle.std.specs.List.{AllByRecursion}
 use Rattle.hex.specs.Hex.{IsBytes}
 use Rattle.captures.specs.ComeBack.{HasLine, CapturedPacketsHaveLines}
 use Rattle.captures.specs.Lines.{Packet, packets_of}
-use Rattle.captures.specs.Pcapng.{Content, Says, Becomes}
+use Rattle.captures.specs.Numbers.{half, word}
+use Rattle.captures.specs.Pcapng.{Content, Says, Becomes, IsTimedPacket}
 use Rattle.captures.specs.Pcapng.Content.{Opens, Describes, Holds, Nothing}
 use Rattle.captures.specs.Units.{IsUnit, IsBlockUnit, Row, in_a_row, no_section}
 use Rattle.captures.specs.declared.byte_order.ByteOrder.{ByteOrder}
@@ -74,6 +75,22 @@ InRange Start = Unit {0}
 InRange (Classic order) = Unit {0}
 InRange (Pcapng section) = section.first < 2 ^ 32
 
+timed_fits : (interface : ℕ) (section : Section) (order : ByteOrder) (block : List ℕ)
+    (after : Section) (channel : ℕ) (frame : List ℕ) → section.first < 2 ^ 32 → Bytes block
+    → (number : ℕ) (held : List ℕ) → IsTimedPacket interface section order block number held
+    → Becomes section order (Holds number held) after channel frame
+    → (after.first < 2 ^ 32) × Fit channel frame
+timed_fits interface section order block after channel frame range bytes number held says becomes =
+    let number' = becomes.1 in
+    let size = ap length becomes.2 in
+    let most = becomes.3 in
+    let in' = says.fits in
+    let held' : Bytes held = subst Bytes (sym says.bytes)
+    (bytes_take (length held) (drop 28 block) (bytes_drop 28 block bytes)) in (
+      subst (λ (s : Section). s.first < 2 ^ 32) (sym becomes.0) range,
+      fits_line channel frame (omega arith) (subst Bytes (sym becomes.2) held') (omega arith),
+    )
+
 block_fits : (section : Section) (order : ByteOrder) (block : List ℕ) (after : Section)
     (channel : ℕ) (frame : List ℕ) → section.first < 2 ^ 32 → Bytes block
     → (content : Content) → Says section order block content
@@ -91,17 +108,14 @@ block_fits section order block after channel frame range bytes
     )
 block_fits section order block after channel frame range bytes
     (Holds number held) (inl says) becomes =
-    let number' = becomes.1 in
-    let size = ap length becomes.2 in
-    let most = becomes.3 in
-    let in' = says.fits in
-    let held' : Bytes held = subst Bytes (sym says.bytes)
-    (bytes_take (length held) (drop 28 block) (bytes_drop 28 block bytes)) in (
-      subst (λ (s : Section). s.first < 2 ^ 32) (sym becomes.0) range,
-      fits_line channel frame (omega arith) (subst Bytes (sym becomes.2) held') (omega arith),
-    )
+    timed_fits (word order block 8) section order block after channel frame range bytes number held
+    says.1 becomes
 block_fits section order block after channel frame range bytes
-    (Holds number held) (inr says) becomes =
+    (Holds number held) (inr (inl says)) becomes =
+    timed_fits (half order block 8) section order block after channel frame range bytes number held
+    says.1 becomes
+block_fits section order block after channel frame range bytes
+    (Holds number held) (inr (inr says)) becomes =
     let number' = becomes.1 in
     let size = ap length becomes.2 in
     let most = becomes.3 in

@@ -4,6 +4,7 @@ mod BufferLemmas
 mod CapturedLemmas
 mod ComeBackLemmas
 mod KnownLemmas
+mod LengthLemmas
 mod NumberLemmas
 mod RecordLemmas
 mod SkipLemmas

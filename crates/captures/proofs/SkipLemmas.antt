@@ -1,11 +1,12 @@
 -- A long block that is skipped, piece by piece.
 use Rattle.std.proofs.Common.{◌≡◌, ◌≢◌, ◌∙◌, sym, ap, refl, subst, ℕ, ◌-◌, ◌<◌, ◌≤◌, arith, List}
 use Rattle.std.proofs.Common.{[], ◌∷◌, ◌++◌, length, take, drop, append_assoc, length-append}
-use Rattle.std.proofs.Common.{Option, Some, None, inl, inr}
+use Rattle.std.proofs.Common.{Option, Some, None, inl, inr, le-leb}
 use Rattle.std.proofs.lemmas.List.{take-append-drop, length-take-le}
-use Rattle.captures.specs.Dropped.{IsFrontOf, IsDropped, Leaves}
+use Rattle.captures.specs.Dropped.{IsFrontOf, IsDropped, Leaves, dropped_len}
 use Rattle.captures.specs.Numbers.{word}
 use Rattle.captures.specs.Pcapng.{IsBlock}
+use Rattle.captures.specs.Places.{block_type}
 use Rattle.captures.specs.Pcapng.Content.{Nothing}
 use Rattle.captures.specs.Units.{HasUnit, IsBegun, Refuses, Takes}
 use Rattle.captures.specs.declared.byte_order.ByteOrder.{ByteOrder}
@@ -20,7 +21,12 @@ use Rattle.captures.proofs.UnitLemmas.{passes_start}
 
 -- after so many more bytes
 abbrev pub behind : LongBlock → ℕ → LongBlock
-behind block n = record { order = block.order; len = block.len; left = block.left - n }
+behind block n = record {
+  order = block.order;
+  kind = block.kind;
+  len = block.len;
+  left = block.left - n;
+}
 
 front_more : (block : LongBlock) (section : Section) (dropped front : List ℕ) (n : ℕ)
     → IsFrontOf block section dropped → length front ≡ n → n ≤ block.left
@@ -33,6 +39,7 @@ front_more block section dropped front n f size few =
       order = f.order;
       skipped = skipped_front section.order (dropped ++ front) dropped front refl
           (omega arith) f.skipped;
+      kind = word_of section.order (dropped ++ front) dropped front 0 refl (omega arith) ∙ f.kind;
       size = omega arith;
       words = f.words;
       told = word_of section.order (dropped ++ front) dropped front 4 refl (omega arith) ∙ f.told;
@@ -146,11 +153,12 @@ module _ (block : LongBlock) (section : Section) (dropped back later : List ℕ)
       }
 
 -- a unit without a packet in front of others
-takes_behind : (state mid after : State) (bytes rest rest' text : List ℕ) (channel : ℕ)
-    (refusal : Option CaptureError) → HasUnit state bytes mid channel [] rest
-    → Takes mid rest after rest' text refusal → Takes state bytes after rest' text refusal
-takes_behind state mid after bytes rest rest' text channel refusal h t = record {
+takes_behind : (state mid after : State) (bytes rest rest' : List ℕ) (count : ℕ) (text : List ℕ)
+    (channel : ℕ) (refusal : Option CaptureError) → HasUnit state bytes mid channel [] rest
+    → Takes mid rest after rest' count text refusal → Takes state bytes after rest' count text refusal
+takes_behind state mid after bytes rest rest' count text channel refusal h t = record {
   packets = t.packets;
+  number = t.number;
   passes = record {
     units = h.unit ∷ t.passes.units;
     row = (mid, channel, [], t.packets, h.is_unit, t.passes.row, refl);
@@ -164,16 +172,17 @@ takes_behind state mid after bytes rest rest' text channel refusal h t = record 
 pub held_behind : (state : State) (block : LongBlock) (n : ℕ) (dropped bytes front rest : List ℕ)
     → IsDropped state (Some block) dropped → bytes ≡ front ++ rest
     → length front ≡ n → n ≤ block.left
-    → length rest < 4 → Leaves state (dropped ++ bytes) state (Some (behind block n)) rest [] None
+    → length rest < 4 → Leaves state (dropped ++ bytes) state (Some (behind block n)) rest 0 [] None
 held_behind state block n dropped bytes front rest d parts size few short =
     let f = front_more block d.0 dropped front n d.2 size few in
     rw (d.1, parts) (record {
       dropped = dropped ++ front;
       is_dropped = (d.0, refl, f);
-      takes = subst (λ l. Takes (Pcapng d.0) l (Pcapng d.0) ((dropped ++ front) ++ rest) [] None)
+      takes = subst (λ l. Takes (Pcapng d.0) l (Pcapng d.0) ((dropped ++ front) ++ rest) 0 [] None)
           (append_assoc dropped front rest)
           (record {
             packets = [];
+            number = refl;
             passes = passes_start (Pcapng d.0) ((dropped ++ front) ++ rest);
             told = refl;
             left = front_begun (behind block n) d.0 (dropped ++ front) rest f short;
@@ -186,16 +195,17 @@ refused_here : (state : State) (block : LongBlock) (n : ℕ) (dropped bytes fron
     → length front ≡ n → n ≡ block.left
     → length back ≡ 4 → word block.order (back ++ later) 0 ≢ block.len
     → Leaves state (dropped ++ bytes) state (Some (behind block n))
-    (back ++ later) [] (Some BadBlock)
+    (back ++ later) 0 [] (Some BadBlock)
 refused_here state block n dropped bytes front back later d parts size all four other =
     let f = front_more block d.0 dropped front n d.2 size (omega arith) in
     rw (d.1, parts) (record {
       dropped = dropped ++ front;
       is_dropped = (d.0, refl, f);
       takes = subst (λ l. Takes (Pcapng d.0) l (Pcapng d.0) ((dropped ++ front) ++ (back ++ later))
-          [] (Some BadBlock)) (append_assoc dropped front (back ++ later))
+          0 [] (Some BadBlock)) (append_assoc dropped front (back ++ later))
           (record {
             packets = [];
+            number = refl;
             passes = passes_start (Pcapng d.0) ((dropped ++ front) ++ (back ++ later));
             told = refl;
             left = refused_back (behind block n) d.0 (dropped ++ front) back later f
@@ -207,11 +217,11 @@ pub refused_behind : (state : State) (block : LongBlock) (n : ℕ) (dropped byte
     → IsDropped state (Some block) dropped → bytes ≡ front ++ rest
     → length front ≡ n → n ≡ block.left
     → 4 ≤ length rest → word block.order rest 0 ≢ block.len
-    → Leaves state (dropped ++ bytes) state (Some (behind block n)) rest [] (Some BadBlock)
+    → Leaves state (dropped ++ bytes) state (Some (behind block n)) rest 0 [] (Some BadBlock)
 refused_behind state block n dropped bytes front rest d parts size all four other =
     let split = take-append-drop 4 rest in
     subst (λ (r : List ℕ). Leaves state (dropped ++ bytes) state (Some (behind block n)) r
-    [] (Some BadBlock)) split
+    0 [] (Some BadBlock)) split
     (refused_here state block n dropped bytes front (take 4 rest) (drop 4 rest) d
     (parts ∙ ap (λ l. front ++ l) (sym split)) size all (length-take-le 4 rest four)
     (λ e. other (ap (λ (r : List ℕ). word block.order r 0) (sym split) ∙ e)))
@@ -221,32 +231,48 @@ pub passed_behind : (state : State) (block : LongBlock) (n : ℕ)
     (dropped bytes front back later : List ℕ) → IsDropped state (Some block) dropped
     → bytes ≡ front ++ (back ++ later) → length front ≡ n → n ≡ block.left
     → length back ≡ 4 → word block.order (back ++ later) 0 ≡ block.len
-    → (after : State) (begun : Option LongBlock) (rest text : List ℕ)
-    (refusal : Option CaptureError) → Leaves state later after begun rest text refusal
-    → Leaves state (dropped ++ bytes) after begun rest text refusal
+    → (after : State) (begun : Option LongBlock) (rest : List ℕ) (count : ℕ)
+    (text : List ℕ) (refusal : Option CaptureError)
+    → Leaves state later after begun rest count text refusal
+    → Leaves state (dropped ++ bytes) after begun rest count text refusal
 passed_behind state block n dropped bytes front back later d parts size all four same after begun
-    rest text refusal leaves =
+    rest count text refusal leaves =
     let f = front_more block d.0 dropped front n d.2 size (omega arith) in
     let unit = passed_back (behind block n) d.0 (dropped ++ front) back later f
     (omega arith) four same in
-    let takes' : Takes (Pcapng d.0) later after (leaves.dropped ++ rest) text refusal =
-    subst (λ (s : State). Takes s later after (leaves.dropped ++ rest) text refusal)
+    let takes' : Takes (Pcapng d.0) later after (leaves.dropped ++ rest) count text refusal =
+    subst (λ (s : State). Takes s later after (leaves.dropped ++ rest) count text refusal)
     d.1 leaves.takes in
     rw (d.1, parts) (record {
       dropped = leaves.dropped;
       is_dropped = leaves.is_dropped;
-      takes = subst (λ l. Takes (Pcapng d.0) l after (leaves.dropped ++ rest) text refusal)
+      takes = subst (λ l. Takes (Pcapng d.0) l after (leaves.dropped ++ rest) count text refusal)
           (append_assoc dropped front (back ++ later))
           (takes_behind (Pcapng d.0) (Pcapng d.0) after
           ((dropped ++ front) ++ (back ++ later)) later
-          (leaves.dropped ++ rest) text 0 refusal unit takes');
+          (leaves.dropped ++ rest) count text 0 refusal unit takes');
     })
 
 -- what is taken of a piece that was read behind what is held
 pub takes_piece : (state after : State) (dropped held piece : List ℕ) (begun : Option LongBlock)
-    (rest text : List ℕ) (refusal : Option CaptureError)
-    → (l : Leaves state (dropped ++ (held ++ piece)) after begun rest text refusal)
-    → Takes state ((dropped ++ held) ++ piece) after (l.dropped ++ rest) text refusal
-takes_piece state after dropped held piece begun rest text refusal l =
-    subst (λ (bytes : List ℕ). Takes state bytes after (l.dropped ++ rest) text refusal)
+    (rest : List ℕ) (count : ℕ) (text : List ℕ) (refusal : Option CaptureError)
+    → (l : Leaves state (dropped ++ (held ++ piece)) after begun rest count text refusal)
+    → Takes state ((dropped ++ held) ++ piece) after (l.dropped ++ rest) count text refusal
+takes_piece state after dropped held piece begun rest count text refusal l =
+    subst (λ (bytes : List ℕ). Takes state bytes after (l.dropped ++ rest) count text refusal)
     (sym (append_assoc dropped held piece)) l.takes
+
+-- how many bytes are dropped, and of which block
+pub dropped_size : (state : State) (begun : Option LongBlock) (dropped : List ℕ)
+    → IsDropped state begun dropped → length dropped ≡ dropped_len begun
+dropped_size state None dropped d = ap length d
+dropped_size state (Some block) dropped d = let left = d.2.left in omega arith
+
+pub dropped_type : (state : State) (block : LongBlock) (dropped held : List ℕ)
+    → IsDropped state (Some block) dropped → Some block.kind ≡ block_type state (dropped ++ held)
+dropped_type state block dropped held d =
+    let f = d.2 in
+    let long = f.size in
+    let all = length-append dropped held in
+    let kind = word_of d.0.order (dropped ++ held) dropped held 0 refl (omega arith) ∙ f.kind in
+    rw (d.1, le-leb 4 (length (dropped ++ held)) (omega arith), kind) refl

@@ -339,11 +339,11 @@ rows_alone state (u ∷ us) (v ∷ vs) ps qs after after' rest rest' refusal ref
     (bytes_behind u (in_a_row us ++ rest) bytes') behind row.5 later' left left' in
     row.6 ∙ ap₂ (λ (a b : List Packet). a ++ b) one.2 later ∙ sym row'.6
 
-pub told_alone : (bytes rest rest' text text' : List ℕ) (state state' : State)
+pub told_alone : (bytes rest rest' text text' : List ℕ) (count count' : ℕ) (state state' : State)
     (refusal refusal' : Option CaptureError) → IsBytes bytes
-    → Takes Start bytes state rest text refusal
-    → Takes Start bytes state' rest' text' refusal' → text ≡ text'
-told_alone bytes rest rest' text text' state state' refusal refusal' all t t' =
+    → Takes Start bytes state rest count text refusal
+    → Takes Start bytes state' rest' count' text' refusal' → text ≡ text'
+told_alone bytes rest rest' text text' count count' state state' refusal refusal' all t t' =
     let p = t.passes in
     let p' = t'.passes in
     let same = rows_alone Start p.units p'.units t.packets t'.packets state state' rest rest'

@@ -1,60 +1,85 @@
 -- What a run from captures to lines makes of its input.
-use Rattle.std.proofs.Common.{◌≡◌, ◌≢◌, ◌∙◌, sym, ap, subst, refl, ℕ, ◌+◌, ◌<◌, ◌≤◌, arith, Bool}
+use Rattle.std.proofs.Common.{◌≡◌, ◌≢◌, ◌∙◌, sym, ap, subst, refl, ℕ, ◌+◌, ◌-◌, ◌^◌, ◌<◌, ◌≤◌, arith, Bool}
 use Rattle.std.proofs.Common.{true, false, List, [], ◌∷◌, ◌++◌, length, length-append, Option, Some}
 use Rattle.std.proofs.Common.{None, Result, Err, inl, inr, ltb-true, ltb-false}
-use Rattle.std.specs.Prelude.{◌⊎◌, nat_lt, if◌then◌else◌}
+use Rattle.std.specs.Prelude.{◌⊎◌, min, nat_lt, if◌then◌else◌}
 use Rattle.captures.specs.declared.capture_error.CaptureError.{CaptureError}
 use Rattle.captures.specs.declared.capture_error.CaptureError.TheVariants.{NotCapture, LinkType}
 use Rattle.captures.specs.declared.capture_error.CaptureError.TheVariants.{FrameTooLong, CutOff}
 use Rattle.captures.specs.declared.capture_error.CaptureError.TheVariants.{BlockTooLong, BadBlock}
 use Rattle.captures.specs.declared.limits.TheConstants.{FIRST_UNIT_LEN}
 use Rattle.captures.specs.declared.pcapng.long_block.LongBlock.{LongBlock}
+use Rattle.captures.specs.declared.place.Place.{Place}
 use Rattle.captures.specs.declared.translation.refusal.Refusal.{Refusal}
 use Rattle.captures.specs.declared.translation.refusal.Refusal.TheVariants.{InCapture}
 use Rattle.captures.specs.declared.translation.state.State.{State}
 use Rattle.captures.specs.declared.translation.state.State.TheVariants.{Start, Classic, Pcapng}
-use Rattle.captures.specs.Dropped.{IsDropped, Leaves}
+use Rattle.captures.specs.Dropped.{IsDropped, Leaves, dropped_len}
 use Rattle.captures.specs.Lines.{lines_of}
-use Rattle.captures.specs.Units.{Takes, IsNoCapture}
+use Rattle.captures.specs.Places.{IsPlace, capped, block_type}
+use Rattle.captures.specs.Units.{Takes, IsNoCapture, in_a_row}
 use Rattle.captures.specs.Runs.{IsRefused, result_at_end, capture_to_lines}
 use Rattle.captures.specs.Translations.{Begins, Translates, Finishes, IsWhole}
-use Rattle.captures.proofs.SkipLemmas.{takes_piece}
+use Rattle.captures.proofs.SkipLemmas.{takes_piece, dropped_size}
 use Rattle.captures.proofs.UnitLemmas.{passes_start, takes_more, passes_to_start, no_capture_begun}
+
+-- the place of the first unit
+place_first : (read rest : List ℕ) (count : ℕ) (place : Place) → read ≡ rest → count ≡ 0
+    → IsPlace Start count read rest place → IsPlace Start 0 read read place
+place_first read rest count place same none at =
+    subst (λ n. IsPlace Start n read read place) none
+    (subst (λ (r : List ℕ). IsPlace Start count read r place) (sym same) at)
+
+capped_more : (limit m n : ℕ) → min (min m limit + n) limit ≡ min (m + n) limit
+capped_more limit m n = omega arith
 
 -- what is written where a capture is refused before its end
 refused_outcome : (told : Bool) (read written : List ℕ) (state : State)
-    (rest : List ℕ) (error : CaptureError)
-    → Takes Start read state rest written (Some error)
-    → IsRefused (InCapture error) told read written
-refused_outcome told read written Start rest NotCapture takes =
+    (rest : List ℕ) (count : ℕ) (error : CaptureError) (place : Place)
+    → Takes Start read state rest count written (Some error)
+    → IsPlace state count read rest place → IsRefused (InCapture error place) told read written
+refused_outcome told read written Start rest count NotCapture place takes at =
     let same = passes_to_start read rest takes.packets takes.passes in
     let size = takes.left.0 in (
       inr (rw same.0 size),
       subst IsNoCapture (sym same.0) takes.left.1,
       takes.told
           ∙ ap lines_of same.1,
+      place_first read rest count place same.0 (sym takes.number ∙ ap length same.1) at,
     )
-refused_outcome told read written (Classic order) rest NotCapture takes = absurd takes.left
-refused_outcome told read written (Pcapng section) rest NotCapture takes = absurd takes.left
-refused_outcome told read written state rest (BlockTooLong len) takes = (state, rest, takes)
-refused_outcome told read written state rest BadBlock takes = (state, rest, takes)
-refused_outcome told read written state rest (LinkType number) takes = (state, rest, takes)
-refused_outcome told read written state rest (FrameTooLong captured) takes = (state, rest, takes)
-refused_outcome told read written Start rest CutOff takes = absurd takes.left.1
-refused_outcome told read written (Classic order) rest CutOff takes = absurd takes.left
-refused_outcome told read written (Pcapng section) rest CutOff takes = absurd takes.left
+refused_outcome told read written (Classic order) rest count NotCapture place takes at =
+    absurd takes.left
+refused_outcome told read written (Pcapng section) rest count NotCapture place takes at =
+    absurd takes.left
+refused_outcome told read written state rest count (BlockTooLong len) place takes at =
+    (state, rest, count, takes, at)
+refused_outcome told read written state rest count BadBlock place takes at =
+    (state, rest, count, takes, at)
+refused_outcome told read written state rest count (LinkType number) place takes at =
+    (state, rest, count, takes, at)
+refused_outcome told read written state rest count (FrameTooLong captured) place takes at =
+    (state, rest, count, takes, at)
+refused_outcome told read written Start rest count CutOff place takes at = absurd takes.left.1
+refused_outcome told read written (Classic order) rest count CutOff place takes at =
+    absurd takes.left
+refused_outcome told read written (Pcapng section) rest count CutOff place takes at =
+    absurd takes.left
 
--- these bytes are held of what was read
-abbrev pub Tells : State → Option LongBlock → (held read written : List ℕ) → Type 0
-Tells state begun held read written = (dropped : List ℕ) × IsDropped state begun dropped
-    × Takes Start read state (dropped ++ held) written None
+-- these bytes are held of what was read, behind so many packets and bytes of whole units
+abbrev pub Tells : State → Option LongBlock → (told passed : ℕ) → (held read written : List ℕ)
+    → Type 0
+Tells state begun told passed held read written = (dropped : List ℕ)
+    × IsDropped state begun dropped
+    × (count : ℕ) × Takes Start read state (dropped ++ held) count written None
+    × (told ≡ capped count) × (passed ≡ capped (length read - length (dropped ++ held)))
 
 -- nothing is read yet
-pub tells_start : Begins capture_to_lines (Tells Start None) []
+pub tells_start : Begins capture_to_lines (Tells Start None 0 0) []
 tells_start =
-    let takes : Takes Start [] Start [] [] None =
+    let takes : Takes Start [] Start [] 0 [] None =
     record {
       packets = [];
+      number = refl;
       passes = passes_start Start [];
       told = refl;
       left = inl (omega arith);
@@ -62,99 +87,167 @@ tells_start =
     record {
       room = refl;
       starved = (refl, refl);
-      full = (Start, [], None, takes);
-      due = (Start, [], takes);
-      shows = ([], refl, takes);
+      full = (Start, [], 0, None, takes);
+      due = (Start, [], 0, takes);
+      shows = ([], refl, 0, takes, refl, refl);
     }
 
-module _ (state after : State) (begun begun' : Option LongBlock)
-    (held piece bytes rest read written text : List ℕ)
-    (tells : Tells state begun held read written) (parts : bytes ≡ held ++ piece) where
+module _ (state after : State) (begun begun' : Option LongBlock) (told passed told' passed' : ℕ)
+    (held piece bytes rest read written text : List ℕ) (count n : ℕ)
+    (tells : Tells state begun told passed held read written) (parts : bytes ≡ held ++ piece)
+    (told_is : told' ≡ min (told + count) (2 ^ 64 - 1))
+    (passed_is : passed' ≡ min (passed + n) (2 ^ 64 - 1))
+    (size : n + dropped_len begun' + length rest ≡ length tells.0 + length bytes) where
   -- a piece is read
   all_told : (refusal : Option CaptureError)
-      (l : Leaves state (tells.0 ++ bytes) after begun' rest text refusal)
-      → Takes Start (read ++ piece) after (l.dropped ++ rest) (written ++ text) refusal
+      (l : Leaves state (tells.0 ++ bytes) after begun' rest count text refusal)
+      → Takes Start (read ++ piece) after (l.dropped ++ rest) (tells.2 + count) (written ++ text)
+      refusal
   all_told refusal l =
-      let whole : Leaves state (tells.0 ++ (held ++ piece)) after begun' rest text refusal =
+      let whole : Leaves state (tells.0 ++ (held ++ piece)) after begun' rest count text refusal =
       record {
         dropped = l.dropped;
         is_dropped = l.is_dropped;
-        takes = subst (λ b. Takes state (tells.0 ++ b) after (l.dropped ++ rest) text refusal) parts l.takes;
+        takes = subst (λ b. Takes state (tells.0 ++ b) after (l.dropped ++ rest) count text refusal)
+            parts l.takes;
       } in
       takes_more Start state after read piece (tells.0 ++ held)
-      (l.dropped ++ rest) written text refusal tells.2
-      (takes_piece state after tells.0 held piece begun' rest text refusal whole)
+      (l.dropped ++ rest) written text tells.2 count refusal tells.3
+      (takes_piece state after tells.0 held piece begun' rest count text refusal whole)
 
-  pub tells_more : Leaves state (tells.0 ++ bytes) after begun' rest text None
-      → Translates capture_to_lines (Tells after begun') rest (read ++ piece) (written ++ text) None
+  count_told : told' ≡ capped (tells.2 + count)
+  count_told = told_is ∙ ap (λ t. min (t + count) (2 ^ 64 - 1)) tells.4
+      ∙ capped_more (2 ^ 64 - 1) tells.2 count
+
+  all_passed : (dropped : List ℕ) → IsDropped after begun' dropped
+      → passed' ≡ capped (length (read ++ piece) - length (dropped ++ rest))
+  all_passed dropped d =
+      let behind = length-append dropped rest in
+      let before = length-append tells.0 held in
+      let all = length-append read piece in
+      let here = ap length parts ∙ length-append held piece in
+      let is = dropped_size after begun' dropped d in
+      let units = ap length tells.3.passes.parts
+      ∙ length-append (in_a_row tells.3.passes.units) (tells.0 ++ held) in
+      let same : length read - length (tells.0 ++ held) + n
+      ≡ length (read ++ piece) - length (dropped ++ rest) =
+      omega arith in
+      passed_is ∙ ap (λ p. min (p + n) (2 ^ 64 - 1)) tells.5
+      ∙ capped_more (2 ^ 64 - 1) (length read - length (tells.0 ++ held)) n
+      ∙ ap capped same
+
+  pub tells_more : Leaves state (tells.0 ++ bytes) after begun' rest count text None
+      → Translates capture_to_lines (Tells after begun' told' passed') rest (read ++ piece)
+      (written ++ text) None
   tells_more l =
       let takes = all_told None l in
       record {
-        full = (after, l.dropped ++ rest, None, takes);
-        follows = ((after, l.dropped ++ rest, takes), (l.dropped, l.is_dropped, takes));
+        full = (after, l.dropped ++ rest, tells.2 + count, None, takes);
+        follows = (
+          (after, l.dropped ++ rest, tells.2 + count, takes),
+          (
+            l.dropped,
+            l.is_dropped,
+            tells.2 + count,
+            takes,
+            count_told,
+            all_passed l.dropped l.is_dropped,
+          ),
+        );
       }
 
   pub tells_refused : (shown : List ℕ → List ℕ → List ℕ → Type 0) (error : CaptureError)
-      → Leaves state (tells.0 ++ bytes) after begun' rest text (Some error)
+      (place : Place) → Leaves state (tells.0 ++ bytes) after begun' rest count text (Some error)
+      → place.packet ≡ capped (told' + 1) → place.offset ≡ passed'
+      → ((dropped : List ℕ) → IsDropped after begun' dropped
+      → place.block ≡ block_type after (dropped ++ rest))
       → Translates capture_to_lines shown rest (read ++ piece) (written ++ text) (Some (InCapture
-      error))
-  tells_refused shown error l =
+      error place))
+  tells_refused shown error place l packet offset block =
       let takes = all_told (Some error) l in
       record {
-        full = (after, l.dropped ++ rest, Some error, takes);
-        follows = refused_outcome false (read ++ piece) (written ++ text) after (l.dropped ++ rest) error takes;
+        full = (after, l.dropped ++ rest, tells.2 + count, Some error, takes);
+        follows = refused_outcome false (read ++ piece) (written ++ text) after (l.dropped ++ rest)
+            (tells.2 + count) error place takes (record {
+              packet = packet ∙ ap (λ t. capped (t + 1)) count_told
+                  ∙ capped_more (2 ^ 64 - 1) (tells.2 + count) 1;
+              offset = offset ∙ all_passed l.dropped l.is_dropped;
+              block = block l.dropped l.is_dropped;
+            });
       }
 
 -- the end is told
-module _ (read written : List ℕ) where
-  ends_cut : (state : State) (rest : List ℕ) → Takes Start read state rest written None
+module _ (read written : List ℕ) (place : Place) where
+  ends_cut : (state : State) (rest : List ℕ) (count : ℕ)
+      → Takes Start read state rest count written None → IsPlace state count read rest place
       → 0 < length rest → (state ≢ Start) ⊎ (FIRST_UNIT_LEN ≤ length rest)
-      → IsWhole capture_to_lines read written (Err (InCapture CutOff))
-  ends_cut state rest takes some known =
-      (refl, record { state = state; rest = rest; some = some; known = known; takes = takes })
+      → IsWhole capture_to_lines read written (Err (InCapture CutOff place))
+  ends_cut state rest count takes at some known = (
+    refl,
+    record {
+      state = state;
+      rest = rest;
+      count = count;
+      some = some;
+      known = known;
+      takes = takes;
+      is_place = at;
+    },
+  )
 
-  at_start : (rest : List ℕ) → Takes Start read Start rest written None → (few : Bool)
+  at_start : (rest : List ℕ) (count : ℕ) → Takes Start read Start rest count written None
+      → IsPlace Start count read rest place → (few : Bool)
       → nat_lt (length rest) FIRST_UNIT_LEN ≡ few
-      → IsWhole capture_to_lines read written (if few then Err (InCapture NotCapture)
-      else Err (InCapture CutOff))
-  at_start rest takes true few =
+      → IsWhole capture_to_lines read written (if few then Err (InCapture NotCapture place)
+      else Err (InCapture CutOff place))
+  at_start rest count takes at true few =
       let same = passes_to_start read rest takes.packets takes.passes in (
         inl refl,
         subst IsNoCapture (sym same.0)
             (no_capture_begun rest (ltb-true (length rest) FIRST_UNIT_LEN few)),
         takes.told
             ∙ ap lines_of same.1,
+        place_first read rest count place same.0 (sym takes.number ∙ ap length same.1) at,
       )
-  at_start rest takes false few =
+  at_start rest count takes at false few =
       let long = ltb-false (length rest) FIRST_UNIT_LEN few in
-      ends_cut Start rest takes (omega arith) (inr long)
+      ends_cut Start rest count takes at (omega arith) (inr long)
 
-  at_end : (state : State) (rest : List ℕ) → Takes Start read state rest written None
-      → IsWhole capture_to_lines read written (result_at_end state (length rest))
-  at_end Start rest takes = at_start rest takes (nat_lt (length rest) FIRST_UNIT_LEN) refl
-  at_end (Classic order) [] takes = (
+  at_end : (state : State) (rest : List ℕ) (count : ℕ)
+      → Takes Start read state rest count written None → IsPlace state count read rest place
+      → IsWhole capture_to_lines read written (result_at_end state (length rest) place)
+  at_end Start rest count takes at =
+      at_start rest count takes at (nat_lt (length rest) FIRST_UNIT_LEN) refl
+  at_end (Classic order) [] count takes at = (
     takes.packets,
     record { state = Classic order; passes = takes.passes; known = λ e. cc e },
     takes.told,
   )
-  at_end (Classic order) (b ∷ bytes) takes =
-      ends_cut (Classic order) (b ∷ bytes) takes (omega arith) (inl (λ e. cc e))
-  at_end (Pcapng section) [] takes = (
+  at_end (Classic order) (b ∷ bytes) count takes at =
+      ends_cut (Classic order) (b ∷ bytes) count takes at (omega arith) (inl (λ e. cc e))
+  at_end (Pcapng section) [] count takes at = (
     takes.packets,
     record { state = Pcapng section; passes = takes.passes; known = λ e. cc e },
     takes.told,
   )
-  at_end (Pcapng section) (b ∷ bytes) takes =
-      ends_cut (Pcapng section) (b ∷ bytes) takes (omega arith) (inl (λ e. cc e))
+  at_end (Pcapng section) (b ∷ bytes) count takes at =
+      ends_cut (Pcapng section) (b ∷ bytes) count takes at (omega arith) (inl (λ e. cc e))
 
-  pub tells_end : (state : State) (begun : Option LongBlock) (held : List ℕ) (left : ℕ)
-      (tells : Tells state begun held read written) → left ≡ length held
-      → (result : Result Unit Refusal) → result ≡ result_at_end state (length tells.0 + left)
+  pub tells_end : (state : State) (begun : Option LongBlock) (told passed : ℕ) (held : List ℕ)
+      (left : ℕ) (tells : Tells state begun told passed held read written) → left ≡ length held
+      → place.packet ≡ capped (told + 1) → place.offset ≡ passed
+      → place.block ≡ block_type state (tells.0 ++ held)
+      → (result : Result Unit Refusal) → result ≡ result_at_end state (length tells.0 + left) place
       → Finishes capture_to_lines read written result
-  tells_end state begun held left tells size result is =
+  tells_end state begun told passed held left tells size packet offset block result is =
       let whole : length (tells.0 ++ held) ≡ length tells.0 + left =
       omega (arith, length-append tells.0 held) in
       record {
-        full = (state, tells.0 ++ held, None, tells.2);
-        whole = rw (is, sym whole) (at_end state (tells.0 ++ held) tells.2);
+        full = (state, tells.0 ++ held, tells.2, None, tells.3);
+        whole = rw (is, sym whole) (at_end state (tells.0 ++ held) tells.2 tells.3 (record {
+          packet = packet ∙ ap (λ t. capped (t + 1)) tells.4
+              ∙ capped_more (2 ^ 64 - 1) tells.2 1;
+          offset = offset ∙ tells.5;
+          block = block;
+        }));
       }

@@ -1,5 +1,5 @@
 -- Units in a row.
-use Rattle.std.proofs.Common.{◌≡◌, ◌∙◌, sym, ap, refl, subst, ℕ, ◌==◌, true, false, ◌<◌, arith}
+use Rattle.std.proofs.Common.{◌≡◌, ◌∙◌, sym, ap, ap₂, refl, subst, ℕ, ◌+◌, ◌==◌, true, false, ◌<◌, arith}
 use Rattle.std.proofs.Common.{List, [], ◌∷◌, ◌++◌, length, take, append_assoc, append-nil, inl, inr}
 use Rattle.std.proofs.Common.{length-append, eqb-true, Option, None}
 use Rattle.std.proofs.Math.Seq.{take-append_seam}
@@ -82,27 +82,33 @@ passes_more state mid after bytes piece rest rest' ps qs p q = record {
 }
 
 -- units are passed, and their packets are told
-pub record Told (state : State) (bytes : List ℕ) (after : State) (rest text : List ℕ) : Type 0 where
+pub record Told (state : State) (bytes : List ℕ) (after : State) (rest : List ℕ) (count : ℕ)
+    (text : List ℕ) : Type 0 where
   pub packets : List Packet
+  pub number : length packets ≡ count
   pub passes : Passes state bytes packets after rest
   pub lines : text ≡ lines_of packets
 
 pub told_start : (state : State) (bytes text : List ℕ) → text ≡ []
-    → Told state bytes state bytes text
+    → Told state bytes state bytes 0 text
 told_start state bytes text none =
-    record { packets = []; passes = passes_start state bytes; lines = none }
+    record { packets = []; number = refl; passes = passes_start state bytes; lines = none }
 
 -- one more unit, of which this is the text
 pub told_unit : (state mid after : State) (bytes rest rest' text more text' : List ℕ) (channel : ℕ)
-    (frame : List ℕ) → Told state bytes mid rest text
+    (frame : List ℕ) (count count' : ℕ) → Told state bytes mid rest count text
     → HasUnit mid rest after channel frame rest' → more ≡ lines_of (packets_of channel frame)
-    → text' ≡ text ++ more → Told state bytes after rest' text'
-told_unit state mid after bytes rest rest' text more text' channel frame t h is all = record {
-  packets = t.packets ++ packets_of channel frame;
-  passes = passes_unit state mid after bytes rest rest' t.packets channel frame t.passes h;
-  lines = all ∙ ap (λ l. l ++ more) t.lines ∙ ap (λ l. lines_of t.packets ++ l) is
-      ∙ sym (lines_of-append t.packets (packets_of channel frame));
-}
+    → text' ≡ text ++ more → count' ≡ count + length (packets_of channel frame)
+    → Told state bytes after rest' count' text'
+told_unit state mid after bytes rest rest' text more text' channel frame count count' t h is all
+    more_packets = record {
+      packets = t.packets ++ packets_of channel frame;
+      number = length-append t.packets (packets_of channel frame)
+          ∙ ap (λ n. n + length (packets_of channel frame)) t.number ∙ sym more_packets;
+      passes = passes_unit state mid after bytes rest rest' t.packets channel frame t.passes h;
+      lines = all ∙ ap (λ l. l ++ more) t.lines ∙ ap (λ l. lines_of t.packets ++ l) is
+          ∙ sym (lines_of-append t.packets (packets_of channel frame));
+    }
 
 -- the lines of a packet that has bytes, and of none
 pub some_frame : (channel : ℕ) (frame : List ℕ) → (length frame == 0) ≡ false
@@ -115,6 +121,17 @@ pub no_frame : (channel : ℕ) (frame : List ℕ) → (length frame == 0) ≡ tr
     → [] ≡ lines_of (packets_of channel frame)
 no_frame channel [] none = refl
 no_frame channel (b ∷ bytes) none =
+    absurd (let zero = eqb-true (length (b ∷ bytes)) 0 none in omega arith)
+
+pub one_packet : (channel : ℕ) (frame : List ℕ) → (length frame == 0) ≡ false
+    → length (packets_of channel frame) ≡ 1
+one_packet channel [] some = absurd (cc)
+one_packet channel (b ∷ bytes) some = refl
+
+pub no_packet : (channel : ℕ) (frame : List ℕ) → (length frame == 0) ≡ true
+    → length (packets_of channel frame) ≡ 0
+no_packet channel [] none = refl
+no_packet channel (b ∷ bytes) none =
     absurd (let zero = eqb-true (length (b ∷ bytes)) 0 none in omega arith)
 
 -- after a unit something is known
@@ -158,11 +175,12 @@ no_capture_begun bytes begun = (
 
 -- the units of what was left and of what came then
 pub takes_more : (state mid after : State) (bytes piece rest rest' text text' : List ℕ)
-    (refusal : Option CaptureError) → Takes state bytes mid rest text None
-    → Takes mid (rest ++ piece) after rest' text' refusal
-    → Takes state (bytes ++ piece) after rest' (text ++ text') refusal
-takes_more state mid after bytes piece rest rest' text text' refusal p q = record {
+    (count count' : ℕ) (refusal : Option CaptureError) → Takes state bytes mid rest count text None
+    → Takes mid (rest ++ piece) after rest' count' text' refusal
+    → Takes state (bytes ++ piece) after rest' (count + count') (text ++ text') refusal
+takes_more state mid after bytes piece rest rest' text text' count count' refusal p q = record {
   packets = p.packets ++ q.packets;
+  number = length-append p.packets q.packets ∙ ap₂ (λ (m n : ℕ). m + n) p.number q.number;
   passes = passes_more state mid after bytes piece rest rest' p.packets q.packets p.passes q.passes;
   told = ap (λ l. l ++ text') p.told ∙ ap (λ l. lines_of p.packets ++ l) q.told
       ∙ sym (lines_of-append p.packets q.packets);

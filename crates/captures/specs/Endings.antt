@@ -16,7 +16,7 @@ cause Write = Stopped WriteFailed
 cause WriteZero = Stopped NothingTaken
 cause Memory = OutOfMemory
 cause TooManyReads = OutOfReads
-cause (Capture error) = Refused (InCapture error)
+cause (Capture error place) = Refused (InCapture error place)
 cause (BadLine number) = Refused (InLine number)
 
 abbrev pub ending_of : Result Unit RunError → Ending Refusal

@@ -6,6 +6,7 @@ pub mod Lines
 pub mod Numbers
 pub mod Pcap
 pub mod Pcapng
+pub mod Places
 pub mod Runs
 pub mod Spelling
 pub mod Texts

@@ -21,6 +21,10 @@ section_header = 0x0a0d0d0a
 abbrev pub interface_description : ℕ
 interface_description = 1
 
+-- superseded by the enhanced packet, and written by older programs
+abbrev pub obsolete_packet : ℕ
+obsolete_packet = 2
+
 abbrev pub simple_packet : ℕ
 simple_packet = 3
 
@@ -58,15 +62,25 @@ pub data Content : Type 0 where
 abbrev pub captured_len : ℕ → ℕ → ℕ
 captured_len snap_len original = if snap_len == 0 then original else min snap_len original
 
-pub record IsEnhancedPacket (section : Section) (order : ByteOrder) (block : List ℕ) (channel : ℕ)
-    (frame : List ℕ) : Type 0 where
-  pub kind : word order block 0 ≡ enhanced_packet
+-- a packet of this interface of the section, in a block of one of the two kinds that tell its time
+pub record IsTimedPacket (interface : ℕ) (section : Section) (order : ByteOrder) (block : List ℕ)
+    (channel : ℕ) (frame : List ℕ) : Type 0 where
   pub size : 32 + length frame ≤ length block
-  pub interface : word order block 8 < section.interfaces
-  pub number : section.first + word order block 8 ≡ channel
+  pub described : interface < section.interfaces
+  pub number : section.first + interface ≡ channel
   pub fits : channel < 2 ^ 32
   pub captured : word order block 20 ≡ length frame
   pub bytes : frame ≡ take (length frame) (drop 28 block)
+
+-- the number of its interface has 32 bits
+abbrev pub IsEnhancedPacket : Section → ByteOrder → List ℕ → ℕ → List ℕ → Type 0
+IsEnhancedPacket section order block channel frame = (word order block 0 ≡ enhanced_packet)
+    × IsTimedPacket (word order block 8) section order block channel frame
+
+-- it has 16, and a number of dropped packets follows, which is not read
+abbrev pub IsObsoletePacket : Section → ByteOrder → List ℕ → ℕ → List ℕ → Type 0
+IsObsoletePacket section order block channel frame = (word order block 0 ≡ obsolete_packet)
+    × IsTimedPacket (half order block 8) section order block channel frame
 
 pub record IsSimplePacket (section : Section) (order : ByteOrder) (block : List ℕ) (channel : ℕ)
     (frame : List ℕ) : Type 0 where
@@ -77,11 +91,17 @@ pub record IsSimplePacket (section : Section) (order : ByteOrder) (block : List 
   pub captured : captured_len section.snap_len (word order block 8) ≡ length frame
   pub bytes : frame ≡ take (length frame) (drop 12 block)
 
+-- a block of a kind that holds a packet
+abbrev pub HoldsPacket : ByteOrder → List ℕ → Type 0
+HoldsPacket order block = (word order block 0 ≡ enhanced_packet)
+    ⊎ ((word order block 0 ≡ obsolete_packet) ⊎ (word order block 0 ≡ simple_packet))
+
 -- a block of another kind
 abbrev pub IsOther : ByteOrder → List ℕ → Type 0
 IsOther order block =
     (word order block 0 ≢ section_header) × (word order block 0 ≢ interface_description)
-    × (word order block 0 ≢ enhanced_packet) × (word order block 0 ≢ simple_packet)
+    × (word order block 0 ≢ enhanced_packet) × (word order block 0 ≢ obsolete_packet)
+    × (word order block 0 ≢ simple_packet)
 
 -- a block that is skipped: another one than those that are read here, and a section header is one
 -- in either byte order
@@ -102,7 +122,8 @@ Says section order block (Describes link_type snap_len) =
     × (half order block 8 ≡ link_type)
     × (word order block 12 ≡ snap_len) × (section.interfaces + 1 < 2 ^ 32)
 Says section order block (Holds channel frame) = IsEnhancedPacket section order block channel frame
-    ⊎ IsSimplePacket section order block channel frame
+    ⊎ (IsObsoletePacket section order block channel frame
+    ⊎ IsSimplePacket section order block channel frame)
 Says section order block Nothing = IsOther order block
 
 -- the section, and the packet, after a block that says this: links are Ethernet, and a line can

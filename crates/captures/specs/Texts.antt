@@ -101,7 +101,7 @@ AreWrittenBefore number bytes written =
 
 -- what is written where the text is refused
 abbrev pub IsRefusedText : Refusal → Bool → List ℕ → List ℕ → Type 0
-IsRefusedText (InCapture error) told read written = ⊥
+IsRefusedText (InCapture error place) told read written = ⊥
 IsRefusedText (InLine number) told read written =
     AreWrittenBefore number (known_text told read) written
 

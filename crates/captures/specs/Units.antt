@@ -213,10 +213,11 @@ abbrev pub IsLeft : State → List ℕ → Option CaptureError → Type 0
 IsLeft state rest None = IsBegun state rest
 IsLeft state rest (Some error) = Refuses state rest error
 
--- all whole units of the bytes are taken, and their lines are this text
-pub record Takes (state : State) (bytes : List ℕ) (after : State) (rest text : List ℕ)
-    (refusal : Option CaptureError) : Type 0 where
+-- all whole units of the bytes are taken, they hold so many packets, and their lines are this text
+pub record Takes (state : State) (bytes : List ℕ) (after : State) (rest : List ℕ) (count : ℕ)
+    (text : List ℕ) (refusal : Option CaptureError) : Type 0 where
   pub packets : List Packet
+  pub number : length packets ≡ count
   pub passes : Passes state bytes packets after rest
   pub told : text ≡ lines_of packets
   pub left : IsLeft after rest refusal

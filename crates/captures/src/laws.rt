@@ -1,15 +1,24 @@
 //! Laws of captures: the contract of each function is the law, and its body is empty.
 
-ghost use Rattle.std.specs.Prelude.{◌≡◌, ◌≤◌, ◌<◌, ◌^◌, ℕ, List, [], ◌∷◌, codes, length, Option};
+ghost use Rattle.std.specs.Prelude.{◌≡◌, ◌≢◌, ◌⊎◌, ◌≤◌, ◌<◌, ◌+◌, ◌%◌, ◌^◌, ℕ, List, [], ◌∷◌};
+ghost use Rattle.std.specs.Prelude.{codes, length, Option};
 ghost use Rattle.std.specs.List.{AllByRecursion};
 ghost use Rattle.ep_base.specs.Traits.{IsPlainData};
 ghost use Rattle.hex.specs.Hex.{IsBytes};
 ghost use Rattle.captures.specs.ComeBack.{CapturedPacketsHaveLines, LinesComeBack};
 ghost use Rattle.captures.specs.Lines.{Packet, line_of};
+ghost use Rattle.captures.specs.Numbers.{half, word};
+ghost use Rattle.captures.specs.Pcapng.{Content, HasOrder, RefusesBlock, Says};
+ghost use Rattle.captures.specs.Pcapng.Content.{Opens};
 ghost use Rattle.captures.specs.Runs.{IsCapture};
 ghost use Rattle.captures.specs.Texts.{IsText};
-ghost use Rattle.captures.specs.Units.{Takes};
+ghost use Rattle.captures.specs.Units.{RefusesAt, Takes};
+ghost use Rattle.captures.specs.declared.byte_order.ByteOrder.{ByteOrder};
 ghost use Rattle.captures.specs.declared.capture_error.CaptureError.{CaptureError};
+ghost use Rattle.captures.specs.declared.capture_error.CaptureError.TheVariants.{LinkType, BadBlock};
+ghost use Rattle.captures.specs.declared.capture_error.CaptureError.TheVariants.{FrameTooLong};
+ghost use Rattle.captures.specs.declared.capture_error.CaptureError.TheVariants.{BlockTooLong};
+ghost use Rattle.captures.specs.declared.pcapng.section.Section.{Section};
 ghost use Rattle.captures.specs.declared.translation.state.State.{State};
 ghost use Rattle.captures.specs.declared.translation.state.State.TheVariants.{Start};
 ghost use Rattle.captures.specs.Spelling.{TimedFrame, capture_of, packets_in};
@@ -18,7 +27,7 @@ use crate::limits::{
     BLOCK_LIMIT, FIRST_UNIT_LEN, FRAME_LIMIT, INPUT_ROOM, LINE_LIMIT, READ_COUNT_LIMIT,
 };
 use crate::pcapng::section::ETHERNET;
-use crate::{CaptureError, RunError};
+use crate::{CaptureError, Place, RunError};
 use ep_base::laws::traits::Value;
 use runs::Fault;
 
@@ -39,10 +48,10 @@ pub fn capture_is_alone()
 /// What is told of any bytes, whether more are wanted behind them or they are refused, is known by
 /// them.
 pub fn told_is_alone()
-    ensures { (bytes rest rest' text text' : List ℕ) (state state' : State)
+    ensures { (bytes rest rest' text text' : List ℕ) (count count' : ℕ) (state state' : State)
         (refusal refusal' : Option CaptureError) → IsBytes bytes
-        → Takes Start bytes state rest text refusal
-        → Takes Start bytes state' rest' text' refusal' → text ≡ text' }
+        → Takes Start bytes state rest count text refusal
+        → Takes Start bytes state' rest' count' text' refusal' → text ≡ text' }
 {}
 
 /// The frames that a text of lines hands in are known by its bytes.
@@ -75,10 +84,50 @@ pub fn worked_line()
     ensures { line_of (record { channel = 7; frame = 0x0a ∷ 0xff ∷ [] }) ≡ codes "frame 7 0aff\n" }
 {}
 
+/// A block of the kind of a section header opens a section with 28 bytes at least and major version
+/// 1, whatever its minor version is.
+pub fn section_header_lengths()
+    ensures short { (section : Section) (order : ByteOrder) (block : List ℕ) (content : Content)
+        → word order block 0 ≡ 0x0a0d0d0a → length block < 28
+        → Says section order block content → ⊥ }
+    ensures long { (section : Section) (order : ByteOrder) (block : List ℕ)
+        → word order block 0 ≡ 0x0a0d0d0a → 28 ≤ length block → half order block 12 ≡ 1
+        → section.first + section.interfaces < 2 ^ 32
+        → Says section order block (Opens (section.first + section.interfaces)) }
+{}
+
+/// An interface description of fewer than 20 bytes is not well made, whatever its link type is.
+pub fn interface_description_lengths()
+    ensures { (section : Section) (order : ByteOrder) (block : List ℕ)
+        → word order block 0 ≡ 1 → length block < 20
+        → RefusesBlock section order block BadBlock
+        × ((number : ℕ) → RefusesBlock section order block (LinkType number) → ⊥) }
+{}
+
+/// A packet block with fewer bytes than it tells is not well made, however many it tells: an
+/// enhanced (6) or obsolete packet (2) has 32 more.
+pub fn packet_lengths()
+    ensures { (section : Section) (order : ByteOrder) (block : List ℕ)
+        → (word order block 0 ≡ 6) ⊎ (word order block 0 ≡ 2)
+        → length block < 32 + word order block 20
+        → RefusesBlock section order block BadBlock
+        × ((captured : ℕ) → RefusesBlock section order block (FrameTooLong captured) → ⊥) }
+{}
+
+/// A block whose length is no whole words is not too long, however long it is: it is not well made.
+pub fn block_lengths_in_words()
+    ensures long { (section : Section) (bytes : List ℕ) (len : ℕ) → len % 4 ≢ 0
+        → RefusesAt section bytes (BlockTooLong len) → ⊥ }
+    ensures bad { (section : Section) (order : ByteOrder) (bytes : List ℕ) → 12 ≤ length bytes
+        → HasOrder section.order bytes order → word order bytes 4 % 4 ≢ 0
+        → RefusesAt section bytes BadBlock }
+{}
+
 /// A copy of an error is the error and takes no memory. Equal are the errors that are the same,
 /// with what they tell.
 pub fn types_are_plain_data()
     ensures capture_error { IsPlainData ⟦<CaptureError as Value>⟧ }
+    ensures place { IsPlainData ⟦<Place as Value>⟧ }
     ensures run_error { IsPlainData ⟦<RunError as Value>⟧ }
     ensures fault { IsPlainData ⟦<Fault as Value>⟧ }
 {}

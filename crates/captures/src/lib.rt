@@ -8,12 +8,14 @@ pub mod laws;
 mod limits;
 mod pcap;
 mod pcapng;
+mod place;
 mod text;
 mod translation;
 
 pub use capture_error::CaptureError;
 pub use limits::{BLOCK_LIMIT, FRAME_LIMIT, READ_COUNT_LIMIT};
 pub use pcap::writer::Writer;
+pub use place::Place;
 pub use runs::device;
 pub use translation::run_captures::{run, run_over};
 pub use translation::run_error::RunError;

@@ -12,5 +12,5 @@ status_of Write = 4
 status_of WriteZero = 4
 status_of Memory = 5
 status_of TooManyReads = 5
-status_of (Capture error) = 3
+status_of (Capture error place) = 3
 status_of (BadLine number) = 3

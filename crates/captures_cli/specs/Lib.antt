@@ -1,1 +1,2 @@
 pub mod ErrorStatus
+pub mod Looks

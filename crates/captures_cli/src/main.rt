@@ -11,21 +11,27 @@ ghost use Rattle.captures.specs.Runs.{IsCapture};
 ghost use Rattle.captures.specs.Spelling.{TimedFrame, capture_of};
 ghost use Rattle.captures.specs.Texts.{IsText};
 
+mod looks;
 mod modes;
+mod notes;
 
+use crate::looks::{Look, look_at};
 use crate::modes::Mode;
+use crate::notes::Told;
 use anyhow::Context;
 use captures::RunError;
 use clap::{Arg, ArgMatches, Command};
 use std::alloc::Global;
 use std::env;
 use std::fs::File;
-use std::io::{Read, Write};
+use std::io::{BufRead, BufReader, ErrorKind, Read, Write};
 use std::process::ExitCode;
 
 fn main(rt: HostRuntime) -> anyhow::Result<ExitCode> {
     let alloc = rt.alloc();
-    let words: Vec<String> = env::args(&rt)?.collect(alloc)?;
+    let words: Vec<String> = env::args(&rt)
+        .context("the arguments are not UTF-8")?
+        .collect(alloc)?;
     let matches = match command(alloc)?.try_get_matches_from(words.as_slice()) {
         Ok(matches) => matches,
         Err(error) => {
@@ -49,6 +55,7 @@ fn command<'a>(alloc: Global) -> Result<Command<'a>, clap::Error> {
     Ok(
         Command::new(alloc, "captures_cli")
             .about("Capture files as lines, and lines as capture files")
+            .version("0.1.0")
             .subcommand_required(true)
             .subcommand(lines)?
             .subcommand(capture)?,
@@ -80,15 +87,34 @@ fn asked_for<'m>(matches: &'m ArgMatches) -> Option<Asked<'m>> {
     })
 }
 
+// So many bytes tell what an input looks like.
+const FRONT_LEN: usize = 64;
+
 fn make_of_file(rt: &HostRuntime, mode: Mode, name: &str) -> anyhow::Result<ExitCode> {
-    let mut output = rt.stdout();
-    let made = if name == "-" {
-        make(rt.alloc(), mode, &mut rt.stdin(), &mut output)
-    } else {
-        let mut input = File::open(rt, name).context("the file cannot be opened")?;
-        make(rt.alloc(), mode, &mut input, &mut output)
-    };
-    Ok(exit_code(rt, made))
+    if name == "-" {
+        let input = BufReader::with_capacity(rt.alloc(), FRONT_LEN, rt.stdin())?;
+        return Ok(make_of(rt, mode, input));
+    }
+    let file = File::open(rt, name).context("the file cannot be opened")?;
+    let input = BufReader::with_capacity(rt.alloc(), FRONT_LEN, file)?;
+    Ok(make_of(rt, mode, input))
+}
+
+fn make_of<R: Read + Drop>(rt: &HostRuntime, mode: Mode, mut input: BufReader<R>) -> ExitCode {
+    let seen = input_look(&mut input);
+    let made = make(rt.alloc(), mode, &mut input, &mut rt.stdout());
+    exit_code(rt, made, seen)
+}
+
+// What the input looks like, of which nothing is taken.
+fn input_look<R: Read + Drop>(input: &mut BufReader<R>) -> Look {
+    match input.fill_buf() {
+        Ok(front) => look_at(front),
+        Err(error) => match error.kind() {
+            ErrorKind::IsADirectory => Look::Directory,
+            _ => Look::Other,
+        },
+    }
 }
 
 fn make<R: Read, W: Write>(
@@ -122,7 +148,10 @@ fn make_lines<R: Read, W: Write>(
     let made = captures::run(alloc, reader, writer);
     let flushed = writer.flush();
     made?;
-    flushed.map_err(|_| RunError::Write)
+    match flushed {
+        Ok(()) => Ok(()),
+        Err(_) => Err(RunError::Write),
+    }
 }
 
 fn make_capture<R: Read, W: Write>(
@@ -136,18 +165,22 @@ fn make_capture<R: Read, W: Write>(
     let made = captures::write_capture(alloc, reader, writer);
     let flushed = writer.flush();
     made?;
-    flushed.map_err(|_| RunError::Write)
+    match flushed {
+        Ok(()) => Ok(()),
+        Err(_) => Err(RunError::Write),
+    }
 }
 
 // Tells an error on standard error. The status tells of it where that fails too.
-fn exit_code<P: Eprint>(rt: &P, made: Result<(), RunError>) -> ExitCode
+fn exit_code<P: Eprint>(rt: &P, made: Result<(), RunError>, look: Look) -> ExitCode
     ensures { MatchResult made (λ _. exit_status result ≡ 0)
         (λ error. exit_status result ≡ status_of error) }
 {
     match made {
         Ok(()) => ExitCode::SUCCESS,
         Err(error) => {
-            let _ = eprintln!(rt; "captures_cli: {error}");
+            let told = Told { error, look };
+            let _ = eprintln!(rt; "captures_cli: {told}");
             ExitCode::from(status(error))
         }
     }
@@ -157,7 +190,7 @@ fn status(error: RunError) -> u8
     ensures { result ≡ status_of error }
 {
     match error {
-        RunError::Capture(_) | RunError::BadLine(_) => 3,
+        RunError::Capture(_, _) | RunError::BadLine(_) => 3,
         RunError::Read | RunError::Write | RunError::WriteZero => 4,
         RunError::Memory | RunError::TooManyReads => 5,
     }

@@ -1,7 +1,9 @@
 //! What is made of an input, the flush, the status and what is told of an error.
+use crate::looks::{Look, look_at};
 use crate::modes::Mode;
+use crate::notes::Told;
 use crate::{asked_for, command, exit_code, make};
-use captures::{CaptureError, RunError};
+use captures::{CaptureError, Place, RunError};
 use std::alloc::Global;
 use std::io::{self, ErrorKind, Write};
 use std::process::ExitCode;
@@ -103,8 +105,21 @@ fn a_flush_that_fails_is_a_failed_write(rt: HostRuntime) {
 }
 
 // What is told of an error.
-fn message(alloc: Global, error: RunError) -> Result<String, Fail> {
-    Ok(format!(in alloc; "{error}")?)
+fn message(alloc: Global, error: RunError, look: Look) -> Result<String, Fail> {
+    let told = Told { error, look };
+    Ok(format!(in alloc; "{told}")?)
+}
+
+// A refusal within a capture: of the third packet, in a block of this type if in one.
+fn refusal(error: CaptureError, block: Option<u32>) -> RunError {
+    RunError::Capture(
+        error,
+        Place {
+            packet: 3,
+            offset: 112,
+            block,
+        },
+    )
 }
 
 #[test]
@@ -117,41 +132,114 @@ fn errors_have_messages_and_a_status(rt: HostRuntime) -> Result<(), Fail> {
         (RunError::TooManyReads, "too many reads", 5),
         (RunError::BadLine(7), "line 7 hands in no frame", 3),
         (
-            RunError::Capture(CaptureError::NotCapture),
+            refusal(CaptureError::NotCapture, None),
             "no capture file",
             3,
         ),
         (
-            RunError::Capture(CaptureError::LinkType(113)),
-            "link type 113 is not Ethernet",
+            refusal(CaptureError::LinkType(113), None),
+            "packet 3, byte 112: link type 113 is not Ethernet: it is LINUX_SLL, of cooked captures",
             3,
         ),
         (
-            RunError::Capture(CaptureError::FrameTooLong(99_992)),
-            "a packet of 99992 bytes is too long for a line",
+            refusal(CaptureError::FrameTooLong(99_992), Some(6)),
+            "packet 3, byte 112, block type 0x6 (enhanced packet): a packet of 99992 bytes is too long for a line",
             3,
         ),
         (
-            RunError::Capture(CaptureError::CutOff),
-            "the capture ends within a packet",
+            refusal(CaptureError::CutOff, None),
+            "packet 3, byte 112: the capture ends within a packet",
             3,
         ),
         (
-            RunError::Capture(CaptureError::BadBlock),
-            "a block is not well made",
+            refusal(CaptureError::BadBlock, Some(0x0a0d_0d0a)),
+            "packet 3, byte 112, block type 0xa0d0d0a (section header): a block is not well made",
             3,
         ),
     ] {
-        assert_eq!(rt; message(rt.alloc(), error)?.as_str(), text);
-        assert_eq!(rt; exit_code(&rt, Err(error)), ExitCode::from(status));
+        assert_eq!(rt; message(rt.alloc(), error, Look::Other)?.as_str(), text);
+        assert_eq!(rt;
+            exit_code(&rt, Err(error), Look::Other),
+            ExitCode::from(status)
+        );
     }
-    assert_eq!(rt; exit_code(&rt, Ok(())), ExitCode::SUCCESS);
+    assert_eq!(rt; exit_code(&rt, Ok(()), Look::Other), ExitCode::SUCCESS);
+    Ok(())
+}
+
+// The first bytes that gzip 1.12, zstd 1.5, xz 5.4 and bzip2 1.0.8 write, and of other inputs.
+#[test]
+fn what_inputs_look_like(rt: HostRuntime) -> Result<(), Fail> {
+    for (front, seen, text) in [
+        (
+            b"".as_slice(),
+            Look::Empty,
+            "no capture file: the input is empty",
+        ),
+        (
+            b"\x1f\x8b\x08\x00\x00\x00\x00\x00\x00\x03",
+            Look::Gzip,
+            "no capture file: the input is compressed, `gzip -dc` opens it",
+        ),
+        (
+            b"\x28\xb5\x2f\xfd\x04\x58",
+            Look::Zstd,
+            "no capture file: the input is compressed, `zstd -dc` opens it",
+        ),
+        (
+            b"\xfd\x37\x7a\x58\x5a\x00\x00\x04",
+            Look::Xz,
+            "no capture file: the input is compressed, `xz -dc` opens it",
+        ),
+        (
+            b"\x42\x5a\x68\x39\x31\x41",
+            Look::Bzip2,
+            "no capture file: the input is compressed, `bzip2 -dc` opens it",
+        ),
+        (
+            b"frame 0 0aff\n",
+            Look::Text,
+            "no capture file: the input is text, `captures_cli capture` reads lines of frames",
+        ),
+        (b"\x7fELF", Look::Other, "no capture file"),
+        (b"\xd4\xc3\xb2\xa1\x01", Look::Capture, "no capture file"),
+    ] {
+        assert_eq!(rt; look_at(front), seen);
+        let error = refusal(CaptureError::NotCapture, None);
+        assert_eq!(rt; message(rt.alloc(), error, seen)?.as_str(), text);
+    }
+    Ok(())
+}
+
+// The first line of what is no text of lines.
+#[test]
+fn captures_are_no_lines(rt: HostRuntime) -> Result<(), Fail> {
+    for (error, look, text) in [
+        (
+            RunError::BadLine(1),
+            Look::Capture,
+            "line 1 hands in no frame: the input is a capture, `captures_cli lines` reads it",
+        ),
+        (
+            RunError::BadLine(1),
+            Look::Gzip,
+            "line 1 hands in no frame: the input is compressed, `gzip -dc` opens it",
+        ),
+        (RunError::BadLine(1), Look::Text, "line 1 hands in no frame"),
+        (
+            RunError::Read,
+            Look::Directory,
+            "the input cannot be read: it is a directory",
+        ),
+    ] {
+        assert_eq!(rt; message(rt.alloc(), error, look)?.as_str(), text);
+    }
     Ok(())
 }
 
 #[test]
 #[should_panic(expected = "captures_cli: line 2 hands in no frame")]
 fn errors_are_told(rt: HostRuntime) {
-    let _ = exit_code(&rt, Err(RunError::BadLine(2)));
+    let _ = exit_code(&rt, Err(RunError::BadLine(2)), Look::Other);
     panic!(rt; "told");
 }

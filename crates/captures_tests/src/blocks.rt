@@ -2,7 +2,7 @@
 //! description.
 ghost use Rattle.std.specs.Prelude.{◌+◌, ◌≤◌, length};
 
-use crate::lines::{LINES, lines_of};
+use crate::lines::{LINES, lines_of, refused};
 use captures::{CaptureError, RunError};
 use std::alloc::{AllocError, Global};
 use std::test::Fail;
@@ -55,6 +55,26 @@ fn file_of_scapy(rt: HostRuntime) -> Result<(), Fail> {
     Ok(())
 }
 
+const SECTION: u32 = 0x0a0d_0d0a;
+
+// Where a front of the two sections ends: the packet, the block's offset and its type.
+fn block_at(n: usize) -> (u64, usize, u32) {
+    match n {
+        0..=27 => (1, 0, SECTION),
+        28..=47 => (1, 28, 1),
+        48..=67 => (1, 48, 1),
+        68..=87 => (1, 68, 5),
+        88..=131 => (1, 88, 6),
+        132..=151 => (2, 132, 3),
+        152..=191 => (3, 152, SECTION),
+        192..=211 => (3, 192, 1),
+        212..=231 => (3, 212, 1),
+        232..=251 => (3, 232, 3),
+        252..=287 => (4, 252, 6),
+        _ => (5, 288, 6),
+    }
+}
+
 // How many bytes of lines a front of the two sections gives.
 fn line_bytes(n: usize) -> usize {
     match n {
@@ -70,10 +90,17 @@ fn line_bytes(n: usize) -> usize {
 fn each_front_of_two_sections(rt: HostRuntime) -> Result<(), Fail> {
     for n in 0..=320 {
         let (result, lines) = lines_of(rt.alloc(), &TWO_SECTIONS[..n])?;
+        let (packet, offset, kind) = block_at(n);
+        // Four bytes of a block tell its type.
+        let block = if n.saturating_sub(offset) < 4 {
+            None
+        } else {
+            Some(kind)
+        };
         let wanted = match n {
-            0..=23 => Err(RunError::Capture(CaptureError::NotCapture)),
+            0..=23 => refused(CaptureError::NotCapture, packet, offset as u64, block),
             28 | 48 | 68 | 88 | 132 | 152 | 192 | 212 | 232 | 252 | 288 | 320 => Ok(()),
-            _ => Err(RunError::Capture(CaptureError::CutOff)),
+            _ => refused(CaptureError::CutOff, packet, offset as u64, block),
         };
         assert!(rt; result == wanted);
         let len = line_bytes(n);
@@ -99,34 +126,53 @@ fn with_bytes(
 #[test]
 fn each_refusal(rt: HostRuntime) -> Result<(), Fail> {
     let bad = CaptureError::BadBlock;
-    for (at, bytes, error, len) in [
+    for (at, bytes, error, len, (packet, offset, block)) in [
         // no kind of a section header
-        (0, b"\x0b".as_slice(), CaptureError::NotCapture, 0),
+        (
+            0,
+            b"\x0b".as_slice(),
+            CaptureError::NotCapture,
+            0,
+            (1, 0, None),
+        ),
         // no byte order magic
-        (8, b"\x4e".as_slice(), CaptureError::NotCapture, 0),
+        (
+            8,
+            b"\x4e".as_slice(),
+            CaptureError::NotCapture,
+            0,
+            (1, 0, Some(SECTION)),
+        ),
         // version 2
-        (12, b"\x02".as_slice(), bad, 0),
+        (12, b"\x02".as_slice(), bad, 0, (1, 0, Some(SECTION))),
         // another length at the end
-        (24, b"\x20".as_slice(), bad, 0),
+        (24, b"\x20".as_slice(), bad, 0, (1, 0, Some(SECTION))),
         // less than a block has
-        (4, b"\x08".as_slice(), bad, 0),
+        (4, b"\x08".as_slice(), bad, 0, (1, 0, Some(SECTION))),
         // no whole words
-        (32, b"\x15".as_slice(), bad, 0),
+        (32, b"\x15".as_slice(), bad, 0, (1, 28, Some(1))),
         // link type of Linux cooked captures
-        (36, b"\x71".as_slice(), CaptureError::LinkType(113), 0),
+        (
+            36,
+            b"\x71".as_slice(),
+            CaptureError::LinkType(113),
+            0,
+            (1, 28, Some(1)),
+        ),
         // 4 bytes above the limit
         (
             32,
             b"\x04\x00\x04".as_slice(),
             CaptureError::BlockTooLong(262_148),
             0,
+            (1, 28, Some(1)),
         ),
         // an interface that is not described
-        (96, b"\x02".as_slice(), bad, 0),
+        (96, b"\x02".as_slice(), bad, 0, (1, 88, Some(6))),
         // more bytes than the block has
-        (108, b"\x0d".as_slice(), bad, 0),
+        (108, b"\x0d".as_slice(), bad, 0, (1, 88, Some(6))),
         // a second section without byte order magic
-        (160, b"\x1b".as_slice(), bad, 34),
+        (160, b"\x1b".as_slice(), bad, 34, (3, 152, Some(SECTION))),
         // a simple packet of 4 bytes, and other blocks in place of the interfaces before it
         (
             192,
@@ -137,12 +183,19 @@ fn each_refusal(rt: HostRuntime) -> Result<(), Fail> {
                 .as_slice(),
             bad,
             34,
+            (3, 232, Some(3)),
         ),
         // a packet of the third interface of the file, in a section of two
-        (260, b"\x00\x00\x00\x02".as_slice(), bad, 51),
+        (
+            260,
+            b"\x00\x00\x00\x02".as_slice(),
+            bad,
+            51,
+            (4, 252, Some(6)),
+        ),
     ] {
         let (result, lines) = with_bytes(rt.alloc(), at, bytes)?;
-        assert!(rt; result == Err(RunError::Capture(error)));
+        assert!(rt; result == refused(error, packet, offset, block));
         assert!(rt; lines.len() == len);
     }
     Ok(())

@@ -1,7 +1,7 @@
 //! Classic captures. The files were written by scapy 2.5.0.
 ghost use Rattle.std.specs.Prelude.{◌+◌, ◌≤◌, length};
 
-use crate::lines::{LINES, lines_of};
+use crate::lines::{LINES, lines_of, refused};
 use captures::{CaptureError, RunError};
 use std::alloc::{AllocError, Global};
 use std::test::Fail;
@@ -71,13 +71,12 @@ fn each_byte_order_and_time_unit(rt: HostRuntime) -> Result<(), Fail> {
 fn each_front(rt: HostRuntime) -> Result<(), Fail> {
     for n in 0..=148 {
         let (result, lines) = lines_of(rt.alloc(), &BIG_MICROSECONDS[..n])?;
-        let cut = Err(RunError::Capture(CaptureError::CutOff));
         let (wanted, len) = match n {
-            0..=23 => (Err(RunError::Capture(CaptureError::NotCapture)), 0),
+            0..=23 => (refused(CaptureError::NotCapture, 1, 0, None), 0),
             24 => (Ok(()), 0),
-            25..=89 => (cut, 0),
+            25..=89 => (refused(CaptureError::CutOff, 1, 24, None), 0),
             90 => (Ok(()), 109),
-            91..=147 => (cut, 109),
+            91..=147 => (refused(CaptureError::CutOff, 2, 90, None), 109),
             _ => (Ok(()), 202),
         };
         assert!(rt; result == wanted);
@@ -101,21 +100,23 @@ fn with_bytes(
 
 #[test]
 fn each_refusal(rt: HostRuntime) -> Result<(), Fail> {
-    for (at, bytes, error, len) in [
+    for (at, bytes, error, len, packet, offset) in [
         // Another magic number.
-        (3, b"\xd5".as_slice(), CaptureError::NotCapture, 0),
+        (3, b"\xd5".as_slice(), CaptureError::NotCapture, 0, 1, 0),
         // Version 2.3.
-        (7, b"\x03".as_slice(), CaptureError::NotCapture, 0),
+        (7, b"\x03".as_slice(), CaptureError::NotCapture, 0, 1, 0),
         // Version 1.4.
-        (5, b"\x01".as_slice(), CaptureError::NotCapture, 0),
+        (5, b"\x01".as_slice(), CaptureError::NotCapture, 0, 1, 0),
         // The link type of Linux cooked captures.
-        (23, b"\x71".as_slice(), CaptureError::LinkType(113), 0),
+        (23, b"\x71".as_slice(), CaptureError::LinkType(113), 0, 1, 0),
         // 99,992 bytes of the second packet.
         (
             98,
             b"\x00\x01\x86\x98".as_slice(),
             CaptureError::FrameTooLong(99_992),
             109,
+            2,
+            90,
         ),
         // 99,991 bytes, which aren't there.
         (
@@ -123,10 +124,12 @@ fn each_refusal(rt: HostRuntime) -> Result<(), Fail> {
             b"\x00\x01\x86\x97".as_slice(),
             CaptureError::CutOff,
             109,
+            2,
+            90,
         ),
     ] {
         let (result, lines) = with_bytes(rt.alloc(), at, bytes)?;
-        assert!(rt; result == Err(RunError::Capture(error)));
+        assert!(rt; result == refused(error, packet, offset, None));
         assert!(rt; lines.len() == len);
     }
     Ok(())

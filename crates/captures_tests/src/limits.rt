@@ -1,7 +1,7 @@
 //! Blocks of least and greatest lengths, in a section with one Ethernet interface that cuts
 //! nothing.
-use crate::lines::lines_of;
-use captures::{CaptureError, RunError};
+use crate::lines::{lines_of, refused};
+use captures::CaptureError;
 use std::alloc::{AllocError, Global};
 use std::test::Fail;
 
@@ -35,12 +35,14 @@ fn with_block(alloc: Global, kind: u32, len: u32, words: &[u32]) -> Result<Vec<u
 
 #[test]
 fn each_length(rt: HostRuntime) -> Result<(), Fail> {
-    let bad = Err(RunError::Capture(CaptureError::BadBlock));
-    let too_long = Err(RunError::Capture(CaptureError::FrameTooLong(99_992)));
-    let block_too_long = Err(RunError::Capture(CaptureError::BlockTooLong(262_148)));
+    let bad = Err(CaptureError::BadBlock);
+    let too_long = Err(CaptureError::FrameTooLong(99_992));
+    let block_too_long = Err(CaptureError::BlockTooLong(262_148));
     for (kind, len, words, wanted, line_len) in [
         // The least that each kind has: 12 of any, 20 of an interface, 32 and 16 of packets; and 4
-        // bytes less.
+        // bytes less. An obsolete packet has as many as an enhanced one.
+        (2, 32, [0, 0, 0, 0, 0].as_slice(), Ok(()), 0),
+        (2, 28, [0, 0, 0, 0].as_slice(), bad, 0),
         (5, 12, [0u32, 0, 0, 0].as_slice(), Ok(()), 0),
         (1, 16, [1].as_slice(), bad, 0),
         (6, 32, [0, 0, 0, 0, 0].as_slice(), Ok(()), 0),
@@ -54,6 +56,25 @@ fn each_length(rt: HostRuntime) -> Result<(), Fail> {
         (3, 20, [5, 0].as_slice(), bad, 0),
         (6, 36, [0, 0, 0, 4, 4, 0].as_slice(), Ok(()), 17),
         (6, 36, [0, 0, 0, 5, 5, 0].as_slice(), bad, 0),
+        // The interface of an obsolete packet is in the lower half, and any number of dropped
+        // packets may stand in the upper.
+        (
+            2,
+            36,
+            [0xffff_0000, 0, 0, 4, 4, 0x0403_0201].as_slice(),
+            Ok(()),
+            17,
+        ),
+        (2, 36, [1, 0, 0, 4, 4, 0].as_slice(), bad, 0),
+        (2, 36, [0, 0, 0, 5, 5, 0].as_slice(), bad, 0),
+        (2, 262_148, [].as_slice(), block_too_long, 0),
+        (
+            2,
+            100_024,
+            [0, 0, 0, 99_992, 99_992].as_slice(),
+            too_long,
+            0,
+        ),
         // As long as a line can hold, and one byte more.
         (
             6,
@@ -81,6 +102,11 @@ fn each_length(rt: HostRuntime) -> Result<(), Fail> {
     ] {
         let file = with_block(rt.alloc(), kind, len, words)?;
         let (result, lines) = lines_of(rt.alloc(), file.as_slice())?;
+        // The block stands behind the 48 bytes of the front.
+        let wanted = match wanted {
+            Ok(()) => Ok(()),
+            Err(error) => refused(error, 1, 48, Some(kind)),
+        };
         assert!(rt; result == wanted);
         assert!(rt; lines.len() == line_len);
     }
@@ -93,8 +119,8 @@ fn front_of_a_bad_section(rt: HostRuntime) -> Result<(), Fail> {
     let mut file = *FRONT;
     file[4] = 7;
     let (result, _) = lines_of(rt.alloc(), &file[..20])?;
-    assert!(rt; result == Err(RunError::Capture(CaptureError::NotCapture)));
+    assert!(rt; result == refused(CaptureError::NotCapture, 1, 0, Some(0x0a0d_0d0a)));
     let (result, _) = lines_of(rt.alloc(), &file[..24])?;
-    assert!(rt; result == Err(RunError::Capture(CaptureError::BadBlock)));
+    assert!(rt; result == refused(CaptureError::BadBlock, 1, 0, Some(0x0a0d_0d0a)));
     Ok(())
 }

@@ -1,5 +1,6 @@
 //! Blocks that are skipped and longer than what a run holds, in a section with one Ethernet
 //! interface. The files are made by hand from the format's description.
+use crate::lines::refused;
 use captures::{CaptureError, RunError, run};
 use std::alloc::{AllocError, Global};
 use std::io::{self, Read};
@@ -100,7 +101,7 @@ fn long_blocks_that_are_refused(rt: HostRuntime) -> Result<(), Fail> {
         let file = with_long_block(rt.alloc(), kind, len, second)?;
         for size in [3, 262_144] {
             let (result, lines) = lines_by_pieces(rt.alloc(), file.as_slice(), size)?;
-            assert!(rt; result == Err(RunError::Capture(error)));
+            assert!(rt; result == refused(error, 2, 68, Some(kind)));
             assert!(rt; lines.as_slice() == b"frame 0 abcd\n".as_slice());
         }
     }
@@ -111,9 +112,10 @@ fn long_blocks_that_are_refused(rt: HostRuntime) -> Result<(), Fail> {
 #[test]
 fn long_block_cut_off(rt: HostRuntime) -> Result<(), Fail> {
     let file = with_long_block(rt.alloc(), CUSTOM, 600_000, 600_000)?;
-    let cut = Err(RunError::Capture(CaptureError::CutOff));
+    let cut = refused(CaptureError::CutOff, 2, 68, Some(CUSTOM));
     for (len, wanted) in [
-        (69, cut),
+        // One byte tells no type.
+        (69, refused(CaptureError::CutOff, 2, 68, None)),
         (80, cut),
         (262_144, cut),
         (262_212, cut),

@@ -2,7 +2,7 @@
 use crate::blocks::{TWO_SECTIONS, TWO_SECTIONS_LINES};
 use crate::classic::LITTLE_NANOSECONDS;
 use crate::lines::LINES;
-use captures::{CaptureError, RunError, run, write_capture};
+use captures::{CaptureError, Place, RunError, run, write_capture};
 use std::io::{self, ErrorKind, Read, Write};
 use std::test::Fail;
 
@@ -117,14 +117,29 @@ fn writer_without_room(rt: HostRuntime) -> Result<(), Fail> {
 
 #[test]
 fn texts_of_errors(rt: HostRuntime) -> Result<(), Fail> {
-    for (error, text) in [
-        (CaptureError::LinkType(113), "link type 113 is not Ethernet"),
+    for (error, block, text) in [
+        (
+            CaptureError::LinkType(113),
+            None,
+            "packet 1, byte 48: link type 113 is not Ethernet",
+        ),
         (
             CaptureError::BlockTooLong(262_148),
-            "a block of 262148 bytes is too long",
+            Some(6),
+            "packet 1, byte 48, block type 0x6 (enhanced packet): a block of 262148 bytes is too long",
+        ),
+        (
+            CaptureError::BadBlock,
+            Some(7),
+            "packet 1, byte 48, block type 0x7: a block is not well made",
         ),
     ] {
-        let told = format!(in rt.alloc(); "{}", RunError::Capture(error))?;
+        let place = Place {
+            packet: 1,
+            offset: 48,
+            block,
+        };
+        let told = format!(in rt.alloc(); "{}", RunError::Capture(error, place))?;
         assert!(rt; told.as_str() == text);
     }
     Ok(())

@@ -1,5 +1,6 @@
 //! Runs of which one read fails or gives nothing, before and after the last byte of each header and
 //! packet, and runs of few reads. Each other read gives a byte.
+use crate::lines::refused;
 use crate::pieces::ByteReader;
 use captures::device::ReaderWriter;
 use captures::{CaptureError, RunError, run, run_over, write_capture, write_capture_over};
@@ -73,9 +74,10 @@ fn lines_of(n: usize) -> &'static [u8] {
 // What a run answers to a front of the capture.
 fn end_of_capture(n: usize) -> Result<(), RunError> {
     match n {
-        0..=23 => Err(RunError::Capture(CaptureError::NotCapture)),
+        0..=23 => refused(CaptureError::NotCapture, 1, 0, None),
         24 | 41 | 59 => Ok(()),
-        _ => Err(RunError::Capture(CaptureError::CutOff)),
+        25..=40 => refused(CaptureError::CutOff, 1, 24, None),
+        _ => refused(CaptureError::CutOff, 2, 41, None),
     }
 }
 

@@ -1,7 +1,8 @@
 //! Bytes out of digits.
-ghost use Rattle.std.specs.Prelude.{◌≡◌, ◌≢◌, ◌*◌, ◌<◌, ◌≤◌, length, true, false, MatchResult};
+ghost use Rattle.std.specs.Prelude.{◌≡◌, ◌≢◌, ◌+◌, ◌*◌, ◌/◌, ◌%◌, ◌<◌, ◌≤◌, ◌++◌, length, take};
+ghost use Rattle.std.specs.Prelude.{true, false, MatchResult};
 ghost use Rattle.std.specs.List.{AllPass};
-ghost use Rattle.hex.specs.Hex.{decode_sized, is_hex_digit};
+ghost use Rattle.hex.specs.Hex.{decode_of, decode_sized, is_hex_digit};
 ghost use Rattle.digits.specs.Digits.{AreDecoded};
 
 use crate::lanes::{BLOCK_LEN, are_digit_values, block_of, bytes_of, maximum, values_of};
@@ -46,6 +47,20 @@ pub fn decode(digits: &[u8], bytes: &mut [u8]) -> bool
         return decode_short(digits, bytes);
     }
     decode_blocks(digits, bytes)
+}
+
+/// Puts the bytes of an even run of digits into `room`, behind its first `at` bytes, and tells
+/// whether it could: whether there is no other byte among them. Where there is one, what then stands
+/// behind these first bytes is not specified.
+pub fn decode_at(digits: &[u8], room: &mut [u8], at: usize) -> bool
+    requires even { length digits.now % 2 ≡ 0 }
+    requires fits { at + length digits.now / 2 ≤ length room.old }
+    ensures { MatchResult (decode_of digits.now)
+        (λ value. (result ≡ true)
+        × (take (at + length digits.now / 2) room.new ≡ take at room.old ++ value))
+        (λ _. result ≡ false) }
+{
+    decode(digits, &mut room[at..at + digits.len() / 2])
 }
 
 // Block by block. The last block ends with the text, so it may overlap the one before it.

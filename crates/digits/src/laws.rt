@@ -1,7 +1,7 @@
 //! Laws of digits: the contract of each function is the law, and its body is empty.
 
-ghost use Rattle.std.specs.Prelude.{◌≡◌, ℕ, List, [], ◌∷◌, codes, length};
-ghost use Rattle.hex.specs.Hex.{IsBytes, decode_sized, encode_lower};
+ghost use Rattle.std.specs.Prelude.{◌≡◌, ℕ, List, [], ◌∷◌, ◌++◌, codes, length};
+ghost use Rattle.hex.specs.Hex.{IsBytes, decode_of, decode_sized, encode_lower};
 ghost use Rattle.hex.specs.declared.error.FromHexError.TheVariants.{InvalidHexCharacter, OddLength};
 ghost use Rattle.hex.specs.declared.error.FromHexError.TheVariants.{InvalidStringLength};
 
@@ -9,6 +9,12 @@ ghost use Rattle.hex.specs.declared.error.FromHexError.TheVariants.{InvalidStrin
 pub fn digits_read_back()
     ensures { (bytes : List ℕ) → IsBytes bytes
         → decode_sized (encode_lower bytes) (length bytes) ≡ Ok bytes }
+{}
+
+/// Texts of digits in a row stand for their bytes in a row.
+pub fn texts_are_joined()
+    ensures { (a b x y : List ℕ) → decode_of a ≡ Ok x → decode_of b ≡ Ok y
+        → decode_of (a ++ b) ≡ Ok (x ++ y) }
 {}
 
 /// Some digits and their bytes, and some texts that are refused, one for each error.

@@ -6,7 +6,7 @@ mod encoding;
 mod lanes;
 pub mod laws;
 
-pub use decoding::{decode, decode_to_slice};
+pub use decoding::{decode, decode_at, decode_to_slice};
 pub use encoding::encode;
 
 #[cfg(test)]

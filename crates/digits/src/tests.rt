@@ -1,7 +1,7 @@
 //! Digits at every length, and at values from outside.
 ghost use Rattle.std.specs.Prelude.{◌*◌, ◌<◌, ◌≤◌};
 
-use crate::{decode, decode_to_slice, encode};
+use crate::{decode, decode_at, decode_to_slice, encode};
 use hex::FromHexError;
 
 // The SHA-256 (FIPS 180-4) of no bytes.
@@ -110,4 +110,15 @@ fn other_lengths(rt: HostRuntime) {
     assert!(rt; decode_to_slice(&DIGITS[..63], &mut bytes) == Err(FromHexError::OddLength));
     assert!(rt; !decode(&DIGITS[..1], &mut []));
     assert!(rt; bytes == [7u8; 31]);
+}
+
+// The text of RFC 4648 in two pieces.
+#[test]
+fn texts_in_a_row(rt: HostRuntime) {
+    let mut bytes = [0u8; 6];
+    assert!(rt; decode_at(b"666F", &mut bytes, 0));
+    assert!(rt; decode_at(b"6F626172", &mut bytes, 2));
+    assert!(rt; &bytes == b"foobar");
+    assert!(rt; !decode_at(b"0g", &mut bytes, 5));
+    assert!(rt; &bytes[..5] == b"fooba".as_slice());
 }

@@ -109,6 +109,10 @@ fn ip_number_constants(rt: HostRuntime) {
     for (value, number) in from_0.iter().enumerate() {
         assert!(rt; usize::from(number.0) == value);
     }
+}
+
+#[test]
+fn ip_number_constants_from_100(rt: HostRuntime) {
     let from_100 = [
         IpNumber::GMTP,
         IpNumber::IFMP,
@@ -157,8 +161,11 @@ fn ip_number_constants(rt: HostRuntime) {
     for (place, number) in from_100.iter().enumerate() {
         assert!(rt; usize::from(number.0) == 100 + place);
     }
-    assert!(rt; IpNumber::EXPERIMENTAL_AND_TESTING_0.0 == 253);
-    assert!(rt; IpNumber::EXPERIMENTAL_AND_TESTING_1.0 == 254);
+    let testing = (
+        IpNumber::EXPERIMENTAL_AND_TESTING_0.0,
+        IpNumber::EXPERIMENTAL_AND_TESTING_1.0,
+    );
+    assert!(rt; testing == (253, 254));
 }
 
 // All numbers against the registry's list of IPv6 extension header types.
@@ -166,22 +173,22 @@ fn ip_number_constants(rt: HostRuntime) {
 fn ext_header_numbers(rt: HostRuntime) {
     let registered = [0, 43, 44, 50, 51, 60, 135, 139, 140, 253, 254];
     for number in 0..=255u8 {
-        assert_eq!(rt;
-            IpNumber(number).is_ipv6_ext_header_value(),
-            registered.contains(&number),
-            "{number}"
-        );
+        let found = IpNumber(number).is_ipv6_ext_header_value();
+        assert!(rt; found == registered.contains(&number), "{number}");
     }
 }
 
 #[test]
 fn ip_number_calls(rt: HostRuntime) -> Result<(), Fail> {
-    assert!(rt; IpNumber::MOBILITY_HEADER.is_ipv6_ext_header_value());
-    assert!(rt; !IpNumber::IPV6_ICMP.is_ipv6_ext_header_value());
-    assert!(rt; ip_number::UDP == IpNumber::from(17));
-    assert!(rt; u8::from(ip_number::AUTH) == 51);
-    assert!(rt; IpTrafficClass::default() == IpNumber(0));
-    assert!(rt; IpNumber::ICMP < IpNumber::TCP);
+    let answers = (
+        IpNumber::MOBILITY_HEADER.is_ipv6_ext_header_value(),
+        IpNumber::IPV6_ICMP.is_ipv6_ext_header_value(),
+        IpNumber::from(17),
+        u8::from(ip_number::AUTH),
+        IpTrafficClass::default(),
+        IpNumber::ICMP < IpNumber::TCP,
+    );
+    assert!(rt; answers == (true, false, ip_number::UDP, 51, IpNumber(0), true));
     assert!(rt; format!(in rt.alloc(); "{}", IpNumber::UDP)?.as_str() == "17");
     Ok(())
 }

@@ -9,8 +9,11 @@ fn checksum(rt: &impl Abort, text: &[u8]) -> u16 {
     let sum = Sum16BitWords::new().add_slice(text).ones_complement();
     let narrow = u32_16bit_word::add_slice(0, text);
     let wide = u64_16bit_word::add_slice(0, text);
-    assert!(rt; u32_16bit_word::ones_complement(narrow) == sum);
-    assert!(rt; u64_16bit_word::ones_complement(wide) == sum);
+    let found = (
+        u32_16bit_word::ones_complement(narrow),
+        u64_16bit_word::ones_complement(wide),
+    );
+    assert!(rt; found == (sum, sum));
     sum.swap_bytes()
 }
 
@@ -32,16 +35,24 @@ fn plain_checksum(text: &[u8]) -> u16 {
 // of them and 0100 to 9190.
 #[test]
 fn sums_of_one_byte_repeated(rt: HostRuntime) {
-    for ones in [&[0xff; 64][..], &[0xff; 256]] {
-        let sum = Sum16BitWords::new().add_slice(ones);
-        assert!(rt; sum.ones_complement() == 0);
-        assert!(rt; sum.to_ones_complement_with_no_zero() == 0xffff);
+    let ones = [0xff; 256];
+    for len in [64usize, 256] {
+        let sum = Sum16BitWords::new().add_slice(&ones[..len]);
+        let found = (sum.ones_complement(), sum.to_ones_complement_with_no_zero());
+        assert!(rt; found == (0, 0xffff));
     }
-    assert!(rt; checksum(&rt, &[0; 64]) == 0xffff);
-    assert!(rt; checksum(&rt, &[0; 256]) == 0xffff);
     assert!(rt; Sum16BitWords::new().add_slice(&[1; 33]).ones_complement() == 0xefee);
-    assert!(rt; checksum(&rt, &[1; 33]) == 0xeeef);
-    assert!(rt; checksum(&rt, &[1; 289]) == 0x6e6f);
+}
+
+#[test]
+fn checksums_of_one_byte_repeated(rt: HostRuntime) {
+    let found = (
+        checksum(&rt, &[0; 64]),
+        checksum(&rt, &[0; 256]),
+        checksum(&rt, &[1; 33]),
+        checksum(&rt, &[1; 289]),
+    );
+    assert!(rt; found == (0xffff, 0xffff, 0xeeef, 0x6e6f));
 }
 
 // Texts of 1, 2, 3, .., with 0 behind 255, whole and cut at every even place.
@@ -64,19 +75,23 @@ fn sums_of_every_length(rt: HostRuntime) {
     }
 }
 
-fn repeated(rt: &impl Abort, alloc: Global, byte: u8, len: usize) -> Vec<u8> {
+// The checksum of a text of one byte, repeated.
+fn repeated(rt: &impl Abort, alloc: Global, byte: u8, len: usize) -> u16 {
     let Ok(bytes) = vec![in alloc; byte; len] else {
         panic!(rt; "no memory");
     };
-    bytes
+    checksum(rt, &bytes)
 }
 
 // Words ffff and a last ff00 leave ff00, by residue; 65552 words 0101 and 0100 leave 1211. Lanes
 // of 32 bits would wrap in the last text.
 #[test]
 fn sums_of_long_texts(rt: HostRuntime) {
-    assert!(rt; checksum(&rt, &repeated(&rt, rt.alloc(), 0xff, 65535)) == 0x00ff);
-    assert!(rt; checksum(&rt, &repeated(&rt, rt.alloc(), 0xff, 131105)) == 0x00ff);
-    assert!(rt; checksum(&rt, &repeated(&rt, rt.alloc(), 1, 131105)) == 0xedee);
-    assert!(rt; checksum(&rt, &repeated(&rt, rt.alloc(), 0xff, 2097281)) == 0x00ff);
+    let found = (
+        repeated(&rt, rt.alloc(), 0xff, 65535),
+        repeated(&rt, rt.alloc(), 0xff, 131105),
+        repeated(&rt, rt.alloc(), 1, 131105),
+        repeated(&rt, rt.alloc(), 0xff, 2097281),
+    );
+    assert!(rt; found == (0x00ff, 0x00ff, 0xedee, 0x00ff));
 }

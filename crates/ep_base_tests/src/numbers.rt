@@ -43,58 +43,133 @@ fn refused_numbers(rt: HostRuntime) {
     );
 }
 
-#[test]
-fn accepted_numbers(rt: HostRuntime) -> Result<(), Fail> {
-    assert!(rt; IpFragOffset::try_new(8191)?.byte_offset() == 65528);
-    assert!(rt; u16::from(IpFragOffset::try_from(7)?) == 7);
-    assert!(rt; IpDscp::try_new(63)? == IpDscp::MAX);
-    assert!(rt; Ipv4Dscp::try_from(46)?.value() == 46);
-    assert!(rt; Ipv6FlowLabel::try_from(1048575)?.value() == Ipv6FlowLabel::MAX_U32);
-    assert!(rt; u32::from(Ipv6FlowLabel::ZERO) == 0);
-    assert!(rt; IpEcn::try_from(3)? == IpEcn::CongestionExperienced);
-    assert!(rt; u8::from(Ipv4Ecn::Ect0) == 2);
-    assert!(rt; IpFragOffset::default() == IpFragOffset::ZERO);
-    assert!(rt; IpDscp::default() == IpDscp::CS0);
-    assert!(rt; Ipv6FlowLabel::default() == Ipv6FlowLabel::ZERO);
-    assert!(rt; IpEcn::default() == IpEcn::ZERO);
-    assert!(rt; IpDscp::CS1 < IpDscp::AF11);
-    Ok(())
+// The offset in bytes of one that `try_new` takes, and the number of one that `try_from` takes.
+fn byte_offset(value: u16) -> Option<u16> {
+    match IpFragOffset::try_new(value) {
+        Ok(offset) => Some(offset.byte_offset()),
+        Err(_) => None,
+    }
+}
+
+fn frag_offset(value: u16) -> Option<u16> {
+    match IpFragOffset::try_from(value) {
+        Ok(offset) => Some(u16::from(offset)),
+        Err(_) => None,
+    }
+}
+
+fn dscp(value: u8) -> Option<u8> {
+    match Ipv4Dscp::try_from(value) {
+        Ok(dscp) => Some(dscp.value()),
+        Err(_) => None,
+    }
+}
+
+fn flow_label(value: u32) -> Option<u32> {
+    match Ipv6FlowLabel::try_from(value) {
+        Ok(label) => Some(label.value()),
+        Err(_) => None,
+    }
 }
 
 #[test]
-fn middle_values(rt: HostRuntime) -> Result<(), Fail> {
+fn accepted_numbers(rt: HostRuntime) {
+    let found = (
+        byte_offset(8191),
+        frag_offset(7),
+        dscp(46),
+        flow_label(1048575),
+    );
+    assert!(rt; found == (Some(65528), Some(7), Some(46), Some(Ipv6FlowLabel::MAX_U32)));
+    let found = (IpDscp::try_new(63), IpEcn::try_from(3));
+    assert!(rt; found == (Ok(IpDscp::MAX), Ok(IpEcn::CongestionExperienced)));
+}
+
+#[test]
+fn default_numbers(rt: HostRuntime) {
+    let found = (
+        IpFragOffset::default(),
+        IpDscp::default(),
+        Ipv6FlowLabel::default(),
+        IpEcn::default(),
+    );
+    let zero = (
+        IpFragOffset::ZERO,
+        IpDscp::CS0,
+        Ipv6FlowLabel::ZERO,
+        IpEcn::ZERO,
+    );
+    assert!(rt; found == zero);
+    assert!(rt; (u32::from(Ipv6FlowLabel::ZERO), u8::from(Ipv4Ecn::Ect0)) == (0, 2));
+}
+
+#[test]
+fn middle_values(rt: HostRuntime) {
+    let label = match Ipv6FlowLabel::try_new(0xabcde) {
+        Ok(label) => u32::from(label),
+        Err(_) => 0,
+    };
+    let numbers = (
+        frag_offset(1234),
+        byte_offset(1234),
+        label,
+        u8::from(IpDscp::EF),
+        u8::from(IpEcn::Ect1),
+        u16::from(EtherType(0x1234)),
+    );
+    assert!(rt; numbers == (Some(1234), Some(9872), 703710, 46, 1, 4660));
+}
+
+#[test]
+fn texts_of_numbers(rt: HostRuntime) -> Result<(), Fail> {
     let offset = IpFragOffset::try_new(1234)?;
     let label = Ipv6FlowLabel::try_new(0xabcde)?;
-    assert!(rt; u16::from(offset) == 1234);
-    assert!(rt; offset.byte_offset() == 9872);
-    assert!(rt; u32::from(label) == 703710);
-    assert!(rt; u8::from(IpDscp::EF) == 46);
-    assert!(rt; u8::from(IpEcn::Ect1) == 1);
-    assert!(rt; u16::from(EtherType(0x1234)) == 4660);
     let text = format!(in rt.alloc(); "{} {} {offset} {label}", IpDscp::EF, IpEcn::Ect0)?;
     assert!(rt; text.as_str() == "46 2 1234 703710");
     Ok(())
 }
 
+// Whether the first offset is below the second one, and so for labels.
+fn offsets_ascend(a: u16, b: u16) -> bool {
+    match (IpFragOffset::try_new(a), IpFragOffset::try_new(b)) {
+        (Ok(a), Ok(b)) => a < b,
+        _ => false,
+    }
+}
+
+fn labels_descend(a: u32, b: u32) -> bool {
+    match (Ipv6FlowLabel::try_new(a), Ipv6FlowLabel::try_new(b)) {
+        (Ok(a), Ok(b)) => a > b,
+        _ => false,
+    }
+}
+
 #[test]
-fn orders_and_copies(rt: HostRuntime) -> Result<(), Fail> {
-    assert!(rt; IpFragOffset::try_new(7)? < IpFragOffset::try_new(8)?);
-    assert!(rt; Ipv6FlowLabel::try_new(256)? > Ipv6FlowLabel::try_new(255)?);
-    assert!(rt; EtherType::IPV4 < EtherType::ARP);
-    assert!(rt; IpEcn::Ect1 < IpEcn::Ect0);
-    assert!(rt; IpDscp::EF.clone()? == IpDscp::EF);
-    assert!(rt; LenSource::UdpHeaderLen.clone()? == LenSource::UdpHeaderLen);
-    Ok(())
+fn orders_and_copies(rt: HostRuntime) {
+    let orders = [
+        offsets_ascend(7, 8),
+        labels_descend(256, 255),
+        EtherType::IPV4 < EtherType::ARP,
+        IpEcn::Ect1 < IpEcn::Ect0,
+        IpDscp::CS1 < IpDscp::AF11,
+    ];
+    assert!(rt; orders == [true; 5]);
+    let dscp: Result<_, _> = IpDscp::EF.clone();
+    let len_source: Result<_, _> = LenSource::UdpHeaderLen.clone();
+    assert!(rt; (dscp, len_source) == (Ok(IpDscp::EF), Ok(LenSource::UdpHeaderLen)));
 }
 
 #[test]
 fn order_of_sources_of_lengths(rt: HostRuntime) {
-    assert!(rt; LenSource::Slice < LenSource::MacsecShortLength);
-    assert!(rt; LenSource::MacsecShortLength < LenSource::Ipv4HeaderTotalLen);
-    assert!(rt; LenSource::Ipv4HeaderTotalLen < LenSource::Ipv6HeaderPayloadLen);
-    assert!(rt; LenSource::Ipv6HeaderPayloadLen < LenSource::UdpHeaderLen);
-    assert!(rt; LenSource::UdpHeaderLen < LenSource::TcpHeaderLen);
-    assert!(rt; LenSource::TcpHeaderLen < LenSource::ArpAddrLengths);
+    let orders = [
+        LenSource::Slice < LenSource::MacsecShortLength,
+        LenSource::MacsecShortLength < LenSource::Ipv4HeaderTotalLen,
+        LenSource::Ipv4HeaderTotalLen < LenSource::Ipv6HeaderPayloadLen,
+        LenSource::Ipv6HeaderPayloadLen < LenSource::UdpHeaderLen,
+        LenSource::UdpHeaderLen < LenSource::TcpHeaderLen,
+        LenSource::TcpHeaderLen < LenSource::ArpAddrLengths,
+    ];
+    assert!(rt; orders == [true; 6]);
 }
 
 #[test]
@@ -127,14 +202,23 @@ fn known_code_points(rt: HostRuntime) {
     for (known, value) in table {
         assert!(rt; u8::from(known) == value);
     }
+}
+
+#[test]
+fn known_code_points_of_numbers(rt: HostRuntime) {
     let forwarding = IpDscp::from(IpDscpKnown::ExpeditedForwarding);
-    assert!(rt; forwarding == IpDscp::EF);
-    assert!(rt; IpDscpKnown::try_from(forwarding) == Ok(IpDscpKnown::ExpeditedForwarding));
-    assert!(rt;
-        IpDscpKnown::try_from_ip_dscp(IpDscp::MAX) == Err(IpDscpUnknownValueError { value: 63 })
+    let found = (
+        forwarding,
+        IpDscpKnown::try_from(forwarding),
+        IpDscpKnown::try_from_ip_dscp(IpDscp::MAX),
     );
-    assert!(rt; IpDscpKnown::ClassSelector0 < IpDscpKnown::LowerEffort);
-    assert!(rt; IpDscpKnown::LowerEffort < IpDscpKnown::ClassSelector1);
+    let unknown = Err(IpDscpUnknownValueError { value: 63 });
+    assert!(rt; found == (IpDscp::EF, Ok(IpDscpKnown::ExpeditedForwarding), unknown));
+    let orders = [
+        IpDscpKnown::ClassSelector0 < IpDscpKnown::LowerEffort,
+        IpDscpKnown::LowerEffort < IpDscpKnown::ClassSelector1,
+    ];
+    assert!(rt; orders == [true; 2]);
 }
 
 #[test]
@@ -152,7 +236,10 @@ fn ether_types(rt: HostRuntime) {
     for (ether_type, value) in table {
         assert!(rt; u16::from(ether_type) == value);
     }
-    assert!(rt; EtherType::from(0x86dd) == EtherType::IPV6);
-    assert!(rt; ether_type::ARP.0 == 0x0806);
-    assert!(rt; EtherType::default().0 == 0);
+    let found = (
+        EtherType::from(0x86dd),
+        ether_type::ARP.0,
+        EtherType::default().0,
+    );
+    assert!(rt; found == (EtherType::IPV6, 0x0806, 0));
 }

@@ -23,32 +23,43 @@ fn read_kind(
     }
 }
 
+// Whether these headers of `CHAIN` are read.
+fn is_chain(
+    found: Result<(Ipv6Extensions, IpNumber), Result<HeaderError, ErrorKind>>,
+    headers: &Ipv6Extensions,
+) -> bool {
+    match found {
+        Ok((read, number)) => &read == headers && number == IpNumber(17),
+        Err(_) => false,
+    }
+}
+
 #[test]
 fn a_chain_is_read_in_pieces(rt: HostRuntime) {
     let bytes = CHAIN;
     let (headers, _, _, _) = Ipv6Extensions::from_slice_lax(IpNumber(0), &bytes);
     for piece in [1usize, 5, 100] {
         let mut reader = reader_of(&bytes, piece);
-        match read_kind(&mut reader, 0) {
-            Ok((read, number)) => {
-                assert!(rt; read == headers);
-                assert!(rt; number == IpNumber(17));
-            }
-            Err(_) => panic!(rt; "refused"),
-        }
-        assert!(rt; reader.rest == [0xaa, 0xbb].as_slice());
+        let is_read = is_chain(read_kind(&mut reader, 0), &headers);
+        assert!(rt; (is_read, reader.rest) == (true, &bytes[72..]));
+    }
+}
+
+// Why a chain was not read, if it was not.
+fn why_unread(reader: &mut PieceReader, first: u8) -> Option<Result<HeaderError, ErrorKind>> {
+    match read_kind(reader, first) {
+        Ok(_) => None,
+        Err(fault) => Some(fault),
     }
 }
 
 #[test]
 fn each_read_of_a_chain_fails(rt: HostRuntime) {
     let bytes = CHAIN;
+    let reset = ErrorKind::ConnectionReset;
     for call in 0..72usize {
-        let mut reader = failing_reader(&bytes, 1, call, ErrorKind::ConnectionReset);
-        match read_kind(&mut reader, 0) {
-            Ok(_) => panic!(rt; "read"),
-            Err(kind) => assert!(rt; kind == Err(ErrorKind::ConnectionReset)),
-        }
+        let mut reader = failing_reader(&bytes, 1, call, reset);
+        assert!(rt; why_unread(&mut reader, 0) == Some(Err(reset)));
     }
 }
 
@@ -57,75 +68,63 @@ fn a_reader_ends_within_a_chain(rt: HostRuntime) {
     let bytes = CHAIN;
     for len in 0..72usize {
         let mut reader = reader_of(&bytes[..len], 100);
-        match read_kind(&mut reader, 0) {
-            Ok(_) => panic!(rt; "read"),
-            Err(kind) => assert!(rt; kind == Err(ErrorKind::UnexpectedEof)),
-        }
+        assert!(rt; why_unread(&mut reader, 0) == Some(Err(ErrorKind::UnexpectedEof)));
     }
 }
 
 #[test]
 fn faults_of_a_chain_that_is_read(rt: HostRuntime) {
-    let mut reader = reader_of(&[0u8; 16], 100);
-    match read_kind(&mut reader, 60) {
-        Ok(_) => panic!(rt; "read"),
-        Err(fault) => assert!(rt; fault == Ok(HeaderError::HopByHopNotAtStart)),
+    let mut misplaced = reader_of(&[0u8; 16], 100);
+    let found = (why_unread(&mut misplaced, 60), misplaced.rest.len());
+    assert!(rt; found == (Some(Ok(HeaderError::HopByHopNotAtStart)), 8));
+    let mut zero = reader_of(&[0u8; 16], 100);
+    let found = (why_unread(&mut zero, 51), zero.rest.len());
+    let fault = HeaderError::IpAuth(ip_auth::HeaderError::ZeroPayloadLen);
+    assert!(rt; found == (Some(Ok(fault)), 4));
+}
+
+// How the header of IPv4 was read: its length and the number behind it, the kind of a failed read,
+// or the fault.
+fn ipv4_kind(
+    reader: &mut PieceReader,
+    first: u8,
+) -> Result<(usize, IpNumber), Result<ip_auth::HeaderError, ErrorKind>> {
+    match Ipv4Extensions::read(reader, IpNumber(first)) {
+        Ok((headers, number)) => Ok((headers.header_len(), number)),
+        Err(ip_auth::HeaderReadError::Io(error)) => Err(Err(error.kind())),
+        Err(ip_auth::HeaderReadError::Content(fault)) => Err(Ok(fault)),
     }
-    assert!(rt; reader.rest.len() == 8);
-    let mut reader = reader_of(&[0u8; 16], 100);
-    let zero = HeaderError::IpAuth(ip_auth::HeaderError::ZeroPayloadLen);
-    match read_kind(&mut reader, 51) {
-        Ok(_) => panic!(rt; "read"),
-        Err(fault) => assert!(rt; fault == Ok(zero)),
-    }
-    assert!(rt; reader.rest.len() == 4);
 }
 
 #[test]
 fn the_header_of_ipv4_is_read(rt: HostRuntime) {
     let bytes = AUTH;
     let mut reader = reader_of(&bytes, 1);
-    match Ipv4Extensions::read(&mut reader, IpNumber(51)) {
-        Ok((headers, number)) => {
-            assert!(rt; headers.header_len() == 16);
-            assert!(rt; number == IpNumber(6));
-        }
-        Err(_) => panic!(rt; "refused"),
-    }
-    assert!(rt; reader.rest == [0xaa].as_slice());
+    let found = (ipv4_kind(&mut reader, 51), reader.rest);
+    assert!(rt; found == (Ok((16, IpNumber(6))), &bytes[16..]));
+}
+
+#[test]
+fn another_number_than_51_leaves_a_reader(rt: HostRuntime) {
+    let bytes = AUTH;
     let mut reader = reader_of(&bytes, 1);
-    match Ipv4Extensions::read(&mut reader, IpNumber(6)) {
-        Ok((headers, number)) => {
-            assert!(rt; headers.is_empty());
-            assert!(rt; number == IpNumber(6));
-        }
-        Err(_) => panic!(rt; "refused"),
-    }
-    assert!(rt; reader.calls == 0);
+    let found = (ipv4_kind(&mut reader, 6), reader.calls);
+    assert!(rt; found == (Ok((0, IpNumber(6))), 0));
 }
 
 #[test]
 fn each_read_of_the_header_of_ipv4_fails(rt: HostRuntime) {
     let bytes = AUTH;
+    let reset = ErrorKind::ConnectionReset;
     for call in 0..16usize {
-        let mut reader = failing_reader(&bytes, 1, call, ErrorKind::ConnectionReset);
-        match Ipv4Extensions::read(&mut reader, IpNumber(51)) {
-            Err(ip_auth::HeaderReadError::Io(error)) => {
-                assert!(rt; error.kind() == ErrorKind::ConnectionReset);
-            }
-            _ => panic!(rt; "no failed read"),
-        }
+        let mut reader = failing_reader(&bytes, 1, call, reset);
+        assert!(rt; ipv4_kind(&mut reader, 51) == Err(Err(reset)));
     }
 }
 
 #[test]
 fn a_length_field_of_zero_behind_ipv4_is_read(rt: HostRuntime) {
     let mut reader = reader_of(&[0; 16], 100);
-    match Ipv4Extensions::read(&mut reader, IpNumber(51)) {
-        Err(ip_auth::HeaderReadError::Content(fault)) => {
-            assert!(rt; fault == ip_auth::HeaderError::ZeroPayloadLen);
-        }
-        _ => panic!(rt; "no fault"),
-    }
-    assert!(rt; reader.rest.len() == 4);
+    let found = (ipv4_kind(&mut reader, 51), reader.rest.len());
+    assert!(rt; found == (Err(Ok(ip_auth::HeaderError::ZeroPayloadLen)), 4));
 }

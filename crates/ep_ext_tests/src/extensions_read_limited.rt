@@ -13,9 +13,9 @@ use ep_ext::{Ipv4Extensions, Ipv6Extensions};
 use std::io::ErrorKind;
 use std::test::*;
 
-// Why headers were not read.
+/// Why headers were not read.
 #[derive(Clone, Copy, Debug, PartialEq, Eq)]
-enum Refusal {
+pub enum Refusal {
     Io(ErrorKind),
     Len(LenError),
     Content(HeaderError),
@@ -64,14 +64,8 @@ fn beyond(required_len: usize, len: usize, layer: Layer, layer_start_offset: usi
 fn a_limited_chain_is_that_of_the_slice(rt: HostRuntime) {
     let bytes = CHAIN;
     let (headers, _, _, _) = Ipv6Extensions::from_slice_lax(IpNumber(0), &bytes);
-    match read_within(reader_of(&bytes, 5), 72, 0) {
-        Ok((read, number, left)) => {
-            assert!(rt; read == headers);
-            assert!(rt; number == IpNumber(17));
-            assert!(rt; left == 2);
-        }
-        Err(_) => panic!(rt; "refused"),
-    }
+    let found = read_within(reader_of(&bytes, 5), 72, 0);
+    assert!(rt; found == Ok((headers, IpNumber(17), 2)));
 }
 
 #[test]
@@ -96,8 +90,16 @@ fn a_limited_reader_ends_within_a_chain(rt: HostRuntime) {
 #[test]
 fn a_chain_at_its_limit(rt: HostRuntime) {
     let bytes = CHAIN;
-    assert!(rt; why_refused(reader_of(&bytes, 100), 72, 0).is_none());
-    assert!(rt; why_refused(reader_of(&bytes, 100), 73, 0).is_none());
+    let found = (
+        why_refused(reader_of(&bytes, 100), 72, 0),
+        why_refused(reader_of(&bytes, 100), 73, 0),
+    );
+    assert!(rt; found == (None, None));
+}
+
+#[test]
+fn a_chain_beyond_its_limit(rt: HostRuntime) {
+    let bytes = CHAIN;
     // The limit, the length that is asked for and the one that is there, the layer and its place:
     // hop-by-hop options stand at 40, the routing header of 16 bytes at 56, the fragment header at
     // 72, the authentication header of 24 bytes at 80, the last header at 104.
@@ -116,10 +118,13 @@ fn a_chain_at_its_limit(rt: HostRuntime) {
 
 #[test]
 fn faults_of_a_limited_chain(rt: HostRuntime) {
+    let found = (
+        why_refused(reader_of(&[0; 16], 100), 16, 60),
+        why_refused(reader_of(&[0; 16], 100), 16, 51),
+    );
     let misplaced = Refusal::Content(HeaderError::HopByHopNotAtStart);
-    assert!(rt; why_refused(reader_of(&[0; 16], 100), 16, 60) == Some(misplaced));
     let zero = HeaderError::IpAuth(ip_auth::HeaderError::ZeroPayloadLen);
-    assert!(rt; why_refused(reader_of(&[0; 16], 100), 16, 51) == Some(Refusal::Content(zero)));
+    assert!(rt; found == (Some(misplaced), Some(Refusal::Content(zero))));
 }
 
 // The header of IPv4 from a reader with this limit, as above.
@@ -155,14 +160,8 @@ fn why_ipv4_refused(inner: PieceReader, limit: usize) -> Option<Refusal>
 fn the_limited_header_of_ipv4_is_that_of_the_slice(rt: HostRuntime) {
     let bytes = AUTH;
     let (headers, _, _, _) = Ipv4Extensions::from_slice_lax(IpNumber(51), &bytes);
-    match read_ipv4_within(reader_of(&bytes, 5), 16, 51) {
-        Ok((read, number, left)) => {
-            assert!(rt; read == headers);
-            assert!(rt; number == IpNumber(6));
-            assert!(rt; left == 1);
-        }
-        Err(_) => panic!(rt; "refused"),
-    }
+    let found = read_ipv4_within(reader_of(&bytes, 5), 16, 51);
+    assert!(rt; found == Ok((headers, IpNumber(6), 1)));
 }
 
 #[test]
@@ -172,31 +171,31 @@ fn each_read_of_the_limited_header_of_ipv4_fails(rt: HostRuntime) {
     let end = Some(Refusal::Io(ErrorKind::UnexpectedEof));
     for count in 0..16usize {
         let reader = failing_reader(&bytes, 1, count, ErrorKind::ConnectionReset);
-        assert!(rt; why_ipv4_refused(reader, 16) == fault);
-        assert!(rt; why_ipv4_refused(reader_of(&bytes[..count], 100), 16) == end);
+        let found = (
+            why_ipv4_refused(reader, 16),
+            why_ipv4_refused(reader_of(&bytes[..count], 100), 16),
+        );
+        assert!(rt; found == (fault, end));
     }
 }
 
 #[test]
 fn the_header_of_ipv4_at_its_limit(rt: HostRuntime) {
     let bytes = AUTH;
-    assert!(rt; why_ipv4_refused(reader_of(&bytes, 9), 16).is_none());
-    assert!(rt; why_ipv4_refused(reader_of(&bytes, 9), 17).is_none());
+    let found = (
+        why_ipv4_refused(reader_of(&bytes, 9), 16),
+        why_ipv4_refused(reader_of(&bytes, 9), 17),
+        why_ipv4_refused(reader_of(&bytes, 9), 15),
+        why_ipv4_refused(reader_of(&[0; 16], 9), 16),
+    );
     let want = beyond(16, 15, Layer::IpAuthHeader, 40);
-    assert!(rt; why_ipv4_refused(reader_of(&bytes, 9), 15) == Some(want));
     let zero = HeaderError::IpAuth(ip_auth::HeaderError::ZeroPayloadLen);
-    assert!(rt; why_ipv4_refused(reader_of(&[0; 16], 9), 16) == Some(Refusal::Content(zero)));
+    assert!(rt; found == (None, None, Some(want), Some(Refusal::Content(zero))));
 }
 
 #[test]
 fn another_number_than_51_leaves_a_limited_reader(rt: HostRuntime) {
     let bytes = AUTH;
-    match read_ipv4_within(reader_of(&bytes, 9), 16, 6) {
-        Ok((headers, number, left)) => {
-            assert!(rt; headers.is_empty());
-            assert!(rt; number == IpNumber(6));
-            assert!(rt; left == 17);
-        }
-        Err(_) => panic!(rt; "refused"),
-    }
+    let found = read_ipv4_within(reader_of(&bytes, 9), 16, 6);
+    assert!(rt; found == Ok((Ipv4Extensions::default(), IpNumber(6), 17)));
 }

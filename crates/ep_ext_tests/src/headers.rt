@@ -10,7 +10,7 @@ use ep_ext::{
     IpAuthHeader, IpAuthHeaderSlice, Ipv6FragmentHeader, Ipv6FragmentHeaderSlice, Ipv6RawExtHeader,
     Ipv6RawExtHeaderSlice,
 };
-use std::process::Abort;
+use std::alloc::Global;
 use std::test::*;
 
 // Hop-by-hop options by RFC 8200, section 4.3: padding options of 6 and 8 bytes. Two bytes follow.
@@ -43,19 +43,25 @@ fn a_raw_header_and_its_rest(rt: HostRuntime) {
     let Ok((header, rest)) = Ipv6RawExtHeader::from_slice(&bytes) else {
         panic!(rt; "no header");
     };
-    let parts = (
+    let written = header.to_bytes();
+    let found = (
         header.next_header,
         header.header_len(),
         header.payload(),
         rest,
+        written.as_slice(),
     );
-    assert!(rt; parts == (IpNumber::UDP, 16, &RAW[2..16], &RAW[16..]));
-    assert!(rt; header.to_bytes().as_slice() == &RAW[..16]);
+    assert!(rt; found == (IpNumber::UDP, 16, &bytes[2..16], &bytes[16..], &bytes[..16]));
 }
 
 // Whether these stand behind the byte that was there.
 fn are_appended(buffer: &[u8], bytes: &[u8]) -> bool {
     buffer.first() == Some(&0x55) && buffer.get(1..) == Some(bytes)
+}
+
+fn raw_is_appended(alloc: Global, header: &Ipv6RawExtHeader, bytes: &[u8]) -> bool {
+    let mut buffer = Vec::new(alloc);
+    buffer.push(0x55).is_ok() && header.write(&mut buffer).is_ok() && are_appended(&buffer, bytes)
 }
 
 #[test]
@@ -64,22 +70,33 @@ fn a_raw_header_is_appended(rt: HostRuntime) {
     let Ok((header, _)) = Ipv6RawExtHeader::from_slice(&bytes) else {
         panic!(rt; "no header");
     };
-    let mut buffer = Vec::new(rt.alloc());
-    assert!(rt; buffer.push(0x55).is_ok() && header.write(&mut buffer).is_ok());
-    assert!(rt; are_appended(&buffer, &RAW[..16]));
+    assert!(rt; raw_is_appended(rt.alloc(), &header, &bytes[..16]));
+}
+
+// What a view of a raw header shows: its bytes, its number and its payload.
+fn raw_view(bytes: &[u8]) -> Option<(&[u8], IpNumber, &[u8])> {
+    match Ipv6RawExtHeaderSlice::from_slice(bytes) {
+        Ok(view) => Some((view.slice(), view.next_header(), view.payload())),
+        Err(_) => None,
+    }
+}
+
+// Whether a view is that of its own bytes, its copy, and that of a header with these bytes.
+fn raw_view_is_itself(bytes: &[u8]) -> bool {
+    let Ok(view) = Ipv6RawExtHeaderSlice::from_slice(bytes) else {
+        return false;
+    };
+    let copy: Result<_, _> = view.clone();
+    view.to_header().to_bytes().as_slice() == view.slice()
+        && Ipv6RawExtHeaderSlice::of_bytes(view.slice()) == view
+        && copy == Ok(view)
 }
 
 #[test]
-fn a_view_of_a_raw_header(rt: HostRuntime) -> Result<(), Fail> {
+fn a_view_of_a_raw_header(rt: HostRuntime) {
     let bytes = RAW;
-    let view = Ipv6RawExtHeaderSlice::from_slice(&bytes)?;
-    assert!(rt; view.slice() == &RAW[..16]);
-    assert!(rt; Ipv6RawExtHeaderSlice::of_bytes(view.slice()) == view);
-    assert!(rt; view.next_header() == IpNumber::UDP);
-    assert!(rt; view.payload() == &RAW[2..16]);
-    assert!(rt; view.to_header().to_bytes().as_slice() == &RAW[..16]);
-    assert!(rt; view == view.clone()?);
-    Ok(())
+    assert!(rt; raw_view(&bytes) == Some((&bytes[..16], IpNumber::UDP, &bytes[2..16])));
+    assert!(rt; raw_view_is_itself(&bytes));
 }
 
 // The refusal of a slice of so many bytes, where a header needs a least length and then its own.
@@ -91,15 +108,12 @@ fn refused(len: usize, least: usize, size: usize, layer: Layer) -> LenError {
 fn every_front_of_a_raw_header_is_refused(rt: HostRuntime) {
     let bytes = RAW;
     for len in 0..16usize {
-        let error = refused(len, 8, 16, Layer::Ipv6ExtHeader);
-        match Ipv6RawExtHeader::from_slice(&bytes[..len]) {
-            Ok(_) => panic!(rt; "{len} bytes are read"),
-            Err(e) => assert!(rt; e == error),
-        }
-        match Ipv6RawExtHeaderSlice::from_slice(&bytes[..len]) {
-            Ok(_) => panic!(rt; "{len} bytes are taken"),
-            Err(e) => assert!(rt; e == error),
-        }
+        let error = Some(refused(len, 8, 16, Layer::Ipv6ExtHeader));
+        let found = (
+            Ipv6RawExtHeader::from_slice(&bytes[..len]).err(),
+            Ipv6RawExtHeaderSlice::from_slice(&bytes[..len]).err(),
+        );
+        assert!(rt; found == (error, error));
     }
 }
 
@@ -107,48 +121,67 @@ fn every_front_of_a_raw_header_is_refused(rt: HostRuntime) {
 fn numbers_of_raw_headers(rt: HostRuntime) {
     for number in 0..=255u8 {
         let has_layout = [0, 43, 60, 135, 139, 140].contains(&number);
-        let number = IpNumber(number);
-        assert!(rt; Ipv6RawExtHeader::header_type_supported(number) == has_layout);
-        assert!(rt; Ipv6RawExtHeaderSlice::header_type_supported(number) == has_layout);
+        let found = [
+            Ipv6RawExtHeader::header_type_supported(IpNumber(number)),
+            Ipv6RawExtHeaderSlice::header_type_supported(IpNumber(number)),
+        ];
+        assert!(rt; found == [has_layout; 2]);
     }
 }
 
-fn raw_of_len(rt: &impl Abort, len: usize) -> Result<Ipv6RawExtHeader, ExtPayloadLenError> {
-    let payload = [7; 2100];
-    assert!(rt; len <= 2100);
-    Ipv6RawExtHeader::new_raw(IpNumber::TCP, &payload[..len])
+// A header with so many bytes of payload, at most 2100.
+fn raw_of_len(len: usize) -> Result<Ipv6RawExtHeader, ExtPayloadLenError> {
+    let (payload, _) = [7; 2100].split_at(len.min(2100));
+    Ipv6RawExtHeader::new_raw(IpNumber::TCP, payload)
+}
+
+// The length of its payload and its own, or why there is none.
+fn raw_lens(len: usize) -> Result<(usize, usize), ExtPayloadLenError> {
+    let header = raw_of_len(len)?;
+    Ok((header.payload().len(), header.header_len()))
 }
 
 #[test]
 fn lengths_of_raw_payloads(rt: HostRuntime) {
     for len in [6usize, 14, 22, 2038, 2046] {
-        let Ok(header) = raw_of_len(&rt, len) else {
-            panic!(rt; "{len} bytes are refused");
-        };
-        assert!(rt; header.payload().len() == len);
-        assert!(rt; header.header_len() == len.saturating_add(2));
+        assert!(rt; raw_lens(len) == Ok((len, len + 2)));
     }
-    for len in [0usize, 5] {
-        assert!(rt; raw_of_len(&rt, len) == Err(ExtPayloadLenError::TooSmall(len)));
-    }
-    for len in [7usize, 8, 13, 15, 2045] {
-        assert!(rt; raw_of_len(&rt, len) == Err(ExtPayloadLenError::Unaligned(len)));
-    }
-    for len in [2047usize, 2048, 2054] {
-        assert!(rt; raw_of_len(&rt, len) == Err(ExtPayloadLenError::TooBig(len)));
+}
+
+#[test]
+fn refused_lengths_of_raw_payloads(rt: HostRuntime) {
+    for (len, error) in [
+        (0usize, ExtPayloadLenError::TooSmall(0)),
+        (5, ExtPayloadLenError::TooSmall(5)),
+        (7, ExtPayloadLenError::Unaligned(7)),
+        (8, ExtPayloadLenError::Unaligned(8)),
+        (13, ExtPayloadLenError::Unaligned(13)),
+        (15, ExtPayloadLenError::Unaligned(15)),
+        (2045, ExtPayloadLenError::Unaligned(2045)),
+        (2047, ExtPayloadLenError::TooBig(2047)),
+        (2048, ExtPayloadLenError::TooBig(2048)),
+        (2054, ExtPayloadLenError::TooBig(2054)),
+    ] {
+        assert!(rt; raw_lens(len) == Err(error));
     }
 }
 
 #[test]
 fn a_raw_payload_is_changed(rt: HostRuntime) {
-    let Ok(mut header) = raw_of_len(&rt, 14) else {
+    let Ok(mut header) = raw_of_len(14) else {
         panic!(rt; "no header");
     };
-    assert!(rt; header.set_payload(&[1, 2, 3, 4, 5, 6]) == Ok(()));
-    assert!(rt; header.to_bytes().as_slice() == [6, 0, 1, 2, 3, 4, 5, 6].as_slice());
-    assert!(rt; header.set_payload(&[9; 7]) == Err(ExtPayloadLenError::Unaligned(7)));
-    assert!(rt; header.set_payload(&[9; 5]) == Err(ExtPayloadLenError::TooSmall(5)));
-    assert!(rt; header.payload() == [1, 2, 3, 4, 5, 6].as_slice());
+    let changed = header.set_payload(&[1, 2, 3, 4, 5, 6]);
+    let written = header.to_bytes();
+    let unaligned = header.set_payload(&[9; 7]);
+    let small = header.set_payload(&[9; 5]);
+    let refused = (
+        Err(ExtPayloadLenError::Unaligned(7)),
+        Err(ExtPayloadLenError::TooSmall(5)),
+    );
+    assert!(rt; (changed, (unaligned, small)) == (Ok(()), refused));
+    let bytes = [6, 0, 1, 2, 3, 4, 5, 6];
+    assert!(rt; (written.as_slice(), header.payload()) == (bytes.as_slice(), &bytes[2..]));
 }
 
 #[test]
@@ -158,13 +191,17 @@ fn the_greatest_raw_header(rt: HostRuntime) {
     let Ok((header, rest)) = Ipv6RawExtHeader::from_slice(&bytes) else {
         panic!(rt; "no header");
     };
-    assert!(rt; rest.len() == 1);
-    assert!(rt; header.header_len() == Ipv6RawExtHeader::MAX_LEN);
-    assert!(rt; header.to_bytes().as_slice() == &bytes[..2048]);
-    match Ipv6RawExtHeader::from_slice(&bytes[..2047]) {
-        Ok(_) => panic!(rt; "a header of too few bytes"),
-        Err(e) => assert!(rt; e == want(2048, 2047, Layer::Ipv6ExtHeader)),
-    }
+    let written = header.to_bytes();
+    let found = (rest.len(), header.header_len(), written.as_slice());
+    assert!(rt; found == (1, Ipv6RawExtHeader::MAX_LEN, &bytes[..2048]));
+}
+
+#[test]
+fn the_greatest_raw_header_without_its_last_byte(rt: HostRuntime) {
+    let mut bytes = [3; 2047];
+    bytes[1] = 255;
+    let error = want(2048, 2047, Layer::Ipv6ExtHeader);
+    assert!(rt; Ipv6RawExtHeader::from_slice(&bytes).err() == Some(error));
 }
 
 #[test]
@@ -177,33 +214,57 @@ fn a_fragment_header_and_its_rest(rt: HostRuntime) {
         panic!(rt; "no offset");
     };
     let made = Ipv6FragmentHeader::new(IpNumber::IPV6_ICMP, offset, true, 0x1234_5678);
-    assert!(rt; header == made);
-    assert!(rt; rest == [0xaa, 0xbb].as_slice());
-    assert!(rt; header.header_len() == 8);
-    // Reserved bits are cleared.
-    let written = [58, 0, 0xab, 0xc9, 0x12, 0x34, 0x56, 0x78];
-    assert!(rt; header.to_bytes() == written);
-    let mut buffer = Vec::new(rt.alloc());
-    assert!(rt; buffer.push(0x55).is_ok() && header.write(&mut buffer).is_ok());
-    assert!(rt; are_appended(&buffer, &written));
+    assert!(rt; (header, rest) == (made, [0xaa, 0xbb].as_slice()));
+}
+
+fn fragment_is_appended(alloc: Global, header: &Ipv6FragmentHeader, bytes: &[u8]) -> bool {
+    let mut buffer = Vec::new(alloc);
+    buffer.push(0x55).is_ok() && header.write(&mut buffer).is_ok() && are_appended(&buffer, bytes)
 }
 
 #[test]
-fn a_view_of_a_fragment_header(rt: HostRuntime) -> Result<(), Fail> {
+fn a_fragment_header_is_appended(rt: HostRuntime) {
     let bytes = FRAGMENT;
-    let view = Ipv6FragmentHeaderSlice::from_slice(&bytes)?;
-    assert!(rt; view.slice() == &FRAGMENT[..8]);
-    assert!(rt; Ipv6FragmentHeaderSlice::of_bytes(view.slice()) == view);
-    let fields = (
-        view.next_header(),
-        view.fragment_offset().value(),
-        view.more_fragments(),
-        view.identification(),
-    );
-    assert!(rt; fields == (IpNumber::IPV6_ICMP, 0x1579, true, 0x1234_5678));
-    assert!(rt; view.to_header().identification == 0x1234_5678);
-    assert!(rt; view == view.clone()?);
-    Ok(())
+    let Ok((header, _)) = Ipv6FragmentHeader::from_slice(&bytes) else {
+        panic!(rt; "no header");
+    };
+    // Reserved bits are cleared.
+    let written = [58, 0, 0xab, 0xc9, 0x12, 0x34, 0x56, 0x78];
+    let appended = fragment_is_appended(rt.alloc(), &header, &written);
+    assert!(rt; (header.header_len(), header.to_bytes(), appended) == (8, written, true));
+}
+
+// What a view of a fragment header shows: its bytes and its fields.
+fn fragment_view(bytes: &[u8]) -> Option<(&[u8], IpNumber, u16, bool, u32)> {
+    match Ipv6FragmentHeaderSlice::from_slice(bytes) {
+        Ok(view) => Some((
+            view.slice(),
+            view.next_header(),
+            view.fragment_offset().value(),
+            view.more_fragments(),
+            view.identification(),
+        )),
+        Err(_) => None,
+    }
+}
+
+// Whether a view is that of its own bytes, its copy, and that of a header with its identification.
+fn fragment_view_is_itself(bytes: &[u8]) -> bool {
+    let Ok(view) = Ipv6FragmentHeaderSlice::from_slice(bytes) else {
+        return false;
+    };
+    let copy: Result<_, _> = view.clone();
+    view.to_header().identification == view.identification()
+        && Ipv6FragmentHeaderSlice::of_bytes(view.slice()) == view
+        && copy == Ok(view)
+}
+
+#[test]
+fn a_view_of_a_fragment_header(rt: HostRuntime) {
+    let bytes = FRAGMENT;
+    let shown = (&bytes[..8], IpNumber::IPV6_ICMP, 0x1579, true, 0x1234_5678);
+    assert!(rt; fragment_view(&bytes) == Some(shown));
+    assert!(rt; fragment_view_is_itself(&bytes));
 }
 
 #[test]
@@ -211,34 +272,36 @@ fn every_front_of_a_fragment_header_is_refused(rt: HostRuntime) {
     let bytes = FRAGMENT;
     for len in 0..8usize {
         let error = want(8, len, Layer::Ipv6FragHeader);
-        match Ipv6FragmentHeader::from_slice(&bytes[..len]) {
-            Ok(_) => panic!(rt; "{len} bytes are read"),
-            Err(e) => assert!(rt; e == error),
-        }
-        match Ipv6FragmentHeaderSlice::from_slice(&bytes[..len]) {
-            Ok(_) => panic!(rt; "{len} bytes are taken"),
-            Err(e) => assert!(rt; e == error),
-        }
+        let refused = Ipv6FragmentHeader::from_slice(&bytes[..len]) == Err(error);
+        let found = Ipv6FragmentHeaderSlice::from_slice(&bytes[..len]).err();
+        assert!(rt; (refused, found) == (true, Some(error)));
+    }
+}
+
+// What the view of a fragment header says, and what its header says.
+fn is_fragmenting(bytes: &[u8]) -> Option<(bool, bool)> {
+    match Ipv6FragmentHeaderSlice::from_slice(bytes) {
+        Ok(view) => Some((
+            view.is_fragmenting_payload(),
+            view.to_header().is_fragmenting_payload(),
+        )),
+        Err(_) => None,
     }
 }
 
 #[test]
 fn which_fragment_headers_fragment(rt: HostRuntime) {
     // An offset, the flag, the greatest offset; and reserved bits alone, and nothing.
-    for (offset_and_more, fragments) in [
-        ([1u8, 0u8], true),
-        ([0, 8], true),
-        ([0, 1], true),
-        ([0xff, 0xf8], true),
-        ([0, 6], false),
-        ([0, 0], false),
+    for (offset, more, fragments) in [
+        (1u8, 0u8, true),
+        (0, 8, true),
+        (0, 1, true),
+        (0xff, 0xf8, true),
+        (0, 6, false),
+        (0, 0, false),
     ] {
-        let bytes = [0, 0, offset_and_more[0], offset_and_more[1], 1, 2, 3, 4];
-        let Ok(view) = Ipv6FragmentHeaderSlice::from_slice(&bytes) else {
-            panic!(rt; "no view");
-        };
-        assert!(rt; view.is_fragmenting_payload() == fragments);
-        assert!(rt; view.to_header().is_fragmenting_payload() == fragments);
+        let bytes = [0, 0, offset, more, 1, 2, 3, 4];
+        assert!(rt; is_fragmenting(&bytes) == Some((fragments, fragments)));
     }
 }
 
@@ -248,52 +311,73 @@ fn an_authentication_header_and_its_rest(rt: HostRuntime) {
     let Ok((header, rest)) = IpAuthHeader::from_slice(&bytes) else {
         panic!(rt; "no header");
     };
-    let fields = (header.next_header, header.spi, header.sequence_number);
-    assert!(rt; fields == (IpNumber::TCP, 0x0102_0304, 0x0506_0708));
-    let parts = (header.raw_icv(), header.header_len(), rest);
-    assert!(rt; parts == (&AUTH[12..24], 24, &AUTH[24..]));
-    let made = IpAuthHeader::new(IpNumber::TCP, 0x0102_0304, 0x0506_0708, &AUTH[12..24]);
-    assert!(rt; made == Ok(header));
+    let numbers = (header.next_header, header.spi, header.sequence_number);
+    let found = (numbers, header.raw_icv(), header.header_len(), rest);
+    let numbers = (IpNumber::TCP, 0x0102_0304, 0x0506_0708);
+    assert!(rt; found == (numbers, &bytes[12..24], 24, &bytes[24..]));
 }
 
 #[test]
-fn an_authentication_header_is_appended(rt: HostRuntime) {
+fn an_authentication_header_of_fields(rt: HostRuntime) {
     let bytes = AUTH;
     let Ok((header, _)) = IpAuthHeader::from_slice(&bytes) else {
         panic!(rt; "no header");
     };
-    // Reserved bytes are cleared.
-    let mut written = AUTH;
-    written[2] = 0;
-    written[3] = 0;
-    assert!(rt; header.to_bytes().as_slice() == &written[..24]);
-    let mut buffer = Vec::new(rt.alloc());
-    assert!(rt; buffer.push(0x55).is_ok() && header.write(&mut buffer).is_ok());
-    assert!(rt; are_appended(&buffer, &written[..24]));
+    let made = IpAuthHeader::new(IpNumber::TCP, 0x0102_0304, 0x0506_0708, &bytes[12..24]);
+    assert!(rt; made == Ok(header));
 }
 
-// Whether these are the bytes of the view.
-fn has_slice(view: &IpAuthHeaderSlice, bytes: &[u8]) -> bool {
-    view.slice() == bytes
-}
-
-// Whether this is the check value of the view and of its fields.
-fn has_check_value(view: &IpAuthHeaderSlice, icv: &[u8]) -> bool {
-    view.raw_icv() == icv && view.to_header().raw_icv() == icv
+fn auth_is_appended(alloc: Global, header: &IpAuthHeader, bytes: &[u8]) -> bool {
+    let mut buffer = Vec::new(alloc);
+    buffer.push(0x55).is_ok() && header.write(&mut buffer).is_ok() && are_appended(&buffer, bytes)
 }
 
 #[test]
-fn a_view_of_an_authentication_header(rt: HostRuntime) -> Result<(), Fail> {
+fn an_authentication_header_is_appended(rt: HostRuntime) {
+    let mut bytes = AUTH;
+    let Ok((header, _)) = IpAuthHeader::from_slice(&bytes) else {
+        panic!(rt; "no header");
+    };
+    // Reserved bytes are cleared.
+    bytes[2] = 0;
+    bytes[3] = 0;
+    let written = header.to_bytes();
+    let appended = auth_is_appended(rt.alloc(), &header, &bytes[..24]);
+    assert!(rt; (written.as_slice(), appended) == (&bytes[..24], true));
+}
+
+// What a view of an authentication header shows: its bytes and its fields.
+fn auth_view(bytes: &[u8]) -> Option<(&[u8], IpNumber, u32, u32, &[u8])> {
+    match IpAuthHeaderSlice::from_slice(bytes) {
+        Ok(view) => Some((
+            view.slice(),
+            view.next_header(),
+            view.spi(),
+            view.sequence_number(),
+            view.raw_icv(),
+        )),
+        Err(_) => None,
+    }
+}
+
+// Whether a view is that of its own bytes, its copy, and that of a header with its check value.
+fn auth_view_is_itself(bytes: &[u8]) -> bool {
+    let Ok(view) = IpAuthHeaderSlice::from_slice(bytes) else {
+        return false;
+    };
+    let copy: Result<_, _> = view.clone();
+    view.to_header().raw_icv() == view.raw_icv()
+        && IpAuthHeaderSlice::of_bytes(view.slice()) == view
+        && copy == Ok(view)
+}
+
+#[test]
+fn a_view_of_an_authentication_header(rt: HostRuntime) {
     let bytes = AUTH;
-    let view = IpAuthHeaderSlice::from_slice(&bytes)?;
-    assert!(rt; has_slice(&view, &AUTH[..24]));
-    assert!(rt; IpAuthHeaderSlice::of_bytes(view.slice()) == view);
-    assert!(rt; view.next_header() == IpNumber::TCP);
-    assert!(rt; view.spi() == 0x0102_0304);
-    assert!(rt; view.sequence_number() == 0x0506_0708);
-    assert!(rt; has_check_value(&view, &AUTH[12..24]));
-    assert!(rt; view == view.clone()?);
-    Ok(())
+    let icv = &bytes[12..24];
+    let shown = (&bytes[..24], IpNumber::TCP, 0x0102_0304, 0x0506_0708, icv);
+    assert!(rt; auth_view(&bytes) == Some(shown));
+    assert!(rt; auth_view_is_itself(&bytes));
 }
 
 #[test]
@@ -301,71 +385,85 @@ fn every_front_of_an_authentication_header_is_refused(rt: HostRuntime) {
     let bytes = AUTH;
     for len in 0..24usize {
         let want = refused(len, 12, 24, Layer::IpAuthHeader);
-        let error = ip_auth::HeaderSliceError::Len(want);
-        match IpAuthHeader::from_slice(&bytes[..len]) {
-            Ok(_) => panic!(rt; "{len} bytes are read"),
-            Err(e) => assert!(rt; e == error),
-        }
-        match IpAuthHeaderSlice::from_slice(&bytes[..len]) {
-            Ok(_) => panic!(rt; "{len} bytes are taken"),
-            Err(e) => assert!(rt; e == error),
-        }
+        let error = Some(ip_auth::HeaderSliceError::Len(want));
+        let found = (
+            IpAuthHeader::from_slice(&bytes[..len]).err(),
+            IpAuthHeaderSlice::from_slice(&bytes[..len]).err(),
+        );
+        assert!(rt; found == (error, error));
     }
 }
 
 #[test]
 fn a_length_byte_of_zero(rt: HostRuntime) {
+    let bytes = [0; 16];
+    let found = (
+        IpAuthHeader::from_slice(&bytes[..11]).err(),
+        IpAuthHeader::from_slice(&bytes[..12]).err(),
+        IpAuthHeader::from_slice(&bytes).err(),
+    );
     let zero = ip_auth::HeaderSliceError::Content(ip_auth::HeaderError::ZeroPayloadLen);
     let short = ip_auth::HeaderSliceError::Len(want(12, 11, Layer::IpAuthHeader));
-    for (len, error) in [(11usize, short), (12, zero), (16, zero)] {
-        match IpAuthHeader::from_slice(&[0; 16][..len]) {
-            Ok(_) => panic!(rt; "{len} bytes are read"),
-            Err(e) => assert!(rt; e == error),
-        }
-    }
-    let moved = want(12, 11, Layer::IpAuthHeader).add_offset(40);
-    assert!(rt; short_moved() == ip_auth::HeaderSliceError::Len(moved));
-    assert!(rt; zero.add_slice_offset(40) == zero);
+    assert!(rt; found == (Some(short), Some(zero), Some(zero)));
+    let moved = ip_auth::HeaderSliceError::Len(want(12, 11, Layer::IpAuthHeader).add_offset(40));
+    assert!(rt; (short_moved(), zero.add_slice_offset(40)) == (moved, zero));
 }
 
 fn short_moved() -> ip_auth::HeaderSliceError {
     ip_auth::HeaderSliceError::Len(want(12, 11, Layer::IpAuthHeader)).add_slice_offset(40)
 }
 
-fn auth_of_len(rt: &impl Abort, len: usize) -> Result<IpAuthHeader, IcvLenError> {
-    let icv = [7; 1100];
-    assert!(rt; len <= 1100);
-    IpAuthHeader::new(IpNumber::TCP, 1, 2, &icv[..len])
+// A header with so many bytes of check value, at most 1100.
+fn auth_of_len(len: usize) -> Result<IpAuthHeader, IcvLenError> {
+    let (icv, _) = [7; 1100].split_at(len.min(1100));
+    IpAuthHeader::new(IpNumber::TCP, 1, 2, icv)
+}
+
+// The length of its check value and its own, or why there is none.
+fn auth_lens(len: usize) -> Result<(usize, usize), IcvLenError> {
+    let header = auth_of_len(len)?;
+    Ok((header.raw_icv().len(), header.header_len()))
 }
 
 #[test]
 fn lengths_of_check_values(rt: HostRuntime) {
     for len in [0usize, 4, 8, 1012, 1016] {
-        let Ok(header) = auth_of_len(&rt, len) else {
-            panic!(rt; "{len} bytes are refused");
-        };
-        assert!(rt; header.raw_icv().len() == len);
-        assert!(rt; header.header_len() == len.saturating_add(12));
+        assert!(rt; auth_lens(len) == Ok((len, len + 12)));
     }
-    for len in [1usize, 2, 3, 5, 1015] {
-        assert!(rt; auth_of_len(&rt, len) == Err(IcvLenError::Unaligned(len)));
-    }
-    for len in [1017usize, 1020, 1100] {
-        assert!(rt; auth_of_len(&rt, len) == Err(IcvLenError::TooBig(len)));
+}
+
+#[test]
+fn refused_lengths_of_check_values(rt: HostRuntime) {
+    for (len, error) in [
+        (1usize, IcvLenError::Unaligned(1)),
+        (2, IcvLenError::Unaligned(2)),
+        (3, IcvLenError::Unaligned(3)),
+        (5, IcvLenError::Unaligned(5)),
+        (1015, IcvLenError::Unaligned(1015)),
+        (1017, IcvLenError::TooBig(1017)),
+        (1020, IcvLenError::TooBig(1020)),
+        (1100, IcvLenError::TooBig(1100)),
+    ] {
+        assert!(rt; auth_lens(len) == Err(error));
     }
 }
 
 #[test]
 fn a_check_value_is_changed(rt: HostRuntime) {
-    let Ok(mut header) = auth_of_len(&rt, 0) else {
+    let Ok(mut header) = auth_of_len(0) else {
         panic!(rt; "no header");
     };
-    assert!(rt; header.set_raw_icv(&[1, 2, 3, 4]) == Ok(()));
-    let written = [6, 2, 0, 0, 0, 0, 0, 1, 0, 0, 0, 2, 1, 2, 3, 4];
-    assert!(rt; header.to_bytes().as_slice() == written.as_slice());
-    assert!(rt; header.set_raw_icv(&[9; 5]) == Err(IcvLenError::Unaligned(5)));
-    assert!(rt; header.set_raw_icv(&[9; 1020]) == Err(IcvLenError::TooBig(1020)));
-    assert!(rt; header.raw_icv() == [1, 2, 3, 4].as_slice());
+    let changed = header.set_raw_icv(&[1, 2, 3, 4]);
+    let written = header.to_bytes();
+    let unaligned = header.set_raw_icv(&[9; 5]);
+    let big = header.set_raw_icv(&[9; 1020]);
+    let refused = (
+        Err(IcvLenError::Unaligned(5)),
+        Err(IcvLenError::TooBig(1020)),
+    );
+    assert!(rt; (changed, (unaligned, big)) == (Ok(()), refused));
+    let bytes = [6, 2, 0, 0, 0, 0, 0, 1, 0, 0, 0, 2, 1, 2, 3, 4];
+    assert!(rt; (written.as_slice(), header.raw_icv()) == (bytes.as_slice(), &bytes[12..]));
 }
 
 #[test]
@@ -376,8 +474,8 @@ fn the_greatest_authentication_header(rt: HostRuntime) {
     let Ok((header, rest)) = IpAuthHeader::from_slice(&bytes) else {
         panic!(rt; "no header");
     };
-    assert!(rt; rest.len() == 1);
-    assert!(rt; header.header_len() == IpAuthHeader::MAX_LEN);
-    assert!(rt; header.raw_icv().len() == IpAuthHeader::MAX_ICV_LEN);
-    assert!(rt; header.to_bytes().as_slice() == &bytes[..1028]);
+    let lens = (rest.len(), header.header_len(), header.raw_icv().len());
+    let written = header.to_bytes();
+    let greatest = (1, IpAuthHeader::MAX_LEN, IpAuthHeader::MAX_ICV_LEN);
+    assert!(rt; (lens, written.as_slice()) == (greatest, &bytes[..1028]));
 }

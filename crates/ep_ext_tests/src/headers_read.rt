@@ -1,11 +1,13 @@
 //! Single extension headers from readers.
 ghost use Rattle.std.specs.Prelude.{◌<◌};
 
+use crate::extensions_read_limited::Refusal;
 use crate::piece_reader::{PieceReader, failing_reader, reader_of};
 use ep_base::LenSource;
 use ep_base::err::{Layer, LenError};
 use ep_ext::err::io::LimitedReadError;
 use ep_ext::err::ip_auth::{HeaderError, HeaderLimitedReadError, HeaderReadError};
+use ep_ext::err::ipv6_exts;
 use ep_ext::io::LimitedReader;
 use ep_ext::{IpAuthHeader, Ipv6FragmentHeader, Ipv6RawExtHeader};
 use std::io::ErrorKind;
@@ -20,24 +22,25 @@ const AUTH: [u8; 18] = [
     6, 2, 0, 0, 1, 2, 3, 4, 5, 6, 7, 8, 9, 10, 11, 12, 0xaa, 0xbb,
 ];
 
-// Whether a header is read, and what is left.
-fn raw_kind(reader: &mut PieceReader) -> Result<Ipv6RawExtHeader, ErrorKind> {
+// Whether the header that is read has these bytes, or why none is read.
+fn read_raw(reader: &mut PieceReader, bytes: &[u8]) -> Result<bool, ErrorKind> {
     match Ipv6RawExtHeader::read(reader) {
-        Ok(header) => Ok(header),
+        Ok(header) => Ok(header.to_bytes().as_slice() == bytes),
         Err(error) => Err(error.kind()),
     }
 }
 
-fn fragment_kind(reader: &mut PieceReader) -> Result<Ipv6FragmentHeader, ErrorKind> {
+fn read_fragment(reader: &mut PieceReader, bytes: &[u8]) -> Result<bool, ErrorKind> {
     match Ipv6FragmentHeader::read(reader) {
-        Ok(header) => Ok(header),
+        Ok(header) => Ok(header.to_bytes().as_slice() == bytes),
         Err(error) => Err(error.kind()),
     }
 }
 
-fn auth_kind(reader: &mut PieceReader) -> Result<IpAuthHeader, Option<ErrorKind>> {
+// The same, with no kind where the header breaks its format.
+fn read_auth(reader: &mut PieceReader, bytes: &[u8]) -> Result<bool, Option<ErrorKind>> {
     match IpAuthHeader::read(reader) {
-        Ok(header) => Ok(header),
+        Ok(header) => Ok(header.to_bytes().as_slice() == bytes),
         Err(HeaderReadError::Io(error)) => Err(Some(error.kind())),
         Err(HeaderReadError::Content(_)) => Err(None),
     }
@@ -45,99 +48,110 @@ fn auth_kind(reader: &mut PieceReader) -> Result<IpAuthHeader, Option<ErrorKind>
 
 #[test]
 fn headers_are_read_in_pieces(rt: HostRuntime) {
+    let bytes = RAW;
+    let behind = [0xaa, 0xbb];
     for piece in [1usize, 3, 100] {
-        let mut reader = reader_of(&RAW, piece);
-        let Ok(header) = raw_kind(&mut reader) else {
-            panic!(rt; "no raw header");
-        };
-        assert!(rt; header.to_bytes().as_slice() == &RAW[..16]);
-        assert!(rt; reader.rest == [0xaa, 0xbb].as_slice());
+        let mut reader = reader_of(&bytes, piece);
+        let read = read_raw(&mut reader, &bytes[..16]);
+        assert!(rt; (read, reader.rest) == (Ok(true), behind.as_slice()));
     }
 }
 
 #[test]
 fn fragment_headers_are_read_in_pieces(rt: HostRuntime) {
+    let bytes = FRAGMENT;
+    let behind = [0xaa, 0xbb];
     for piece in [1usize, 3, 100] {
-        let mut reader = reader_of(&FRAGMENT, piece);
-        let Ok(header) = fragment_kind(&mut reader) else {
-            panic!(rt; "no fragment header");
-        };
-        assert!(rt; header.to_bytes().as_slice() == &FRAGMENT[..8]);
-        assert!(rt; reader.rest == [0xaa, 0xbb].as_slice());
+        let mut reader = reader_of(&bytes, piece);
+        let read = read_fragment(&mut reader, &bytes[..8]);
+        assert!(rt; (read, reader.rest) == (Ok(true), behind.as_slice()));
     }
 }
 
 #[test]
 fn authentication_headers_are_read_in_pieces(rt: HostRuntime) {
+    let bytes = AUTH;
+    let behind = [0xaa, 0xbb];
     for piece in [1usize, 3, 100] {
-        let mut reader = reader_of(&AUTH, piece);
-        let Ok(header) = auth_kind(&mut reader) else {
-            panic!(rt; "no authentication header");
-        };
-        assert!(rt; header.to_bytes().as_slice() == &AUTH[..16]);
-        assert!(rt; reader.rest == [0xaa, 0xbb].as_slice());
+        let mut reader = reader_of(&bytes, piece);
+        let read = read_auth(&mut reader, &bytes[..16]);
+        assert!(rt; (read, reader.rest) == (Ok(true), behind.as_slice()));
     }
 }
 
 #[test]
 fn a_raw_header_from_a_failing_reader(rt: HostRuntime) {
+    let denied = ErrorKind::PermissionDenied;
+    let bytes = RAW;
     // The two reads of the header, whole; then byte by byte.
     for (piece, calls) in [(100usize, 2usize), (1, 16)] {
         for call in 0..calls {
-            let mut reader = failing_reader(&RAW, piece, call, ErrorKind::PermissionDenied);
-            assert!(rt; raw_kind(&mut reader).err() == Some(ErrorKind::PermissionDenied));
-            let mut reader = failing_reader(&RAW, piece, call, ErrorKind::Interrupted);
-            assert!(rt; raw_kind(&mut reader).is_ok());
+            let mut failing = failing_reader(&bytes, piece, call, denied);
+            let mut interrupted = failing_reader(&bytes, piece, call, ErrorKind::Interrupted);
+            let found = (
+                read_raw(&mut failing, &bytes[..16]),
+                read_raw(&mut interrupted, &bytes[..16]),
+            );
+            assert!(rt; found == (Err(denied), Ok(true)));
         }
-        let mut reader = failing_reader(&RAW, piece, calls, ErrorKind::PermissionDenied);
-        assert!(rt; raw_kind(&mut reader).is_ok());
-        assert!(rt; reader.calls == calls);
+        let mut reader = failing_reader(&bytes, piece, calls, denied);
+        let read = read_raw(&mut reader, &bytes[..16]);
+        assert!(rt; (read, reader.calls) == (Ok(true), calls));
     }
 }
 
 #[test]
 fn a_fragment_header_from_a_failing_reader(rt: HostRuntime) {
+    let denied = ErrorKind::PermissionDenied;
+    let bytes = FRAGMENT;
     for (piece, calls) in [(100usize, 1usize), (1, 8)] {
         for call in 0..calls {
-            let mut reader = failing_reader(&FRAGMENT, piece, call, ErrorKind::PermissionDenied);
-            assert!(rt; fragment_kind(&mut reader).err() == Some(ErrorKind::PermissionDenied));
+            let mut failing = failing_reader(&bytes, piece, call, denied);
+            assert!(rt; read_fragment(&mut failing, &bytes[..8]) == Err(denied));
         }
-        let mut reader = failing_reader(&FRAGMENT, piece, calls, ErrorKind::PermissionDenied);
-        assert!(rt; fragment_kind(&mut reader).is_ok());
-        assert!(rt; reader.calls == calls);
+        let mut reader = failing_reader(&bytes, piece, calls, denied);
+        let read = read_fragment(&mut reader, &bytes[..8]);
+        assert!(rt; (read, reader.calls) == (Ok(true), calls));
     }
 }
 
 #[test]
 fn an_authentication_header_from_a_failing_reader(rt: HostRuntime) {
+    let denied = ErrorKind::PermissionDenied;
+    let bytes = AUTH;
     for (piece, calls) in [(100usize, 2usize), (1, 16)] {
         for call in 0..calls {
-            let mut reader = failing_reader(&AUTH, piece, call, ErrorKind::PermissionDenied);
-            assert!(rt; auth_kind(&mut reader).err() == Some(Some(ErrorKind::PermissionDenied)));
+            let mut failing = failing_reader(&bytes, piece, call, denied);
+            assert!(rt; read_auth(&mut failing, &bytes[..16]) == Err(Some(denied)));
         }
-        let mut reader = failing_reader(&AUTH, piece, calls, ErrorKind::PermissionDenied);
-        assert!(rt; auth_kind(&mut reader).is_ok());
-        assert!(rt; reader.calls == calls);
+        let mut reader = failing_reader(&bytes, piece, calls, denied);
+        let read = read_auth(&mut reader, &bytes[..16]);
+        assert!(rt; (read, reader.calls) == (Ok(true), calls));
     }
 }
 
 #[test]
 fn readers_that_end_within_a_header(rt: HostRuntime) {
     let end = ErrorKind::UnexpectedEof;
+    let (raw, auth, fragment) = (RAW, AUTH, FRAGMENT);
     for len in 0..16usize {
-        assert!(rt; raw_kind(&mut reader_of(&RAW[..len], 5)).err() == Some(end));
-        assert!(rt; auth_kind(&mut reader_of(&AUTH[..len], 5)).err() == Some(Some(end)));
+        let found = (
+            read_raw(&mut reader_of(&raw[..len], 5), &[]),
+            read_auth(&mut reader_of(&auth[..len], 5), &[]),
+        );
+        assert!(rt; found == (Err(end), Err(Some(end))));
     }
     for len in 0..8usize {
-        assert!(rt; fragment_kind(&mut reader_of(&FRAGMENT[..len], 5)).err() == Some(end));
+        let found = read_fragment(&mut reader_of(&fragment[..len], 5), &[]);
+        assert!(rt; found == Err(end));
     }
 }
 
 #[test]
 fn a_length_byte_of_zero_is_read(rt: HostRuntime) {
     let mut reader = reader_of(&[0; 16], 100);
-    assert!(rt; auth_kind(&mut reader).err() == Some(None));
-    assert!(rt; reader.rest.len() == 4);
+    let read = read_auth(&mut reader, &[]);
+    assert!(rt; (read, reader.rest.len()) == (Err(None), 4));
 }
 
 // A reader that gives three bytes a call, of which so many may be read, 10 bytes into a packet.
@@ -148,40 +162,67 @@ fn limited(bytes: &[u8], max_len: usize) -> LimitedReader<PieceReader<'_>>
     LimitedReader::new(reader_of(bytes, 3), max_len, source, 10, Layer::Ipv6Header)
 }
 
-fn want(required_len: usize, len: usize, layer: Layer, layer_start_offset: usize) -> LenError {
-    LenError {
+// How a header is refused that wants so many bytes, of the ones that are there.
+fn want(required_len: usize, len: usize, layer: Layer, layer_start_offset: usize) -> Refusal {
+    Refusal::Len(LenError {
         required_len,
         len,
         len_source: LenSource::Ipv6HeaderPayloadLen,
         layer,
         layer_start_offset,
+    })
+}
+
+type Limited<'a> = LimitedReader<PieceReader<'a>>;
+
+fn refusal(error: LimitedReadError) -> Refusal {
+    match error {
+        LimitedReadError::Io(error) => Refusal::Io(error.kind()),
+        LimitedReadError::Len(error) => Refusal::Len(error),
     }
 }
 
-// The want of bytes, or None where a read failed.
-fn wanted(error: LimitedReadError) -> Option<LenError> {
-    match error {
-        LimitedReadError::Io(_) => None,
-        LimitedReadError::Len(error) => Some(error),
+// Whether the header that is read has these bytes, or why none is read.
+fn limited_raw(reader: &mut Limited<'_>, bytes: &[u8]) -> Result<bool, Refusal> {
+    match Ipv6RawExtHeader::read_limited(reader) {
+        Ok(header) => Ok(header.to_bytes().as_slice() == bytes),
+        Err(error) => Err(refusal(error)),
+    }
+}
+
+fn limited_fragment(reader: &mut Limited<'_>, bytes: &[u8]) -> Result<bool, Refusal> {
+    match Ipv6FragmentHeader::read_limited(reader) {
+        Ok(header) => Ok(header.to_bytes().as_slice() == bytes),
+        Err(error) => Err(refusal(error)),
+    }
+}
+
+fn limited_auth(reader: &mut Limited<'_>, bytes: &[u8]) -> Result<bool, Refusal> {
+    match IpAuthHeader::read_limited(reader) {
+        Ok(header) => Ok(header.to_bytes().as_slice() == bytes),
+        Err(HeaderLimitedReadError::Io(error)) => Err(Refusal::Io(error.kind())),
+        Err(HeaderLimitedReadError::Len(error)) => Err(Refusal::Len(error)),
+        Err(HeaderLimitedReadError::Content(fault)) => {
+            Err(Refusal::Content(ipv6_exts::HeaderError::IpAuth(fault)))
+        }
     }
 }
 
 #[test]
 fn a_raw_header_within_its_limit(rt: HostRuntime) {
+    let bytes = RAW;
     for limit in [16usize, 17] {
-        let mut reader = limited(&RAW, limit);
-        let Ok(header) = Ipv6RawExtHeader::read_limited(&mut reader) else {
-            panic!(rt; "no header");
-        };
-        assert!(rt; header.to_bytes().as_slice() == &RAW[..16]);
-        assert!(rt; reader.read_len() == 16);
-        assert!(rt; reader.layer() == Layer::Ipv6ExtHeader);
+        let mut reader = limited(&bytes, limit);
+        let read = limited_raw(&mut reader, &bytes[..16]);
+        let found = (read, reader.read_len(), reader.layer());
+        assert!(rt; found == (Ok(true), 16, Layer::Ipv6ExtHeader));
         assert!(rt; reader.take_reader().rest.len() == 2);
     }
 }
 
 #[test]
 fn a_raw_header_beyond_its_limit(rt: HostRuntime) {
+    let bytes = RAW;
     // The limit, the length that is asked for, and how many bytes are read.
     for (limit, required_len, read) in [
         (0usize, 8usize, 0usize),
@@ -189,139 +230,110 @@ fn a_raw_header_beyond_its_limit(rt: HostRuntime) {
         (8, 16, 8),
         (15, 16, 8),
     ] {
-        let mut reader = limited(&RAW, limit);
-        match Ipv6RawExtHeader::read_limited(&mut reader) {
-            Ok(_) => panic!(rt; "a header beyond {limit} bytes"),
-            Err(e) => {
-                let error = want(required_len, limit, Layer::Ipv6ExtHeader, 10);
-                assert!(rt; wanted(e) == Some(error));
-            }
-        }
-        assert!(rt; reader.read_len() == read);
-        assert!(rt; reader.take_reader().rest == &RAW[read..]);
+        let mut reader = limited(&bytes, limit);
+        let found = (limited_raw(&mut reader, &[]), reader.read_len());
+        let error = want(required_len, limit, Layer::Ipv6ExtHeader, 10);
+        assert!(rt; found == (Err(error), read));
+        assert!(rt; reader.take_reader().rest == &bytes[read..]);
     }
 }
 
 #[test]
 fn a_fragment_header_at_its_limit(rt: HostRuntime) {
+    let bytes = FRAGMENT;
     for limit in [8usize, 9] {
-        let mut reader = limited(&FRAGMENT, limit);
-        let Ok(header) = Ipv6FragmentHeader::read_limited(&mut reader) else {
-            panic!(rt; "no header");
-        };
-        assert!(rt; header.identification == 0x1234_5678);
-        assert!(rt; reader.take_reader().rest.len() == 2);
+        let mut reader = limited(&bytes, limit);
+        let read = limited_fragment(&mut reader, &bytes[..8]);
+        assert!(rt; (read, reader.take_reader().rest.len()) == (Ok(true), 2));
     }
     for limit in [0usize, 7] {
-        let mut reader = limited(&FRAGMENT, limit);
-        match Ipv6FragmentHeader::read_limited(&mut reader) {
-            Ok(_) => panic!(rt; "a header beyond {limit} bytes"),
-            Err(e) => {
-                let error = want(8, limit, Layer::Ipv6FragHeader, 10);
-                assert!(rt; wanted(e) == Some(error));
-            }
-        }
-        assert!(rt; reader.take_reader().rest.len() == 10);
+        let mut reader = limited(&bytes, limit);
+        let read = limited_fragment(&mut reader, &[]);
+        let error = want(8, limit, Layer::Ipv6FragHeader, 10);
+        assert!(rt; (read, reader.take_reader().rest.len()) == (Err(error), 10));
     }
 }
 
 #[test]
 fn an_authentication_header_within_its_limit(rt: HostRuntime) {
+    let bytes = AUTH;
     for limit in [16usize, 17] {
-        let mut reader = limited(&AUTH, limit);
-        let Ok(header) = IpAuthHeader::read_limited(&mut reader) else {
-            panic!(rt; "no header");
-        };
-        assert!(rt; header.to_bytes().as_slice() == &AUTH[..16]);
-        assert!(rt; reader.layer() == Layer::IpAuthHeader);
+        let mut reader = limited(&bytes, limit);
+        let found = (limited_auth(&mut reader, &bytes[..16]), reader.layer());
+        assert!(rt; found == (Ok(true), Layer::IpAuthHeader));
         assert!(rt; reader.take_reader().rest.len() == 2);
     }
 }
 
 #[test]
 fn an_authentication_header_beyond_its_limit(rt: HostRuntime) {
+    let bytes = AUTH;
     for (limit, required_len, read) in [
         (0usize, 12usize, 0usize),
         (11, 12, 0),
         (12, 16, 12),
         (15, 16, 12),
     ] {
-        let mut reader = limited(&AUTH, limit);
-        match IpAuthHeader::read_limited(&mut reader) {
-            Err(HeaderLimitedReadError::Len(error)) => {
-                assert!(rt; error == want(required_len, limit, Layer::IpAuthHeader, 10));
-            }
-            _ => panic!(rt; "no want of bytes at {limit}"),
-        }
-        assert!(rt; reader.take_reader().rest == &AUTH[read..]);
+        let mut reader = limited(&bytes, limit);
+        let found = limited_auth(&mut reader, &[]);
+        let error = want(required_len, limit, Layer::IpAuthHeader, 10);
+        assert!(rt; (found, reader.take_reader().rest) == (Err(error), &bytes[read..]));
     }
 }
 
 #[test]
 fn a_length_byte_of_zero_within_a_limit(rt: HostRuntime) {
     let mut reader = limited(&[0; 16], 16);
-    match IpAuthHeader::read_limited(&mut reader) {
-        Err(HeaderLimitedReadError::Content(error)) => {
-            assert!(rt; error == HeaderError::ZeroPayloadLen);
-        }
-        _ => panic!(rt; "no fault"),
-    }
-    assert!(rt; reader.read_len() == 12);
+    let found = (limited_auth(&mut reader, &[]), reader.read_len());
+    let fault = ipv6_exts::HeaderError::IpAuth(HeaderError::ZeroPayloadLen);
+    assert!(rt; found == (Err(Refusal::Content(fault)), 12));
+}
+
+// A reader of one byte a call that fails at this one, and of which so many may be read.
+fn failing_limited(bytes: &[u8], call: usize, max_len: usize) -> Limited<'_> {
+    let inner = failing_reader(bytes, 1, call, ErrorKind::PermissionDenied);
+    LimitedReader::new(inner, max_len, LenSource::Slice, 0, Layer::Ipv6Packet)
 }
 
 #[test]
 fn limited_headers_from_failing_readers(rt: HostRuntime) {
-    let source = LenSource::Slice;
+    let bytes = RAW;
+    let denied = Err(Refusal::Io(ErrorKind::PermissionDenied));
     for call in 0..16usize {
-        let inner = failing_reader(&RAW, 1, call, ErrorKind::PermissionDenied);
-        let mut reader = LimitedReader::new(inner, 16, source, 0, Layer::Ipv6Packet);
-        match Ipv6RawExtHeader::read_limited(&mut reader) {
-            Err(LimitedReadError::Io(error)) => {
-                assert!(rt; error.kind() == ErrorKind::PermissionDenied);
-            }
-            _ => panic!(rt; "no fault at call {call}"),
-        }
+        let mut reader = failing_limited(&bytes, call, 16);
+        let read = limited_raw(&mut reader, &[]);
         // What was read of the first eight bytes or of the rest doesn't count.
-        assert!(rt; reader.read_len() == if call < 8 { 0 } else { 8 });
+        let counted = if call < 8 { 0 } else { 8 };
+        assert!(rt; (read, reader.read_len()) == (denied, counted));
     }
 }
 
 #[test]
 fn limited_authentication_headers_from_failing_readers(rt: HostRuntime) {
-    let source = LenSource::Slice;
+    let denied = Err(Refusal::Io(ErrorKind::PermissionDenied));
+    let (auth, fragment) = (AUTH, FRAGMENT);
     for call in 0..16usize {
-        let inner = failing_reader(&AUTH, 1, call, ErrorKind::PermissionDenied);
-        let mut reader = LimitedReader::new(inner, 16, source, 0, Layer::Ipv6Packet);
-        match IpAuthHeader::read_limited(&mut reader) {
-            Err(HeaderLimitedReadError::Io(error)) => {
-                assert!(rt; error.kind() == ErrorKind::PermissionDenied);
-            }
-            _ => panic!(rt; "no fault at call {call}"),
-        }
+        let mut reader = failing_limited(&auth, call, 16);
+        assert!(rt; limited_auth(&mut reader, &[]) == denied);
     }
     for call in 0..8usize {
-        let inner = failing_reader(&FRAGMENT, 1, call, ErrorKind::PermissionDenied);
-        let mut reader = LimitedReader::new(inner, 8, source, 0, Layer::Ipv6Packet);
-        assert!(rt;
-            matches!(
-                Ipv6FragmentHeader::read_limited(&mut reader),
-                Err(LimitedReadError::Io(_))
-            )
-        );
+        let mut reader = failing_limited(&fragment, call, 8);
+        assert!(rt; limited_fragment(&mut reader, &[]) == denied);
     }
 }
 
 #[test]
 fn headers_in_a_row_within_a_limit(rt: HostRuntime) {
+    let (raw, fragment) = (RAW, FRAGMENT);
     let mut bytes = [0; 24];
-    bytes[..16].copy_from_slice(&RAW[..16]);
-    bytes[16..].copy_from_slice(&FRAGMENT[..8]);
+    bytes[..16].copy_from_slice(&raw[..16]);
+    bytes[16..].copy_from_slice(&fragment[..8]);
     let mut reader = limited(&bytes, 23);
-    assert!(rt; Ipv6RawExtHeader::read_limited(&mut reader).is_ok());
-    match Ipv6FragmentHeader::read_limited(&mut reader) {
-        Ok(_) => panic!(rt; "a header beyond the limit"),
-        Err(e) => assert!(rt; wanted(e) == Some(want(8, 7, Layer::Ipv6FragHeader, 26))),
-    }
+    let found = (
+        limited_raw(&mut reader, &raw[..16]),
+        limited_fragment(&mut reader, &[]),
+    );
+    assert!(rt; found == (Ok(true), Err(want(8, 7, Layer::Ipv6FragHeader, 26))));
 }
 
 #[test]
@@ -330,14 +342,12 @@ fn raw_headers_of_every_length_are_read(rt: HostRuntime) {
     for words in 0..=255u8 {
         bytes[1] = words;
         let len = (usize::from(words) + 1) * 8;
-        let mut reader = reader_of(&bytes, 4096);
-        assert!(rt; raw_kind(&mut reader).is_ok());
-        assert!(rt; reader.rest.len() == 2050 - len);
-        let source = LenSource::Slice;
+        let mut whole = reader_of(&bytes, 4096);
+        let read = (read_raw(&mut whole, &bytes[..len]), whole.rest.len());
         let inner = reader_of(&bytes, 4096);
-        let mut reader = LimitedReader::new(inner, len, source, 0, Layer::Ipv6Packet);
-        assert!(rt; Ipv6RawExtHeader::read_limited(&mut reader).is_ok());
-        assert!(rt; reader.read_len() == len);
+        let mut reader = LimitedReader::new(inner, len, LenSource::Slice, 0, Layer::Ipv6Packet);
+        let limited = (limited_raw(&mut reader, &bytes[..len]), reader.read_len());
+        assert!(rt; (read, limited) == ((Ok(true), 2050 - len), (Ok(true), len)));
     }
 }
 
@@ -347,13 +357,11 @@ fn authentication_headers_of_every_length_are_read(rt: HostRuntime) {
     for words in 1..=255u8 {
         bytes[1] = words;
         let len = (usize::from(words) + 2) * 4;
-        let mut reader = reader_of(&bytes, 4096);
-        assert!(rt; auth_kind(&mut reader).is_ok());
-        assert!(rt; reader.rest.len() == 1030 - len);
-        let source = LenSource::Slice;
+        let mut whole = reader_of(&bytes, 4096);
+        let read = (read_auth(&mut whole, &[]).is_ok(), whole.rest.len());
         let inner = reader_of(&bytes, 4096);
-        let mut reader = LimitedReader::new(inner, len, source, 0, Layer::Ipv6Packet);
-        assert!(rt; IpAuthHeader::read_limited(&mut reader).is_ok());
-        assert!(rt; reader.read_len() == len);
+        let mut reader = LimitedReader::new(inner, len, LenSource::Slice, 0, Layer::Ipv6Packet);
+        let limited = (limited_auth(&mut reader, &[]).is_ok(), reader.read_len());
+        assert!(rt; (read, limited) == ((true, 1030 - len), (true, len)));
     }
 }

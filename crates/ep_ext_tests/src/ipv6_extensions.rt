@@ -6,7 +6,7 @@ use ep_base::err::{Layer, LenError};
 use ep_base::{IpNumber, LenSource};
 use ep_ext::err::ip_auth;
 use ep_ext::err::ipv6_exts::{HeaderError, HeaderSliceError};
-use ep_ext::{Ipv6Extensions, Ipv6RawExtHeader, laws};
+use ep_ext::{IpAuthHeader, Ipv6Extensions, Ipv6FragmentHeader, Ipv6RawExtHeader, laws};
 use ep_ip::Ipv6Header;
 use std::test::*;
 
@@ -65,16 +65,31 @@ fn cut_at(len: usize) -> (IpNumber, Layer, LenError) {
     (IpNumber(60), Layer::Ipv6DestOptionsHeader, error)
 }
 
+// Why the headers from this number on are refused, if they are.
+fn why_refused(first: u8, bytes: &[u8]) -> Option<HeaderSliceError> {
+    match Ipv6Extensions::from_slice(IpNumber(first), bytes) {
+        Ok(_) => None,
+        Err(error) => Some(error),
+    }
+}
+
 #[test]
 fn every_front_of_a_chain_is_refused(rt: HostRuntime) {
     let bytes = CHAIN;
     for len in 0..72usize {
         let (_, _, error) = cut_at(len);
-        match Ipv6Extensions::from_slice(IpNumber(0), &bytes[..len]) {
-            Ok(_) => panic!(rt; "taken"),
-            Err(found) => assert!(rt; found == HeaderSliceError::Len(error)),
-        }
+        assert!(rt; why_refused(0, &bytes[..len]) == Some(HeaderSliceError::Len(error)));
     }
+}
+
+// What is seen of the headers from this number on, up to a fault: their length, the number behind
+// them, how many bytes are left, and the fault.
+fn up_to_the_fault(
+    first: u8,
+    bytes: &[u8],
+) -> (usize, IpNumber, usize, Option<(HeaderSliceError, Layer)>) {
+    let (headers, number, rest, fault) = Ipv6Extensions::from_slice_lax(IpNumber(first), bytes);
+    (headers.header_len(), number, rest.len(), fault)
 }
 
 #[test]
@@ -83,14 +98,8 @@ fn every_front_of_a_chain_up_to_the_fault(rt: HostRuntime) {
     for len in 0..72usize {
         let (number, layer, error) = cut_at(len);
         let fault = Some((HeaderSliceError::Len(error), layer));
-        let (headers, last, rest, found) = Ipv6Extensions::from_slice_lax(
-            IpNumber(0),
-            &bytes[..len],
-        );
-        assert!(rt; last == number);
-        assert!(rt; rest.len() == error.len);
-        assert!(rt; headers.header_len() == error.layer_start_offset);
-        assert!(rt; found == fault);
+        let found = up_to_the_fault(0, &bytes[..len]);
+        assert!(rt; found == (error.layer_start_offset, number, error.len, fault));
     }
 }
 
@@ -101,50 +110,68 @@ fn is_skipped_to_its_end(bytes: &[u8]) -> bool {
         && laws::skip_agrees_with_chain(IpNumber(0), bytes) == end
 }
 
-fn has_payload(header: &Ipv6RawExtHeader, payload: &[u8]) -> bool {
-    header.payload() == payload
-}
-
 #[test]
 fn all_six_headers(rt: HostRuntime) {
     let bytes = CHAIN;
     let Ok((headers, number, rest)) = Ipv6Extensions::from_slice(IpNumber(0), &bytes) else {
         panic!(rt; "refused");
     };
-    assert!(rt; number == IpNumber(17));
-    assert!(rt; rest == [0xaa, 0xbb].as_slice());
-    assert!(rt; headers.header_len() == 72);
-    assert!(rt; headers.is_fragmenting_payload());
-    assert!(rt; !headers.is_empty());
+    let found = (
+        number,
+        rest,
+        headers.header_len(),
+        headers.is_fragmenting_payload(),
+        headers.is_empty(),
+        is_skipped_to_its_end(&bytes),
+    );
+    assert!(rt; found == (IpNumber(17), &bytes[72..], 72, true, false, true));
+}
+
+#[test]
+fn the_routing_header_among_all(rt: HostRuntime) {
+    let bytes = CHAIN;
+    let (headers, _, _, _) = Ipv6Extensions::from_slice_lax(IpNumber(0), &bytes);
     let Some(routing) = &headers.routing else {
         panic!(rt; "no routing header");
     };
-    assert!(rt; routing.header_len() == 24);
-    assert!(rt; has_payload(&routing.routing, &bytes[18..32]));
-    assert!(rt; is_skipped_to_its_end(&bytes));
+    let found = (routing.header_len(), routing.routing.payload());
+    assert!(rt; found == (24, &bytes[18..32]));
+}
+
+// The numbers that options name, or None where there are none.
+fn next_of(options: &Option<Ipv6RawExtHeader>) -> Option<IpNumber> {
+    match options {
+        Some(header) => Some(header.next_header),
+        None => None,
+    }
+}
+
+fn identification_of(fragment: &Option<Ipv6FragmentHeader>) -> Option<u32> {
+    match fragment {
+        Some(header) => Some(header.identification),
+        None => None,
+    }
+}
+
+fn has_check_value(auth: &Option<IpAuthHeader>, icv: &[u8]) -> bool {
+    match auth {
+        Some(header) => header.raw_icv() == icv,
+        None => false,
+    }
 }
 
 #[test]
 fn each_header_at_its_place(rt: HostRuntime) {
     let bytes = CHAIN;
     let (headers, _, _, fault) = Ipv6Extensions::from_slice_lax(IpNumber(0), &bytes);
-    assert!(rt; fault == None);
-    let Some(hop_by_hop) = &headers.hop_by_hop_options else {
-        panic!(rt; "no hop-by-hop options");
-    };
-    assert!(rt; hop_by_hop.next_header == IpNumber(60));
-    let Some(destination) = &headers.destination_options else {
-        panic!(rt; "no destination options");
-    };
-    assert!(rt; destination.next_header == IpNumber(43));
-    let Some(fragment) = &headers.fragment else {
-        panic!(rt; "no fragment header");
-    };
-    assert!(rt; fragment.identification == 7);
-    let Some(auth) = &headers.auth else {
-        panic!(rt; "no authentication header");
-    };
-    assert!(rt; auth.raw_icv() == &bytes[52..64]);
+    let found = (
+        fault,
+        next_of(&headers.hop_by_hop_options),
+        next_of(&headers.destination_options),
+        identification_of(&headers.fragment),
+        has_check_value(&headers.auth, &bytes[52..64]),
+    );
+    assert!(rt; found == (None, Some(IpNumber(60)), Some(IpNumber(43)), Some(7), true));
 }
 
 #[test]
@@ -155,9 +182,7 @@ fn a_second_fragment_header_ends_the_chain(rt: HostRuntime) {
     let Ok((headers, number, rest)) = Ipv6Extensions::from_slice(IpNumber(44), &bytes) else {
         panic!(rt; "refused");
     };
-    assert!(rt; number == IpNumber(44));
-    assert!(rt; rest == &bytes[8..]);
-    assert!(rt; headers.header_len() == 8);
+    assert!(rt; (headers.header_len(), number, rest) == (8, IpNumber(44), &bytes[8..]));
 }
 
 // Whether the headers from this number on end behind so many bytes, at the same kind of header
@@ -179,62 +204,57 @@ fn a_second_header_of_a_kind_ends_the_chain(rt: HostRuntime) {
     // Routing headers, each of 8 bytes.
     bytes[0] = 43;
     bytes[8] = 17;
-    assert!(rt; ends_again_at(43, &bytes, 43, 8));
+    let routing = ends_again_at(43, &bytes, 43, 8);
     // Destination options behind destination options.
     bytes[0] = 60;
-    assert!(rt; ends_again_at(60, &bytes, 60, 8));
+    let destination = ends_again_at(60, &bytes, 60, 8);
     // The same behind a routing header, where one more has a place.
     bytes[8] = 60;
     bytes[16] = 17;
-    assert!(rt; ends_again_at(43, &bytes, 60, 16));
+    let final_destination = ends_again_at(43, &bytes, 60, 16);
     // Authentication headers, each of 12 bytes.
     let mut bytes = [1; 24];
     bytes[0] = 51;
-    assert!(rt; ends_again_at(51, &bytes, 51, 12));
+    let authentication = ends_again_at(51, &bytes, 51, 12);
+    let found = (routing, destination, final_destination, authentication);
+    assert!(rt; found == (true, true, true, true));
 }
 
 #[test]
 fn hop_by_hop_options_behind_a_header_are_refused(rt: HostRuntime) {
     let bytes = [0, 0, 0, 0, 0, 0, 0, 0, 17, 0, 0, 0, 0, 0, 0, 0];
     let fault = HeaderSliceError::Content(HeaderError::HopByHopNotAtStart);
-    match Ipv6Extensions::from_slice(IpNumber(60), &bytes) {
-        Ok(_) => panic!(rt; "taken"),
-        Err(error) => assert!(rt; error == fault),
-    }
     let (headers, number, rest, found) = Ipv6Extensions::from_slice_lax(IpNumber(60), &bytes);
-    assert!(rt; number == IpNumber(0));
-    assert!(rt; rest == &bytes[8..]);
-    assert!(rt; headers.destination_options.is_some());
-    assert!(rt; found == Some((fault, Layer::Ipv6HopByHopHeader)));
+    let options = headers.destination_options.is_some();
+    let behind = Some((fault, Layer::Ipv6HopByHopHeader));
+    assert!(rt; (options, number, rest, found) == (true, IpNumber(0), &bytes[8..], behind));
+    assert!(rt; why_refused(60, &bytes) == Some(fault));
 }
 
 #[test]
 fn an_authentication_header_of_length_zero_is_refused(rt: HostRuntime) {
     let zero = ip_auth::HeaderError::ZeroPayloadLen;
     let fault = HeaderSliceError::Content(HeaderError::IpAuth(zero));
-    match Ipv6Extensions::from_slice(IpNumber(51), &[0u8; 12]) {
-        Ok(_) => panic!(rt; "taken"),
-        Err(error) => assert!(rt; error == fault),
+    let found = (up_to_the_fault(51, &[0; 12]), why_refused(51, &[0; 12]));
+    let seen = (0, IpNumber(51), 12, Some((fault, Layer::IpAuthHeader)));
+    assert!(rt; found == (seen, Some(fault)));
+}
+
+// Whether there is no header behind this number.
+fn ends_at_once(number: u8, bytes: &[u8]) -> bool {
+    match Ipv6Extensions::from_slice(IpNumber(number), bytes) {
+        Ok((headers, last, rest)) => {
+            headers.is_empty() && last == IpNumber(number) && rest == bytes
+        }
+        Err(_) => false,
     }
-    let (headers, number, rest, found) = Ipv6Extensions::from_slice_lax(IpNumber(51), &[0u8; 12]);
-    assert!(rt; headers.is_empty());
-    assert!(rt; number == IpNumber(51));
-    assert!(rt; rest.len() == 12);
-    assert!(rt; found == Some((fault, Layer::IpAuthHeader)));
 }
 
 #[test]
 fn numbers_without_a_place_end_the_chain(rt: HostRuntime) {
     // Mobility, host identity and shim6 headers end it too.
     for number in [6u8, 17, 50, 58, 59, 135, 139, 140, 253] {
-        match Ipv6Extensions::from_slice(IpNumber(number), &[1, 2, 3]) {
-            Ok((headers, last, rest)) => {
-                assert!(rt; headers.is_empty());
-                assert!(rt; last == IpNumber(number));
-                assert!(rt; rest == [1, 2, 3].as_slice());
-            }
-            Err(_) => panic!(rt; "refused"),
-        }
+        assert!(rt; ends_at_once(number, &[1, 2, 3]));
     }
 }
 
@@ -242,7 +262,10 @@ fn numbers_without_a_place_end_the_chain(rt: HostRuntime) {
 fn an_error_seen_from_further_in_front(rt: HostRuntime) {
     let error = want(8, 7, Layer::Ipv6ExtHeader, 0);
     let moved = want(8, 7, Layer::Ipv6ExtHeader, 40);
-    assert!(rt; HeaderSliceError::Len(error).add_slice_offset(40) == HeaderSliceError::Len(moved));
     let fault = HeaderSliceError::Content(HeaderError::HopByHopNotAtStart);
-    assert!(rt; fault.add_slice_offset(40) == fault);
+    let found = (
+        HeaderSliceError::Len(error).add_slice_offset(40),
+        fault.add_slice_offset(40),
+    );
+    assert!(rt; found == (HeaderSliceError::Len(moved), fault));
 }

@@ -4,6 +4,7 @@ use crate::ipv6_extensions::CHAIN;
 use ep_base::{IpFragOffset, IpNumber};
 use ep_ext::err::ipv6_exts::{ExtsWalkError, HeaderWriteError};
 use ep_ext::{IpAuthHeader, Ipv6Extensions, Ipv6FragmentHeader, Ipv6RawExtHeader, laws};
+use std::alloc::Global;
 use std::test::*;
 
 fn not_referenced(number: u8) -> ExtsWalkError {
@@ -17,58 +18,79 @@ fn all_headers() -> Ipv6Extensions {
     Ipv6Extensions::from_slice_lax(IpNumber(0), &bytes).0
 }
 
-#[test]
-fn a_chain_is_followed_and_written(rt: HostRuntime) -> Result<(), Fail> {
-    let headers = all_headers();
-    assert!(rt; headers.next_header(IpNumber(0)) == Ok(IpNumber(17)));
-    let mut buffer = Vec::new(rt.alloc());
-    buffer.push(9)?;
-    assert!(rt; headers.write(&mut buffer, IpNumber(0)) == Ok(()));
-    let mut written = [9; 73];
-    written[1..].copy_from_slice(&CHAIN[..72]);
-    assert!(rt; buffer.as_slice() == written.as_slice());
-    Ok(())
+// How headers are written behind a byte: the answer, and whether these are the bytes behind it.
+fn written_behind_a_byte(
+    alloc: Global,
+    headers: &Ipv6Extensions,
+    first: u8,
+    bytes: &[u8],
+) -> (Result<(), HeaderWriteError>, bool) {
+    let mut buffer = Vec::new(alloc);
+    if buffer.push(9).is_err() {
+        return (Err(HeaderWriteError::Memory), false);
+    }
+    let done = headers.write(&mut buffer, IpNumber(first));
+    let are_appended = buffer.first() == Some(&9) && buffer.get(1..) == Some(bytes);
+    (done, are_appended)
 }
 
 #[test]
-fn what_is_written_reads_back(rt: HostRuntime) -> Result<(), Fail> {
+fn a_chain_is_followed_and_written(rt: HostRuntime) {
+    let headers = all_headers();
+    let bytes = CHAIN;
+    let found = (
+        headers.next_header(IpNumber(0)),
+        written_behind_a_byte(rt.alloc(), &headers, 0, &bytes[..72]),
+    );
+    assert!(rt; found == (Ok(IpNumber(17)), (Ok(()), true)));
+}
+
+#[test]
+fn what_is_written_reads_back(rt: HostRuntime) {
     let headers = all_headers();
     let bytes = CHAIN;
     match laws::written_chain_reads_back(&headers, IpNumber(0), &bytes) {
         Ok((again, number, rest)) => {
-            assert!(rt; again == headers);
-            assert!(rt; number == IpNumber(17));
-            assert!(rt; rest.len() == 2);
+            assert!(rt; (again == headers, number, rest.len()) == (true, IpNumber(17), 2));
         }
         Err(_) => panic!(rt; "refused"),
     }
-    assert!(rt; headers.clone()? == headers);
-    Ok(())
+}
+
+#[test]
+fn headers_are_their_copy(rt: HostRuntime) {
+    let headers = all_headers();
+    let copy: Result<_, _> = headers.clone();
+    assert!(rt; copy == Ok(headers));
 }
 
 #[test]
 fn a_fragment_header_alone(rt: HostRuntime) {
     let mut headers = Ipv6Extensions::default();
     headers.fragment = Some(Ipv6FragmentHeader::new(IpNumber(17), IpFragOffset::ZERO, false, 0));
-    assert!(rt; !headers.is_fragmenting_payload());
-    assert!(rt; headers.next_header(IpNumber(17)) == Err(not_referenced(44)));
-    assert!(rt; headers.next_header(IpNumber(44)) == Ok(IpNumber(17)));
-    let mut buffer = Vec::new(rt.alloc());
-    assert!(rt; headers.write(&mut buffer, IpNumber(44)) == Ok(()));
-    assert!(rt; buffer.as_slice() == [0x11, 0, 0, 0, 0, 0, 0, 0].as_slice());
+    let found = (
+        headers.is_fragmenting_payload(),
+        headers.next_header(IpNumber(17)),
+        headers.next_header(IpNumber(44)),
+        written_behind_a_byte(rt.alloc(), &headers, 44, &[0x11, 0, 0, 0, 0, 0, 0, 0]),
+    );
+    let written = (Ok(()), true);
+    assert!(rt; found == (false, Err(not_referenced(44)), Ok(IpNumber(17)), written));
 }
 
 #[test]
 fn no_header_at_all(rt: HostRuntime) {
     let headers = Ipv6Extensions::default();
-    assert!(rt; headers.is_empty());
-    assert!(rt; !headers.is_fragmenting_payload());
-    assert!(rt; headers.header_len() == 0);
-    assert!(rt; headers.next_header(IpNumber(0)) == Ok(IpNumber(0)));
-    let mut buffer = Vec::new(rt.alloc());
-    assert!(rt; headers.write(&mut buffer, IpNumber(17)) == Ok(()));
-    assert!(rt; buffer.len() == 0);
-    assert!(rt; Ipv6Extensions::MAX_LEN == 9228);
+    let found = (
+        headers.is_empty(),
+        headers.is_fragmenting_payload(),
+        headers.header_len(),
+        headers.next_header(IpNumber(0)),
+        written_behind_a_byte(rt.alloc(), &headers, 17, &[]),
+        Ipv6Extensions::MAX_LEN,
+    );
+    let written = (Ok(()), true);
+    assert!(rt; found == (true, false, 0, Ok(IpNumber(0)), written, 9228));
 }
 
 // The headers are named in the order hop by hop, destination, routing, fragment, authentication,
@@ -76,13 +98,21 @@ fn no_header_at_all(rt: HostRuntime) {
 #[test]
 fn the_first_header_that_is_not_reached(rt: HostRuntime) {
     let mut headers = all_headers();
-    assert!(rt; headers.next_header(IpNumber(17)) == Err(not_referenced(0)));
-    assert!(rt; headers.next_header(IpNumber(60)) == Err(not_referenced(0)));
+    let to_17 = headers.next_header(IpNumber(17));
+    let to_60 = headers.next_header(IpNumber(60));
     headers.hop_by_hop_options = None;
-    assert!(rt; headers.next_header(IpNumber(17)) == Err(not_referenced(60)));
+    let without_options = headers.next_header(IpNumber(17));
     headers.destination_options = None;
-    assert!(rt; headers.next_header(IpNumber(17)) == Err(not_referenced(43)));
-    assert!(rt; headers.next_header(IpNumber(51)) == Err(not_referenced(43)));
+    let found = (
+        to_17,
+        to_60,
+        without_options,
+        headers.next_header(IpNumber(17)),
+        headers.next_header(IpNumber(51)),
+    );
+    let (hop_by_hop, routing) = (Err(not_referenced(0)), Err(not_referenced(43)));
+    let destination = Err(not_referenced(60));
+    assert!(rt; found == (hop_by_hop, hop_by_hop, destination, routing, routing));
 }
 
 #[test]
@@ -93,60 +123,56 @@ fn the_later_headers_that_are_not_reached(rt: HostRuntime) {
     if let Some(routing) = &mut headers.routing {
         routing.routing.next_header = IpNumber(17);
     }
-    assert!(rt; headers.next_header(IpNumber(43)) == Err(not_referenced(44)));
+    let all = headers.next_header(IpNumber(43));
     headers.fragment = None;
-    assert!(rt; headers.next_header(IpNumber(43)) == Err(not_referenced(51)));
+    let without_fragment = headers.next_header(IpNumber(43));
     headers.auth = None;
-    assert!(rt; headers.next_header(IpNumber(43)) == Err(not_referenced(60)));
+    let found = (all, without_fragment, headers.next_header(IpNumber(43)));
+    let missing = (not_referenced(44), not_referenced(51), not_referenced(60));
+    assert!(rt; found == (Err(missing.0), Err(missing.1), Err(missing.2)));
 }
 
 #[test]
-fn hop_by_hop_options_that_are_named_later(rt: HostRuntime) -> Result<(), Fail> {
+fn hop_by_hop_options_that_are_named_later(rt: HostRuntime) {
     let mut headers = all_headers();
     if let Some(destination) = &mut headers.destination_options {
         destination.next_header = IpNumber(0);
     }
-    let fault = ExtsWalkError::HopByHopNotAtStart;
-    assert!(rt; headers.next_header(IpNumber(60)) == Err(fault));
     // Where they were taken in first place, a later 0 ends the walk.
-    assert!(rt; headers.next_header(IpNumber(0)) == Err(not_referenced(43)));
-    let mut buffer = Vec::new(rt.alloc());
-    buffer.push(9)?;
-    let refused = Err(HeaderWriteError::Content(fault));
-    assert!(rt; headers.write(&mut buffer, IpNumber(60)) == refused);
-    assert!(rt; buffer.as_slice() == [9].as_slice());
-    Ok(())
+    let found = (
+        headers.next_header(IpNumber(60)),
+        headers.next_header(IpNumber(0)),
+        written_behind_a_byte(rt.alloc(), &headers, 60, &[]),
+    );
+    let fault = ExtsWalkError::HopByHopNotAtStart;
+    let refused = (Err(HeaderWriteError::Content(fault)), true);
+    assert!(rt; found == (Err(fault), Err(not_referenced(43)), refused));
 }
 
 #[test]
 fn headers_made_to_name_one_another(rt: HostRuntime) {
     let mut headers = Ipv6Extensions::default();
-    assert!(rt; headers.set_next_headers(IpNumber(6)) == IpNumber(6));
-    let Ok(auth) = IpAuthHeader::new(IpNumber(0), 1, 2, &[1, 2, 3, 4]) else {
-        panic!(rt; "no authentication header");
-    };
-    headers.auth = Some(auth);
-    let Ok(options) = Ipv6RawExtHeader::new_raw(IpNumber(0), &[1, 4, 0, 0, 0, 0]) else {
-        panic!(rt; "no destination options");
-    };
-    headers.destination_options = Some(options);
-    assert!(rt; headers.set_next_headers(IpNumber(6)) == IpNumber(60));
-    let mut buffer = Vec::new(rt.alloc());
-    assert!(rt; headers.write(&mut buffer, IpNumber(60)) == Ok(()));
-    let written = [
+    let of_none = headers.set_next_headers(IpNumber(6));
+    headers.auth = IpAuthHeader::new(IpNumber(0), 1, 2, &[1, 2, 3, 4]).ok();
+    let options = Ipv6RawExtHeader::new_raw(IpNumber(0), &[1, 4, 0, 0, 0, 0]);
+    headers.destination_options = options.ok();
+    let first = headers.set_next_headers(IpNumber(6));
+    let bytes = [
         51, 0, 1, 4, 0, 0, 0, 0, 6, 2, 0, 0, 0, 0, 0, 1, 0, 0, 0, 2, 1, 2, 3, 4,
     ];
-    assert!(rt; buffer.as_slice() == written.as_slice());
+    let written = written_behind_a_byte(rt.alloc(), &headers, 60, &bytes);
+    assert!(rt; (of_none, first, written) == (IpNumber(6), IpNumber(60), (Ok(()), true)));
 }
 
 #[test]
 fn all_headers_made_to_name_one_another(rt: HostRuntime) {
     let mut headers = all_headers();
-    assert!(rt; headers.set_next_headers(IpNumber(6)) == IpNumber(0));
-    assert!(rt; headers.next_header(IpNumber(0)) == Ok(IpNumber(6)));
-    let mut buffer = Vec::new(rt.alloc());
-    assert!(rt; headers.write(&mut buffer, IpNumber(0)) == Ok(()));
-    let mut written = CHAIN;
-    written[64] = 6;
-    assert!(rt; buffer.as_slice() == &written[..72]);
+    let mut bytes = CHAIN;
+    bytes[64] = 6;
+    let found = (
+        headers.set_next_headers(IpNumber(6)),
+        headers.next_header(IpNumber(0)),
+        written_behind_a_byte(rt.alloc(), &headers, 0, &bytes[..72]),
+    );
+    assert!(rt; found == (IpNumber(0), Ok(IpNumber(6)), (Ok(()), true)));
 }

@@ -6,7 +6,17 @@ use crate::ipv6_extensions::CHAIN;
 use ep_base::IpNumber;
 use ep_ext::err::{ipv4_exts, ipv6_exts};
 use ep_ext::{IpAuthHeader, Ipv4Extensions, Ipv6Extensions, Ipv6FragmentHeader, Ipv6RawExtHeader};
+use std::alloc::Global;
 use std::test::*;
+
+// Whether all bytes are written or, for want of memory, none; and so for the others.
+fn raw_is_all_or_nothing(alloc: Global, header: &Ipv6RawExtHeader, bytes: &[u8]) -> bool {
+    let mut buffer = Vec::new(alloc);
+    match header.write(&mut buffer) {
+        Ok(()) => buffer.as_slice() == bytes,
+        Err(_) => buffer.len() == 0,
+    }
+}
 
 #[test]
 fn a_raw_header_wants_memory(rt: HostRuntime) {
@@ -14,13 +24,15 @@ fn a_raw_header_wants_memory(rt: HostRuntime) {
     let Ok((header, _)) = Ipv6RawExtHeader::from_slice(&bytes) else {
         panic!(rt; "no header");
     };
-    let mut buffer = Vec::new(rt.alloc());
-    let written = if header.write(&mut buffer).is_ok() {
-        8
-    } else {
-        0
-    };
-    assert!(rt; buffer.as_slice() == &bytes[..written]);
+    assert!(rt; raw_is_all_or_nothing(rt.alloc(), &header, &bytes[..8]));
+}
+
+fn fragment_is_all_or_nothing(alloc: Global, header: &Ipv6FragmentHeader, bytes: &[u8]) -> bool {
+    let mut buffer = Vec::new(alloc);
+    match header.write(&mut buffer) {
+        Ok(()) => buffer.as_slice() == bytes,
+        Err(_) => buffer.len() == 0,
+    }
 }
 
 #[test]
@@ -29,13 +41,15 @@ fn a_fragment_header_wants_memory(rt: HostRuntime) {
     let Ok((header, _)) = Ipv6FragmentHeader::from_slice(&bytes) else {
         panic!(rt; "no header");
     };
-    let mut buffer = Vec::new(rt.alloc());
-    let written = if header.write(&mut buffer).is_ok() {
-        8
-    } else {
-        0
-    };
-    assert!(rt; buffer.as_slice() == &bytes[..written]);
+    assert!(rt; fragment_is_all_or_nothing(rt.alloc(), &header, &bytes[..8]));
+}
+
+fn auth_is_all_or_nothing(alloc: Global, header: &IpAuthHeader, bytes: &[u8]) -> bool {
+    let mut buffer = Vec::new(alloc);
+    match header.write(&mut buffer) {
+        Ok(()) => buffer.as_slice() == bytes,
+        Err(_) => buffer.len() == 0,
+    }
 }
 
 #[test]
@@ -44,26 +58,29 @@ fn an_authentication_header_wants_memory(rt: HostRuntime) {
     let Ok((header, _)) = IpAuthHeader::from_slice(&bytes) else {
         panic!(rt; "no header");
     };
-    let mut buffer = Vec::new(rt.alloc());
-    let written = if header.write(&mut buffer).is_ok() {
-        16
-    } else {
-        0
-    };
-    assert!(rt; buffer.as_slice() == &bytes[..written]);
+    assert!(rt; auth_is_all_or_nothing(rt.alloc(), &header, &bytes[..16]));
+}
+
+fn ipv6_is_all_or_nothing(alloc: Global, headers: &Ipv6Extensions, bytes: &[u8]) -> bool {
+    let mut buffer = Vec::new(alloc);
+    match headers.write(&mut buffer, IpNumber(0)) {
+        Ok(()) => buffer.as_slice() == bytes,
+        Err(error) => error == ipv6_exts::HeaderWriteError::Memory && buffer.len() == 0,
+    }
 }
 
 #[test]
 fn headers_of_ipv6_want_memory(rt: HostRuntime) {
     let bytes = CHAIN;
     let (headers, _, _, _) = Ipv6Extensions::from_slice_lax(IpNumber(0), &bytes);
-    let mut buffer = Vec::new(rt.alloc());
-    match headers.write(&mut buffer, IpNumber(0)) {
-        Ok(()) => assert!(rt; buffer.as_slice() == &bytes[..72]),
-        Err(error) => {
-            assert!(rt; error == ipv6_exts::HeaderWriteError::Memory);
-            assert!(rt; buffer.len() == 0);
-        }
+    assert!(rt; ipv6_is_all_or_nothing(rt.alloc(), &headers, &bytes[..72]));
+}
+
+fn ipv4_is_all_or_nothing(alloc: Global, headers: &Ipv4Extensions, bytes: &[u8]) -> bool {
+    let mut buffer = Vec::new(alloc);
+    match headers.write(&mut buffer, IpNumber(51)) {
+        Ok(()) => buffer.as_slice() == bytes,
+        Err(error) => error == ipv4_exts::HeaderWriteError::Memory && buffer.len() == 0,
     }
 }
 
@@ -71,12 +88,5 @@ fn headers_of_ipv6_want_memory(rt: HostRuntime) {
 fn the_header_of_ipv4_wants_memory(rt: HostRuntime) {
     let bytes = AUTH;
     let (headers, _, _, _) = Ipv4Extensions::from_slice_lax(IpNumber(51), &bytes);
-    let mut buffer = Vec::new(rt.alloc());
-    match headers.write(&mut buffer, IpNumber(51)) {
-        Ok(()) => assert!(rt; buffer.as_slice() == &bytes[..16]),
-        Err(error) => {
-            assert!(rt; error == ipv4_exts::HeaderWriteError::Memory);
-            assert!(rt; buffer.len() == 0);
-        }
-    }
+    assert!(rt; ipv4_is_all_or_nothing(rt.alloc(), &headers, &bytes[..16]));
 }

@@ -20,7 +20,6 @@ fn numbers_and_layers_of_places(rt: HostRuntime) {
             Layer::Ipv6DestOptionsHeader,
         ),
     ] {
-        assert!(rt; place.number() == IpNumber(number));
-        assert!(rt; place.layer() == layer);
+        assert!(rt; (place.number(), place.layer()) == (IpNumber(number), layer));
     }
 }

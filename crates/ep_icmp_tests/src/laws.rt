@@ -4,8 +4,11 @@ use ep_icmp::{IcmpEchoHeader, Icmpv4Header, Icmpv4Type, Icmpv6Header, Icmpv6Type
 
 #[test]
 fn each_law_is_called(rt: HostRuntime) {
-    assert!(rt; icmpv4::lengths() == [8, 20, 20, 4]);
-    assert!(rt; icmpv6::lengths() == [8, 40]);
+    assert!(rt; (icmpv4::lengths(), icmpv6::lengths()) == ([8, 20, 20, 4], [8, 40]));
+}
+
+#[test]
+fn each_law_without_a_result_is_called() {
     icmpv4::header_is_written_back();
     icmpv6::header_is_written_back();
     icmpv4::checksums_sum_to_all_ones();
@@ -16,11 +19,14 @@ fn each_law_is_called(rt: HostRuntime) {
 #[test]
 fn headers_are_read_again(rt: HostRuntime) {
     let echo = IcmpEchoHeader { id: 1, seq: 2 };
-    let header = Icmpv4Header::new(Icmpv4Type::EchoReply(echo));
+    let over_v4 = Icmpv4Header::new(Icmpv4Type::EchoReply(echo));
+    let over_v6 = Icmpv6Header::new(Icmpv6Type::EchoReply(echo));
     let slice = [0, 0, 0, 0, 0, 1, 0, 2, 9];
-    assert!(rt; icmpv4::header_is_read_again(&header, &slice).is_ok());
-    let header = Icmpv6Header::new(Icmpv6Type::EchoReply(echo));
-    assert!(rt; icmpv6::header_is_read_again(&header, &slice).is_ok());
+    let read = [
+        icmpv4::header_is_read_again(&over_v4, &slice).is_ok(),
+        icmpv6::header_is_read_again(&over_v6, &slice).is_ok(),
+    ];
+    assert!(rt; read == [true, true]);
 }
 
 #[test]

@@ -22,9 +22,15 @@ fn over_v6(payload: &[u8]) -> Option<u16> {
 
 #[test]
 fn payloads_of_one_byte_repeated(rt: HostRuntime) {
-    assert!(rt; over_v4(&[0xff; 64]) == 0 && over_v6(&[0xff; 64]) == Some(0x7e7d));
-    assert!(rt; over_v4(&[0; 64]) == 0xffff && over_v6(&[0; 64]) == Some(0x7e7d));
-    assert!(rt; over_v4(&[1; 33]) == 0xeeef && over_v6(&[1; 33]) == Some(0x6d8c));
+    let over_v4 = [over_v4(&[0xff; 64]), over_v4(&[0; 64]), over_v4(&[1; 33])];
+    let over_v6 = [over_v6(&[0xff; 64]), over_v6(&[0; 64]), over_v6(&[1; 33])];
+    let sums = (over_v4, over_v6);
+    assert!(rt;
+        sums == (
+            [0, 0xffff, 0xeeef],
+            [Some(0x7e7d), Some(0x7e7d), Some(0x6d8c)]
+        )
+    );
 }
 
 // The complement of a sum that is 0 or no multiple of ffff.
@@ -40,9 +46,9 @@ fn payloads_of_every_length(rt: HostRuntime) {
     let mut total = 0u32;
     for len in 0..=130usize {
         let front = &payload[..len];
-        assert!(rt; over_v4(front) == complement(total));
         let with_pseudo = total.wrapping_add(0x8100 + 0x3a + 8 + len as u32);
-        assert!(rt; over_v6(front) == Some(complement(with_pseudo)));
+        let sums = (complement(total), Some(complement(with_pseudo)));
+        assert!(rt; (over_v4(front), over_v6(front)) == sums);
         byte = byte.wrapping_add(1);
         payload[len] = byte;
         let weight = if len % 2 == 0 { 256 } else { 1 };
@@ -61,6 +67,5 @@ fn ones(rt: &impl Abort, alloc: Global, len: usize) -> Vec<u8> {
 #[test]
 fn a_long_payload(rt: HostRuntime) {
     let payload = ones(&rt, rt.alloc(), 65535);
-    assert!(rt; over_v4(&payload) == 0x00ff);
-    assert!(rt; over_v6(&payload) == Some(0x7fbc));
+    assert!(rt; (over_v4(&payload), over_v6(&payload)) == (0x00ff, Some(0x7fbc)));
 }

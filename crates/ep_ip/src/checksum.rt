@@ -8,6 +8,7 @@ use ep_base::checksum::Sum16BitWords;
 
 /// The sum of the pseudo header of a message of this length in bytes over IPv4 (RFC 768; RFC 9293,
 /// section 3.1).
+#[inline(always)]
 pub fn pseudo_sum_v4(
     source: [u8; 4],
     destination: [u8; 4],
@@ -25,6 +26,7 @@ pub fn pseudo_sum_v4(
 
 /// The sum of the pseudo header of a message of this length in bytes over IPv6 (RFC 8200, section
 /// 8.1).
+#[inline(always)]
 pub fn pseudo_sum_v6(
     source: [u8; 16],
     destination: [u8; 16],

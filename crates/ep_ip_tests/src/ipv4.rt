@@ -27,7 +27,7 @@ fn too_short(required_len: usize, len: usize) -> HeaderSliceError {
 }
 
 // The fields of `BYTES`, read by hand.
-fn fields() -> Result<Ipv4Header, Fail> {
+fn fields() -> Result<Ipv4Header, ValueTooBigError<u16>> {
     Ok(Ipv4Header {
         dscp: IpDscp::CS1,
         ecn: IpEcn::Ect1,
@@ -46,15 +46,20 @@ fn fields() -> Result<Ipv4Header, Fail> {
 }
 
 #[test]
-fn fields_by_position(rt: HostRuntime) -> Result<(), Fail> {
-    let (header, rest) = Ipv4Header::from_slice(&BYTES)?;
-    assert!(rt; header == fields()?);
-    assert!(rt; rest == [0xaa, 0xbb].as_slice());
-    assert!(rt; header.ihl() == 6);
-    assert!(rt; header.header_len() == 24);
-    assert!(rt; header.payload_len() == Ok(6));
-    assert!(rt; header.is_fragmenting_payload());
-    Ok(())
+fn fields_by_position(rt: HostRuntime) {
+    let bytes = BYTES;
+    let Ok((header, rest)) = Ipv4Header::from_slice(&bytes) else {
+        panic!(rt; "no header");
+    };
+    let found = (
+        rest,
+        header.ihl(),
+        header.header_len(),
+        header.payload_len(),
+        header.is_fragmenting_payload(),
+        fields() == Ok(header),
+    );
+    assert!(rt; found == (&bytes[24..], 6, 24, Ok(6), true, true));
 }
 
 fn bytes_of(header: &Ipv4HeaderSlice<'_>) -> [u8; 6] {
@@ -86,38 +91,56 @@ fn flags_of(header: &Ipv4HeaderSlice<'_>) -> [bool; 3] {
 }
 
 #[test]
-fn getters_of_the_slice(rt: HostRuntime) -> Result<(), Fail> {
-    let header = Ipv4HeaderSlice::from_slice(&BYTES)?;
-    assert!(rt; bytes_of(&header) == [4, 6, 8, 1, 64, 17]);
-    assert!(rt; words_of(&header) == [30, 7, 5, 0x439f]);
-    assert!(rt; flags_of(&header) == [false, true, true]);
-    assert!(rt; header.source() == [10, 0, 0, 1]);
-    assert!(rt; header.destination() == [10, 0, 0, 2]);
-    assert!(rt; header.to_header() == fields()?);
-    Ok(())
+fn getters_of_the_slice(rt: HostRuntime) {
+    let bytes = BYTES;
+    let Ok(header) = Ipv4HeaderSlice::from_slice(&bytes) else {
+        panic!(rt; "no header");
+    };
+    let found = (bytes_of(&header), words_of(&header), flags_of(&header));
+    assert!(rt;
+        found
+            == (
+                [4, 6, 8, 1, 64, 17],
+                [30, 7, 5, 0x439f],
+                [false, true, true]
+            )
+    );
 }
 
 #[test]
-fn parts_of_the_slice(rt: HostRuntime) -> Result<(), Fail> {
-    let header = Ipv4HeaderSlice::from_slice(&BYTES)?;
-    assert!(rt; header.slice() == &BYTES[..24]);
-    assert!(rt; header.options() == [1, 1, 1, 0].as_slice());
-    assert!(rt; header.payload_len() == Ok(6));
-    Ok(())
+fn addresses_and_header_of_the_slice(rt: HostRuntime) {
+    let bytes = BYTES;
+    let Ok(header) = Ipv4HeaderSlice::from_slice(&bytes) else {
+        panic!(rt; "no header");
+    };
+    let found = (
+        header.source(),
+        header.destination(),
+        fields() == Ok(header.to_header()),
+    );
+    assert!(rt; found == ([10, 0, 0, 1], [10, 0, 0, 2], true));
+}
+
+#[test]
+fn parts_of_the_slice(rt: HostRuntime) {
+    let bytes = BYTES;
+    let Ok(header) = Ipv4HeaderSlice::from_slice(&bytes) else {
+        panic!(rt; "no header");
+    };
+    let found = (header.slice(), header.options(), header.payload_len());
+    assert!(rt; found == (&bytes[..24], &bytes[20..24], Ok(6)));
 }
 
 #[test]
 fn every_front_of_a_header(rt: HostRuntime) {
+    let bytes = BYTES;
     for len in 0..24 {
-        let required_len = if len < 20 { 20 } else { 24 };
-        let refused = too_short(required_len, len);
-        let front = &BYTES[..len];
-        assert_eq!(rt;
-            Ipv4HeaderSlice::from_slice(front),
-            Err(refused),
-            "at {len}"
+        let refused = too_short(if len < 20 { 20 } else { 24 }, len);
+        let found = (
+            Ipv4HeaderSlice::from_slice(&bytes[..len]) == Err(refused),
+            Ipv4Header::from_slice(&bytes[..len]) == Err(refused),
         );
-        assert_eq!(rt; Ipv4Header::from_slice(front), Err(refused), "at {len}");
+        assert!(rt; found == (true, true));
     }
 }
 
@@ -148,9 +171,12 @@ fn error_in_a_later_place(rt: HostRuntime) {
         layer_start_offset: 18,
         ..error
     };
-    assert!(rt; HeaderSliceError::Len(error).add_slice_offset(4) == HeaderSliceError::Len(moved));
     let content = HeaderSliceError::Content(HeaderError::UnexpectedVersion { version_number: 6 });
-    assert!(rt; content.add_slice_offset(4) == content);
+    let found = [
+        HeaderSliceError::Len(error).add_slice_offset(4),
+        content.add_slice_offset(4),
+    ];
+    assert!(rt; found == [HeaderSliceError::Len(moved), content]);
 }
 
 // From byte 14 to the greatest place that a `usize` names.
@@ -167,34 +193,47 @@ fn error_in_the_greatest_place(rt: HostRuntime) {
         layer_start_offset: 0xffff_ffff_ffff_ffff,
         ..error
     };
-    assert!(rt;
-        HeaderSliceError::Len(error).add_slice_offset(0xffff_ffff_ffff_fff1)
-            == HeaderSliceError::Len(last)
-    );
     let content = HeaderSliceError::Content(HeaderError::UnexpectedVersion { version_number: 6 });
-    assert!(rt; content.add_slice_offset(0xffff_ffff_ffff_ffff) == content);
+    let found = [
+        HeaderSliceError::Len(error).add_slice_offset(0xffff_ffff_ffff_fff1),
+        content.add_slice_offset(0xffff_ffff_ffff_ffff),
+    ];
+    assert!(rt; found == [HeaderSliceError::Len(last), content]);
 }
 
 // More fragments and an offset, each set or not.
+// Whether a header with this flag and offset is a fragment's: what it says, and what a view of its
+// bytes says.
+fn is_fragment_with(more_fragments: bool, offset: u16) -> Option<(bool, bool)> {
+    let Ok(fragment_offset) = IpFragOffset::try_new(offset) else {
+        return None;
+    };
+    let header = Ipv4Header {
+        more_fragments,
+        fragment_offset,
+        ..Ipv4Header::default()
+    };
+    let bytes = header.to_bytes();
+    match Ipv4HeaderSlice::from_slice(bytes.as_slice()) {
+        Ok(view) => Some((
+            header.is_fragmenting_payload(),
+            view.is_fragmenting_payload(),
+        )),
+        Err(_) => None,
+    }
+}
+
 #[test]
-fn fragments(rt: HostRuntime) -> Result<(), Fail> {
+fn fragments(rt: HostRuntime) {
     for (more_fragments, offset, is_fragment) in [
         (false, 0, false),
         (false, 1, true),
         (true, 0, true),
         (true, 8191, true),
     ] {
-        let header = Ipv4Header {
-            more_fragments,
-            fragment_offset: IpFragOffset::try_new(offset)?,
-            ..Ipv4Header::default()
-        };
-        assert!(rt; header.is_fragmenting_payload() == is_fragment);
-        let bytes = header.to_bytes();
-        let slice = Ipv4HeaderSlice::from_slice(bytes.as_slice())?;
-        assert!(rt; slice.is_fragmenting_payload() == is_fragment);
+        let found = is_fragment_with(more_fragments, offset);
+        assert!(rt; found == Some((is_fragment, is_fragment)));
     }
-    Ok(())
 }
 
 #[test]
@@ -218,25 +257,22 @@ fn total_length_below_the_header(rt: HostRuntime) {
 #[test]
 fn default_header(rt: HostRuntime) {
     let header = Ipv4Header::default();
-    assert!(rt;
-        header
-            == Ipv4Header {
-                dscp: IpDscp::ZERO,
-                ecn: IpEcn::NotEct,
-                total_len: 0,
-                identification: 0,
-                dont_fragment: true,
-                more_fragments: false,
-                fragment_offset: IpFragOffset::ZERO,
-                time_to_live: 0,
-                protocol: IpNumber(255),
-                header_checksum: 0,
-                source: [0; 4],
-                destination: [0; 4],
-                options: Ipv4Options::default(),
-            }
-    );
-    assert!(rt; !header.is_fragmenting_payload());
+    let fields = Ipv4Header {
+        dscp: IpDscp::ZERO,
+        ecn: IpEcn::NotEct,
+        total_len: 0,
+        identification: 0,
+        dont_fragment: true,
+        more_fragments: false,
+        fragment_offset: IpFragOffset::ZERO,
+        time_to_live: 0,
+        protocol: IpNumber(255),
+        header_checksum: 0,
+        source: [0; 4],
+        destination: [0; 4],
+        options: Ipv4Options::default(),
+    };
+    assert!(rt; (header.is_fragmenting_payload(), header == fields) == (false, true));
 }
 
 // A header with no options, whose checksum was summed by hand.
@@ -258,141 +294,212 @@ fn written_twice(alloc: Global, header: &Ipv4Header) -> Result<Vec<u8>, AllocErr
     Ok(buffer)
 }
 
+fn is_written_twice(alloc: Global, bytes: &[u8]) -> bool {
+    let Ok(header) = header_without_options() else {
+        return false;
+    };
+    match written_twice(alloc, &header) {
+        Ok(buffer) => buffer.as_slice() == bytes,
+        Err(_) => false,
+    }
+}
+
 #[test]
-fn written_behind_a_byte(rt: HostRuntime) -> Result<(), Fail> {
-    let header = header_without_options()?;
+fn written_behind_a_byte(rt: HostRuntime) {
     let mut written = [9; 41];
-    written[1..21].copy_from_slice(&BYTES_WITHOUT_OPTIONS);
-    written[21..].copy_from_slice(&BYTES_WITHOUT_OPTIONS);
+    let bytes = BYTES_WITHOUT_OPTIONS;
+    written[1..21].copy_from_slice(&bytes);
+    written[21..].copy_from_slice(&bytes);
     written[31] = 0;
     written[32] = 0;
-    assert!(rt; written_twice(rt.alloc(), &header)?.as_slice() == written.as_slice());
-    Ok(())
+    assert!(rt; is_written_twice(rt.alloc(), &written));
 }
 
 #[test]
-fn the_checksum_of_a_header_without_options(rt: HostRuntime) -> Result<(), Fail> {
-    let header = header_without_options()?;
-    assert!(rt; header.dont_fragment);
-    assert!(rt; header.calc_header_checksum() == 0x26cf);
-    assert!(rt; &header.to_bytes().as_slice()[10..12] == [0, 0].as_slice());
-    Ok(())
-}
-
-#[test]
-fn bytes_of_a_header_with_options(rt: HostRuntime) -> Result<(), Fail> {
-    let (header, _) = Ipv4Header::read_from_slice(&BYTES)?;
-    assert!(rt; header.to_bytes().as_slice() == &BYTES[..24]);
-    assert!(rt; header.calc_header_checksum() == 0x439f);
-    assert!(rt; header.options() == [1, 1, 1, 0].as_slice());
-    Ok(())
-}
-
-#[test]
-fn checksum_zero(rt: HostRuntime) -> Result<(), Fail> {
-    let header = Ipv4Header {
-        identification: 0x26cf,
-        ..header_without_options()?
+fn the_checksum_of_a_header_without_options(rt: HostRuntime) {
+    let Ok(header) = header_without_options() else {
+        panic!(rt; "no header");
     };
-    assert!(rt; header.calc_header_checksum() == 0);
-    Ok(())
+    let bytes = header.to_bytes();
+    let found = (
+        header.dont_fragment,
+        header.calc_header_checksum(),
+        &bytes.as_slice()[10..12],
+    );
+    assert!(rt; found == (true, 0x26cf, [0, 0].as_slice()));
 }
 
 #[test]
-fn payload_lengths(rt: HostRuntime) -> Result<(), Fail> {
-    let longest = Ipv4Header::new(65515, 1, IpNumber::UDP, [0; 4], [0; 4])?;
-    assert!(rt; longest.total_len == 65535);
-    assert!(rt;
-        Ipv4Header::new(65516, 1, IpNumber::UDP, [0; 4], [0; 4])
-            == Err(ValueTooBigError {
-                actual: 65516,
-                max_allowed: 65515,
-                value_type: ValueType::Ipv4PayloadLength,
-            })
+fn bytes_of_a_header_with_options(rt: HostRuntime) {
+    let bytes = BYTES;
+    let Ok((header, _)) = Ipv4Header::read_from_slice(&bytes) else {
+        panic!(rt; "no header");
+    };
+    let written = header.to_bytes();
+    let found = (
+        written.as_slice(),
+        header.calc_header_checksum(),
+        header.options(),
     );
+    assert!(rt; found == (&bytes[..24], 0x439f, &bytes[20..24]));
+}
+
+#[test]
+fn checksum_zero(rt: HostRuntime) {
+    let Ok(mut header) = header_without_options() else {
+        panic!(rt; "no header");
+    };
+    header.identification = 0x26cf;
+    assert!(rt; header.calc_header_checksum() == 0);
+}
+
+// The refusal of a payload of an IPv4 packet.
+fn too_big(actual: usize, max_allowed: usize) -> ValueTooBigError<usize> {
+    ValueTooBigError {
+        actual,
+        max_allowed,
+        value_type: ValueType::Ipv4PayloadLength,
+    }
+}
+
+#[test]
+fn payload_lengths(rt: HostRuntime) {
     let mut header = Ipv4Header::default();
-    header.set_options(&[7; 40])?;
-    assert!(rt; header.set_options(&[7; 6]) == Err(BadOptionsLen { bad_len: 6 }));
-    assert!(rt; header.max_payload_len() == 65475);
-    header.set_payload_len(65475)?;
-    assert!(rt; header.total_len == 65535);
-    assert!(rt; header.payload_len() == Ok(65475));
-    assert!(rt;
-        header.set_payload_len(65476)
-            == Err(ValueTooBigError {
-                actual: 65476,
-                max_allowed: 65475,
-                value_type: ValueType::Ipv4PayloadLength,
-            })
-    );
-    assert!(rt; header.total_len == 65535);
-    Ok(())
+    let of_40 = header.set_options(&[7; 40]);
+    let of_6 = header.set_options(&[7; 6]);
+    let most = header.max_payload_len();
+    assert!(rt; (of_40, of_6, most) == (Ok(()), Err(BadOptionsLen { bad_len: 6 }), 65475));
+    let set = header.set_payload_len(65475);
+    let refused = header.set_payload_len(65476);
+    let found = (set, refused, header.total_len, header.payload_len());
+    assert!(rt; found == (Ok(()), Err(too_big(65476, 65475)), 65535, Ok(65475)));
+}
+
+// The total length of a header in front of a payload of this length.
+fn total_len(payload_len: u16) -> Result<u16, ValueTooBigError<u16>> {
+    let header = Ipv4Header::new(payload_len, 1, IpNumber::UDP, [0; 4], [0; 4])?;
+    Ok(header.total_len)
+}
+
+#[test]
+fn payload_lengths_of_new_headers(rt: HostRuntime) {
+    let refused = ValueTooBigError {
+        actual: 65516,
+        max_allowed: 65515,
+        value_type: ValueType::Ipv4PayloadLength,
+    };
+    assert!(rt; (total_len(65515), total_len(65516)) == (Ok(65535), Err(refused)));
 }
 
 #[test]
 fn header_lengths(rt: HostRuntime) {
-    assert!(rt; Ipv4Header::MIN_LEN == 20);
-    assert!(rt; Ipv4Header::MIN_LEN_U16 == 20);
-    assert!(rt; Ipv4Header::MAX_LEN == 60);
-    assert!(rt; Ipv4Header::SERIALIZED_SIZE == 20);
-    assert!(rt; Ipv4Options::MAX_LEN == 40);
+    let lens = [
+        Ipv4Header::MIN_LEN,
+        Ipv4Header::MAX_LEN,
+        Ipv4Header::SERIALIZED_SIZE,
+    ];
+    assert!(rt; (lens, Ipv4Header::MIN_LEN_U16, Ipv4Options::MAX_LEN) == ([20, 60, 20], 20, 40));
+}
+
+// Whether options hold so many bytes, each of them 1.
+fn are_ones(options: &Ipv4Options, len: usize) -> bool {
+    let (ones, _) = [1; 40].split_at(len.min(40));
+    options.len() == len && options.as_slice() == ones
 }
 
 #[test]
 fn options_of_arrays(rt: HostRuntime) {
-    let options = [
-        Ipv4Options::from([1; 0]),
-        Ipv4Options::from([1; 4]),
-        Ipv4Options::from([1; 8]),
-        Ipv4Options::from([1; 12]),
-        Ipv4Options::from([1; 16]),
-        Ipv4Options::from([1; 20]),
-        Ipv4Options::from([1; 24]),
-        Ipv4Options::from([1; 28]),
-        Ipv4Options::from([1; 32]),
-        Ipv4Options::from([1; 36]),
-        Ipv4Options::from([1; 40]),
+    let short = [
+        are_ones(&Ipv4Options::from([1; 0]), 0),
+        are_ones(&Ipv4Options::from([1; 4]), 4),
+        are_ones(&Ipv4Options::from([1; 8]), 8),
+        are_ones(&Ipv4Options::from([1; 12]), 12),
+        are_ones(&Ipv4Options::from([1; 16]), 16),
     ];
-    for (words, options) in options.iter().enumerate() {
-        assert!(rt; options.len() == 4 * words);
-        assert!(rt; options.as_slice() == &[1; 40][..options.len()]);
-    }
+    assert!(rt; short == [true; 5]);
 }
 
 #[test]
-fn option_lengths(rt: HostRuntime) -> Result<(), Fail> {
-    assert!(rt; Ipv4Options::try_from([1, 2, 3].as_slice()) == Err(BadOptionsLen { bad_len: 3 }));
-    assert!(rt; Ipv4Options::try_from([0; 44].as_slice()) == Err(BadOptionsLen { bad_len: 44 }));
-    let mut options = Ipv4Options::try_from([1, 2, 3, 4].as_slice())?;
-    assert!(rt; options.len() == 4);
-    assert!(rt; options.len_u8() == 4);
-    assert!(rt; !options.is_empty());
+fn options_of_long_arrays(rt: HostRuntime) {
+    let long = [
+        are_ones(&Ipv4Options::from([1; 20]), 20),
+        are_ones(&Ipv4Options::from([1; 24]), 24),
+        are_ones(&Ipv4Options::from([1; 28]), 28),
+        are_ones(&Ipv4Options::from([1; 32]), 32),
+        are_ones(&Ipv4Options::from([1; 36]), 36),
+        are_ones(&Ipv4Options::from([1; 40]), 40),
+    ];
+    assert!(rt; long == [true; 6]);
+}
+
+#[test]
+fn option_lengths(rt: HostRuntime) {
+    let found = (
+        Ipv4Options::try_from([1, 2, 3].as_slice()).err(),
+        Ipv4Options::try_from([0; 44].as_slice()).err(),
+    );
+    let refused = (
+        Some(BadOptionsLen { bad_len: 3 }),
+        Some(BadOptionsLen { bad_len: 44 }),
+    );
+    assert!(rt; found == refused);
+}
+
+#[test]
+fn options_written_anew(rt: HostRuntime) {
+    let Ok(mut options) = Ipv4Options::try_from([1, 2, 3, 4].as_slice()) else {
+        panic!(rt; "no options");
+    };
+    let found = (
+        options.len(),
+        options.len_u8(),
+        options.is_empty(),
+        Ipv4Options::new().is_empty(),
+    );
+    assert!(rt; found == (4, 4, false, true));
     for byte in options.as_mut_slice() {
         *byte = 9;
     }
     assert!(rt; options.as_slice() == [9; 4].as_slice());
-    assert!(rt; Ipv4Options::new().is_empty());
-    Ok(())
 }
 
 #[test]
-fn laws_are_called(rt: HostRuntime) -> Result<(), Fail> {
-    let slice = Ipv4HeaderSlice::from_slice(&BYTES)?;
-    let header = slice.to_header();
-    let (again, rest) = laws::header_is_read_again(&header, &BYTES)?;
-    assert!(rt; rest == [0xaa, 0xbb].as_slice());
-    assert!(rt; laws::headers_are_equal_as_fields(&header, &again));
-    assert!(rt; laws::headers_are_equal_as_fields(&header, &laws::header_is_copied(&header)?));
+fn laws_are_called(rt: HostRuntime) {
+    let bytes = BYTES;
+    let Ok(slice) = Ipv4HeaderSlice::from_slice(&bytes) else {
+        panic!(rt; "no header");
+    };
     laws::same_fields_from_same_bytes();
     let (of_slice, of_header) = laws::payload_lengths_agree(&slice);
-    assert!(rt; of_slice == of_header);
-    assert!(rt; laws::slices_are_equal_as_bytes(&slice, &slice));
-    assert!(rt; laws::options_are_equal_as_bytes(&header.options, &again.options));
-    assert!(rt;
-        laws::options_are_ordered_as_bytes(&header.options, &Ipv4Options::new())
-            == Ordering::Greater
+    let found = (
+        of_slice == of_header,
+        laws::slices_are_equal_as_bytes(&slice, &slice),
+        laws::header_lengths(),
     );
-    laws::options_hash_as_bytes(&header.options, &mut FoldHasher::default());
-    assert!(rt; laws::header_lengths() == [20, 60, 20]);
-    Ok(())
+    assert!(rt; found == (true, true, [20, 60, 20]));
+}
+
+#[test]
+fn laws_of_a_header_are_called(rt: HostRuntime) {
+    let bytes = BYTES;
+    let Ok(header) = fields() else {
+        panic!(rt; "no header");
+    };
+    let Ok((again, rest)) = laws::header_is_read_again(&header, &bytes) else {
+        panic!(rt; "no header again");
+    };
+    let copy: Result<_, _> = laws::header_is_copied(&header);
+    let equal = laws::headers_are_equal_as_fields(&header, &again);
+    assert!(rt; (rest, equal, copy == Ok(again)) == (&bytes[24..], true, true));
+}
+
+#[test]
+fn laws_of_options_are_called(rt: HostRuntime) {
+    let options = Ipv4Options::from([1, 1, 1, 0]);
+    laws::options_hash_as_bytes(&options, &mut FoldHasher::default());
+    let found = (
+        laws::options_are_equal_as_bytes(&options, &options),
+        laws::options_are_ordered_as_bytes(&options, &Ipv4Options::new()),
+    );
+    assert!(rt; found == (true, Ordering::Greater));
 }

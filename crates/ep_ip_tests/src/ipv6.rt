@@ -7,6 +7,7 @@ use ep_base::{IpDscp, IpEcn, IpNumber, Ipv6FlowLabel, LenSource};
 use ep_ip::err::ipv6::{HeaderError, HeaderSliceError};
 use ep_ip::laws::ipv6 as laws;
 use ep_ip::{Ipv6Header, Ipv6HeaderSlice};
+use std::alloc::{AllocError, Global};
 use std::test::*;
 
 // A header by the layout of RFC 8200, section 3, and two bytes behind it.
@@ -28,36 +29,53 @@ fn len_error(required_len: usize, len: usize, layer: Layer, layer_start_offset: 
 }
 
 // The fields of `BYTES`, read by hand.
-fn fields() -> Result<Ipv6Header, Fail> {
-    Ok(Ipv6Header {
-        traffic_class: 0xab,
-        flow_label: Ipv6FlowLabel::try_new(0xcdef1)?,
-        payload_length: 0x1234,
-        next_header: IpNumber::UDP,
-        hop_limit: 64,
-        source: [0xfd, 0, 0, 0, 0, 0, 0, 0, 0, 0, 0, 0, 0, 0, 0, 1],
-        destination: [0xfd, 0, 0, 0, 0, 0, 0, 0, 0, 0, 0, 0, 0, 0, 0, 2],
-    })
+fn fields() -> Option<Ipv6Header> {
+    match Ipv6FlowLabel::try_new(0xcdef1) {
+        Ok(flow_label) => Some(Ipv6Header {
+            traffic_class: 0xab,
+            flow_label,
+            payload_length: 0x1234,
+            next_header: IpNumber::UDP,
+            hop_limit: 64,
+            source: [0xfd, 0, 0, 0, 0, 0, 0, 0, 0, 0, 0, 0, 0, 0, 0, 1],
+            destination: [0xfd, 0, 0, 0, 0, 0, 0, 0, 0, 0, 0, 0, 0, 0, 0, 2],
+        }),
+        Err(_) => None,
+    }
 }
 
 #[test]
-fn a_header_and_its_rest(rt: HostRuntime) -> Result<(), Fail> {
-    let header = fields()?;
+fn a_header_and_its_rest(rt: HostRuntime) {
     let bytes = BYTES;
-    let rest = [0xaa, 0xbb];
-    assert!(rt; Ipv6Header::from_slice(&bytes) == Ok((header.clone()?, rest.as_slice())));
-    assert!(rt; Ipv6Header::read_from_slice(&bytes) == Ok((header, rest.as_slice())));
-    Ok(())
+    let Ok((header, rest)) = Ipv6Header::from_slice(&bytes) else {
+        panic!(rt; "no header");
+    };
+    assert!(rt; (Some(header), rest) == (fields(), &bytes[40..]));
 }
 
 #[test]
-fn a_header_of_fields(rt: HostRuntime) -> Result<(), Fail> {
-    let header = fields()?;
-    assert!(rt; header.dscp().value() == 42);
-    assert!(rt; header.ecn() == IpEcn::CongestionExperienced);
-    assert!(rt; header.header_len() == 40);
-    assert!(rt; header.to_bytes().as_slice() == &BYTES[..40]);
-    Ok(())
+fn a_header_that_is_read_and_its_rest(rt: HostRuntime) {
+    let bytes = BYTES;
+    let Ok((header, rest)) = Ipv6Header::read_from_slice(&bytes) else {
+        panic!(rt; "no header");
+    };
+    assert!(rt; (Some(header), rest) == (fields(), &bytes[40..]));
+}
+
+#[test]
+fn a_header_of_fields(rt: HostRuntime) {
+    let bytes = BYTES;
+    let Some(header) = fields() else {
+        panic!(rt; "no header");
+    };
+    let written = header.to_bytes();
+    let found = (
+        header.dscp().value(),
+        header.ecn(),
+        header.header_len(),
+        written.as_slice(),
+    );
+    assert!(rt; found == (42, IpEcn::CongestionExperienced, 40, &bytes[..40]));
 }
 
 // The view's numbers before the addresses.
@@ -73,26 +91,42 @@ fn numbers(view: &Ipv6HeaderSlice<'_>) -> (u8, u8, u32, u16, u8, u8) {
 }
 
 #[test]
-fn a_view_of_a_header(rt: HostRuntime) -> Result<(), Fail> {
+fn a_view_of_a_header(rt: HostRuntime) {
     let bytes = BYTES;
-    let view = Ipv6HeaderSlice::from_slice(&bytes)?;
-    assert!(rt; numbers(&view) == (6, 0xab, 0xcdef1, 0x1234, 17, 64));
-    assert!(rt; view.slice() == &BYTES[..40]);
-    assert!(rt; view.header_len() == 40);
-    assert!(rt; view.dscp().value() == 42);
-    assert!(rt; view.ecn() == IpEcn::CongestionExperienced);
-    assert!(rt; view.source() == [0xfd, 0, 0, 0, 0, 0, 0, 0, 0, 0, 0, 0, 0, 0, 0, 1]);
-    assert!(rt; view.destination() == [0xfd, 0, 0, 0, 0, 0, 0, 0, 0, 0, 0, 0, 0, 0, 0, 2]);
-    Ok(())
+    let Ok(view) = Ipv6HeaderSlice::from_slice(&bytes) else {
+        panic!(rt; "no header");
+    };
+    let found = (
+        numbers(&view),
+        view.slice(),
+        view.header_len(),
+        view.dscp().value(),
+        view.ecn(),
+    );
+    let numbers = (6, 0xab, 0xcdef1, 0x1234, 17, 64);
+    assert!(rt; found == (numbers, &bytes[..40], 40, 42, IpEcn::CongestionExperienced));
 }
 
 #[test]
-fn a_view_is_its_header(rt: HostRuntime) -> Result<(), Fail> {
+fn addresses_of_a_view(rt: HostRuntime) {
     let bytes = BYTES;
-    let view = Ipv6HeaderSlice::from_slice(&bytes)?;
-    assert!(rt; view.to_header() == fields()?);
-    assert!(rt; view.clone()? == view);
-    Ok(())
+    let Ok(view) = Ipv6HeaderSlice::from_slice(&bytes) else {
+        panic!(rt; "no header");
+    };
+    let source = [0xfd, 0, 0, 0, 0, 0, 0, 0, 0, 0, 0, 0, 0, 0, 0, 1];
+    let destination = [0xfd, 0, 0, 0, 0, 0, 0, 0, 0, 0, 0, 0, 0, 0, 0, 2];
+    assert!(rt; (view.source(), view.destination()) == (source, destination));
+}
+
+#[test]
+fn a_view_is_its_header(rt: HostRuntime) {
+    let bytes = BYTES;
+    let Ok(view) = Ipv6HeaderSlice::from_slice(&bytes) else {
+        panic!(rt; "no header");
+    };
+    let copy: Result<_, _> = view.clone();
+    let header = Some(view.to_header());
+    assert!(rt; (header == fields(), copy == Ok(view)) == (true, true));
 }
 
 #[test]
@@ -100,8 +134,9 @@ fn every_front_of_a_header(rt: HostRuntime) {
     let bytes = BYTES;
     for len in 0..40 {
         let error = HeaderSliceError::Len(len_error(40, len, Layer::Ipv6Header, 0));
-        assert!(rt; Ipv6Header::from_slice(&bytes[..len]) == Err(error));
-        assert!(rt; Ipv6HeaderSlice::from_slice(&bytes[..len]).err() == Some(error));
+        let refused = Ipv6Header::from_slice(&bytes[..len]) == Err(error);
+        let found = Ipv6HeaderSlice::from_slice(&bytes[..len]).err();
+        assert!(rt; (refused, found) == (true, Some(error)));
     }
     for len in 40..43 {
         assert!(rt; Ipv6Header::from_slice(&bytes[..len]).is_ok());
@@ -129,100 +164,116 @@ fn the_length_is_tested_before_the_version(rt: HostRuntime) {
 #[test]
 fn errors_further_on(rt: HostRuntime) {
     let short = HeaderSliceError::Len(len_error(40, 3, Layer::Ipv6Header, 5));
-    assert!(rt;
-        short.add_slice_offset(14) == HeaderSliceError::Len(len_error(40, 3, Layer::Ipv6Header, 19))
-    );
+    let moved = HeaderSliceError::Len(len_error(40, 3, Layer::Ipv6Header, 19));
     let content = HeaderSliceError::Content(HeaderError::UnexpectedVersion { version_number: 4 });
-    assert!(rt; content.add_slice_offset(14) == content);
+    let found = [short.add_slice_offset(14), content.add_slice_offset(14)];
+    assert!(rt; found == [moved, content]);
 }
 
 // From byte 5 to the greatest place that a `usize` names.
 #[test]
 fn error_in_the_greatest_place(rt: HostRuntime) {
     let short = HeaderSliceError::Len(len_error(40, 3, Layer::Ipv6Header, 5));
-    assert!(rt;
-        short.add_slice_offset(0xffff_ffff_ffff_fffa)
-            == HeaderSliceError::Len(len_error(40, 3, Layer::Ipv6Header, 0xffff_ffff_ffff_ffff))
-    );
+    let last = HeaderSliceError::Len(len_error(40, 3, Layer::Ipv6Header, 0xffff_ffff_ffff_ffff));
     let content = HeaderSliceError::Content(HeaderError::UnexpectedVersion { version_number: 4 });
-    assert!(rt; content.add_slice_offset(0xffff_ffff_ffff_ffff) == content);
+    let found = [
+        short.add_slice_offset(0xffff_ffff_ffff_fffa),
+        content.add_slice_offset(0xffff_ffff_ffff_ffff),
+    ];
+    assert!(rt; found == [last, content]);
+}
+
+// Whether the header is written behind a byte as these.
+fn is_appended(alloc: Global, header: &Ipv6Header, bytes: &[u8]) -> bool {
+    let mut buffer = Vec::new(alloc);
+    buffer.push(9).is_ok()
+        && header.write(&mut buffer).is_ok()
+        && buffer.first() == Some(&9)
+        && buffer.get(1..) == Some(bytes)
 }
 
 #[test]
-fn a_header_behind_a_byte_that_is_there(rt: HostRuntime) -> Result<(), Fail> {
+fn a_header_behind_a_byte_that_is_there(rt: HostRuntime) {
     let bytes = BYTES;
     let Ok((header, _rest)) = Ipv6Header::from_slice(&bytes) else {
         panic!(rt; "no header");
     };
-    let mut buffer = Vec::new(rt.alloc());
-    buffer.push(9)?;
-    header.write(&mut buffer)?;
-    assert!(rt; buffer.len() == 41);
-    assert!(rt; buffer[0] == 9);
-    assert!(rt; &buffer[1..] == &BYTES[..40]);
-    Ok(())
+    assert!(rt; is_appended(rt.alloc(), &header, &bytes[..40]));
 }
 
 #[test]
-fn fields_set(rt: HostRuntime) -> Result<(), Fail> {
+fn fields_set(rt: HostRuntime) {
     let mut header = Ipv6Header::default();
     let mut bytes = [0; 40];
     bytes[0] = 0x60;
     bytes[6] = 255;
-    assert!(rt; header.to_bytes() == bytes);
-    assert!(rt; header.flow_label == Ipv6FlowLabel::ZERO);
-
+    assert!(rt; (header.to_bytes(), header.flow_label) == (bytes, Ipv6FlowLabel::ZERO));
     header.traffic_class = 0xab;
     header.set_ecn(IpEcn::Ect1);
-    assert!(rt; header.traffic_class == 0xa9);
+    let with_ecn = header.traffic_class;
     header.set_dscp(IpDscp::EF);
-    assert!(rt; header.traffic_class == 0xb9);
-
-    assert!(rt; header.set_payload_length(65535) == Ok(()));
-    assert!(rt;
-        header.set_payload_length(65536)
-            == Err(ValueTooBigError {
-                actual: 65536,
-                max_allowed: 65535,
-                value_type: ValueType::Ipv6PayloadLength,
-            })
-    );
-    assert!(rt; header.payload_length == 65535);
-    Ok(())
+    assert!(rt; (with_ecn, header.traffic_class) == (0xa9, 0xb9));
 }
 
 #[test]
-fn laws_at_two_headers(rt: HostRuntime) -> Result<(), Fail> {
+fn payload_lengths_set(rt: HostRuntime) {
+    let mut header = Ipv6Header::default();
+    let found = (
+        header.set_payload_length(65535),
+        header.set_payload_length(65536),
+        header.payload_length,
+    );
+    let refused = ValueTooBigError {
+        actual: 65536,
+        max_allowed: 65535,
+        value_type: ValueType::Ipv6PayloadLength,
+    };
+    assert!(rt; found == (Ok(()), Err(refused), 65535));
+}
+
+#[test]
+fn laws_at_two_headers(rt: HostRuntime) {
     let bytes = BYTES;
-    let view = Ipv6HeaderSlice::from_slice(&bytes)?;
-    let header = view.to_header();
-    let other = Ipv6Header::default();
-    assert!(rt; laws::header_lengths() == [40, 40]);
+    let Some(header) = fields() else {
+        panic!(rt; "no header");
+    };
     laws::headers_are_their_bytes(&header);
-    assert!(rt; laws::header_is_read_again(&header, &bytes).is_ok());
+    let copy: Result<_, _> = laws::header_is_copied(&header);
+    let found = (
+        laws::header_is_read_again(&header, &bytes).is_ok(),
+        laws::headers_are_equal_as_fields(&header, &header),
+        laws::headers_are_equal_as_fields(&header, &Ipv6Header::default()),
+        copy == Ok(header),
+    );
+    assert!(rt; found == (true, true, false, true));
+}
+
+#[test]
+fn laws_of_no_header(rt: HostRuntime) {
+    let bytes = BYTES;
+    let Ok(view) = Ipv6HeaderSlice::from_slice(&bytes) else {
+        panic!(rt; "no header");
+    };
     laws::traffic_class_has_two_parts();
     laws::skip_follows_every_walk();
     laws::skipped_numbers_are_ext_headers();
-    assert!(rt; laws::headers_are_equal_as_fields(&header, &header));
-    assert!(rt; !laws::headers_are_equal_as_fields(&header, &other));
-    assert!(rt; laws::slices_are_equal_as_bytes(&view, &view));
-    assert!(rt; laws::header_is_copied(&header)? == header);
-    Ok(())
+    let found = (
+        laws::header_lengths(),
+        laws::slices_are_equal_as_bytes(&view, &view),
+    );
+    assert!(rt; found == ([40, 40], true));
 }
 
 #[test]
 fn skip_walk(rt: HostRuntime) {
     let bytes = [60, 0, 0, 0, 0, 0, 0, 0, 17, 0, 0, 0, 0, 0, 0, 0, 0xaa, 0xbb];
-    let behind = [0xaa, 0xbb];
-    assert!(rt;
-        Ipv6Header::skip_all_header_extensions_in_slice(&bytes, IpNumber(0))
-            == Ok((IpNumber::UDP, behind.as_slice()))
+    let found = (
+        Ipv6Header::skip_all_header_extensions_in_slice(&bytes, IpNumber(0)),
+        Ipv6Header::skip_counted(&bytes, IpNumber(0)).1,
     );
-    assert!(rt; Ipv6Header::skip_counted(&bytes, IpNumber(0)).1 == 3);
-    assert!(rt;
-        Ipv6Header::skip_all_header_extensions_in_slice(&[6], IpNumber(43))
-            == Err(len_error(2, 1, Layer::Ipv6ExtHeader, 0))
-    );
+    assert!(rt; found == (Ok((IpNumber::UDP, &bytes[16..])), 3));
+    let want = len_error(2, 1, Layer::Ipv6ExtHeader, 0);
+    assert!(rt; Ipv6Header::skip_all_header_extensions_in_slice(&[6], IpNumber(43)) == Err(want));
 }
 
 #[test]
@@ -241,6 +292,16 @@ const ROW: [u8; 54] = [
     0, 0, 0, 0, 0, 6, 1, 0, 0, 0, 0, 0, 0, 0, 0, 0, 0, 0, 0, 0, 0, 7, 8,
 ];
 
+// What a front of `ROW` of so many bytes wants, and the turns of the walk.
+fn want_in_front(len: usize) -> (Option<LenError>, usize) {
+    let row = ROW;
+    let (front, _) = row.split_at(len.min(54));
+    match Ipv6Header::skip_counted(front, IpNumber(0)) {
+        (Ok(_), turns) => (None, turns),
+        (Err(error), turns) => (Some(error), turns),
+    }
+}
+
 #[test]
 fn every_front_of_headers_in_a_row(rt: HostRuntime) {
     // The headers' places and lengths.
@@ -248,14 +309,17 @@ fn every_front_of_headers_in_a_row(rt: HostRuntime) {
     for (i, (offset, header_len)) in headers.into_iter().enumerate() {
         for len in 0..header_len {
             let required_len = if len < 2 { 2 } else { header_len };
-            let (answer, turns) = Ipv6Header::skip_counted(&ROW[..offset + len], IpNumber(0));
-            assert!(rt; answer == Err(len_error(required_len, len, Layer::Ipv6ExtHeader, offset)));
-            assert!(rt; turns == i + 1);
+            let want = len_error(required_len, len, Layer::Ipv6ExtHeader, offset);
+            assert!(rt; want_in_front(offset + len) == (Some(want), i + 1));
         }
     }
-    let (answer, turns) = Ipv6Header::skip_counted(&ROW, IpNumber(0));
-    assert!(rt; answer == Ok((IpNumber::TCP, [7, 8].as_slice())));
-    assert!(rt; turns == 5);
+}
+
+#[test]
+fn headers_in_a_row(rt: HostRuntime) {
+    let row = ROW;
+    let found = Ipv6Header::skip_counted(&row, IpNumber(0));
+    assert!(rt; found == (Ok((IpNumber::TCP, &row[52..])), 5));
 }
 
 #[test]
@@ -274,14 +338,11 @@ fn one_header_by_its_number(rt: HostRuntime) {
         (6, 24),
     ];
     for (number, len) in lens {
-        assert!(rt;
-            Ipv6Header::skip_header_extension_in_slice(&bytes, IpNumber(number))
-                == Ok((IpNumber(99), &bytes[len..]))
-        );
-        assert!(rt;
-            Ipv6Header::skip_header_extension_in_slice(&bytes[..len - 1], IpNumber(number))
-                == Err(len_error(len, len - 1, Layer::Ipv6ExtHeader, 0))
-        );
+        let want = len_error(len, len - 1, Layer::Ipv6ExtHeader, 0);
+        let whole = Ipv6Header::skip_header_extension_in_slice(&bytes, IpNumber(number));
+        let cut = Ipv6Header::skip_header_extension_in_slice(&bytes[..len - 1], IpNumber(number));
+        let found = (whole == Ok((IpNumber(99), &bytes[len..])), cut == Err(want));
+        assert!(rt; found == (true, true));
     }
 }
 
@@ -298,19 +359,23 @@ fn numbers_that_are_skipped(rt: HostRuntime) {
     }
 }
 
+// A row of headers of 8 bytes, so many before the last one, and seven bytes behind it.
+fn row_of(alloc: Global, before_the_last: usize) -> Result<Vec<u8>, AllocError> {
+    let mut bytes = Vec::new(alloc);
+    for _ in 0..before_the_last {
+        bytes.extend_from_slice(&[60, 0, 0, 0, 0, 0, 0, 0])?;
+    }
+    bytes.extend_from_slice(&[253, 0, 0, 0, 0, 0, 0, 0, 1, 2, 3, 4, 5, 6, 7])?;
+    Ok(bytes)
+}
+
 #[test]
 fn walks_over_thousands_of_headers(rt: HostRuntime) -> Result<(), Fail> {
     for (before_the_last, turns) in [(8189, 8191), (8190, 8192)] {
-        let mut bytes = Vec::new(rt.alloc());
-        for _ in 0..before_the_last {
-            bytes.extend_from_slice(&[60, 0, 0, 0, 0, 0, 0, 0])?;
-        }
-        bytes.extend_from_slice(&[253, 0, 0, 0, 0, 0, 0, 0])?;
-        bytes.extend_from_slice(&[1, 2, 3, 4, 5, 6, 7])?;
-        assert!(rt;
-            Ipv6Header::skip_counted(&bytes, IpNumber(60))
-                == (Ok((IpNumber(253), [1, 2, 3, 4, 5, 6, 7].as_slice())), turns)
-        );
+        let bytes = row_of(rt.alloc(), before_the_last)?;
+        let end = [1, 2, 3, 4, 5, 6, 7];
+        let found = Ipv6Header::skip_counted(&bytes, IpNumber(60));
+        assert!(rt; found == (Ok((IpNumber(253), end.as_slice())), turns));
     }
     Ok(())
 }

@@ -7,17 +7,21 @@ use ep_ipslice::Ipv6Slice;
 use ep_ipslice::err::ip::{HeaderError, HeadersError, HeadersSliceError, SliceError};
 use ep_ipslice::err::{ipv4, ipv6};
 
+// The bytes of the header, the source of the length and the body, where there is a packet.
+fn header_and_body(bytes: &[u8]) -> Option<(&[u8], LenSource, &[u8])> {
+    match Ipv6Slice::header_and_body(bytes) {
+        Ok((header, len_source, body)) => Some((header.slice(), len_source, body)),
+        Err(_) => None,
+    }
+}
+
 #[test]
 fn body_of_a_packet(rt: HostRuntime) {
     let bytes = IPV6;
-    let parts = Ipv6Slice::header_and_body(&bytes);
-    assert!(rt; parts.is_ok());
-    if let Ok((header, len_source, body)) = parts {
-        assert!(rt; header.slice() == &IPV6[..40]);
-        assert!(rt; len_source == LenSource::Ipv6HeaderPayloadLen);
-        assert!(rt; body == &IPV6[40..86]);
-    }
-    assert!(rt; Ipv6Slice::header_and_body(&bytes[..85]).is_err());
+    let source = LenSource::Ipv6HeaderPayloadLen;
+    let parts = Some((&bytes[..40], source, &bytes[40..86]));
+    let is_refused = header_and_body(&bytes[..85]).is_none();
+    assert!(rt; (header_and_body(&bytes), is_refused) == (parts, true));
 }
 
 #[test]
@@ -36,19 +40,19 @@ fn faults_of_packets_are_of_headers(rt: HostRuntime) {
 #[test]
 fn faults_of_either_version(rt: HostRuntime) {
     let other = HeadersError::Ip(HeaderError::UnsupportedIpVersion { version_number: 5 });
-    let error = ep_ip::err::ipv4::HeaderError::UnexpectedVersion { version_number: 5 };
-    let fault = SliceError::of_ipv4(ipv4::SliceError::Header(error));
-    assert!(rt; fault == SliceError::IpHeaders(other));
-    let error = ep_ip::err::ipv6::HeaderError::UnexpectedVersion { version_number: 5 };
-    let fault = SliceError::of_ipv6(ipv6::SliceError::Header(error));
-    assert!(rt; fault == SliceError::IpHeaders(other));
+    let v4 = ep_ip::err::ipv4::HeaderError::UnexpectedVersion { version_number: 5 };
+    let v6 = ep_ip::err::ipv6::HeaderError::UnexpectedVersion { version_number: 5 };
+    let found = [
+        SliceError::of_ipv4(ipv4::SliceError::Header(v4)),
+        SliceError::of_ipv6(ipv6::SliceError::Header(v6)),
+    ];
+    assert!(rt; found == [SliceError::IpHeaders(other); 2]);
 }
 
 #[test]
 fn faults_of_ipv6_headers(rt: HostRuntime) {
     let error = ep_ip::err::ipv6::HeaderError::UnexpectedVersion { version_number: 4 };
-    let fault = ipv6::SliceError::of_header(ep_ip::err::ipv6::HeaderSliceError::Content(error));
-    assert!(rt; fault == ipv6::SliceError::Header(error));
+    let version = ipv6::SliceError::of_header(ep_ip::err::ipv6::HeaderSliceError::Content(error));
     // Behind the header of 40 bytes.
     let want = LenError {
         required_len: 8,
@@ -64,5 +68,11 @@ fn faults_of_ipv6_headers(rt: HostRuntime) {
         layer_start_offset: 56,
         ..want
     };
-    assert!(rt; fault == ipv6::SliceError::Len(moved));
+    assert!(rt;
+        (version, fault)
+            == (
+                ipv6::SliceError::Header(error),
+                ipv6::SliceError::Len(moved)
+            )
+    );
 }

@@ -4,6 +4,7 @@ use ep_base::{EtherType, LenSource};
 use ep_link::err::arp::{ArpHwAddrError, ArpNewError, ArpProtoAddrError};
 use ep_link::laws::arp::*;
 use ep_link::{ArpHardwareId, ArpOperation, ArpPacket, ArpPacketSlice, Ethernet2Slice};
+use std::alloc::Global;
 use std::test::Fail;
 
 // A request of an IPv4 host on Ethernet, as RFC 826 lays it out, and a byte behind it.
@@ -29,46 +30,95 @@ fn made(
 }
 
 #[test]
-fn a_packet_both_ways(rt: HostRuntime) -> Result<(), Fail> {
+fn a_packet_both_ways(rt: HostRuntime) {
     let bytes = BYTES;
-    let packet = ArpPacket::from_slice(&bytes)?;
-    assert!(rt; packet.hw_addr_type == ArpHardwareId::ETHERNET);
-    assert!(rt; packet.proto_addr_type == EtherType::IPV4);
-    assert!(rt; packet.operation == ArpOperation::REQUEST);
-    assert!(rt; packet.sender_hw_addr() == [2, 0, 0, 0, 0, 1].as_slice());
-    assert!(rt; packet.sender_protocol_addr() == [10, 0, 0, 1].as_slice());
-    assert!(rt; packet.target_hw_addr() == [0; 6].as_slice());
-    assert!(rt; packet.target_protocol_addr() == [10, 0, 0, 2].as_slice());
-    assert!(rt; packet.packet_len() == 28);
-    assert!(rt; packet.hw_addr_size() == 6);
-    assert!(rt; packet.protocol_addr_size() == 4);
-    assert!(rt; packet.to_bytes().as_slice() == &BYTES[..28]);
-    Ok(())
+    let Ok(packet) = ArpPacket::from_slice(&bytes) else {
+        panic!(rt; "no packet");
+    };
+    let types = (
+        packet.hw_addr_type,
+        packet.proto_addr_type,
+        packet.operation,
+    );
+    let lens = (
+        packet.packet_len(),
+        packet.hw_addr_size(),
+        packet.protocol_addr_size(),
+    );
+    let request = (
+        ArpHardwareId::ETHERNET,
+        EtherType::IPV4,
+        ArpOperation::REQUEST,
+    );
+    let written = packet.to_bytes();
+    assert!(rt; (types, lens, written.as_slice()) == (request, (28, 6, 4), &bytes[..28]));
 }
 
 #[test]
-fn fields_of_a_slice(rt: HostRuntime) -> Result<(), Fail> {
+fn addresses_of_a_packet(rt: HostRuntime) {
     let bytes = BYTES;
-    let slice = ArpPacketSlice::from_slice(&bytes)?;
-    assert!(rt; slice.slice() == &BYTES[..28]);
-    assert!(rt; slice.hw_addr_type() == ArpHardwareId::ETHERNET);
-    assert!(rt; slice.proto_addr_type() == EtherType::IPV4);
-    assert!(rt; slice.hw_addr_size() == 6);
-    assert!(rt; slice.proto_addr_size() == 4);
-    assert!(rt; slice.operation() == ArpOperation::REQUEST);
-    Ok(())
+    let Ok(packet) = ArpPacket::from_slice(&bytes) else {
+        panic!(rt; "no packet");
+    };
+    let found = (
+        packet.sender_hw_addr(),
+        packet.sender_protocol_addr(),
+        packet.target_hw_addr(),
+        packet.target_protocol_addr(),
+    );
+    assert!(rt;
+        found
+            == (
+                &bytes[8..14],
+                &bytes[14..18],
+                &bytes[18..24],
+                &bytes[24..28]
+            )
+    );
 }
 
 #[test]
-fn addresses_of_a_slice(rt: HostRuntime) -> Result<(), Fail> {
+fn fields_of_a_slice(rt: HostRuntime) {
     let bytes = BYTES;
-    let slice = ArpPacketSlice::from_slice(&bytes)?;
-    assert!(rt; slice.sender_hw_addr() == [2, 0, 0, 0, 0, 1].as_slice());
-    assert!(rt; slice.sender_protocol_addr() == [10, 0, 0, 1].as_slice());
-    assert!(rt; slice.target_hw_addr() == [0; 6].as_slice());
-    assert!(rt; slice.target_protocol_addr() == [10, 0, 0, 2].as_slice());
-    assert!(rt; slice.to_packet() == ArpPacket::from_slice(&bytes)?);
-    Ok(())
+    let Ok(slice) = ArpPacketSlice::from_slice(&bytes) else {
+        panic!(rt; "no packet");
+    };
+    let types = (
+        slice.hw_addr_type(),
+        slice.proto_addr_type(),
+        slice.operation(),
+    );
+    let lens = (slice.hw_addr_size(), slice.proto_addr_size());
+    let request = (
+        ArpHardwareId::ETHERNET,
+        EtherType::IPV4,
+        ArpOperation::REQUEST,
+    );
+    assert!(rt; (types, lens, slice.slice()) == (request, (6, 4), &bytes[..28]));
+}
+
+#[test]
+fn addresses_of_a_slice(rt: HostRuntime) {
+    let bytes = BYTES;
+    let Ok(slice) = ArpPacketSlice::from_slice(&bytes) else {
+        panic!(rt; "no packet");
+    };
+    let found = (
+        slice.sender_hw_addr(),
+        slice.sender_protocol_addr(),
+        slice.target_hw_addr(),
+        slice.target_protocol_addr(),
+    );
+    assert!(rt;
+        found
+            == (
+                &bytes[8..14],
+                &bytes[14..18],
+                &bytes[18..24],
+                &bytes[24..28]
+            )
+    );
+    assert!(rt; ArpPacket::from_slice(&bytes) == Ok(slice.to_packet()));
 }
 
 #[test]
@@ -87,79 +137,119 @@ fn every_front_of_a_packet(rt: HostRuntime) {
             layer: Layer::Arp,
             layer_start_offset: 0,
         };
-        assert!(rt; ArpPacket::from_slice(&bytes[..len]) == Err(error));
-        assert!(rt; ArpPacketSlice::from_slice(&bytes[..len]).err() == Some(error));
+        let found = (
+            ArpPacket::from_slice(&bytes[..len]).err(),
+            ArpPacketSlice::from_slice(&bytes[..len]).err(),
+        );
+        assert!(rt; found == (Some(error), Some(error)));
     }
     assert!(rt; ArpPacketSlice::from_slice(&bytes[..28]).is_ok());
 }
 
-#[test]
-fn addresses_of_every_length(rt: HostRuntime) -> Result<(), Fail> {
+// What a packet with addresses of these lengths has: its length, the two bytes that tell the
+// lengths, and whether it is read again.
+fn written_with(hw_len: usize, proto_len: usize) -> Option<(usize, usize, usize, bool)> {
     let address = [7; 255];
+    let (hw, _) = address.split_at(hw_len.min(255));
+    let (proto, _) = address.split_at(proto_len.min(255));
+    let Ok(packet) = made(hw, proto, hw, proto) else {
+        return None;
+    };
+    let bytes = packet.to_bytes();
+    let is_read_again = ArpPacket::from_slice(bytes.as_slice()) == Ok(packet);
+    let lens = bytes.as_slice();
+    Some((
+        bytes.len(),
+        usize::from(*lens.get(4)?),
+        usize::from(*lens.get(5)?),
+        is_read_again,
+    ))
+}
+
+#[test]
+fn addresses_of_every_length(rt: HostRuntime) {
     for hw_len in [0usize, 1, 6, 255] {
         for proto_len in [0usize, 1, 6, 255] {
-            let hw = &address[..hw_len];
-            let proto = &address[..proto_len];
-            let packet = made(hw, proto, hw, proto)?;
-            let bytes = packet.to_bytes();
-            assert!(rt; bytes.len() == 8 + 2 * hw_len + 2 * proto_len);
-            assert!(rt; usize::from(bytes[4]) == hw_len);
-            assert!(rt; usize::from(bytes[5]) == proto_len);
-            assert!(rt; ArpPacket::from_slice(bytes.as_slice()) == Ok(packet));
+            let whole = 8 + 2 * hw_len + 2 * proto_len;
+            let found = written_with(hw_len, proto_len);
+            assert!(rt; found == Some((whole, hw_len, proto_len, true)));
         }
     }
-    Ok(())
+}
+
+// The ether type of an Ethernet II frame and the bytes of the packet behind its header.
+fn packet_in(frame: &[u8]) -> Option<(EtherType, &[u8])> {
+    let Ok(frame) = Ethernet2Slice::from_slice_without_fcs(frame) else {
+        return None;
+    };
+    let payload = frame.payload();
+    match ArpPacketSlice::from_slice(payload.payload) {
+        Ok(packet) => Some((payload.ether_type, packet.slice())),
+        Err(_) => None,
+    }
+}
+
+// Why there is no packet behind the header of an Ethernet II frame, seen from the frame.
+fn want_in(frame: &[u8]) -> Option<LenError> {
+    let Ok(frame) = Ethernet2Slice::from_slice_without_fcs(frame) else {
+        return None;
+    };
+    match ArpPacketSlice::from_slice(frame.payload_slice()) {
+        Ok(_) => None,
+        Err(error) => Some(error.add_offset(frame.header_len())),
+    }
 }
 
 // The packet behind an Ethernet II header of ether type 0806, and the same without its last byte.
 #[test]
-fn a_packet_in_a_frame(rt: HostRuntime) -> Result<(), Fail> {
+fn a_packet_in_a_frame(rt: HostRuntime) {
     let mut frame = [0; 42];
+    let bytes = BYTES;
     frame[12..14].copy_from_slice(&[8, 6]);
-    frame[14..].copy_from_slice(&BYTES[..28]);
-    let payload = Ethernet2Slice::from_slice_without_fcs(&frame)?.payload();
-    assert!(rt; payload.ether_type == EtherType::ARP);
-    assert!(rt; ArpPacketSlice::from_slice(payload.payload)?.slice() == &BYTES[..28]);
-    let cut = Ethernet2Slice::from_slice_without_fcs(&frame[..41])?;
-    let Err(error) = ArpPacketSlice::from_slice(cut.payload_slice()) else {
-        panic!(rt; "a whole packet");
+    frame[14..].copy_from_slice(&bytes[..28]);
+    let want = LenError {
+        required_len: 28,
+        len: 27,
+        len_source: LenSource::ArpAddrLengths,
+        layer: Layer::Arp,
+        layer_start_offset: 14,
     };
-    assert!(rt;
-        error.add_offset(cut.header_len())
-            == LenError {
-                required_len: 28,
-                len: 27,
-                len_source: LenSource::ArpAddrLengths,
-                layer: Layer::Arp,
-                layer_start_offset: 14,
-            }
-    );
-    Ok(())
+    let found = (packet_in(&frame), want_in(&frame[..41]));
+    assert!(rt; found == (Some((EtherType::ARP, &bytes[..28])), Some(want)));
 }
 
 #[test]
 fn addresses_that_make_no_packet(rt: HostRuntime) {
     let long = [7; 256];
     let (hw, proto) = (&long[..6], &long[..4]);
-    assert!(rt;
-        made(hw, &long, &long[..5], proto)
-            == Err(ArpNewError::HwAddr(ArpHwAddrError::LenNonMatching(6, 5)))
+    let of_hw = (
+        made(hw, &long, &long[..5], proto).err(),
+        made(&long, proto, hw, proto).err(),
+        made(&long, &long, &long, proto).err(),
     );
-    assert!(rt;
-        made(&long, proto, hw, proto)
-            == Err(ArpNewError::HwAddr(ArpHwAddrError::LenNonMatching(256, 6)))
+    let refused = (
+        Some(ArpNewError::HwAddr(ArpHwAddrError::LenNonMatching(6, 5))),
+        Some(ArpNewError::HwAddr(ArpHwAddrError::LenNonMatching(256, 6))),
+        Some(ArpNewError::HwAddr(ArpHwAddrError::LenTooBig(256))),
     );
-    assert!(rt;
-        made(&long, &long, &long, proto) == Err(ArpNewError::HwAddr(ArpHwAddrError::LenTooBig(256)))
+    assert!(rt; of_hw == refused);
+}
+
+#[test]
+fn protocol_addresses_that_make_no_packet(rt: HostRuntime) {
+    let long = [7; 256];
+    let (hw, proto) = (&long[..6], &long[..4]);
+    let found = (
+        made(hw, &long, hw, proto).err(),
+        made(hw, &long, hw, &long).err(),
+        made(hw, proto, hw, proto).err(),
     );
-    assert!(rt;
-        made(hw, &long, hw, proto)
-            == Err(ArpNewError::ProtoAddr(ArpProtoAddrError::LenNonMatching(256, 4)))
+    let refused = (
+        Some(ArpNewError::ProtoAddr(ArpProtoAddrError::LenNonMatching(256, 4))),
+        Some(ArpNewError::ProtoAddr(ArpProtoAddrError::LenTooBig(256))),
+        None,
     );
-    assert!(rt;
-        made(hw, &long, hw, &long) == Err(ArpNewError::ProtoAddr(ArpProtoAddrError::LenTooBig(256)))
-    );
-    assert!(rt; made(hw, proto, hw, proto).is_ok());
+    assert!(rt; found == refused);
 }
 
 #[test]
@@ -176,37 +266,47 @@ fn error_texts(rt: HostRuntime) -> Result<(), Fail> {
     Ok(())
 }
 
+// Whether the packet is written behind a byte as these.
+fn is_appended(alloc: Global, packet: &ArpPacket, bytes: &[u8]) -> bool {
+    let mut buffer = Vec::new(alloc);
+    buffer.push(9).is_ok()
+        && packet.write(&mut buffer).is_ok()
+        && buffer.first() == Some(&9)
+        && buffer.get(1..) == Some(bytes)
+}
+
 #[test]
-fn a_packet_behind_a_byte_that_is_there(rt: HostRuntime) -> Result<(), Fail> {
+fn a_packet_behind_a_byte_that_is_there(rt: HostRuntime) {
     let bytes = BYTES;
-    let mut buffer = Vec::new(rt.alloc());
-    buffer.push(9)?;
-    ArpPacket::from_slice(&bytes)?.write(&mut buffer)?;
-    assert!(rt; buffer.len() == 29);
-    assert!(rt; buffer[0] == 9);
-    assert!(rt; &buffer[1..] == &BYTES[..28]);
-    Ok(())
+    let Ok(packet) = ArpPacket::from_slice(&bytes) else {
+        panic!(rt; "no packet");
+    };
+    assert!(rt; is_appended(rt.alloc(), &packet, &bytes[..28]));
 }
 
 #[test]
 fn numbers(rt: HostRuntime) -> Result<(), Fail> {
-    assert!(rt; u16::from(ArpHardwareId::from(824)) == 824);
-    assert!(rt; ArpHardwareId::from(824) == ArpHardwareId::NETLINK);
-    assert!(rt; ArpOperation::from(2) == ArpOperation::REPLY);
-    assert!(rt; u16::from(ArpOperation::REQUEST) == 1);
+    let found = (
+        u16::from(ArpHardwareId::from(824)),
+        ArpHardwareId::from(824),
+        ArpOperation::from(2),
+        u16::from(ArpOperation::REQUEST),
+    );
+    assert!(rt; found == (824, ArpHardwareId::NETLINK, ArpOperation::REPLY, 1));
     let text = format!(in rt.alloc(); "{}", ArpHardwareId::FRAD)?;
     assert!(rt; text.as_str() == "770");
     Ok(())
 }
 
 #[test]
-fn laws(rt: HostRuntime) -> Result<(), Fail> {
+fn laws(rt: HostRuntime) {
     let bytes = BYTES;
-    let packet = ArpPacket::from_slice(&bytes)?;
-    assert!(rt; packet_lengths() == [1028]);
+    let Ok(packet) = ArpPacket::from_slice(&bytes) else {
+        panic!(rt; "no packet");
+    };
     arp_constants();
     packets_are_their_bytes(&packet);
-    assert!(rt; packet_is_read_again(&packet, &bytes) == Ok(packet));
     fields_by_hand();
-    Ok(())
+    let is_read_again = packet_is_read_again(&packet, &bytes) == Ok(packet);
+    assert!(rt; (packet_lengths(), is_read_again) == ([1028], true));
 }

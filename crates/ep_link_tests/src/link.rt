@@ -5,7 +5,7 @@ use ep_link::{
     LinuxSllPacketType, LinuxSllPayloadSlice, LinuxSllProtocolType, LinuxSllSlice,
 };
 use ep_tag::EtherPayloadSlice;
-use std::test::Fail;
+use std::alloc::Global;
 
 const ETHERNET: [u8; 14] = [1, 2, 3, 4, 5, 6, 7, 8, 9, 10, 11, 12, 8, 0];
 
@@ -31,96 +31,145 @@ fn linux_sll() -> LinuxSllHeader {
 
 #[test]
 fn one_kind_or_the_other(rt: HostRuntime) {
-    assert!(rt; LinkHeader::from(ethernet2()).ethernet2() == Some(ethernet2()));
-    assert!(rt; LinkHeader::from(ethernet2()).linux_sll().is_none());
-    assert!(rt; LinkHeader::from(linux_sll()).ethernet2().is_none());
-    assert!(rt; LinkHeader::from(linux_sll()).linux_sll() == Some(linux_sll()));
-    assert!(rt; LinkHeader::Ethernet2(ethernet2()).header_len() == 14);
-    assert!(rt; LinkHeader::LinuxSll(linux_sll()).header_len() == 16);
+    let ethernet = LinkHeader::from(ethernet2());
+    let found = (
+        ethernet.ethernet2() == Some(ethernet2()),
+        LinkHeader::from(ethernet2()).linux_sll() == None,
+        LinkHeader::Ethernet2(ethernet2()).header_len(),
+    );
+    assert!(rt; found == (true, true, 14));
+    let found = (
+        LinkHeader::from(linux_sll()).ethernet2() == None,
+        LinkHeader::from(linux_sll()).linux_sll() == Some(linux_sll()),
+        LinkHeader::LinuxSll(linux_sll()).header_len(),
+    );
+    assert!(rt; found == (true, true, 16));
 }
 
 #[test]
-fn headers_written_anew(rt: HostRuntime) {
+fn an_ethernet_header_written_anew(rt: HostRuntime) {
     let mut header = LinkHeader::Ethernet2(ethernet2());
-    assert!(rt; header.mut_linux_sll().is_none());
+    let is_other = header.mut_linux_sll().is_some();
     if let Some(ethernet2) = header.mut_ethernet2() {
         ethernet2.ether_type = EtherType::ARP;
     }
     let mut changed = ethernet2();
     changed.ether_type = EtherType::ARP;
-    assert!(rt; header == LinkHeader::Ethernet2(changed));
+    assert!(rt; (is_other, header) == (false, LinkHeader::Ethernet2(changed)));
+}
+
+#[test]
+fn a_cooked_header_written_anew(rt: HostRuntime) {
     let mut header = LinkHeader::LinuxSll(linux_sll());
-    assert!(rt; header.mut_ethernet2().is_none());
+    let is_other = header.mut_ethernet2().is_some();
     if let Some(linux_sll) = header.mut_linux_sll() {
         linux_sll.sender_address_valid_length = 8;
     }
     let mut changed = linux_sll();
     changed.sender_address_valid_length = 8;
-    assert!(rt; header == LinkHeader::LinuxSll(changed));
+    assert!(rt; (is_other, header) == (false, LinkHeader::LinuxSll(changed)));
+}
+
+// Whether both headers are written behind a byte as these.
+fn are_appended(alloc: Global, ethernet: &[u8], sll: &[u8]) -> bool {
+    let mut buffer = Vec::new(alloc);
+    buffer.push(9).is_ok()
+        && LinkHeader::Ethernet2(ethernet2())
+            .write(&mut buffer)
+            .is_ok()
+        && LinkHeader::LinuxSll(linux_sll()).write(&mut buffer).is_ok()
+        && buffer.first() == Some(&9)
+        && buffer.get(1..15) == Some(ethernet)
+        && buffer.get(15..) == Some(sll)
 }
 
 #[test]
-fn headers_behind_a_byte_that_is_there(rt: HostRuntime) -> Result<(), Fail> {
-    let mut buffer = Vec::new(rt.alloc());
-    buffer.push(9)?;
-    LinkHeader::Ethernet2(ethernet2()).write(&mut buffer)?;
-    assert!(rt; buffer[0] == 9);
-    assert!(rt; &buffer[1..] == ETHERNET.as_slice());
-    LinkHeader::LinuxSll(linux_sll()).write(&mut buffer)?;
-    assert!(rt; buffer.len() == 31);
-    assert!(rt; &buffer[15..] == SLL.as_slice());
-    Ok(())
+fn headers_behind_a_byte_that_is_there(rt: HostRuntime) {
+    assert!(rt; are_appended(rt.alloc(), &ETHERNET, &SLL));
+}
+
+// The header of an Ethernet II frame, and that of a cooked packet.
+fn ethernet_header(bytes: &[u8]) -> Option<LinkHeader> {
+    match Ethernet2Slice::from_slice_without_fcs(bytes) {
+        Ok(frame) => LinkSlice::Ethernet2(frame).to_header(),
+        Err(_) => None,
+    }
+}
+
+fn cooked_header(bytes: &[u8]) -> Option<LinkHeader> {
+    match LinuxSllSlice::from_slice(bytes) {
+        Ok(packet) => LinkSlice::LinuxSll(packet).to_header(),
+        Err(_) => None,
+    }
 }
 
 #[test]
-fn fields_of_slices(rt: HostRuntime) -> Result<(), Fail> {
-    let ethernet = ETHERNET;
-    let frame = LinkSlice::Ethernet2(Ethernet2Slice::from_slice_without_fcs(&ethernet)?);
-    assert!(rt; frame.to_header() == Some(LinkHeader::Ethernet2(ethernet2())));
-    let sll = SLL;
-    let packet = LinkSlice::LinuxSll(LinuxSllSlice::from_slice(&sll)?);
-    assert!(rt; packet.to_header() == Some(LinkHeader::LinuxSll(linux_sll())));
-    let payload = LinkSlice::EtherPayload(EtherPayloadSlice {
+fn fields_of_slices(rt: HostRuntime) {
+    let (ethernet, sll) = (ETHERNET, SLL);
+    let found = (ethernet_header(&ethernet), cooked_header(&sll));
+    let headers = (
+        Some(LinkHeader::Ethernet2(ethernet2())),
+        Some(LinkHeader::LinuxSll(linux_sll())),
+    );
+    assert!(rt; found == headers);
+}
+
+#[test]
+fn no_fields_of_payloads(rt: HostRuntime) {
+    let bytes = ETHERNET;
+    let ether = LinkSlice::EtherPayload(EtherPayloadSlice {
         ether_type: EtherType::IPV4,
         len_source: LenSource::Slice,
-        payload: &ethernet,
+        payload: &bytes,
     });
-    assert!(rt; payload.to_header().is_none());
-    let payload = LinkSlice::LinuxSllPayload(LinuxSllPayloadSlice {
+    let sll = LinkSlice::LinuxSllPayload(LinuxSllPayloadSlice {
         protocol_type: LinuxSllProtocolType::Ignored(1),
-        payload: &ethernet,
+        payload: &bytes,
     });
-    assert!(rt; payload.to_header().is_none());
-    Ok(())
+    assert!(rt; (ether.to_header(), sll.to_header()) == (None, None));
+}
+
+// The payload behind the ether type of an Ethernet II frame, and of a cooked packet.
+fn ethernet_payload(bytes: &[u8]) -> Option<EtherPayloadSlice<'_>> {
+    match Ethernet2Slice::from_slice_without_fcs(bytes) {
+        Ok(frame) => LinkSlice::Ethernet2(frame).ether_payload(),
+        Err(_) => None,
+    }
+}
+
+fn cooked_payload(bytes: &[u8]) -> Option<EtherPayloadSlice<'_>> {
+    match LinuxSllSlice::from_slice(bytes) {
+        Ok(packet) => LinkSlice::LinuxSll(packet).ether_payload(),
+        Err(_) => None,
+    }
+}
+
+fn named(ether_type: EtherType, payload: &[u8]) -> EtherPayloadSlice<'_> {
+    EtherPayloadSlice {
+        ether_type,
+        len_source: LenSource::Slice,
+        payload,
+    }
 }
 
 // An Ethernet II frame and a packet of ether type 0806 name it; 802.11 with radiotap gives the
 // same number no meaning.
 #[test]
-fn payloads_behind_ether_types(rt: HostRuntime) -> Result<(), Fail> {
-    let mut frame = [0; 16];
-    frame[..14].copy_from_slice(&ETHERNET);
-    frame[14..].copy_from_slice(&[7, 8]);
-    let named = EtherPayloadSlice {
-        ether_type: EtherType::IPV4,
-        len_source: LenSource::Slice,
-        payload: &[7, 8],
-    };
-    let link = LinkSlice::Ethernet2(Ethernet2Slice::from_slice_without_fcs(&frame)?);
-    assert!(rt; link.ether_payload() == Some(named));
-    let mut packet = [9; 17];
-    packet[..16].copy_from_slice(&SLL);
-    let named = EtherPayloadSlice {
-        ether_type: EtherType::ARP,
-        len_source: LenSource::Slice,
-        payload: &[9],
-    };
-    let link = LinkSlice::LinuxSll(LinuxSllSlice::from_slice(&packet)?);
-    assert!(rt; link.ether_payload() == Some(named));
-    packet[2..4].copy_from_slice(&[3, 0x23]);
-    let link = LinkSlice::LinuxSll(LinuxSllSlice::from_slice(&packet)?);
-    assert!(rt; link.ether_payload().is_none());
-    Ok(())
+fn payloads_behind_ether_types(rt: HostRuntime) {
+    let frame = [1, 2, 3, 4, 5, 6, 7, 8, 9, 10, 11, 12, 8, 0, 7, 8];
+    let packet = [0, 4, 0, 1, 0, 6, 1, 2, 3, 4, 5, 6, 0, 0, 8, 6, 9];
+    let mut radiotap = packet;
+    radiotap[2] = 3;
+    radiotap[3] = 0x23;
+    let found = (
+        ethernet_payload(&frame),
+        cooked_payload(&packet),
+        LinuxSllSlice::from_slice(&radiotap).is_ok(),
+        cooked_payload(&radiotap).is_none(),
+    );
+    let ip = Some(named(EtherType::IPV4, &frame[14..]));
+    let arp = Some(named(EtherType::ARP, &packet[16..]));
+    assert!(rt; found == (ip, arp, true, true));
 }
 
 #[test]
@@ -131,15 +180,15 @@ fn payloads_without_a_header(rt: HostRuntime) {
         len_source: LenSource::MacsecShortLength,
         payload: &bytes,
     };
-    let link = LinkSlice::EtherPayload(EtherPayloadSlice {
+    let ether = LinkSlice::EtherPayload(EtherPayloadSlice {
         ether_type: EtherType::IPV6,
         len_source: LenSource::MacsecShortLength,
         payload: &bytes,
     });
-    assert!(rt; link.ether_payload() == Some(named));
-    let link = LinkSlice::LinuxSllPayload(LinuxSllPayloadSlice {
+    let sll = LinkSlice::LinuxSllPayload(LinuxSllPayloadSlice {
         protocol_type: LinuxSllProtocolType::NetlinkProtocolType(0x0800),
         payload: &bytes,
     });
-    assert!(rt; link.ether_payload().is_none());
+    let found = (ether.ether_payload(), sll.ether_payload().is_none());
+    assert!(rt; found == (Some(named), true));
 }

@@ -26,60 +26,103 @@ fn header() -> LinuxSllHeader {
 #[test]
 fn a_header_both_ways(rt: HostRuntime) {
     let bytes = BYTES;
-    let Ok((read, rest)) = LinuxSllHeader::from_slice(&bytes) else {
+    assert!(rt; LinuxSllHeader::from_slice(&bytes) == Ok((header(), &bytes[16..])));
+    let written = header().to_bytes();
+    assert!(rt; (written.as_slice(), header().header_len()) == (&bytes[..16], 16));
+}
+
+#[test]
+fn fields_of_a_header_slice(rt: HostRuntime) {
+    let bytes = BYTES;
+    let Ok(slice) = LinuxSllHeaderSlice::from_slice(&bytes) else {
         panic!(rt; "no header");
     };
-    assert!(rt; read == header());
-    assert!(rt; rest == [21, 22].as_slice());
-    assert!(rt; header().to_bytes().as_slice() == &BYTES[..16]);
-    assert!(rt; header().header_len() == 16);
+    let numbers = (
+        slice.packet_type(),
+        slice.arp_hrd_type(),
+        slice.sender_address_valid_length(),
+        slice.sender_address(),
+    );
+    let found = (
+        slice.slice(),
+        numbers,
+        slice.protocol_type(),
+        slice.to_header(),
+    );
+    let address = [1, 2, 3, 4, 5, 6, 0, 0];
+    let numbers = (
+        LinuxSllPacketType::HOST,
+        ArpHardwareId::ETHERNET,
+        6,
+        address,
+    );
+    assert!(rt; found == (&bytes[..16], numbers, header().protocol_type, header()));
 }
 
 #[test]
-fn fields_of_a_header_slice(rt: HostRuntime) -> Result<(), Fail> {
+fn fields_of_a_packet(rt: HostRuntime) {
     let bytes = BYTES;
-    let slice = LinuxSllHeaderSlice::from_slice(&bytes)?;
-    assert!(rt; slice.slice() == &BYTES[..16]);
-    assert!(rt; slice.packet_type() == LinuxSllPacketType::HOST);
-    assert!(rt; slice.arp_hrd_type() == ArpHardwareId::ETHERNET);
-    assert!(rt; slice.sender_address_valid_length() == 6);
-    assert!(rt; slice.sender_address() == [1, 2, 3, 4, 5, 6, 0, 0]);
-    assert!(rt; slice.protocol_type() == header().protocol_type);
-    assert!(rt; slice.to_header() == header());
-    Ok(())
+    let Ok(slice) = LinuxSllSlice::from_slice(&bytes) else {
+        panic!(rt; "no packet");
+    };
+    let found = (
+        slice.packet_type(),
+        slice.arp_hrd_type(),
+        slice.sender_address_valid_length(),
+        slice.sender_address(),
+        slice.protocol_type(),
+    );
+    let address = [1, 2, 3, 4, 5, 6, 0, 0];
+    let protocol = LinuxSllProtocolType::EtherType(EtherType::IPV4);
+    let fields = (
+        LinuxSllPacketType::HOST,
+        ArpHardwareId::ETHERNET,
+        6,
+        address,
+        protocol,
+    );
+    assert!(rt; found == fields);
 }
 
 #[test]
-fn fields_of_a_packet(rt: HostRuntime) -> Result<(), Fail> {
+fn parts_of_a_packet(rt: HostRuntime) {
     let bytes = BYTES;
-    let slice = LinuxSllSlice::from_slice(&bytes)?;
-    assert!(rt; slice.slice() == bytes.as_slice());
-    assert!(rt; slice.header_len() == 16);
-    assert!(rt; slice.packet_type() == LinuxSllPacketType::HOST);
-    assert!(rt; slice.arp_hrd_type() == ArpHardwareId::ETHERNET);
-    assert!(rt; slice.sender_address_valid_length() == 6);
-    assert!(rt; slice.sender_address() == [1, 2, 3, 4, 5, 6, 0, 0]);
-    assert!(rt; slice.protocol_type() == LinuxSllProtocolType::EtherType(EtherType::IPV4));
-    assert!(rt; slice.payload_slice() == [21, 22].as_slice());
-    assert!(rt; slice.to_header() == header());
-    Ok(())
+    let Ok(slice) = LinuxSllSlice::from_slice(&bytes) else {
+        panic!(rt; "no packet");
+    };
+    let found = (
+        slice.slice(),
+        slice.header_len(),
+        slice.payload_slice(),
+        slice.to_header(),
+    );
+    assert!(rt; found == (bytes.as_slice(), 16, &bytes[16..], header()));
 }
 
 #[test]
-fn a_payload_behind_an_ether_type(rt: HostRuntime) -> Result<(), Fail> {
+fn a_payload_behind_an_ether_type(rt: HostRuntime) {
     let bytes = BYTES;
-    let payload = LinuxSllSlice::from_slice(&bytes)?.payload();
-    assert!(rt; payload.protocol_type == header().protocol_type);
-    assert!(rt; payload.payload == [21, 22].as_slice());
-    let Ok(ether_payload) = EtherPayloadSlice::try_from(payload) else {
+    let Ok(slice) = LinuxSllSlice::from_slice(&bytes) else {
+        panic!(rt; "no packet");
+    };
+    let payload = slice.payload();
+    assert!(rt; (payload.protocol_type, payload.payload) == (header().protocol_type, &bytes[16..]));
+}
+
+#[test]
+fn an_ether_payload_and_back(rt: HostRuntime) {
+    let bytes = BYTES;
+    let protocol = header().protocol_type;
+    let Ok(slice) = LinuxSllSlice::from_slice(&bytes) else {
+        panic!(rt; "no packet");
+    };
+    let Ok(ether_payload) = EtherPayloadSlice::try_from(slice.payload()) else {
         panic!(rt; "no ether type");
     };
-    assert!(rt; ether_payload.ether_type == EtherType::IPV4);
-    assert!(rt; ether_payload.len_source == LenSource::Slice);
+    let found = (ether_payload.ether_type, ether_payload.len_source);
     let again = LinuxSllPayloadSlice::from(ether_payload);
-    assert!(rt; again.protocol_type == header().protocol_type);
-    assert!(rt; again.payload == [21, 22].as_slice());
-    Ok(())
+    assert!(rt; found == (EtherType::IPV4, LenSource::Slice));
+    assert!(rt; (again.protocol_type, again.payload) == (protocol, &bytes[16..]));
 }
 
 #[test]
@@ -110,29 +153,55 @@ fn every_front_of_a_header(rt: HostRuntime) {
             layer: Layer::LinuxSllHeader,
             layer_start_offset: 0,
         });
-        assert!(rt; LinuxSllHeader::from_slice(&bytes[..len]) == Err(error));
-        assert!(rt; LinuxSllHeaderSlice::from_slice(&bytes[..len]).err() == Some(error));
-        assert!(rt; LinuxSllSlice::from_slice(&bytes[..len]).err() == Some(error));
+        let refused = LinuxSllHeader::from_slice(&bytes[..len]) == Err(error);
+        let found = (
+            LinuxSllHeaderSlice::from_slice(&bytes[..len]).err(),
+            LinuxSllSlice::from_slice(&bytes[..len]).err(),
+        );
+        assert!(rt; (refused, found) == (true, (Some(error), Some(error))));
     }
     assert!(rt; LinuxSllSlice::from_slice(&bytes[..16]).is_ok());
 }
 
-#[test]
-fn packet_types(rt: HostRuntime) -> Result<(), Fail> {
-    for n in 0..5 {
-        assert!(rt; u16::from(LinuxSllPacketType::try_from(n)?) == n);
+fn packet_type(number: u16) -> Option<u16> {
+    match LinuxSllPacketType::try_from(number) {
+        Ok(packet_type) => Some(u16::from(packet_type)),
+        Err(_) => None,
     }
+}
+
+#[test]
+fn packet_types(rt: HostRuntime) {
+    for number in 0..5 {
+        assert!(rt; packet_type(number) == Some(number));
+    }
+    let found = (
+        LinuxSllPacketType::try_from(5),
+        LinuxSllPacketType::default(),
+        LinuxSllPacketType::OUTGOING.value(),
+    );
     let unsupported = HeaderError::UnsupportedPacketTypeField { packet_type: 5 };
-    assert!(rt; LinuxSllPacketType::try_from(5) == Err(unsupported));
-    assert!(rt; LinuxSllPacketType::default() == LinuxSllPacketType::HOST);
-    assert!(rt; LinuxSllPacketType::OUTGOING.value() == 4);
+    assert!(rt; found == (Err(unsupported), LinuxSllPacketType::HOST, 4));
+}
+
+#[test]
+fn a_packet_type_that_is_refused(rt: HostRuntime) {
     let mut bytes = BYTES;
     bytes[1] = 5;
+    let unsupported = HeaderError::UnsupportedPacketTypeField { packet_type: 5 };
     let error = HeaderSliceError::from(unsupported);
-    assert!(rt; LinuxSllHeader::from_slice(&bytes) == Err(error));
-    assert!(rt; LinuxSllHeaderSlice::from_slice(&bytes).err() == Some(error));
-    assert!(rt; LinuxSllSlice::from_slice(&bytes).err() == Some(error));
-    assert!(rt; error.add_slice_offset(3) == error);
+    let refused = LinuxSllHeader::from_slice(&bytes) == Err(error);
+    let found = (
+        LinuxSllHeaderSlice::from_slice(&bytes).err(),
+        LinuxSllSlice::from_slice(&bytes).err(),
+    );
+    assert!(rt; (refused, found) == (true, (Some(error), Some(error))));
+}
+
+#[test]
+fn errors_further_on(rt: HostRuntime) {
+    let unsupported = HeaderError::UnsupportedPacketTypeField { packet_type: 5 };
+    let error = HeaderSliceError::from(unsupported);
     let want = LenError {
         required_len: 16,
         len: 7,
@@ -144,8 +213,11 @@ fn packet_types(rt: HostRuntime) -> Result<(), Fail> {
         layer_start_offset: 7,
         ..want
     };
-    assert!(rt; HeaderSliceError::Len(want).add_slice_offset(3) == HeaderSliceError::Len(further));
-    Ok(())
+    let found = [
+        error.add_slice_offset(3),
+        HeaderSliceError::Len(want).add_slice_offset(3),
+    ];
+    assert!(rt; found == [error, HeaderSliceError::Len(further)]);
 }
 
 #[test]
@@ -177,8 +249,7 @@ fn protocols_by_hardware_type(rt: HostRuntime) {
     ];
     for (hardware_type, number, protocol) in table {
         let read = LinuxSllProtocolType::from((ArpHardwareId(hardware_type), number));
-        assert!(rt; read == protocol);
-        assert!(rt; u16::from(protocol) == number);
+        assert!(rt; (read, u16::from(protocol)) == (protocol, number));
     }
 }
 
@@ -230,10 +301,13 @@ fn error_texts(rt: HostRuntime) -> Result<(), Fail> {
 #[test]
 fn laws(rt: HostRuntime) {
     let bytes = BYTES;
-    assert!(rt; header_lengths() == [16]);
-    assert!(rt; packet_type_constants().len() == 5);
+    let found = (
+        header_lengths(),
+        packet_type_constants().len(),
+        header_is_read_again(&header(), &bytes).is_ok(),
+    );
+    assert!(rt; found == ([16], 5, true));
     headers_are_their_bytes(&header());
-    assert!(rt; header_is_read_again(&header(), &bytes).is_ok());
     number_stays();
     protocols_by_hand();
 }

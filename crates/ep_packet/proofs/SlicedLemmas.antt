@@ -162,6 +162,38 @@ pub layer_fits : (bytes : List ℕ) (n : ℕ) (t : Tagged) (e : SliceError) → 
 layer_fits bytes n t e tags fits some room =
     layer_fits_at bytes n t.len t.last e tags.last fits some room
 
+-- what the last ether type names begins where the tags end
+named_at_end : (bytes : List ℕ) (t : Tagged) (q : EtherPayload) → t.last ≡ Some q
+    → TagsIn bytes 0 t → t.len + length q.payload ≤ length bytes
+named_at_end bytes t q named tags =
+    omega (
+      arith,
+      at_fits bytes q.payload (0 + t.len)
+          (subst (λ (o : Option EtherPayload). IfSome o (λ p. IsAt bytes (0 + t.len) p.payload)) named
+          tags.last),
+    )
+
+pub tags_fit : (bytes : List ℕ) (n : ℕ) (t : Tagged) (q : EtherPayload) → t.last ≡ Some q
+    → TagsIn bytes 0 t → n + length bytes < 2 ^ 64 → n + t.len < 2 ^ 64
+tags_fit bytes n t q named tags room = omega (arith, named_at_end bytes t q named tags, room)
+
+-- the same of a fault in it
+pub named_fits : (bytes : List ℕ) (n : ℕ) (t : Tagged) (q : EtherPayload) (e : SliceError)
+    → t.last ≡ Some q → TagsIn bytes 0 t
+    → ((m : ℕ) → length q.payload + m < 2 ^ 64 → fault_offset e + m < 2 ^ 64)
+    → n + length bytes < 2 ^ 64 → fault_offset e + (n + t.len) < 2 ^ 64
+named_fits bytes n t q e named tags fits room =
+    fits (n + t.len) (omega (arith, named_at_end bytes t q named tags, room))
+
+-- and the layers in it
+pub parts_named : (bytes : List ℕ) (link : Option LinkSlice) (t : Tagged) (q : EtherPayload)
+    (layers told : Layers) → t.last ≡ Some q → TagsIn bytes 0 t → layers ≡ told
+    → LayersIn q.payload 0 told → ArePartsOf bytes 0 (packet_of link t.tags layers)
+parts_named bytes link t q layers told named tags same inside =
+    parts_with bytes link t layers tags
+    (subst (λ (o : Option EtherPayload). LayersBehind o layers) (sym named)
+    (subst (λ (ls : Layers). LayersIn q.payload 0 ls) (sym same) inside))
+
 pub parts_in_frame : (frame bytes : List ℕ) (place : ℕ) (r : Result SlicedPacket SliceError)
     → IsAt frame place bytes → IfOk r (λ packet. ArePartsOf bytes 0 packet)
     → IfOk r (λ packet. ArePartsOf frame place packet)

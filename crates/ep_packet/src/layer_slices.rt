@@ -1,24 +1,24 @@
 //! The network layer and the transport layer in a payload.
 ghost use Rattle.std.specs.Prelude.{◌≡◌, ◌<◌, ◌+◌, ◌^◌, ℕ, length, IfErr, IfOk, IfSome, Ok};
+ghost use Rattle.ep_link.specs.Arp.{packet_at};
 ghost use Rattle.ep_ext.specs.Ipv4Exts.{auth_bytes};
 ghost use Rattle.ep_ipslice.specs.IpSlice.{ip_packet_at};
 ghost use Rattle.ep_ipslice.specs.Ipv4Packet.{ipv4_packet_at};
 ghost use Rattle.ep_ipslice.specs.Ipv6Packet.{ipv6_packet_at};
 ghost use Rattle.ep_ipslice.specs.Packet.{IsIpv4Packet, IsIpv6Packet};
-ghost use Rattle.ep_packet.specs.Parts.{IsAt, LayersBehind, LayersIn, transport_bytes};
+ghost use Rattle.ep_packet.specs.Parts.{IsAt, LayersIn, transport_bytes};
 ghost use Rattle.ep_packet.specs.Readable.{message_at};
 ghost use Rattle.ep_packet.specs.SliceFault.{fault_offset};
 ghost use Rattle.ep_packet.specs.Sliced.{AreIpLayers, Layers, in_ipv4, in_ipv6, ip_layers};
-ghost use Rattle.ep_packet.specs.Sliced.{ipv4_layers, ipv6_layers, layers_in, layers_of};
+ghost use Rattle.ep_packet.specs.Sliced.{arp_layers, ipv4_layers, ipv6_layers};
 ghost use Rattle.ep_packet.specs.Sliced.{read_transport, transport_in};
 
 use crate::err::packet::SliceError;
 use crate::{NetSlice, TransportSlice, slice_fault};
-use ep_base::{EtherType, IpNumber};
+use ep_base::IpNumber;
 use ep_icmp::{Icmpv4Slice, Icmpv6Slice};
 use ep_ipslice::{IpPayloadSlice, IpSlice, Ipv4Slice, Ipv6Slice, laws};
 use ep_link::ArpPacketSlice;
-use ep_tag::EtherPayloadSlice;
 use ep_tcpudp::{TcpSlice, UdpSlice};
 use std::marker::Model;
 
@@ -36,49 +36,24 @@ impl<'a> Model for LayerSlices<'a> {
 }
 
 impl<'a> LayerSlices<'a> {
-    /// The layers in what the last ether type names, if there is one.
-    pub(crate) fn behind_tags(
-        last: &Option<EtherPayloadSlice<'a>>,
-    ) -> Result<LayerSlices<'a>, SliceError>
-        ensures layers { result ≡ layers_in last.now }
-        ensures parts { IfOk result (λ layers. LayersBehind last.now layers) }
-        ensures place { IfErr result
-            (λ e. IfSome last.now (λ q. (n : ℕ) → length q.payload + n < 2 ^ 64
-            → fault_offset e + n < 2 ^ 64)) }
-    {
-        match last {
-            Some(payload) => Self::from_ether_payload(payload),
-            None => Ok(LayerSlices {
-                net: None,
-                transport: None,
-            }),
-        }
-    }
-
-    fn from_ether_payload(payload: &EtherPayloadSlice<'a>) -> Result<LayerSlices<'a>, SliceError>
-        ensures layers { result ≡ layers_of payload.now }
-        ensures parts { IfOk result (λ layers. LayersIn payload.now.payload 0 layers) }
-        ensures place { IfErr result (λ e. (n : ℕ) → length payload.now.payload + n < 2 ^ 64
+    /// The layer that an ARP packet is.
+    pub(crate) fn from_arp(slice: &'a [u8]) -> Result<LayerSlices<'a>, SliceError>
+        ensures layers { result ≡ arp_layers (packet_at slice.now) }
+        ensures parts { IfOk result (λ layers. LayersIn slice.now 0 layers) }
+        ensures place { IfErr result (λ e. (n : ℕ) → length slice.now + n < 2 ^ 64
             → fault_offset e + n < 2 ^ 64) }
     {
-        match payload.ether_type {
-            EtherType::IPV4 => Self::from_ipv4(payload.payload),
-            EtherType::IPV6 => Self::from_ipv6(payload.payload),
-            EtherType::ARP => match ArpPacketSlice::from_slice(payload.payload) {
-                Ok(packet) => Ok(LayerSlices {
-                    net: Some(NetSlice::Arp(packet)),
-                    transport: None,
-                }),
-                Err(error) => Err(SliceError::Len(error)),
-            },
-            _ => Ok(LayerSlices {
-                net: None,
+        match ArpPacketSlice::from_slice(slice) {
+            Ok(packet) => Ok(LayerSlices {
+                net: Some(NetSlice::Arp(packet)),
                 transport: None,
             }),
+            Err(error) => Err(SliceError::Len(error)),
         }
     }
 
-    fn from_ipv4(slice: &'a [u8]) -> Result<LayerSlices<'a>, SliceError>
+    /// The layers in an IPv4 packet.
+    pub(crate) fn from_ipv4(slice: &'a [u8]) -> Result<LayerSlices<'a>, SliceError>
         ensures layers { result ≡ ipv4_layers (ipv4_packet_at slice.now) }
         ensures parts { IfOk result (λ layers. LayersIn slice.now 0 layers) }
         ensures place { IfErr result (λ e. (n : ℕ) → length slice.now + n < 2 ^ 64
@@ -91,7 +66,8 @@ impl<'a> LayerSlices<'a> {
         }
     }
 
-    fn from_ipv6(slice: &'a [u8]) -> Result<LayerSlices<'a>, SliceError>
+    /// The layers in an IPv6 packet.
+    pub(crate) fn from_ipv6(slice: &'a [u8]) -> Result<LayerSlices<'a>, SliceError>
         ensures layers { result ≡ ipv6_layers (ipv6_packet_at slice.now) }
         ensures parts { IfOk result (λ layers. LayersIn slice.now 0 layers) }
         ensures place { IfErr result (λ e. (n : ℕ) → length slice.now + n < 2 ^ 64

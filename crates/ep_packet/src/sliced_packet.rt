@@ -290,15 +290,51 @@ impl<'a> SlicedPacket<'a> {
             Ok(tagged) => tagged,
             Err(error) => return Err(slice_fault::moved(error, link_len)),
         };
-        let layers = match LayerSlices::behind_tags(&tagged.last) {
-            Ok(layers) => layers,
-            Err(error) => return Err(slice_fault::moved(error, link_len + tagged.len)),
-        };
+        // Each answer is made where it is returned: where they meet, all their parts are moved.
+        if let Some(last) = &tagged.last {
+            let offset = link_len + tagged.len;
+            match last.ether_type {
+                EtherType::IPV4 => match LayerSlices::from_ipv4(last.payload) {
+                    Ok(layers) => {
+                        return Ok(SlicedPacket {
+                            link: Some(link),
+                            link_exts: tagged.tags,
+                            net: layers.net,
+                            transport: layers.transport,
+                        });
+                    }
+                    Err(error) => return Err(slice_fault::moved(error, offset)),
+                },
+                EtherType::IPV6 => match LayerSlices::from_ipv6(last.payload) {
+                    Ok(layers) => {
+                        return Ok(SlicedPacket {
+                            link: Some(link),
+                            link_exts: tagged.tags,
+                            net: layers.net,
+                            transport: layers.transport,
+                        });
+                    }
+                    Err(error) => return Err(slice_fault::moved(error, offset)),
+                },
+                EtherType::ARP => match LayerSlices::from_arp(last.payload) {
+                    Ok(layers) => {
+                        return Ok(SlicedPacket {
+                            link: Some(link),
+                            link_exts: tagged.tags,
+                            net: layers.net,
+                            transport: layers.transport,
+                        });
+                    }
+                    Err(error) => return Err(slice_fault::moved(error, offset)),
+                },
+                _ => {}
+            }
+        }
         Ok(SlicedPacket {
             link: Some(link),
             link_exts: tagged.tags,
-            net: layers.net,
-            transport: layers.transport,
+            net: None,
+            transport: None,
         })
     }
 }

@@ -20,6 +20,21 @@ fn has_message(packet: Option<SlicedPacket<'_>>) -> bool {
     }
 }
 
+fn has_arp(packet: Option<SlicedPacket<'_>>) -> bool {
+    match packet {
+        Some(packet) => matches!(packet.net, Some(NetSlice::Arp(_))),
+        None => false,
+    }
+}
+
+// How many tags there are, and whether a payload behind an ether type.
+fn tags_and_payload(packet: Option<SlicedPacket<'_>>) -> Option<(usize, bool)> {
+    match packet {
+        Some(packet) => Some((packet.link_exts.len(), packet.ether_payload().is_some())),
+        None => None,
+    }
+}
+
 // TCP over IPv4, both with options of four bytes, and one byte of payload.
 #[test]
 fn tcp_with_options(rt: HostRuntime) {
@@ -65,11 +80,7 @@ fn icmpv6_behind_extensions(rt: HostRuntime) {
 fn arp(rt: HostRuntime) {
     let mut frame = [0; 42];
     frame[12..22].copy_from_slice(&[8, 6, 0, 1, 8, 0, 6, 4, 0, 1]);
-    if let Some(packet) = taken_alone(&frame) {
-        assert!(rt; matches!(packet.net, Some(NetSlice::Arp(_))));
-    } else {
-        assert!(rt; false);
-    }
+    assert!(rt; has_arp(taken_alone(&frame)));
 }
 
 // Encrypted bytes, as many as a MACsec header with an identifier of its channel counts.
@@ -77,10 +88,5 @@ fn arp(rt: HostRuntime) {
 fn macsec(rt: HostRuntime) {
     let mut frame = [0; 31];
     frame[12..20].copy_from_slice(&[0x88, 0xe5, 0x2c, 3, 0, 0, 0, 1]);
-    if let Some(packet) = taken_alone(&frame) {
-        assert!(rt; packet.link_exts.len() == 1);
-        assert!(rt; packet.ether_payload().is_none());
-    } else {
-        assert!(rt; false);
-    }
+    assert!(rt; tags_and_payload(taken_alone(&frame)) == Some((1, false)));
 }

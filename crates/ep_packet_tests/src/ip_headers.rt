@@ -7,7 +7,7 @@ use ep_ext::{IpAuthHeader, Ipv4Extensions, Ipv6Extensions, Ipv6FragmentHeader};
 use ep_ip::{Ipv4Header, Ipv6Header};
 use ep_packet::IpHeaders;
 use ep_packet::err::ip::HeadersWriteError;
-use std::test::Fail;
+use std::alloc::Global;
 
 // An IPv4 header of a UDP message of 16 bytes.
 const IPV4: [u8; 20] = [
@@ -33,21 +33,23 @@ fn ipv6_with_fragment(next_header: u8) -> IpHeaders {
     IpHeaders::Ipv6(header, extensions)
 }
 
-#[test]
-fn lengths_of_headers(rt: HostRuntime) {
-    assert!(rt; ipv4_with_auth(51).map(|h| h.header_len()) == Some(32));
-    assert!(rt; ipv6_with_fragment(44).header_len() == 48);
-    assert!(rt; IpHeaders::MAX_LEN == 9268);
+// The length of the headers, and whether they are of IPv4 and of IPv6.
+fn told(headers: Option<IpHeaders>) -> Option<(usize, bool, bool)> {
+    match headers {
+        Some(headers) => {
+            let is_ipv4 = headers.ipv4().is_some();
+            Some((headers.header_len(), is_ipv4, headers.ipv6().is_some()))
+        }
+        None => None,
+    }
 }
 
+// Each is of one version alone.
 #[test]
-fn headers_of_one_version(rt: HostRuntime) {
-    let ipv6 = ipv6_with_fragment(44);
-    assert!(rt; ipv6.ipv6().is_some());
-    assert!(rt; ipv6.ipv4().is_none());
-    let ipv4 = ipv4_with_auth(51);
-    assert!(rt; ipv4.as_ref().map(|h| h.ipv4().is_some()) == Some(true));
-    assert!(rt; ipv4.as_ref().map(|h| h.ipv6().is_none()) == Some(true));
+fn lengths_and_versions_of_headers(rt: HostRuntime) {
+    let found = [told(ipv4_with_auth(51)), told(Some(ipv6_with_fragment(44)))];
+    let (of_ipv4, of_ipv6) = (Some((32, true, false)), Some((48, false, true)));
+    assert!(rt; (found, IpHeaders::MAX_LEN) == ([of_ipv4, of_ipv6], 9268));
 }
 
 // The number behind the headers of `ipv6_with_fragment`.
@@ -57,28 +59,38 @@ fn number_behind(next_header: u8) -> Result<IpNumber, ip_exts::ExtsWalkError> {
 
 #[test]
 fn numbers_behind_headers(rt: HostRuntime) {
-    assert!(rt; number_behind(44) == Ok(IpNumber(17)));
     let fault = ipv6_exts::ExtsWalkError::ExtNotReferenced {
         missing_ext: IpNumber(44),
     };
-    assert!(rt; number_behind(17) == Err(ip_exts::ExtsWalkError::Ipv6Exts(fault)));
+    let found = [number_behind(44), number_behind(17)];
+    assert!(rt;
+        found
+            == [
+                Ok(IpNumber(17)),
+                Err(ip_exts::ExtsWalkError::Ipv6Exts(fault))
+            ]
+    );
 }
 
 // What `set_next_headers` answers, and the number that the headers name first then.
-fn linked(mut headers: IpHeaders) -> (EtherType, IpNumber) {
+fn linked(headers: Option<IpHeaders>) -> Option<(EtherType, IpNumber)> {
+    let mut headers = headers?;
     let ether_type = headers.set_next_headers(IpNumber(6));
     let first = match headers {
         IpHeaders::Ipv4(header, _) => header.protocol,
         IpHeaders::Ipv6(header, _) => header.next_header,
     };
-    (ether_type, first)
+    Some((ether_type, first))
 }
 
 #[test]
 fn linked_headers(rt: HostRuntime) {
-    assert!(rt; linked(ipv6_with_fragment(0)) == (EtherType(0x86dd), IpNumber(44)));
-    let ipv4 = ipv4_with_auth(17).map(linked);
-    assert!(rt; ipv4 == Some((EtherType(0x0800), IpNumber(51))));
+    let found = [
+        linked(Some(ipv6_with_fragment(0))),
+        linked(ipv4_with_auth(17)),
+    ];
+    let of_ipv6 = Some((EtherType(0x86dd), IpNumber(44)));
+    assert!(rt; found == [of_ipv6, Some((EtherType(0x0800), IpNumber(51)))]);
 }
 
 // What `set_payload_len` answers to the headers of `ipv6_with_fragment`.
@@ -96,9 +108,12 @@ fn too_big(actual: usize) -> Option<ValueTooBigError<usize>> {
 
 #[test]
 fn lengths_of_payloads(rt: HostRuntime) {
-    assert!(rt; refused_len(65527).is_none());
-    assert!(rt; refused_len(65528) == too_big(65536));
-    assert!(rt; refused_len(usize::MAX) == too_big(usize::MAX));
+    let refused = [
+        refused_len(65527),
+        refused_len(65528),
+        refused_len(usize::MAX),
+    ];
+    assert!(rt; refused == [None, too_big(65536), too_big(usize::MAX)]);
 }
 
 // The total length that a payload of this many bytes gives `ipv4_with_auth`, or why it is refused.
@@ -115,53 +130,58 @@ fn total_len(len: usize) -> Option<Result<u16, ValueTooBigError<usize>>> {
 
 #[test]
 fn total_lengths(rt: HostRuntime) {
-    assert!(rt; total_len(100) == Some(Ok(132)));
-    assert!(rt; total_len(65503) == Some(Ok(65535)));
     let refused = ValueTooBigError {
         actual: 65516,
         max_allowed: 65515,
         value_type: ValueType::Ipv4PayloadLength,
     };
-    assert!(rt; total_len(65504) == Some(Err(refused)));
+    let found = [total_len(100), total_len(65503), total_len(65504)];
+    assert!(rt; found == [Some(Ok(132)), Some(Ok(65535)), Some(Err(refused))]);
+}
+
+// The length of the headers, the length of the payload and its number, and whether it is a fragment
+// by itself and by the headers.
+fn headers_of_ipv4(packet: &[u8]) -> Option<(usize, usize, IpNumber, [bool; 2])> {
+    match IpHeaders::from_ipv4_slice(packet) {
+        Ok((headers, payload)) => {
+            let fragment = [payload.fragmented, headers.is_fragmenting_payload()];
+            let len = payload.payload.len();
+            Some((headers.header_len(), len, payload.ip_number, fragment))
+        }
+        Err(_) => None,
+    }
 }
 
 #[test]
-fn headers_of_a_packet(rt: HostRuntime) -> Result<(), Fail> {
+fn headers_of_a_packet(rt: HostRuntime) {
     let mut packet = [9; 38];
     packet[..20].copy_from_slice(&IPV4);
-    let (headers, payload) = IpHeaders::from_ipv4_slice(&packet)?;
-    assert!(rt; headers.header_len() == 20);
-    assert!(rt; payload.payload.len() == 16);
-    assert!(rt; payload.ip_number == IpNumber(17));
-    assert!(rt; !payload.fragmented);
-    assert!(rt; !headers.is_fragmenting_payload());
-    assert!(rt; IpHeaders::from_ipv4_slice(&packet[..35]).is_err());
-    Ok(())
+    let found = [headers_of_ipv4(&packet), headers_of_ipv4(&packet[..35])];
+    assert!(rt; found == [Some((20, 16, IpNumber(17), [false, false])), None]);
+}
+
+// Whether the headers are written so behind a byte that is there.
+fn is_written_as(alloc: Global, headers: Option<IpHeaders>, bytes: &[u8]) -> bool {
+    let mut buffer = Vec::new(alloc);
+    let held = buffer.push(0xaa).is_ok();
+    match headers {
+        Some(headers) => held && headers.write(&mut buffer).is_ok() && buffer.as_slice() == bytes,
+        None => false,
+    }
 }
 
 #[test]
-fn written_ipv4_headers(rt: HostRuntime) -> Result<(), Fail> {
-    let headers = ipv4_with_auth(51);
-    assert!(rt; headers.is_some());
-    let Some(headers) = headers else {
-        return Ok(());
-    };
-    let mut buffer = vec![in rt.alloc(); 0xaau8; 1]?;
-    headers.write(&mut buffer)?;
-    assert!(rt;
-        buffer.as_slice()
-            == [
-                0xaa, 0x45, 0, 0, 0x24, 0, 7, 0, 0, 0x40, 0x33, 0x66, 0x9e, 10, 0, 0, 1, 10, 0, 0,
-                2, 17, 1, 0, 0, 0, 0, 0, 5, 0, 0, 0, 6
-            ]
-            .as_slice()
-    );
-    Ok(())
+fn written_ipv4_headers(rt: HostRuntime) {
+    let bytes = [
+        0xaa, 0x45, 0, 0, 0x24, 0, 7, 0, 0, 0x40, 0x33, 0x66, 0x9e, 10, 0, 0, 1, 10, 0, 0, 2, 17,
+        1, 0, 0, 0, 0, 0, 5, 0, 0, 0, 6,
+    ];
+    assert!(rt; is_written_as(rt.alloc(), ipv4_with_auth(51), &bytes));
 }
 
 // RFC 8200, sections 3 and 4.5.
 #[test]
-fn written_ipv6_headers(rt: HostRuntime) -> Result<(), Fail> {
+fn written_ipv6_headers(rt: HostRuntime) {
     let mut headers = ipv6_with_fragment(44);
     if let IpHeaders::Ipv6(header, _) = &mut headers {
         header.traffic_class = 0x12;
@@ -170,33 +190,34 @@ fn written_ipv6_headers(rt: HostRuntime) -> Result<(), Fail> {
         header.source = [1; 16];
         header.destination = [2; 16];
     }
-    let mut buffer = vec![in rt.alloc(); 0xaau8; 1]?;
-    headers.write(&mut buffer)?;
-    assert!(rt;
-        buffer.as_slice()
-            == [
-                0xaa, 0x61, 0x20, 0, 0, 0, 8, 44, 64, 1, 1, 1, 1, 1, 1, 1, 1, 1, 1, 1, 1, 1, 1, 1,
-                1, 2, 2, 2, 2, 2, 2, 2, 2, 2, 2, 2, 2, 2, 2, 2, 2, 17, 0, 0, 0, 0, 0, 0, 7
-            ]
-            .as_slice()
-    );
-    Ok(())
+    let bytes = [
+        0xaa, 0x61, 0x20, 0, 0, 0, 8, 44, 64, 1, 1, 1, 1, 1, 1, 1, 1, 1, 1, 1, 1, 1, 1, 1, 1, 2, 2,
+        2, 2, 2, 2, 2, 2, 2, 2, 2, 2, 2, 2, 2, 2, 17, 0, 0, 0, 0, 0, 0, 7,
+    ];
+    assert!(rt; is_written_as(rt.alloc(), Some(headers), &bytes));
+}
+
+fn not_referenced() -> ipv6_exts::ExtsWalkError {
+    ipv6_exts::ExtsWalkError::ExtNotReferenced {
+        missing_ext: IpNumber(44),
+    }
 }
 
 #[test]
-fn headers_that_are_not_written(rt: HostRuntime) -> Result<(), Fail> {
-    let mut buffer = vec![in rt.alloc(); 0xaau8; 1]?;
-    let fault = ipv6_exts::ExtsWalkError::ExtNotReferenced {
-        missing_ext: IpNumber(44),
-    };
-    let answer = ipv6_with_fragment(17).write(&mut buffer);
-    assert!(rt; answer == Err(HeadersWriteError::Ipv6Exts(fault)));
-    assert!(rt; buffer.as_slice() == [0xaa].as_slice());
-    let error = HeadersWriteError::Ipv6Exts(fault);
-    assert!(rt; !error.memory());
-    assert!(rt; error.ipv6_exts() == Some(fault));
-    assert!(rt; error.ipv4_exts().is_none());
-    ipv6_with_fragment(44).write(&mut buffer)?;
-    assert!(rt; buffer.len() == 49);
-    Ok(())
+fn headers_that_are_not_written(rt: HostRuntime) {
+    let mut buffer = Vec::new(rt.alloc());
+    let held = buffer.push(0xaa).is_ok();
+    let refused = ipv6_with_fragment(17).write(&mut buffer);
+    let error = HeadersWriteError::Ipv6Exts(not_referenced());
+    let bytes = [0xaa].as_slice();
+    assert!(rt; (held, refused, buffer.as_slice()) == (true, Err(error), bytes));
+    let written = ipv6_with_fragment(44).write(&mut buffer).is_ok();
+    assert!(rt; written && buffer.len() == 49);
+}
+
+#[test]
+fn what_a_refusal_tells(rt: HostRuntime) {
+    let error = HeadersWriteError::Ipv6Exts(not_referenced());
+    let told = (error.memory(), error.ipv4_exts(), error.ipv6_exts());
+    assert!(rt; told == (false, None, Some(not_referenced())));
 }

@@ -4,7 +4,7 @@ use ep_base::err::{Layer, LenError};
 use ep_base::{EtherType, IpNumber, LenSource};
 use ep_ipslice::err::ip;
 use ep_packet::err::packet::SliceError;
-use ep_packet::{PacketHeaders, PayloadSlice, SlicedPacket};
+use ep_packet::{PacketHeaders, PayloadSlice, SlicedPacket, TransportHeader};
 use ep_tag::{EtherPayloadSlice, VlanHeader};
 
 // Two VLAN tags in front of an IPv4 packet of 36 bytes: UDP with this length field, eight bytes of
@@ -28,77 +28,97 @@ fn len_error(layer: Layer, required_len: usize, len: usize, place: usize) -> Len
     }
 }
 
-fn outer_and_inner(tags: Option<VlanHeader>) -> Option<(u16, u16)> {
-    match tags {
-        Some(VlanHeader::Double(tags)) => {
-            Some((tags.outer.vlan_id.value(), tags.inner.vlan_id.value()))
-        }
-        _ => None,
+// Whether there are headers of the link, of IPv4 and of UDP, and how many tags.
+fn kinds(headers: &PacketHeaders<'_>) -> ([bool; 3], usize) {
+    let ipv4 = match &headers.net {
+        Some(net) => net.is_ipv4(),
+        None => false,
+    };
+    let udp = matches!(headers.transport, Some(TransportHeader::Udp(_)));
+    ([headers.link.is_some(), ipv4, udp], headers.link_exts.len())
+}
+
+// The same of headers that were read, and the payload behind them.
+fn parts(
+    headers: Result<PacketHeaders<'_>, SliceError>,
+) -> Option<(([bool; 3], usize), PayloadSlice<'_>)> {
+    match headers {
+        Ok(headers) => Some((kinds(&headers), headers.payload)),
+        Err(_) => None,
     }
 }
 
 #[test]
 fn headers_of_a_udp_frame(rt: HostRuntime) {
     let frame = udp_frame(16);
-    let headers = PacketHeaders::from_ethernet_slice(&frame);
-    assert!(rt; headers.is_ok());
-    if let Ok(headers) = headers {
-        assert!(rt; headers.link.is_some());
-        assert!(rt; headers.net.is_some_and(|net| net.is_ipv4()));
-        assert!(rt;
-            headers
-                .transport
-                .is_some_and(|header| header.udp().is_some())
-        );
-        assert!(rt; headers.payload == PayloadSlice::Udp(&[1, 2, 3, 4, 5, 6, 7, 8]));
-    }
+    let payload = PayloadSlice::Udp(&[1, 2, 3, 4, 5, 6, 7, 8]);
+    let found = parts(PacketHeaders::from_ethernet_slice(&frame));
+    assert!(rt; found == Some((([true; 3], 2), payload)));
 }
 
 // The packet alone, without a link header and tags.
 #[test]
 fn headers_of_a_packet(rt: HostRuntime) {
     let frame = udp_frame(16);
-    let headers = PacketHeaders::from_ip_slice(&frame[22..]);
-    assert!(rt; headers.is_ok());
-    if let Ok(headers) = headers {
-        assert!(rt; headers.link.is_none());
-        assert!(rt; headers.link_exts.is_empty());
-        assert!(rt; headers.vlan().is_none());
-        assert!(rt; headers.payload == PayloadSlice::Udp(&[1, 2, 3, 4, 5, 6, 7, 8]));
-    }
+    let payload = PayloadSlice::Udp(&[1, 2, 3, 4, 5, 6, 7, 8]);
+    let found = parts(PacketHeaders::from_ip_slice(&frame[22..]));
+    assert!(rt; found == Some((([false, true, true], 0), payload)));
 }
 
 // What the first ether type of the frame names.
 #[test]
 fn headers_behind_an_ether_type(rt: HostRuntime) {
     let frame = udp_frame(16);
-    let headers = PacketHeaders::from_ether_type(EtherType(0x88a8), &frame[14..]);
-    assert!(rt; headers.is_ok());
-    if let Ok(headers) = headers {
-        assert!(rt; headers.link.is_none());
-        assert!(rt; headers.link_exts.len() == 2);
-        assert!(rt; headers.payload == PayloadSlice::Udp(&[1, 2, 3, 4, 5, 6, 7, 8]));
+    let payload = PayloadSlice::Udp(&[1, 2, 3, 4, 5, 6, 7, 8]);
+    let found = parts(PacketHeaders::from_ether_type(EtherType(0x88a8), &frame[14..]));
+    assert!(rt; found == Some((([false, true, true], 2), payload)));
+}
+
+// No tags, one tag without a number here, or the identifiers of two.
+fn outer_and_inner(tags: Option<VlanHeader>) -> Option<(u16, u16)> {
+    match tags {
+        Some(VlanHeader::Double(tags)) => {
+            Some((tags.outer.vlan_id.value(), tags.inner.vlan_id.value()))
+        }
+        Some(VlanHeader::Single(_)) => Some((0, 0)),
+        None => None,
+    }
+}
+
+// The number of VLAN tags, the first identifier, and the tags as one header.
+fn tags(
+    headers: Result<PacketHeaders<'_>, SliceError>,
+) -> Option<(usize, Option<u16>, Option<(u16, u16)>)> {
+    match headers {
+        Ok(headers) => {
+            let ids = headers.vlan_ids();
+            let first = match ids.first() {
+                Some(id) => Some(id.value()),
+                None => None,
+            };
+            Some((ids.len(), first, outer_and_inner(headers.vlan())))
+        }
+        Err(_) => None,
     }
 }
 
 #[test]
 fn tags_of_a_frame(rt: HostRuntime) {
     let frame = udp_frame(16);
-    if let Ok(headers) = PacketHeaders::from_ethernet_slice(&frame) {
-        let ids = headers.vlan_ids();
-        assert!(rt; ids.len() == 2);
-        assert!(rt; ids.first().map(|id| id.value()) == Some(5));
-        assert!(rt; outer_and_inner(headers.vlan()) == Some((5, 9)));
-    }
-    assert!(rt; PacketHeaders::LINK_EXTS_CAP == 3);
+    let found = [
+        tags(PacketHeaders::from_ethernet_slice(&frame)),
+        tags(PacketHeaders::from_ip_slice(&frame[22..])),
+    ];
+    let two = Some((2, Some(5), Some((5, 9))));
+    assert!(rt; (found, PacketHeaders::LINK_EXTS_CAP) == ([two, Some((0, None, None))], 3));
 }
 
 // A UDP length above the bytes that are there is no fault of the headers.
 #[test]
 fn udp_length_is_not_looked_at(rt: HostRuntime) {
     let frame = udp_frame(17);
-    assert!(rt; PacketHeaders::from_ethernet_slice(&frame).is_ok());
-    assert!(rt; SlicedPacket::from_ethernet(&frame).is_err());
+    let read = PacketHeaders::from_ethernet_slice(&frame).is_ok();
+    assert!(rt; read && SlicedPacket::from_ethernet(&frame).is_err());
 }
 
 // A MACsec header whose short length leaves two bytes behind the ether type of a VLAN tag.
@@ -121,24 +141,32 @@ fn want_of_a_message(rt: HostRuntime) {
         len_source: LenSource::Ipv4HeaderTotalLen,
         ..len_error(Layer::Icmpv4Timestamp, 20, 8, 34)
     };
-    let refused = PacketHeaders::from_ethernet_slice(&frame).err();
-    assert!(rt; refused == Some(SliceError::Len(want)));
-    let want = LenError {
+    let in_packet = LenError {
         layer_start_offset: 20,
         ..want
     };
-    let refused = PacketHeaders::from_ip_slice(&frame[14..]).err();
-    assert!(rt; refused == Some(SliceError::Len(want)));
+    let refused = [
+        PacketHeaders::from_ethernet_slice(&frame).err(),
+        PacketHeaders::from_ip_slice(&frame[14..]).err(),
+    ];
+    assert!(rt;
+        refused
+            == [
+                Some(SliceError::Len(want)),
+                Some(SliceError::Len(in_packet))
+            ]
+    );
 }
 
 #[test]
 fn faults_of_ip(rt: HostRuntime) {
     let other = ip::HeaderError::UnsupportedIpVersion { version_number: 5 };
-    let refused = PacketHeaders::from_ip_slice(&[0x50]).err();
-    assert!(rt; refused == Some(SliceError::Ip(other)));
     let want = len_error(Layer::Ipv6Header, 40, 1, 0);
-    let refused = PacketHeaders::from_ether_type(EtherType::IPV6, &[0x60]).err();
-    assert!(rt; refused == Some(SliceError::Len(want)));
+    let refused = [
+        PacketHeaders::from_ip_slice(&[0x50]).err(),
+        PacketHeaders::from_ether_type(EtherType::IPV6, &[0x60]).err(),
+    ];
+    assert!(rt; refused == [Some(SliceError::Ip(other)), Some(SliceError::Len(want))]);
 }
 
 // The payload behind an ether type, or why there is none.
@@ -151,16 +179,25 @@ fn payload_of(ether_type: u16, bytes: &[u8]) -> Result<PayloadSlice<'_>, SliceEr
 
 #[test]
 fn payloads_without_a_message(rt: HostRuntime) {
-    let arp = [0, 1, 8, 0, 0, 0, 0, 1];
-    assert!(rt; payload_of(0x0806, &arp) == Ok(PayloadSlice::Empty));
-    let encrypted = [12, 0, 0, 0, 0, 1, 7];
-    assert!(rt; payload_of(0x88e5, &encrypted) == Ok(PayloadSlice::MacsecMod(&[7])));
     let other = EtherPayloadSlice {
         ether_type: EtherType(0x1234),
         len_source: LenSource::Slice,
         payload: &[7],
     };
-    assert!(rt; payload_of(0x1234, &[7]) == Ok(PayloadSlice::Ether(other)));
+    let found = (
+        payload_of(0x0806, &[0, 1, 8, 0, 0, 0, 0, 1]),
+        payload_of(0x88e5, &[12, 0, 0, 0, 0, 1, 7]),
+        payload_of(0x1234, &[7]),
+    );
+    let encrypted = Ok(PayloadSlice::MacsecMod(&[7]));
+    assert!(rt;
+        found
+            == (
+                Ok(PayloadSlice::Empty),
+                encrypted,
+                Ok(PayloadSlice::Ether(other))
+            )
+    );
 }
 
 // A short length bounds what a tag within it names.
@@ -194,17 +231,33 @@ fn number_behind(next: u8, more: u8) -> Option<IpNumber> {
 
 #[test]
 fn payloads_of_ip(rt: HostRuntime) {
-    // A part of a message, another protocol, and a second fragment header.
-    assert!(rt; number_behind(17, 1) == Some(IpNumber(17)));
-    assert!(rt; number_behind(253, 0) == Some(IpNumber(253)));
-    assert!(rt; number_behind(44, 0) == Some(IpNumber(44)));
-    assert!(rt; number_behind(17, 0) == None);
+    // A part of a message, another protocol, a second fragment header, and a whole message.
+    let found = [
+        number_behind(17, 1),
+        number_behind(253, 0),
+        number_behind(44, 0),
+        number_behind(17, 0),
+    ];
+    assert!(rt;
+        found
+            == [
+                Some(IpNumber(17)),
+                Some(IpNumber(253)),
+                Some(IpNumber(44)),
+                None
+            ]
+    );
 }
 
 #[test]
 fn payloads_in_order(rt: HostRuntime) {
-    assert!(rt; PayloadSlice::Udp(&[9]) < PayloadSlice::Tcp(&[]));
-    assert!(rt; PayloadSlice::Udp(&[1]) < PayloadSlice::Udp(&[1, 0]));
-    assert!(rt; PayloadSlice::Icmpv4(&[3]).slice().len() == 1);
-    assert!(rt; PayloadSlice::Empty.slice().is_empty());
+    let ordered = [
+        PayloadSlice::Udp(&[9]) < PayloadSlice::Tcp(&[]),
+        PayloadSlice::Udp(&[1]) < PayloadSlice::Udp(&[1, 0]),
+    ];
+    let lengths = [
+        PayloadSlice::Icmpv4(&[3]).slice().len(),
+        PayloadSlice::Empty.slice().len(),
+    ];
+    assert!(rt; (ordered, lengths) == ([true, true], [1, 0]));
 }

@@ -4,7 +4,6 @@ use ep_base::{IpNumber, LenSource};
 use ep_ipslice::err::ip::{HeaderError, HeadersError, HeadersSliceError};
 use ep_ipslice::err::ipv6::SliceError;
 use ep_packet::IpHeaders;
-use std::test::Fail;
 
 // An IPv6 packet whose payload length is 16: a fragment header of a first fragment that names this
 // number, eight bytes, and one of padding.
@@ -16,17 +15,40 @@ fn ipv6_packet(next: u8) -> [u8; 57] {
     packet
 }
 
+// The length of the headers, and whether they say that the payload is a fragment.
+fn headers_of_ipv6(packet: &[u8]) -> Option<(usize, bool)> {
+    match IpHeaders::from_ipv6_slice(packet) {
+        Ok((headers, _)) => Some((headers.header_len(), headers.is_fragmenting_payload())),
+        Err(_) => None,
+    }
+}
+
+// The payload behind the headers: its number, whether it is a fragment, what bounds it, its bytes.
+fn payload_of_ipv6(packet: &[u8]) -> Option<(IpNumber, bool, LenSource, &[u8])> {
+    match IpHeaders::from_ipv6_slice(packet) {
+        Ok((_, payload)) => {
+            Some((
+                payload.ip_number,
+                payload.fragmented,
+                payload.len_source,
+                payload.payload,
+            ))
+        }
+        Err(_) => None,
+    }
+}
+
 #[test]
-fn headers_of_an_ipv6_packet(rt: HostRuntime) -> Result<(), Fail> {
+fn headers_of_an_ipv6_packet(rt: HostRuntime) {
+    assert!(rt; headers_of_ipv6(&ipv6_packet(17)) == Some((48, true)));
+}
+
+#[test]
+fn payload_of_an_ipv6_packet(rt: HostRuntime) {
     let packet = ipv6_packet(17);
-    let (headers, payload) = IpHeaders::from_ipv6_slice(&packet)?;
-    assert!(rt; headers.header_len() == 48);
-    assert!(rt; headers.is_fragmenting_payload());
-    assert!(rt; payload.ip_number == IpNumber(17));
-    assert!(rt; payload.fragmented);
-    assert!(rt; payload.len_source == LenSource::Ipv6HeaderPayloadLen);
-    assert!(rt; payload.payload == [1, 2, 3, 4, 5, 6, 7, 8].as_slice());
-    Ok(())
+    let bytes = [1, 2, 3, 4, 5, 6, 7, 8].as_slice();
+    let payload = (IpNumber(17), true, LenSource::Ipv6HeaderPayloadLen, bytes);
+    assert!(rt; payload_of_ipv6(&packet) == Some(payload));
 }
 
 // Destination options behind the fragment header, of (2 + 1) * 8 bytes, where eight are left.
@@ -41,10 +63,17 @@ fn extension_header_cut_off(rt: HostRuntime) {
         layer: Layer::Ipv6ExtHeader,
         layer_start_offset: 48,
     };
-    let refused = IpHeaders::from_ipv6_slice(&packet).err();
-    assert!(rt; refused == Some(SliceError::Len(want)));
-    let refused = IpHeaders::from_slice(&packet).err();
-    assert!(rt; refused == Some(HeadersSliceError::Len(want)));
+    let refused = (
+        IpHeaders::from_ipv6_slice(&packet).err(),
+        IpHeaders::from_slice(&packet).err(),
+    );
+    assert!(rt;
+        refused
+            == (
+                Some(SliceError::Len(want)),
+                Some(HeadersSliceError::Len(want))
+            )
+    );
 }
 
 // The number behind the headers, if there are any.
@@ -61,21 +90,25 @@ fn second_fragment_header(rt: HostRuntime) {
     assert!(rt; number_behind(&ipv6_packet(44)) == Some(IpNumber(44)));
 }
 
+// Whether the headers are of IPv6, the number behind them, and the length of the payload.
+fn read(packet: &[u8]) -> Option<(bool, IpNumber, usize)> {
+    match IpHeaders::read_from_slice(packet) {
+        Ok((headers, number, payload)) => Some((headers.ipv6().is_some(), number, payload.len())),
+        Err(_) => None,
+    }
+}
+
 #[test]
 fn version_tells_the_headers(rt: HostRuntime) {
-    let packet = ipv6_packet(17);
-    let read = IpHeaders::read_from_slice(&packet);
-    assert!(rt; read.is_ok());
-    if let Ok((headers, number, payload)) = read {
-        assert!(rt; headers.ipv6().is_some());
-        assert!(rt; number == IpNumber(17));
-        assert!(rt; payload.len() == 8);
-    }
     let mut ipv4 = [0; 20];
     ipv4[0] = 0x45;
     ipv4[3] = 20;
-    assert!(rt; IpHeaders::from_slice(&ipv4).is_ok());
-    assert!(rt; IpHeaders::read_from_slice(&ipv4[..19]).is_err());
+    let found = (
+        read(&ipv6_packet(17)),
+        IpHeaders::from_slice(&ipv4).is_ok(),
+        read(&ipv4[..19]),
+    );
+    assert!(rt; found == (Some((true, IpNumber(17), 8)), true, None));
 }
 
 #[test]
@@ -87,9 +120,11 @@ fn neither_version(rt: HostRuntime) {
         layer: Layer::IpHeader,
         layer_start_offset: 0,
     };
-    let refused = IpHeaders::from_slice(&[]).err();
-    assert!(rt; refused == Some(HeadersSliceError::Len(want)));
     let other = HeaderError::UnsupportedIpVersion { version_number: 5 };
-    let refused = IpHeaders::from_slice(&[0x5f]).err();
-    assert!(rt; refused == Some(HeadersSliceError::Content(HeadersError::Ip(other))));
+    let refused = [
+        IpHeaders::from_slice(&[]).err(),
+        IpHeaders::from_slice(&[0x5f]).err(),
+    ];
+    let other = HeadersSliceError::Content(HeadersError::Ip(other));
+    assert!(rt; refused == [Some(HeadersSliceError::Len(want)), Some(other)]);
 }

@@ -23,16 +23,21 @@ fn cooked(packet_type: u8) -> [u8; 52] {
     bytes
 }
 
+// Whether there are a header of a cooked capture, a packet of IPv4 and a message of UDP in it.
+fn kinds_of_a_cooked_packet(bytes: &[u8]) -> Option<[bool; 3]> {
+    match SlicedPacket::from_linux_sll(bytes) {
+        Ok(packet) => Some([
+            matches!(packet.link, Some(LinkSlice::LinuxSll(_))),
+            matches!(packet.net, Some(NetSlice::Ipv4(_))),
+            matches!(packet.transport, Some(TransportSlice::Udp(_))),
+        ]),
+        Err(_) => None,
+    }
+}
+
 #[test]
 fn cooked_capture_of_udp(rt: HostRuntime) {
-    let bytes = cooked(0);
-    if let Ok(packet) = SlicedPacket::from_linux_sll(&bytes) {
-        assert!(rt; matches!(packet.link, Some(LinkSlice::LinuxSll(_))));
-        assert!(rt; matches!(packet.net, Some(NetSlice::Ipv4(_))));
-        assert!(rt; matches!(packet.transport, Some(TransportSlice::Udp(_))));
-    } else {
-        assert!(rt; false);
-    }
+    assert!(rt; kinds_of_a_cooked_packet(&cooked(0)) == Some([true; 3]));
 }
 
 #[test]
@@ -105,59 +110,92 @@ fn is_refused(frame: &[u8]) -> bool {
 
 #[test]
 fn classes_of_a_frame(rt: HostRuntime) {
-    let mut frame = tagged_frame();
-    assert_eq!(rt; source_of_a_datagram(&frame), Some([10, 0, 0, 1]));
+    let whole = tagged_frame();
     // More fragments follow.
-    frame[36] = 0x20;
-    assert_eq!(rt; identification_of_a_part(&frame), Some(7));
-    assert!(rt; is_refused(&frame[..13]));
+    let mut part = tagged_frame();
+    part[36] = 0x20;
+    let found = (
+        source_of_a_datagram(&whole),
+        identification_of_a_part(&part),
+        is_refused(&whole[..13]),
+    );
+    assert!(rt; found == (Some([10, 0, 0, 1]), Some(7), true));
+}
+
+// The number of VLAN tags, the first identifier, and whether they are told as two.
+fn tags(frame: &[u8]) -> Option<(usize, Option<u16>, bool)> {
+    match SlicedPacket::from_ethernet(frame) {
+        Ok(packet) => {
+            let ids = packet.vlan_ids();
+            let first = match ids.first() {
+                Some(id) => Some(id.value()),
+                None => None,
+            };
+            let two = matches!(packet.vlan(), Some(VlanSlice::DoubleVlan(_)));
+            Some((ids.len(), first, two))
+        }
+        Err(_) => None,
+    }
 }
 
 #[test]
 fn tags_of_a_frame(rt: HostRuntime) {
-    let frame = tagged_frame();
-    if let Ok(packet) = SlicedPacket::from_ethernet(&frame) {
-        let ids = packet.vlan_ids();
-        assert!(rt; ids.len() == 2);
-        assert!(rt; ids.first().map(|id| id.value()) == Some(5));
-        assert!(rt; matches!(packet.vlan(), Some(VlanSlice::DoubleVlan(_))));
-    } else {
-        assert!(rt; false);
+    let found = (tags(&tagged_frame()), SlicedPacket::LINK_EXTS_CAP);
+    assert!(rt; found == (Some((2, Some(5), true)), 3));
+}
+
+// The ether type of a payload that is not looked into, and the ether type and the bound of the
+// payload behind the tags.
+fn ether_payloads(frame: &[u8]) -> Option<(Option<EtherType>, Option<(EtherType, LenSource)>)> {
+    match SlicedPacket::from_ethernet(frame) {
+        Ok(packet) => {
+            let payload = match packet.ether_payload() {
+                Some(payload) => Some((payload.ether_type, payload.len_source)),
+                None => None,
+            };
+            Some((packet.payload_ether_type(), payload))
+        }
+        Err(_) => None,
     }
-    assert!(rt; SlicedPacket::LINK_EXTS_CAP == 3);
+}
+
+// The length of the IP payload, and whether it is a fragment.
+fn ip_payload(frame: &[u8]) -> Option<(Option<usize>, bool)> {
+    match SlicedPacket::from_ethernet(frame) {
+        Ok(packet) => {
+            let len = match packet.ip_payload() {
+                Some(payload) => Some(payload.payload.len()),
+                None => None,
+            };
+            Some((len, packet.is_ip_payload_fragmented()))
+        }
+        Err(_) => None,
+    }
 }
 
 #[test]
 fn payloads_of_a_frame(rt: HostRuntime) {
     let frame = tagged_frame();
-    if let Ok(packet) = SlicedPacket::from_ethernet(&frame) {
-        assert!(rt; packet.payload_ether_type().is_none());
-        if let Some(payload) = packet.ether_payload() {
-            assert!(rt; payload.ether_type == EtherType::IPV4);
-            assert!(rt; payload.len_source == LenSource::MacsecShortLength);
-        } else {
-            assert!(rt; false);
-        }
-        assert!(rt;
-            packet
-                .ip_payload()
-                .is_some_and(|payload| payload.payload.len() == 16)
-        );
-        assert!(rt; !packet.is_ip_payload_fragmented());
-    } else {
-        assert!(rt; false);
+    let found = (ether_payloads(&frame), ip_payload(&frame));
+    let payload = Some((EtherType::IPV4, LenSource::MacsecShortLength));
+    assert!(rt; found == (Some((None, payload)), Some((Some(16), false))));
+}
+
+// Whether there are a link header, a payload behind an ether type and a message of UDP.
+fn kinds_of_a_packet(packet: &[u8]) -> Option<[bool; 3]> {
+    match SlicedPacket::from_ip(packet) {
+        Ok(packet) => Some([
+            packet.link.is_some(),
+            packet.ether_payload().is_some(),
+            matches!(packet.transport, Some(TransportSlice::Udp(_))),
+        ]),
+        Err(_) => None,
     }
 }
 
 #[test]
 fn ip_packet_without_a_link_header(rt: HostRuntime) {
-    if let Ok(packet) = SlicedPacket::from_ip(&IPV4) {
-        assert!(rt; packet.link.is_none());
-        assert!(rt; packet.ether_payload().is_none());
-        assert!(rt; matches!(packet.transport, Some(TransportSlice::Udp(_))));
-    } else {
-        assert!(rt; false);
-    }
+    assert!(rt; kinds_of_a_packet(&IPV4) == Some([false, false, true]));
 }
 
 // How many tags are read behind a VLAN ether type, and the ether type that is not looked into.
@@ -172,12 +210,13 @@ fn behind_tags(bytes: &[u8]) -> Option<(usize, Option<EtherType>)> {
 // that was changed nothing is named; behind an authenticated one the ether type is.
 #[test]
 fn ends_of_the_tags(rt: HostRuntime) {
+    let found = [
+        behind_tags(&[0, 1, 0x88, 0xa8, 0, 2, 0x91, 0, 0, 3, 0x81, 0, 0]),
+        behind_tags(&[0, 1, 0x88, 0xe5, 12, 0, 0, 0, 0, 1, 8, 0, 0x45]),
+        behind_tags(&[0, 1, 0x88, 0xe5, 4, 0, 0, 0, 0, 1, 8, 0, 0x45]),
+        behind_tags(&[0, 1, 0x88, 0xe5, 0, 0, 0, 0, 0, 1, 0x12, 0x34, 0x45]),
+    ];
     let vlan = Some((3, Some(EtherType::VLAN_TAGGED_FRAME)));
-    assert!(rt; behind_tags(&[0, 1, 0x88, 0xa8, 0, 2, 0x91, 0, 0, 3, 0x81, 0, 0]) == vlan);
-    let encrypted = [0, 1, 0x88, 0xe5, 12, 0, 0, 0, 0, 1, 8, 0, 0x45];
-    assert!(rt; behind_tags(&encrypted) == Some((2, None)));
-    let changed = [0, 1, 0x88, 0xe5, 4, 0, 0, 0, 0, 1, 8, 0, 0x45];
-    assert!(rt; behind_tags(&changed) == Some((2, None)));
-    let authenticated = [0, 1, 0x88, 0xe5, 0, 0, 0, 0, 0, 1, 0x12, 0x34, 0x45];
-    assert!(rt; behind_tags(&authenticated) == Some((2, Some(EtherType(0x1234)))));
+    let nothing = Some((2, None));
+    assert!(rt; found == [vlan, nothing, nothing, Some((2, Some(EtherType(0x1234))))]);
 }

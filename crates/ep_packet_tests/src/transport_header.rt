@@ -11,8 +11,15 @@ use std::test::*;
 
 const PAYLOAD: [u8; 8] = [1, 2, 3, 4, 5, 6, 7, 8];
 
-fn ipv4_header() -> Result<Ipv4Header, Fail> {
-    Ok(Ipv4Header::new(16, 64, IpNumber::UDP, [10, 0, 0, 1], [10, 0, 0, 2])?)
+fn ipv4_header() -> Ipv4Header {
+    Ipv4Header {
+        total_len: 36,
+        time_to_live: 64,
+        protocol: IpNumber::UDP,
+        source: [10, 0, 0, 1],
+        destination: [10, 0, 0, 2],
+        ..Ipv4Header::default()
+    }
 }
 
 fn ipv6_header() -> Ipv6Header {
@@ -54,129 +61,208 @@ fn icmpv6() -> TransportHeader {
     TransportHeader::Icmpv6(Icmpv6Header::new(Icmpv6Type::EchoRequest(echo())))
 }
 
+// The functions below tell the checksum of a header that is of their protocol.
+
+fn as_udp(header: Option<TransportHeader>) -> Option<u16> {
+    Some(header?.udp()?.checksum)
+}
+
+fn as_tcp(header: Option<TransportHeader>) -> Option<u16> {
+    Some(header?.tcp()?.checksum)
+}
+
+fn as_icmpv4(header: Option<TransportHeader>) -> Option<u16> {
+    Some(header?.icmpv4()?.checksum)
+}
+
+fn as_icmpv6(header: Option<TransportHeader>) -> Option<u16> {
+    Some(header?.icmpv6()?.checksum)
+}
+
+// The header with its checksum.
+fn over_ipv4(mut header: TransportHeader, payload: &[u8]) -> Option<TransportHeader> {
+    match header.update_checksum_ipv4(&ipv4_header(), payload) {
+        Ok(()) => Some(header),
+        Err(_) => None,
+    }
+}
+
+fn over_ipv6(mut header: TransportHeader, payload: &[u8]) -> Option<TransportHeader> {
+    match header.update_checksum_ipv6(&ipv6_header(), payload) {
+        Ok(()) => Some(header),
+        Err(_) => None,
+    }
+}
+
 // Messages that other tools give between 10.0.0.1 and 10.0.0.2.
 #[test]
-fn checksums_over_ipv4(rt: HostRuntime) -> Result<(), Fail> {
-    let ip_header = ipv4_header()?;
-    let mut header = udp();
-    header.update_checksum_ipv4(&ip_header, &PAYLOAD)?;
-    assert!(rt; header.udp().map(|udp| udp.checksum) == Some(0xdbb4));
-    let mut header = tcp();
-    header.update_checksum_ipv4(&ip_header, &[])?;
-    assert!(rt; header.tcp().map(|tcp| tcp.checksum) == Some(0x97da));
-    let mut header = icmpv4();
-    header.update_checksum_ipv4(&ip_header, &PAYLOAD)?;
-    assert!(rt; header.icmpv4().map(|icmpv4| icmpv4.checksum) == Some(0xe7e8));
-    Ok(())
+fn checksums_over_ipv4(rt: HostRuntime) {
+    let found = [
+        as_udp(over_ipv4(udp(), &PAYLOAD)),
+        as_tcp(over_ipv4(tcp(), &[])),
+        as_icmpv4(over_ipv4(icmpv4(), &PAYLOAD)),
+    ];
+    assert!(rt; found == [Some(0xdbb4), Some(0x97da), Some(0xe7e8)]);
 }
 
 // The same between fd00::1 and fd00::2; an ICMPv4 message covers no addresses.
 #[test]
-fn checksums_over_ipv6(rt: HostRuntime) -> Result<(), Fail> {
-    let ip_header = ipv6_header();
-    let mut header = udp();
-    header.update_checksum_ipv6(&ip_header, &PAYLOAD)?;
-    assert!(rt; header.udp().map(|udp| udp.checksum) == Some(0xf5b2));
-    let mut header = tcp();
-    header.update_checksum_ipv6(&ip_header, &[])?;
-    assert!(rt; header.tcp().map(|tcp| tcp.checksum) == Some(0xb1d8));
-    let mut header = icmpv4();
-    header.update_checksum_ipv6(&ip_header, &PAYLOAD)?;
-    assert!(rt; header.icmpv4().map(|icmpv4| icmpv4.checksum) == Some(0xe7e8));
-    let mut header = icmpv6();
-    header.update_checksum_ipv6(&ip_header, &PAYLOAD)?;
-    assert!(rt; header.icmpv6().map(|icmpv6| icmpv6.checksum) == Some(0x7599));
-    Ok(())
+fn checksums_over_ipv6(rt: HostRuntime) {
+    let found = [
+        as_udp(over_ipv6(udp(), &PAYLOAD)),
+        as_tcp(over_ipv6(tcp(), &[])),
+        as_icmpv4(over_ipv6(icmpv4(), &PAYLOAD)),
+        as_icmpv6(over_ipv6(icmpv6(), &PAYLOAD)),
+    ];
+    assert!(rt; found == [Some(0xf5b2), Some(0xb1d8), Some(0xe7e8), Some(0x7599)]);
+}
+
+fn too_long(value_type: ValueType, max_allowed: usize) -> TransportChecksumError {
+    TransportChecksumError::PayloadLen(ValueTooBigError {
+        actual: 65528,
+        max_allowed,
+        value_type,
+    })
+}
+
+// What `update_checksum_ipv4` answers, and whether the header is as it was.
+type Refused = (Result<(), TransportChecksumError>, bool);
+
+fn refused(mut header: TransportHeader, before: &TransportHeader, payload: &[u8]) -> Refused {
+    let done = header.update_checksum_ipv4(&ipv4_header(), payload);
+    (done, header == *before)
 }
 
 #[test]
 fn refused_checksums(rt: HostRuntime) -> Result<(), Fail> {
-    let ip_header = ipv4_header()?;
     let payload = vec![in rt.alloc(); 0; 65528]?;
-    let too_long = |value_type, max_allowed| {
-        Err(TransportChecksumError::PayloadLen(ValueTooBigError {
-            actual: 65528,
-            max_allowed,
-            value_type,
-        }))
-    };
-    let mut header = udp();
-    assert!(rt;
-        header.update_checksum_ipv4(&ip_header, &payload)
-            == too_long(ValueType::UdpPayloadLengthIpv4, 65527)
-    );
-    assert!(rt; header == udp());
-    let mut header = tcp();
-    assert!(rt;
-        header.update_checksum_ipv4(&ip_header, &payload)
-            == too_long(ValueType::TcpPayloadLengthIpv4, 65515)
-    );
-    assert!(rt; header == tcp());
-    let mut header = icmpv6();
-    assert!(rt;
-        header.update_checksum_ipv4(&ip_header, &PAYLOAD)
-            == Err(TransportChecksumError::Icmpv6InIpv4)
-    );
-    assert!(rt; header == icmpv6());
+    let found = [
+        refused(udp(), &udp(), &payload),
+        refused(tcp(), &tcp(), &payload),
+        refused(icmpv6(), &icmpv6(), &PAYLOAD),
+    ];
+    let wanted = [
+        (Err(too_long(ValueType::UdpPayloadLengthIpv4, 65527)), true),
+        (Err(too_long(ValueType::TcpPayloadLengthIpv4, 65515)), true),
+        (Err(TransportChecksumError::Icmpv6InIpv4), true),
+    ];
+    assert!(rt; found == wanted);
     Ok(())
 }
 
 // Each header is of one protocol alone.
 #[test]
-fn header_of_each_protocol(rt: HostRuntime) -> Result<(), Fail> {
-    assert!(rt; udp().udp().is_some());
-    assert!(rt; udp().tcp().is_none());
-    assert!(rt; tcp().tcp().is_some());
-    assert!(rt; tcp().icmpv4().is_none());
-    assert!(rt; icmpv4().icmpv4().is_some());
-    assert!(rt; icmpv4().icmpv6().is_none());
-    assert!(rt; icmpv6().icmpv6().is_some());
-    assert!(rt; icmpv6().udp().is_none());
-    Ok(())
+fn header_of_its_protocol(rt: HostRuntime) {
+    let found = [
+        as_udp(Some(udp())),
+        as_tcp(Some(tcp())),
+        as_icmpv4(Some(icmpv4())),
+        as_icmpv6(Some(icmpv6())),
+    ];
+    assert!(rt; found == [Some(0); 4]);
 }
 
 #[test]
-fn headers_are_written_to(rt: HostRuntime) -> Result<(), Fail> {
-    let mut header = udp();
-    if let Some(udp) = header.mut_udp() {
-        udp.checksum = 0xdbb4;
+fn header_of_no_other_protocol(rt: HostRuntime) {
+    let found = [
+        as_tcp(Some(udp())),
+        as_icmpv4(Some(tcp())),
+        as_icmpv6(Some(icmpv4())),
+        as_udp(Some(icmpv6())),
+    ];
+    assert!(rt; found == [None; 4]);
+}
+
+// The functions below set the checksum of a header that is of their protocol.
+
+fn set_udp(header: &mut TransportHeader) -> bool {
+    match header.mut_udp() {
+        Some(udp) => {
+            udp.checksum = 0xdbb4;
+            true
+        }
+        None => false,
     }
-    assert!(rt; header.mut_tcp().is_none());
-    assert!(rt; header.udp().map(|udp| udp.checksum) == Some(0xdbb4));
-    let mut header = tcp();
-    if let Some(tcp) = header.mut_tcp() {
-        tcp.checksum = 0x97da;
+}
+
+fn set_tcp(header: &mut TransportHeader) -> bool {
+    match header.mut_tcp() {
+        Some(tcp) => {
+            tcp.checksum = 0x97da;
+            true
+        }
+        None => false,
     }
-    assert!(rt; header.mut_udp().is_none());
-    assert!(rt; header.tcp().map(|tcp| tcp.checksum) == Some(0x97da));
-    let mut header = icmpv4();
-    if let Some(icmpv4) = header.mut_icmpv4() {
-        icmpv4.checksum = 1;
+}
+
+fn set_icmpv4(header: &mut TransportHeader) -> bool {
+    match header.mut_icmpv4() {
+        Some(icmpv4) => {
+            icmpv4.checksum = 1;
+            true
+        }
+        None => false,
     }
-    assert!(rt; header.mut_icmpv6().is_none());
-    assert!(rt; header.icmpv4().map(|icmpv4| icmpv4.checksum) == Some(1));
-    let mut header = icmpv6();
-    if let Some(icmpv6) = header.mut_icmpv6() {
-        icmpv6.checksum = 2;
+}
+
+fn set_icmpv6(header: &mut TransportHeader) -> bool {
+    match header.mut_icmpv6() {
+        Some(icmpv6) => {
+            icmpv6.checksum = 2;
+            true
+        }
+        None => false,
     }
-    assert!(rt; header.mut_icmpv4().is_none());
-    assert!(rt; header.icmpv6().map(|icmpv6| icmpv6.checksum) == Some(2));
-    Ok(())
+}
+
+fn checksum(header: &TransportHeader) -> u16 {
+    match header {
+        TransportHeader::Udp(udp) => udp.checksum,
+        TransportHeader::Tcp(tcp) => tcp.checksum,
+        TransportHeader::Icmpv4(icmpv4) => icmpv4.checksum,
+        TransportHeader::Icmpv6(icmpv6) => icmpv6.checksum,
+    }
+}
+
+// Which of them set it, and the checksum then.
+fn set(mut header: TransportHeader) -> ([bool; 4], u16) {
+    let done = [
+        set_udp(&mut header),
+        set_tcp(&mut header),
+        set_icmpv4(&mut header),
+        set_icmpv6(&mut header),
+    ];
+    (done, checksum(&header))
+}
+
+#[test]
+fn headers_are_written_to(rt: HostRuntime) {
+    let found = [set(udp()), set(tcp()), set(icmpv4()), set(icmpv6())];
+    let wanted = [
+        ([true, false, false, false], 0xdbb4),
+        ([false, true, false, false], 0x97da),
+        ([false, false, true, false], 1),
+        ([false, false, false, true], 2),
+    ];
+    assert!(rt; found == wanted);
 }
 
 // The bytes of each header behind those of the headers before it.
 #[test]
-fn headers_are_appended(rt: HostRuntime) -> Result<(), Fail> {
+fn headers_are_appended(rt: HostRuntime) {
     let mut bytes = Vec::new(rt.alloc());
-    for header in [udp(), tcp(), icmpv4(), icmpv6()] {
-        let before = bytes.len();
-        header.write(&mut bytes)?;
-        assert!(rt; bytes.len() - before == header.header_len());
+    let mut lengths = [0; 4];
+    for (header, len) in [udp(), tcp(), icmpv4(), icmpv6()]
+        .iter()
+        .zip(lengths.iter_mut())
+    {
+        if header.write(&mut bytes).is_ok() {
+            *len = header.header_len();
+        }
     }
     let expected = [
         0, 1, 0, 2, 0, 16, 0, 0, 0, 1, 0, 2, 0, 0, 0, 3, 0, 0, 0, 0, 0x50, 2, 4, 0, 0, 0, 0, 0, 8,
         0, 0, 0, 0, 1, 0, 2, 128, 0, 0, 0, 0, 1, 0, 2,
     ];
-    assert!(rt; bytes.as_slice() == &expected[..]);
-    Ok(())
+    assert!(rt; (lengths, bytes.as_slice()) == ([8, 20, 8, 8], expected.as_slice()));
 }

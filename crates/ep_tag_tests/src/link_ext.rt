@@ -3,8 +3,7 @@ use ep_base::{EtherType, LenSource};
 use ep_tag::{
     EtherPayloadSlice, LinkExtHeader, LinkExtSlice, MacsecSlice, SingleVlanHeader, SingleVlanSlice,
 };
-use std::alloc::{AllocError, Global};
-use std::test::Fail;
+use std::alloc::Global;
 
 const VLAN: [u8; 6] = [0, 5, 0x81, 0, 7, 8];
 
@@ -33,14 +32,26 @@ fn header_and_type(tag: &LinkExtSlice<'_>) -> (usize, Option<EtherType>) {
     (header.header_len(), header.next_ether_type())
 }
 
-fn written(alloc: Global, tag: &LinkExtSlice<'_>) -> Result<Vec<u8>, AllocError> {
+// Whether the tag's header is written so.
+fn is_written_as(alloc: Global, tag: Option<LinkExtSlice<'_>>, bytes: &[u8]) -> bool {
     let mut buffer = Vec::new(alloc);
-    tag.to_header().write(&mut buffer)?;
-    Ok(buffer)
+    match tag {
+        Some(tag) => tag.to_header().write(&mut buffer).is_ok() && buffer.as_slice() == bytes,
+        None => false,
+    }
 }
 
 #[test]
-fn a_vlan_tag(rt: HostRuntime) -> Result<(), Fail> {
+fn written_tags(rt: HostRuntime) {
+    let written = [
+        is_written_as(rt.alloc(), vlan_tag(&VLAN), &VLAN[..4]),
+        is_written_as(rt.alloc(), macsec_tag(&MACSEC), &MACSEC[..8]),
+    ];
+    assert!(rt; written == [true, true]);
+}
+
+#[test]
+fn a_vlan_tag(rt: HostRuntime) {
     let Some(tag) = vlan_tag(&VLAN) else {
         panic!(rt; "no tag");
     };
@@ -49,15 +60,13 @@ fn a_vlan_tag(rt: HostRuntime) -> Result<(), Fail> {
         len_source: LenSource::Slice,
         payload: &[7, 8],
     };
-    assert!(rt; header_and_payload(&tag) == (4, Some(payload)));
     let next = Some(EtherType::VLAN_TAGGED_FRAME);
-    assert!(rt; header_and_type(&tag) == (4, next));
-    assert!(rt; written(rt.alloc(), &tag)?.as_slice() == &VLAN[..4]);
-    Ok(())
+    let found = (header_and_payload(&tag), header_and_type(&tag));
+    assert!(rt; found == ((4, Some(payload)), (4, next)));
 }
 
 #[test]
-fn a_macsec_header(rt: HostRuntime) -> Result<(), Fail> {
+fn a_macsec_header(rt: HostRuntime) {
     let Some(tag) = macsec_tag(&MACSEC) else {
         panic!(rt; "no tag");
     };
@@ -66,10 +75,8 @@ fn a_macsec_header(rt: HostRuntime) -> Result<(), Fail> {
         len_source: LenSource::MacsecShortLength,
         payload: &[7],
     };
-    assert!(rt; header_and_payload(&tag) == (8, Some(payload)));
-    assert!(rt; header_and_type(&tag) == (8, Some(EtherType::ARP)));
-    assert!(rt; written(rt.alloc(), &tag)?.as_slice() == &MACSEC[..8]);
-    Ok(())
+    let found = (header_and_payload(&tag), header_and_type(&tag));
+    assert!(rt; found == ((8, Some(payload)), (8, Some(EtherType::ARP))));
 }
 
 #[test]
@@ -77,12 +84,13 @@ fn changed_bytes_have_no_ether_type(rt: HostRuntime) {
     let Some(tag) = macsec_tag(&[4, 0, 0, 0, 0, 1, 8, 6, 7, 8]) else {
         panic!(rt; "no tag");
     };
-    assert!(rt; header_and_payload(&tag) == (6, None));
-    assert!(rt; header_and_type(&tag) == (6, None));
+    let found = (header_and_payload(&tag), header_and_type(&tag));
+    assert!(rt; found == ((6, None), (6, None)));
 }
 
 #[test]
 fn tags_of_zeros(rt: HostRuntime) {
-    assert!(rt; Some(LinkExtSlice::default()) == vlan_tag(&[0; 4]));
-    assert!(rt; LinkExtHeader::default() == LinkExtHeader::Vlan(SingleVlanHeader::default()));
+    let zeros = (Some(LinkExtSlice::default()), LinkExtHeader::default());
+    let header = LinkExtHeader::Vlan(SingleVlanHeader::default());
+    assert!(rt; zeros == (vlan_tag(&[0; 4]), header));
 }

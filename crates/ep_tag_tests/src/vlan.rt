@@ -7,18 +7,18 @@ use ep_tag::{
     DoubleVlanHeader, DoubleVlanSlice, EtherPayloadSlice, SingleVlanHeader, SingleVlanHeaderSlice,
     SingleVlanSlice, VlanHeader, VlanId, VlanPcp, VlanSlice,
 };
-use std::test::Fail;
 
 // Priority 5, drop eligible, identifier 0123, IPv6; and what stands behind it.
 const BYTES: [u8; 6] = [0xb1, 0x23, 0x86, 0xdd, 7, 8];
 
-fn header() -> Result<SingleVlanHeader, Fail> {
-    Ok(SingleVlanHeader {
-        pcp: VlanPcp::try_new(5)?,
+// Its fields: a refused number would leave a 0, which the bytes don't have.
+fn header() -> SingleVlanHeader {
+    SingleVlanHeader {
+        pcp: VlanPcp::try_new(5).unwrap_or(VlanPcp::ZERO),
         drop_eligible_indicator: true,
-        vlan_id: VlanId::try_new(0x123)?,
+        vlan_id: VlanId::try_new(0x123).unwrap_or(VlanId::ZERO),
         ether_type: EtherType::IPV6,
-    })
+    }
 }
 
 fn too_short(len: usize) -> LenError {
@@ -42,34 +42,22 @@ fn vlan_slice(bytes: &[u8]) -> Option<SingleVlanSlice<'_>> {
     SingleVlanSlice::from_slice(bytes).ok()
 }
 
-fn read_header(bytes: &[u8]) -> Option<SingleVlanHeader> {
-    match SingleVlanHeader::from_slice(bytes) {
-        Ok((header, _)) => Some(header),
-        Err(_) => None,
-    }
-}
-
-fn rest_behind(bytes: &[u8]) -> Option<&[u8]> {
-    match SingleVlanHeader::from_slice(bytes) {
-        Ok((_, rest)) => Some(rest),
-        Err(_) => None,
-    }
-}
-
-fn spelled(header: &SingleVlanHeader) -> [u8; 4] {
-    header.to_bytes()
+#[test]
+fn a_header_by_position(rt: HostRuntime) {
+    assert!(rt; SingleVlanHeader::from_slice(&BYTES) == Ok((header(), &[7, 8])));
 }
 
 #[test]
-fn a_header_both_ways(rt: HostRuntime) -> Result<(), Fail> {
-    assert!(rt; read_header(&BYTES) == Some(header()?));
-    assert!(rt; rest_behind(&BYTES) == Some([7, 8].as_slice()));
+fn a_header_both_ways(rt: HostRuntime) {
     let bytes = [0xb1, 0x23, 0x86, 0xdd];
-    assert!(rt; SingleVlanHeader::from_bytes(bytes) == header()?);
-    assert!(rt; spelled(&header()?) == bytes);
-    assert!(rt; header()?.header_len() == 4);
-    assert!(rt; spelled(&SingleVlanHeader::default()) == [0; 4]);
-    Ok(())
+    let header = header();
+    let written = [header.to_bytes(), SingleVlanHeader::default().to_bytes()];
+    let found = (
+        SingleVlanHeader::from_bytes(bytes),
+        written,
+        header.header_len(),
+    );
+    assert!(rt; found == (header, [bytes, [0; 4]], 4));
 }
 
 // Priority, drop eligible, identifier and ether type.
@@ -94,12 +82,14 @@ fn header_of_header_slice(bytes: &[u8]) -> Option<SingleVlanHeader> {
 }
 
 #[test]
-fn fields_of_a_header_slice(rt: HostRuntime) -> Result<(), Fail> {
+fn fields_of_a_header_slice(rt: HostRuntime) {
+    let found = (
+        fields_of_header_slice(&BYTES),
+        bytes_of_header_slice(&BYTES),
+        header_of_header_slice(&BYTES),
+    );
     let fields = Some((5, true, 0x123, EtherType::IPV6));
-    assert!(rt; fields_of_header_slice(&BYTES) == fields);
-    assert!(rt; bytes_of_header_slice(&BYTES) == Some(&BYTES[..4]));
-    assert!(rt; header_of_header_slice(&BYTES) == Some(header()?));
-    Ok(())
+    assert!(rt; found == (fields, Some(&BYTES[..4]), Some(header())));
 }
 
 fn fields_of_slice(bytes: &[u8]) -> Option<Fields> {
@@ -128,13 +118,16 @@ fn header_of_slice(bytes: &[u8]) -> Option<SingleVlanHeader> {
 }
 
 #[test]
-fn fields_of_a_slice(rt: HostRuntime) -> Result<(), Fail> {
+fn fields_of_a_slice(rt: HostRuntime) {
+    let found = (fields_of_slice(&BYTES), header_of_slice(&BYTES));
     let fields = Some((5, true, 0x123, EtherType::IPV6));
-    assert!(rt; fields_of_slice(&BYTES) == fields);
+    assert!(rt; found == (fields, Some(header())));
+}
+
+#[test]
+fn parts_of_a_slice(rt: HostRuntime) {
     let parts = (BYTES.as_slice(), &BYTES[..4], 4, &BYTES[4..]);
     assert!(rt; parts_of_slice(&BYTES) == Some(parts));
-    assert!(rt; header_of_slice(&BYTES) == Some(header()?));
-    Ok(())
 }
 
 // The drop bit, the greatest priority and the greatest identifier.
@@ -147,8 +140,8 @@ fn each_field_alone(rt: HostRuntime) {
     ] {
         let bytes = [first, second, 8, 0];
         let fields = Some((pcp, drop_eligible, id, EtherType::IPV4));
-        assert!(rt; fields_of_header_slice(&bytes) == fields);
-        assert!(rt; fields_of_slice(&bytes) == fields);
+        let found = [fields_of_header_slice(&bytes), fields_of_slice(&bytes)];
+        assert!(rt; found == [fields, fields]);
     }
 }
 
@@ -178,8 +171,7 @@ fn payloads_in_order(rt: HostRuntime) {
         len_source: LenSource::MacsecShortLength,
         payload: &[],
     };
-    assert!(rt; payload < bounded);
-    assert!(rt; payload != bounded);
+    assert!(rt; [payload < bounded, payload == bounded] == [true, false]);
 }
 
 fn header_refusal(bytes: &[u8]) -> Option<LenError> {
@@ -189,24 +181,22 @@ fn header_refusal(bytes: &[u8]) -> Option<LenError> {
     }
 }
 
-fn header_slice_refusal(bytes: &[u8]) -> Option<LenError> {
-    SingleVlanHeaderSlice::from_slice(bytes).err()
-}
-
-fn refusal(bytes: &[u8]) -> Option<LenError> {
-    SingleVlanSlice::from_slice(bytes).err()
+// Why these bytes are no header, no header slice and no tag.
+fn refusals(bytes: &[u8]) -> [Option<LenError>; 3] {
+    [
+        header_refusal(bytes),
+        SingleVlanHeaderSlice::from_slice(bytes).err(),
+        SingleVlanSlice::from_slice(bytes).err(),
+    ]
 }
 
 #[test]
 fn every_front_of_a_tag(rt: HostRuntime) {
     let bytes = BYTES;
-    for len in 0..4 {
-        let error = Some(too_short(len));
-        assert!(rt; header_refusal(&bytes[..len]) == error);
-        assert!(rt; header_slice_refusal(&bytes[..len]) == error);
-        assert!(rt; refusal(&bytes[..len]) == error);
+    for len in 0..4usize {
+        assert!(rt; refusals(&bytes[..len]) == [Some(too_short(len)); 3]);
     }
-    assert!(rt; refusal(&bytes[..4]).is_none());
+    assert!(rt; refusals(&bytes[..4]) == [None; 3]);
 }
 
 const TWO_TAGS: [u8; 10] = [0, 5, 0x81, 0, 0xb1, 0x23, 0x86, 0xdd, 7, 8];
@@ -229,12 +219,11 @@ fn parts_of_two(bytes: &[u8]) -> Option<(usize, EtherType, &[u8], &[u8])> {
     ))
 }
 
-fn parts_of_either(slice: &VlanSlice<'_>) -> (usize, EtherType) {
-    (slice.header_len(), slice.payload().ether_type)
-}
-
-fn bytes_behind<'a>(slice: &VlanSlice<'a>) -> &'a [u8] {
-    slice.payload().payload
+// The same of one tag or two, with its bytes by one call.
+fn parts_of_either(slice: Option<VlanSlice<'_>>) -> Option<(usize, EtherType, &[u8])> {
+    let slice = slice?;
+    let payload = slice.payload();
+    Some((slice.header_len(), payload.ether_type, payload.payload))
 }
 
 #[test]
@@ -242,12 +231,26 @@ fn two_tags_and_what_is_behind(rt: HostRuntime) {
     let behind = [7, 8].as_slice();
     let parts = (8, EtherType::IPV6, behind, behind);
     assert!(rt; parts_of_two(&TWO_TAGS) == Some(parts));
-    let Some(tags) = two_tags(&TWO_TAGS) else {
-        panic!(rt; "no tags");
-    };
-    let slice = VlanSlice::DoubleVlan(tags);
-    assert!(rt; parts_of_either(&slice) == (8, EtherType::IPV6));
-    assert!(rt; bytes_behind(&slice) == behind);
+}
+
+fn double(bytes: &[u8]) -> Option<VlanSlice<'_>> {
+    Some(VlanSlice::DoubleVlan(two_tags(bytes)?))
+}
+
+fn single(bytes: &[u8]) -> Option<VlanSlice<'_>> {
+    Some(VlanSlice::SingleVlan(vlan_slice(bytes)?))
+}
+
+#[test]
+fn one_tag_or_two(rt: HostRuntime) {
+    let found = (
+        parts_of_either(single(&BYTES)),
+        parts_of_either(double(&TWO_TAGS)),
+    );
+    let behind = [7, 8].as_slice();
+    let one = Some((4, EtherType::IPV6, behind));
+    let two = Some((8, EtherType::IPV6, behind));
+    assert!(rt; found == (one, two));
 }
 
 // The identifier of the tag in front, the ether type behind it, and what follows.
@@ -285,8 +288,8 @@ fn spelled_twice(header: &DoubleVlanHeader) -> (usize, [u8; 8]) {
     (header.header_len(), header.to_bytes())
 }
 
-fn header_of_either(bytes: &[u8]) -> Option<VlanHeader> {
-    Some(VlanSlice::DoubleVlan(two_tags(bytes)?).to_header())
+fn header_of_either(slice: Option<VlanSlice<'_>>) -> Option<VlanHeader> {
+    Some(slice?.to_header())
 }
 
 #[test]
@@ -295,13 +298,22 @@ fn fields_of_two_tags(rt: HostRuntime) {
         panic!(rt; "no tags");
     };
     let bytes = [0, 5, 0x81, 0, 0xb1, 0x23, 0x86, 0xdd];
-    assert!(rt; spelled_twice(&header) == (8, bytes));
-    let header = Some(VlanHeader::Double(header));
-    assert!(rt; header_of_either(&TWO_TAGS) == header);
+    let found = (spelled_twice(&header), header_of_either(double(&TWO_TAGS)));
+    assert!(rt; found == ((8, bytes), Some(VlanHeader::Double(header))));
 }
 
-fn one_or_two(bytes: &[u8]) -> Option<VlanSlice<'_>> {
-    Some(VlanSlice::SingleVlan(vlan_slice(bytes)?))
+#[test]
+fn fields_of_one_tag(rt: HostRuntime) {
+    let header = Some(VlanHeader::Single(header()));
+    assert!(rt; header_of_either(single(&BYTES)) == header);
+}
+
+// A tag of zeros in front of the header above.
+fn double_header() -> DoubleVlanHeader {
+    DoubleVlanHeader {
+        outer: SingleVlanHeader::default(),
+        inner: header(),
+    }
 }
 
 fn length_and_type(header: &VlanHeader) -> (usize, EtherType) {
@@ -309,53 +321,39 @@ fn length_and_type(header: &VlanHeader) -> (usize, EtherType) {
 }
 
 #[test]
-fn one_tag_or_two(rt: HostRuntime) -> Result<(), Fail> {
-    let Some(slice) = one_or_two(&BYTES) else {
-        panic!(rt; "no tag");
-    };
-    assert!(rt; parts_of_either(&slice) == (4, EtherType::IPV6));
-    assert!(rt; bytes_behind(&slice) == [7, 8].as_slice());
-    assert!(rt; slice.to_header() == VlanHeader::Single(header()?));
-    Ok(())
+fn headers_of_one_tag_or_two(rt: HostRuntime) {
+    let found = [
+        length_and_type(&VlanHeader::Single(header())),
+        length_and_type(&VlanHeader::Double(double_header())),
+    ];
+    assert!(rt; found == [(4, EtherType::IPV6), (8, EtherType::IPV6)]);
 }
 
 #[test]
-fn headers_of_one_tag_or_two(rt: HostRuntime) -> Result<(), Fail> {
-    let single = VlanHeader::Single(header()?);
-    assert!(rt; length_and_type(&single) == (4, EtherType::IPV6));
-    let double = VlanHeader::Double(DoubleVlanHeader {
-        outer: SingleVlanHeader::default(),
-        inner: header()?,
-    });
-    assert!(rt; length_and_type(&double) == (8, EtherType::IPV6));
-    Ok(())
-}
-
-#[test]
-fn tags_behind_a_byte_that_is_there(rt: HostRuntime) -> Result<(), Fail> {
+fn tags_behind_a_byte_that_is_there(rt: HostRuntime) {
     let mut buffer = Vec::new(rt.alloc());
-    buffer.push(9)?;
-    header()?.write(&mut buffer)?;
-    let double = DoubleVlanHeader {
-        outer: SingleVlanHeader::default(),
-        inner: header()?,
-    };
-    double.write(&mut buffer)?;
-    VlanHeader::Single(header()?).write(&mut buffer)?;
+    let done = [
+        buffer.push(9).is_ok(),
+        header().write(&mut buffer).is_ok(),
+        double_header().write(&mut buffer).is_ok(),
+        VlanHeader::Single(header()).write(&mut buffer).is_ok(),
+    ];
     let written = [
         9, 0xb1, 0x23, 0x86, 0xdd, 0, 0, 0, 0, 0xb1, 0x23, 0x86, 0xdd, 0xb1, 0x23, 0x86, 0xdd,
     ];
-    assert!(rt; buffer.as_slice() == written.as_slice());
-    Ok(())
+    assert!(rt; (done, buffer.as_slice()) == ([true; 4], written.as_slice()));
 }
 
 #[test]
-fn laws(rt: HostRuntime) -> Result<(), Fail> {
-    let bytes = BYTES;
-    assert!(rt; header_lengths() == [4, 8]);
-    headers_are_their_bytes(&header()?);
-    assert!(rt; header_is_read_again(&header()?, &bytes).is_ok());
+fn laws(rt: HostRuntime) {
+    let header = header();
+    headers_are_their_bytes(&header);
+    let read = header_is_read_again(&header, &BYTES).is_ok();
+    assert!(rt; (header_lengths(), read) == ([4, 8], true));
+}
+
+#[test]
+fn laws_without_a_result() {
     fields_by_hand();
     front_is_taken();
-    Ok(())
 }

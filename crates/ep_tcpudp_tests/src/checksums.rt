@@ -105,15 +105,17 @@ fn sealed_over_ipv6(payload: &[u8]) -> Sealed {
 #[test]
 fn udp_checksums_over_ipv4(rt: HostRuntime) {
     let header = udp_header(16, 0xdbb4);
-    assert!(rt; sealed_over_ipv4(&rt, &PAYLOAD) == Ok(udp_header(16, 0xdbb4)));
-    assert!(rt; udp_over_ipv4(&rt, &header, &PAYLOAD) == [Ok(0xdbb4), Ok(0xdbb4)]);
+    let sums = udp_over_ipv4(&rt, &header, &PAYLOAD);
+    let found = (sealed_over_ipv4(&rt, &PAYLOAD), sums);
+    assert!(rt; found == (Ok(header), [Ok(0xdbb4), Ok(0xdbb4)]));
 }
 
 #[test]
 fn udp_checksums_over_ipv6(rt: HostRuntime) {
     let header = udp_header(16, 0xf5b2);
-    assert!(rt; sealed_over_ipv6(&PAYLOAD) == Ok(udp_header(16, 0xf5b2)));
-    assert!(rt; udp_over_ipv6(&header, &PAYLOAD) == [Ok(0xf5b2), Ok(0xf5b2)]);
+    let sums = udp_over_ipv6(&header, &PAYLOAD);
+    let found = (sealed_over_ipv6(&PAYLOAD), sums);
+    assert!(rt; found == (Ok(header), [Ok(0xf5b2), Ok(0xf5b2)]));
 }
 
 // A sum of ffff gives 0, in whose place stands ffff.
@@ -125,45 +127,59 @@ fn udp_zero_checksum(rt: HostRuntime) {
         length: 8,
         checksum: 0,
     };
-    assert!(rt; header.calc_checksum_ipv4_raw([0; 4], [0; 4], &[]) == Ok(0xffff));
-    assert!(rt; header.calc_checksum_ipv6_raw([0; 16], [0; 16], &[]) == Ok(0xffff));
+    let sums = [
+        header.calc_checksum_ipv4_raw([0; 4], [0; 4], &[]),
+        header.calc_checksum_ipv6_raw([0; 16], [0; 16], &[]),
+    ];
+    assert!(rt; sums == [Ok(0xffff), Ok(0xffff)]);
 }
 
-fn udp_too_long(value_type: ValueType) -> Option<ValueTooBigError<usize>> {
-    Some(ValueTooBigError {
+fn udp_too_long(value_type: ValueType) -> ValueTooBigError<usize> {
+    ValueTooBigError {
         actual: 65528,
         max_allowed: 65527,
         value_type,
-    })
+    }
+}
+
+// Why a header and so many zeros have no checksum over IPv4, and whether they have one over IPv6.
+fn of_zeros(rt: &impl Abort, alloc: Global, len: usize) -> (Option<ValueTooBigError<usize>>, bool) {
+    let payload = repeated(rt, alloc, 0, len);
+    let header = udp_header(65535, 0);
+    (
+        header.calc_checksum_ipv4_raw(V4.0, V4.1, &payload).err(),
+        header.calc_checksum_ipv6_raw(V6.0, V6.1, &payload).is_ok(),
+    )
 }
 
 #[test]
 fn udp_payload_too_long_for_a_header(rt: HostRuntime) {
-    let payload = repeated(&rt, rt.alloc(), 0, 65528);
-    let header = udp_header(65535, 0);
-    let over_v4 = header.calc_checksum_ipv4_raw(V4.0, V4.1, &payload);
-    assert!(rt; over_v4.err() == udp_too_long(ValueType::UdpPayloadLengthIpv4));
-    let over_v6 = header.calc_checksum_ipv6_raw(V6.0, V6.1, &payload);
-    let greatest = repeated(&rt, rt.alloc(), 0, 65527);
-    let over_v4 = header.calc_checksum_ipv4_raw(V4.0, V4.1, &greatest);
-    assert!(rt; (over_v4.is_ok(), over_v6.is_ok()) == (true, true));
+    let error = udp_too_long(ValueType::UdpPayloadLengthIpv4);
+    let found = [
+        of_zeros(&rt, rt.alloc(), 65528),
+        of_zeros(&rt, rt.alloc(), 65527),
+    ];
+    assert!(rt; found == [(Some(error), true), (None, true)]);
+}
+
+// So many zeros with a header sealed over IPv4 and over IPv6.
+fn sealed_zeros(rt: &impl Abort, alloc: Global, len: usize) -> [Sealed; 2] {
+    let payload = repeated(rt, alloc, 0, len);
+    [sealed_over_ipv4(rt, &payload), sealed_over_ipv6(&payload)]
 }
 
 #[test]
 fn udp_payload_too_long_to_be_sealed(rt: HostRuntime) {
-    let payload = repeated(&rt, rt.alloc(), 0, 65528);
-    let over_v4 = sealed_over_ipv4(&rt, &payload);
-    assert!(rt; over_v4.err() == udp_too_long(ValueType::UdpPayloadLengthIpv4));
-    let over_v6 = sealed_over_ipv6(&payload);
-    assert!(rt; over_v6.err() == udp_too_long(ValueType::UdpPayloadLengthIpv6));
+    let over_v4 = udp_too_long(ValueType::UdpPayloadLengthIpv4);
+    let over_v6 = udp_too_long(ValueType::UdpPayloadLengthIpv6);
+    assert!(rt; sealed_zeros(&rt, rt.alloc(), 65528) == [Err(over_v4), Err(over_v6)]);
 }
 
 // The greatest payload, of zeros: other tools give ebe8 over IPv4 and 05e7 over IPv6.
 #[test]
 fn udp_greatest_payload(rt: HostRuntime) {
-    let payload = repeated(&rt, rt.alloc(), 0, 65527);
-    assert!(rt; sealed_over_ipv4(&rt, &payload) == Ok(udp_header(65535, 0xebe8)));
-    assert!(rt; sealed_over_ipv6(&payload) == Ok(udp_header(65535, 0x05e7)));
+    let headers = [Ok(udp_header(65535, 0xebe8)), Ok(udp_header(65535, 0x05e7))];
+    assert!(rt; sealed_zeros(&rt, rt.alloc(), 65527) == headers);
 }
 
 // The header from port 1 to port 2 with the number 3 and the window 1024.
@@ -171,8 +187,8 @@ fn tcp_header() -> TcpHeader {
     TcpHeader::new(1, 2, 3, 1024)
 }
 
-fn too_long(actual: usize, max_allowed: usize) -> Option<ValueTooBigError<usize>> {
-    Some(ValueTooBigError {
+fn too_long(actual: usize, max_allowed: usize) -> Checksum {
+    Err(ValueTooBigError {
         actual,
         max_allowed,
         value_type: ValueType::TcpPayloadLengthIpv4,
@@ -189,13 +205,35 @@ fn of_ones(rt: &impl Abort, alloc: Global, header: &TcpHeader, len: usize) -> Ch
 // gigabytes; `laws::examples` has it.
 #[test]
 fn tcp_greatest_payload(rt: HostRuntime) {
-    let mut header = tcp_header();
-    assert!(rt; of_ones(&rt, rt.alloc(), &header, 65515) == Ok(0x217b));
-    assert!(rt; of_ones(&rt, rt.alloc(), &header, 65516).err() == too_long(65516, 65515));
-    header.options = TcpOptions::from([1; 40]);
-    assert!(rt; of_ones(&rt, rt.alloc(), &header, 65475) == Ok(0x817a));
-    assert!(rt; of_ones(&rt, rt.alloc(), &header, 65476).err() == too_long(65476, 65475));
+    let header = tcp_header();
+    let sums = [
+        of_ones(&rt, rt.alloc(), &header, 65515),
+        of_ones(&rt, rt.alloc(), &header, 65516),
+    ];
+    assert!(rt; sums == [Ok(0x217b), too_long(65516, 65515)]);
+}
+
+fn tcp_header_with_options() -> TcpHeader {
+    TcpHeader {
+        options: TcpOptions::from([1; 40]),
+        ..tcp_header()
+    }
+}
+
+#[test]
+fn tcp_greatest_payload_with_options(rt: HostRuntime) {
+    let header = tcp_header_with_options();
+    let sums = [
+        of_ones(&rt, rt.alloc(), &header, 65475),
+        of_ones(&rt, rt.alloc(), &header, 65476),
+    ];
+    assert!(rt; sums == [Ok(0x817a), too_long(65476, 65475)]);
+}
+
+#[test]
+fn tcp_greater_payload_over_ipv6(rt: HostRuntime) {
     let payload = repeated(&rt, rt.alloc(), 1, 65516);
+    let header = tcp_header_with_options();
     assert!(rt; header.calc_checksum_ipv6_raw(V6.0, V6.1, &payload) == Ok(0x873a));
 }
 
@@ -266,8 +304,14 @@ fn tcp_reserved_bits_are_summed(rt: HostRuntime) {
     let mut bytes = SYN;
     bytes[12] = 0x5e;
     let as_they_stand = [Ok(0x89da), Ok(0xa3d8)];
-    assert!(rt; of_segment(&rt, &bytes, V4, V6) == as_they_stand);
-    assert!(rt; of_header(&rt, &bytes) == as_they_stand);
+    let slices = [of_segment(&rt, &bytes, V4, V6), of_header(&rt, &bytes)];
+    assert!(rt; slices == [as_they_stand, as_they_stand]);
+}
+
+#[test]
+fn tcp_reserved_bits_are_not_fields(rt: HostRuntime) {
+    let mut bytes = SYN;
+    bytes[12] = 0x5e;
     let fields = tcp_header_slice(&rt, &bytes).to_header();
     assert!(rt; of_fields(&fields, &[], V4, V6) == [Ok(0x97da), Ok(0xb1d8)]);
 }
@@ -297,23 +341,32 @@ fn ones_behind(rt: &impl Abort, alloc: Global, data_offset: u8, len: usize) -> V
 // with 40 bytes of options 7e78 and 7d77.
 #[test]
 fn tcp_greatest_segment(rt: HostRuntime) {
-    assert!(rt; whole(&rt, rt.alloc(), 0x50, 65534) == Ok(0x1e79));
-    assert!(rt; whole(&rt, rt.alloc(), 0x50, 65535) == Ok(0x1d78));
-    assert!(rt; whole(&rt, rt.alloc(), 0x50, 65536).err() == too_long(65536, 65535));
+    let sums = [
+        whole(&rt, rt.alloc(), 0x50, 65534),
+        whole(&rt, rt.alloc(), 0x50, 65535),
+        whole(&rt, rt.alloc(), 0x50, 65536),
+    ];
+    assert!(rt; sums == [Ok(0x1e79), Ok(0x1d78), too_long(65536, 65535)]);
 }
 
 #[test]
 fn tcp_greatest_payload_of_a_header_slice(rt: HostRuntime) {
-    assert!(rt; in_parts(&rt, rt.alloc(), 0x50, 65534) == Ok(0x1e79));
-    assert!(rt; in_parts(&rt, rt.alloc(), 0x50, 65535) == Ok(0x1d78));
-    assert!(rt; in_parts(&rt, rt.alloc(), 0x50, 65536).err() == too_long(65516, 65515));
+    let sums = [
+        in_parts(&rt, rt.alloc(), 0x50, 65534),
+        in_parts(&rt, rt.alloc(), 0x50, 65535),
+        in_parts(&rt, rt.alloc(), 0x50, 65536),
+    ];
+    assert!(rt; sums == [Ok(0x1e79), Ok(0x1d78), too_long(65516, 65515)]);
 }
 
 #[test]
 fn tcp_greatest_payload_behind_options(rt: HostRuntime) {
-    assert!(rt; in_parts(&rt, rt.alloc(), 0xf0, 65534) == Ok(0x7e78));
-    assert!(rt; in_parts(&rt, rt.alloc(), 0xf0, 65535) == Ok(0x7d77));
-    assert!(rt; in_parts(&rt, rt.alloc(), 0xf0, 65536).err() == too_long(65476, 65475));
+    let sums = [
+        in_parts(&rt, rt.alloc(), 0xf0, 65534),
+        in_parts(&rt, rt.alloc(), 0xf0, 65535),
+        in_parts(&rt, rt.alloc(), 0xf0, 65536),
+    ];
+    assert!(rt; sums == [Ok(0x7e78), Ok(0x7d77), too_long(65476, 65475)]);
 }
 
 #[test]
@@ -330,10 +383,12 @@ const SUM_OF_ZERO: [u8; 28] = [
 #[test]
 fn tcp_zero_checksum(rt: HostRuntime) {
     let nowhere = (([0; 4], [0; 4]), ([0; 16], [0; 16]));
-    let zeros = [Ok(0), Ok(0)];
-    assert!(rt; of_segment(&rt, &SUM_OF_ZERO, nowhere.0, nowhere.1) == zeros);
     let header = TcpHeader::new(0, 0, 40905, 0);
-    assert!(rt; of_fields(&header, &PAYLOAD, nowhere.0, nowhere.1) == zeros);
+    let sums = [
+        of_segment(&rt, &SUM_OF_ZERO, nowhere.0, nowhere.1),
+        of_fields(&header, &PAYLOAD, nowhere.0, nowhere.1),
+    ];
+    assert!(rt; sums == [[Ok(0), Ok(0)], [Ok(0), Ok(0)]]);
 }
 
 // A first segment of port 1 to port 2: other tools give 97da over IPv4 and b1d8 over IPv6.
@@ -343,17 +398,23 @@ const SYN: [u8; 20] = [
 
 #[test]
 fn tcp_checksums_between_addresses(rt: HostRuntime) {
-    let sums = [Ok(0x97da), Ok(0xb1d8)];
     let header = tcp_header_slice(&rt, &SYN).to_header();
-    assert!(rt; of_fields(&header, &[], V4, V6) == sums);
-    assert!(rt; of_header(&rt, &SYN) == sums);
-    assert!(rt; of_segment(&rt, &SYN, V4, V6) == sums);
+    let found = [
+        of_fields(&header, &[], V4, V6),
+        of_header(&rt, &SYN),
+        of_segment(&rt, &SYN, V4, V6),
+    ];
+    let sums = [Ok(0x97da), Ok(0xb1d8)];
+    assert!(rt; found == [sums, sums, sums]);
 }
 
 #[test]
 fn tcp_checksums_in_packets(rt: HostRuntime) {
-    let sums = [Ok(0x97da), Ok(0xb1d8)];
     let header = tcp_header_slice(&rt, &SYN).to_header();
-    assert!(rt; of_fields_in_packets(&rt, &header) == sums);
-    assert!(rt; [of_header_in_ipv4(&rt, &SYN), of_header_in_ipv6(&rt, &SYN)] == sums);
+    let found = [
+        of_fields_in_packets(&rt, &header),
+        [of_header_in_ipv4(&rt, &SYN), of_header_in_ipv6(&rt, &SYN)],
+    ];
+    let sums = [Ok(0x97da), Ok(0xb1d8)];
+    assert!(rt; found == [sums, sums]);
 }

@@ -34,11 +34,16 @@ fn tcp(payload: &[u8]) -> [Option<u16>; 2] {
     ]
 }
 
+fn both(payload: &[u8]) -> [[Option<u16>; 2]; 2] {
+    [udp(payload), tcp(payload)]
+}
+
 #[test]
 fn payloads_of_one_byte_repeated(rt: HostRuntime) {
-    assert!(rt; udp(&[0xff; 64]) == [Some(0xff5e); 2] && tcp(&[0xff; 64]) == [Some(0xafa5); 2]);
-    assert!(rt; udp(&[0; 64]) == [Some(0xff5e); 2] && tcp(&[0; 64]) == [Some(0xafa5); 2]);
-    assert!(rt; udp(&[1; 33]) == [Some(0xee8c); 2] && tcp(&[1; 33]) == [Some(0x9eb4); 2]);
+    let found = [both(&[0xff; 64]), both(&[0; 64]), both(&[1; 33])];
+    let of_64 = [[Some(0xff5e); 2], [Some(0xafa5); 2]];
+    let of_33 = [[Some(0xee8c); 2], [Some(0x9eb4); 2]];
+    assert!(rt; found == [of_64, of_64, of_33]);
 }
 
 // The complement of a sum that is no multiple of ffff.
@@ -55,9 +60,8 @@ fn payloads_of_every_length(rt: HostRuntime) {
     for len in 0..=130usize {
         let front = &payload[..len];
         let in_datagram = total.wrapping_add(0x11 + 2 * (8 + len as u32));
-        assert!(rt; udp(front) == complement(in_datagram));
         let in_segment = total.wrapping_add(0x5000 + 6 + 20 + len as u32);
-        assert!(rt; tcp(front) == complement(in_segment));
+        assert!(rt; both(front) == [complement(in_datagram), complement(in_segment)]);
         byte = byte.wrapping_add(1);
         payload[len] = byte;
         let weight = if len % 2 == 0 { 256 } else { 1 };
@@ -75,8 +79,7 @@ fn ones(rt: &impl Abort, alloc: Global, len: usize) -> Vec<u8> {
 // Words ffff and a last ff00 behind headers of 8 and of 20 bytes, 65535 bytes in all.
 #[test]
 fn greatest_payloads(rt: HostRuntime) {
-    let payload = ones(&rt, rt.alloc(), 65527);
-    assert!(rt; udp(&payload) == [Some(0x00ee); 2]);
-    let payload = ones(&rt, rt.alloc(), 65515);
-    assert!(rt; tcp(&payload) == [Some(0xb0f8); 2]);
+    let datagram = ones(&rt, rt.alloc(), 65527);
+    let segment = ones(&rt, rt.alloc(), 65515);
+    assert!(rt; [udp(&datagram), tcp(&segment)] == [[Some(0x00ee); 2], [Some(0xb0f8); 2]]);
 }

@@ -24,8 +24,14 @@ fn options_of(rt: &impl Abort, elements: &[TcpOptionElement]) -> TcpOptions {
 #[test]
 fn option_lengths(rt: HostRuntime) {
     let options = options_of(&rt, &[WindowScale(123), Noop, Noop]);
-    assert!(rt; options.as_slice() == [3, 3, 0x7b, 1, 1, 0, 0, 0].as_slice());
-    assert!(rt; (options.len(), options.len_u8(), options.is_empty()) == (8, 8, false));
+    let parts = (
+        options.as_slice(),
+        options.len(),
+        options.len_u8(),
+        options.is_empty(),
+    );
+    let bytes = [3, 3, 0x7b, 1, 1, 0, 0, 0];
+    assert!(rt; parts == (bytes.as_slice(), 8, 8, false));
 }
 
 #[test]
@@ -39,7 +45,6 @@ fn kinds_and_lengths(rt: HostRuntime) {
         tcp_option::KIND_SELECTIVE_ACK,
         tcp_option::KIND_TIMESTAMP,
     ];
-    assert!(rt; kinds == [0, 1, 2, 3, 4, 5, 8]);
     let lengths = [
         tcp_option::LEN_END,
         tcp_option::LEN_NOOP,
@@ -48,7 +53,7 @@ fn kinds_and_lengths(rt: HostRuntime) {
         tcp_option::LEN_SELECTIVE_ACK_PERMITTED,
         tcp_option::LEN_TIMESTAMP,
     ];
-    assert!(rt; lengths == [1, 1, 4, 3, 2, 10]);
+    assert!(rt; (kinds, lengths) == ([0, 1, 2, 3, 4, 5, 8], [1, 1, 4, 3, 2, 10]));
 }
 
 // The options of a first segment as Linux sends them: 1460, selective acknowledgements, timestamps,
@@ -57,20 +62,27 @@ const FIRST_SEGMENT: [u8; 20] = [
     2, 4, 0x05, 0xb4, 4, 2, 8, 10, 0, 0, 0, 1, 0, 0, 0, 0, 1, 3, 3, 7,
 ];
 
-#[test]
-fn elements_of_a_first_segment(rt: HostRuntime) {
-    let mut header = TcpHeader::new(1, 2, 3, 4);
-    let elements = [
+fn first_elements() -> [TcpOptionElement; 5] {
+    [
         MaximumSegmentSize(1460),
         SelectiveAcknowledgementPermitted,
         Timestamp(1, 0),
         Noop,
         WindowScale(7),
-    ];
-    assert!(rt; header.set_options(&elements) == Ok(()));
-    assert!(rt; header.options() == FIRST_SEGMENT.as_slice());
-    let mut items = header.options_iterator();
-    for element in elements {
+    ]
+}
+
+#[test]
+fn elements_of_a_first_segment(rt: HostRuntime) {
+    let mut header = TcpHeader::new(1, 2, 3, 4);
+    let set = header.set_options(&first_elements());
+    assert!(rt; (set, header.options()) == (Ok(()), FIRST_SEGMENT.as_slice()));
+}
+
+#[test]
+fn elements_come_back(rt: HostRuntime) {
+    let mut items = TcpOptionsIterator::from_slice(&FIRST_SEGMENT);
+    for element in first_elements() {
         assert!(rt; items.next() == Some(Ok(element)));
     }
     assert!(rt; items.next() == None);
@@ -89,11 +101,11 @@ fn what_is_left_behind_elements(rt: HostRuntime) {
 fn blocks_are_packed(rt: HostRuntime) {
     let element = SelectiveAcknowledgement((1, 2), [None, Some((3, 4)), None]);
     let options = options_of(&rt, &[element]);
-    let bytes = [5, 18, 0, 0, 0, 1, 0, 0, 0, 2, 0, 0, 0, 3, 0, 0, 0, 4, 0, 0];
-    assert!(rt; options.as_slice() == bytes.as_slice());
-    let packed = SelectiveAcknowledgement((1, 2), [Some((3, 4)), None, None]);
     let mut items = options.elements_iter();
-    assert!(rt; (items.next(), items.next()) == (Some(Ok(packed)), None));
+    let found = (options.as_slice(), items.next(), items.next());
+    let bytes = [5, 18, 0, 0, 0, 1, 0, 0, 0, 2, 0, 0, 0, 3, 0, 0, 0, 4, 0, 0];
+    let packed = SelectiveAcknowledgement((1, 2), [Some((3, 4)), None, None]);
+    assert!(rt; found == (bytes.as_slice(), Some(Ok(packed)), None));
 }
 
 #[test]
@@ -105,49 +117,62 @@ fn four_blocks(rt: HostRuntime) {
 
 #[test]
 fn room_for_forty_bytes(rt: HostRuntime) {
-    assert!(rt; options_of(&rt, &[Timestamp(1, 2); 4]).len() == 40);
+    let len = options_of(&rt, &[Timestamp(1, 2); 4]).len();
     let four = Timestamp(1, 2);
     let refused = TcpOptions::try_from_elements(&[four, four, four, four, Noop]);
-    assert!(rt; refused.err() == Some(TcpOptionWriteError::NotEnoughSpace(41)));
+    assert!(rt; (len, refused) == (40, Err(TcpOptionWriteError::NotEnoughSpace(41))));
 }
 
 #[test]
 fn refused_options_change_nothing(rt: HostRuntime) {
     let mut header = TcpHeader::new(1, 2, 3, 4);
     let refused = header.set_options(&[Noop; 41]);
-    assert!(rt; refused == Err(TcpOptionWriteError::NotEnoughSpace(41)));
-    assert!(rt; header == TcpHeader::new(1, 2, 3, 4));
+    let error = TcpOptionWriteError::NotEnoughSpace(41);
+    assert!(rt; (refused, header) == (Err(error), TcpHeader::new(1, 2, 3, 4)));
 }
 
 #[test]
 fn options_of_bytes(rt: HostRuntime) {
-    assert!(rt; TcpOptions::try_from_slice(&[]) == Ok(TcpOptions::new()));
-    assert!(rt; TcpOptions::try_from_slice(&[1]) == Ok(TcpOptions::from([1, 0, 0, 0])));
-    assert!(rt; TcpOptions::try_from([Noop].as_slice()) == Ok(TcpOptions::from([1, 0, 0, 0])));
-    let refused = TcpOptions::try_from_slice(&[1; 41]);
-    assert!(rt; refused.err() == Some(TcpOptionWriteError::NotEnoughSpace(41)));
+    let found = [
+        TcpOptions::try_from_slice(&[]),
+        TcpOptions::try_from_slice(&[1]),
+        TcpOptions::try_from([Noop].as_slice()),
+        TcpOptions::try_from_slice(&[1; 41]),
+    ];
+    let wanted = [
+        Ok(TcpOptions::new()),
+        Ok(TcpOptions::from([1, 0, 0, 0])),
+        Ok(TcpOptions::from([1, 0, 0, 0])),
+        Err(TcpOptionWriteError::NotEnoughSpace(41)),
+    ];
+    assert!(rt; found == wanted);
 }
 
 #[test]
 fn options_changed_in_place(rt: HostRuntime) {
     let mut options = TcpOptions::from([1, 1, 1, 1]);
     options.as_mut_slice()[3] = 0;
-    assert!(rt; options == TcpOptions::from([1, 1, 1, 0]));
-    assert!(rt; TcpOptions::try_from([1, 1, 1, 0].as_slice()) == Ok(options));
-    assert!(rt; TcpOptions::default().is_empty());
+    let changed = TcpOptions::from([1, 1, 1, 0]);
+    let same = options == changed;
+    let other = TcpOptions::try_from([1, 1, 1, 0].as_slice());
+    let none = TcpOptions::default().is_empty();
+    assert!(rt; (same, other, none) == (true, Ok(options), true));
 }
 
-// Nothing comes behind the end of the list, or behind a fault.
+// Nothing comes behind the end of the list, or, below, behind a fault.
 #[test]
 fn nothing_behind_the_end(rt: HostRuntime) {
     let mut ended = TcpOptionsIterator::from_slice(&[1, 0, 1, 1]);
-    assert!(rt; ended.next() == Some(Ok(Noop)));
-    assert!(rt; ended.next() == None);
-    assert!(rt; ended.rest().len() == 0);
+    let items = (ended.next(), ended.next(), ended.rest().len());
+    assert!(rt; items == (Some(Ok(Noop)), None, 0));
+}
+
+#[test]
+fn nothing_behind_a_fault(rt: HostRuntime) {
     let mut faulty = TcpOptionsIterator::from_slice(&[6, 1, 1, 1]);
-    assert!(rt; faulty.next() == Some(Err(TcpOptionReadError::UnknownId(6))));
-    assert!(rt; faulty.next() == None);
-    assert!(rt; faulty.rest().len() == 0);
+    let items = (faulty.next(), faulty.next(), faulty.rest().len());
+    let unknown = TcpOptionReadError::UnknownId(6);
+    assert!(rt; items == (Some(Err(unknown)), None, 0));
 }
 
 // A kind that has one size: with each number of bytes too few, and with each wrong size.
@@ -220,9 +245,8 @@ fn sizes_of_acknowledgements(rt: HostRuntime) {
 fn unknown_kinds(rt: HostRuntime) {
     for kind in 6..=255u8 {
         if kind != 8 {
-            let unknown = TcpOptionReadError::UnknownId(kind);
-            assert!(rt; first(&[kind, 2, 0, 0]) == Some(Err(unknown)));
-            assert!(rt; first(&[kind]) == Some(Err(unknown)));
+            let unknown = Some(Err(TcpOptionReadError::UnknownId(kind)));
+            assert!(rt; [first(&[kind, 2, 0, 0]), first(&[kind])] == [unknown, unknown]);
         }
     }
 }
@@ -264,9 +288,10 @@ fn options_of_words(rt: HostRuntime) {
 #[test]
 fn iterators_are_equal_by_what_is_left(rt: HostRuntime) {
     let mut items = TcpOptionsIterator::from_slice(&[1, 1, 0]);
-    assert!(rt; items != TcpOptionsIterator::from_slice(&[1, 0]));
+    let shorter = TcpOptionsIterator::from_slice(&[1, 0]);
+    let at_first = items == shorter;
     items.next();
-    assert!(rt; items == TcpOptionsIterator::from_slice(&[1, 0]));
+    assert!(rt; [at_first, items == shorter] == [false, true]);
 }
 
 #[test]

@@ -177,10 +177,19 @@ fn flags_at_their_bits(rt: HostRuntime) {
 #[test]
 fn getters_of_the_header_slice(rt: HostRuntime) {
     let header = header_slice(&rt, &BYTES);
-    assert!(rt; numbers_of(&header) == [1, 2, 3, 4, 6, 5, 6, 7]);
-    let parts = (header.slice(), header.options(), header.to_header());
-    assert!(rt; parts == (&BYTES[..24], [1, 1, 1, 0].as_slice(), fields()));
-    assert!(rt; header.options_iterator().rest().len() == 4);
+    let parts = (
+        numbers_of(&header),
+        header.slice(),
+        header.options(),
+        header.options_iterator().rest().len(),
+    );
+    let options = [1, 1, 1, 0].as_slice();
+    assert!(rt; parts == ([1, 2, 3, 4, 6, 5, 6, 7], &BYTES[..24], options, 4));
+}
+
+#[test]
+fn fields_of_the_header_slice(rt: HostRuntime) {
+    assert!(rt; header_slice(&rt, &BYTES).to_header() == fields());
 }
 
 #[test]
@@ -196,6 +205,15 @@ fn parts_of_the_segment(rt: HostRuntime) {
 }
 
 #[test]
+fn options_of_the_header(rt: HostRuntime) {
+    let bytes = BYTES;
+    let Ok((header, _)) = TcpHeader::from_slice(&bytes) else {
+        panic!(rt; "no header");
+    };
+    assert!(rt; header.options_iterator().rest().len() == 4);
+}
+
+#[test]
 fn options_of_the_segment(rt: HostRuntime) {
     let segment = segment(&rt, &BYTES);
     let parts = (segment.options(), segment.options_iterator().rest().len());
@@ -204,19 +222,31 @@ fn options_of_the_segment(rt: HostRuntime) {
 
 #[test]
 fn fields_of_the_segment(rt: HostRuntime) {
+    assert!(rt; segment(&rt, &BYTES).to_header() == fields());
+}
+
+#[test]
+fn getters_of_the_segment(rt: HostRuntime) {
     let segment = segment(&rt, &BYTES);
-    assert!(rt; segment.to_header() == fields());
-    assert!(rt; numbers_of_segment(&segment) == [1, 2, 3, 4, 6, 5, 6, 7]);
+    let parts = (numbers_of_segment(&segment), flags_of_segment(&segment));
     let flags = [true, true, false, false, true, false, false, false, true];
-    assert!(rt; flags_of_segment(&segment) == flags);
+    assert!(rt; parts == ([1, 2, 3, 4, 6, 5, 6, 7], flags));
+}
+
+// Why these bytes are no segment, no header slice and no header.
+fn refusals(bytes: &[u8]) -> [Option<HeaderSliceError>; 3] {
+    [
+        TcpSlice::from_slice(bytes).err(),
+        TcpHeaderSlice::from_slice(bytes).err(),
+        TcpHeader::from_slice(bytes).err(),
+    ]
 }
 
 #[test]
 fn faults_in_order(rt: HostRuntime) {
-    assert!(rt; TcpSlice::from_slice(&BYTES[..19]).err() == Some(too_short(20, 19)));
-    assert!(rt; TcpSlice::from_slice(&BYTES[..23]).err() == Some(too_short(24, 23)));
-    assert!(rt; TcpHeaderSlice::from_slice(&BYTES[..19]).err() == Some(too_short(20, 19)));
-    assert!(rt; TcpHeader::from_slice(&BYTES[..23]).err() == Some(too_short(24, 23)));
+    let refused = (refusals(&BYTES[..19]), refusals(&BYTES[..23]));
+    let wanted = ([Some(too_short(20, 19)); 3], [Some(too_short(24, 23)); 3]);
+    assert!(rt; refused == wanted);
 }
 
 // Every data offset below 5, whatever the reserved bits and ns are.
@@ -226,9 +256,9 @@ fn data_offsets_below_five(rt: HostRuntime) {
     for data_offset in 0..5u8 {
         let small = HeaderSliceError::Content(HeaderError::DataOffsetTooSmall { data_offset });
         bytes[12] = data_offset * 16 + 15;
-        assert!(rt; TcpSlice::from_slice(&bytes).err() == Some(small));
+        let with_bits = refusals(&bytes);
         bytes[12] = data_offset * 16;
-        assert!(rt; TcpHeaderSlice::from_slice(&bytes).err() == Some(small));
+        assert!(rt; (with_bits, refusals(&bytes)) == ([Some(small); 3], [Some(small); 3]));
     }
 }
 
@@ -239,8 +269,7 @@ fn data_offsets_above_the_bytes(rt: HostRuntime) {
     for data_offset in 7..16u8 {
         let short = too_short(4 * usize::from(data_offset), 26);
         bytes[12] = data_offset * 16;
-        assert!(rt; TcpSlice::from_slice(&bytes).err() == Some(short));
-        assert!(rt; TcpHeader::from_slice(&bytes).err() == Some(short));
+        assert!(rt; refusals(&bytes) == [Some(short); 3]);
     }
 }
 
@@ -261,19 +290,19 @@ fn errors_seen_from_further_out(rt: HostRuntime) {
         layer: Layer::TcpHeader,
         layer_start_offset: 34,
     });
-    assert!(rt; short.add_slice_offset(34) == moved);
     let small = HeaderSliceError::Content(HeaderError::DataOffsetTooSmall { data_offset: 4 });
-    assert!(rt; small.add_slice_offset(34) == small);
+    let found = [short.add_slice_offset(34), small.add_slice_offset(34)];
+    assert!(rt; found == [moved, small]);
 }
 
 #[test]
 fn errors_as_text(rt: HostRuntime) -> Result<(), Fail> {
-    let alloc = rt.alloc();
     let content = HeaderSliceError::from(HeaderError::DataOffsetTooSmall { data_offset: 4 });
-    let text = format!(in alloc; "{content}")?;
-    assert!(rt; text.as_str() == "TCP header: the data offset is 4 and below 5");
-    let text = format!(in alloc; "{}", TcpOptionWriteError::NotEnoughSpace(41))?;
-    assert!(rt; text.as_str() == "TCP options of 41 byte(s): a header has room for 40");
+    let long = TcpOptionWriteError::NotEnoughSpace(41);
+    let text = format!(in rt.alloc(); "{content} | {long}")?;
+    let wanted =
+        "TCP header: the data offset is 4 and below 5 | TCP options of 41 byte(s): a header has room for 40";
+    assert!(rt; text.as_str() == wanted);
     Ok(())
 }
 
@@ -293,10 +322,16 @@ fn views_as_text(rt: HostRuntime) -> Result<(), Fail> {
 #[test]
 fn raw_options(rt: HostRuntime) {
     let mut header = TcpHeader::new(1, 2, 3, 4);
-    assert!(rt; header.set_options_raw(&[1, 1, 1, 1, 1]) == Ok(()));
-    assert!(rt; header.options() == [1, 1, 1, 1, 1, 0, 0, 0].as_slice());
+    let padded = [1, 1, 1, 1, 1, 0, 0, 0].as_slice();
+    let set = header.set_options_raw(&[1, 1, 1, 1, 1]);
+    assert!(rt; (set, header.options()) == (Ok(()), padded));
     let refused = Err(TcpOptionWriteError::NotEnoughSpace(41));
     assert!(rt; (header.set_options_raw(&[1; 41]), header.header_len()) == (refused, 28));
+}
+
+#[test]
+fn greatest_raw_options(rt: HostRuntime) {
+    let mut header = TcpHeader::new(1, 2, 3, 4);
     let greatest = TcpHeader::MAX_DATA_OFFSET;
     assert!(rt; (header.set_options_raw(&[1; 40]), header.data_offset()) == (Ok(()), greatest));
 }
@@ -307,12 +342,20 @@ fn laws_are_called(rt: HostRuntime) {
     laws::tcp::headers_are_their_bytes(&fields());
     let again = laws::tcp::header_is_read_again(&fields(), &BYTES);
     assert!(rt; again == Ok((fields(), &BYTES[24..])));
+}
+
+#[test]
+fn laws_of_options_are_called(rt: HostRuntime) {
     let (a, b) = (
         TcpOptions::from([1, 1, 1, 0]),
         TcpOptions::from([1, 1, 1, 1]),
     );
-    assert!(rt; laws::tcp::options_are_ordered_as_bytes(&a, &b) == Ordering::Less);
     laws::tcp::options_hash_as_bytes(&a, &mut FoldHasher::default());
+    assert!(rt; laws::tcp::options_are_ordered_as_bytes(&a, &b) == Ordering::Less);
+}
+
+#[test]
+fn lengths_and_examples_are_called() {
     laws::tcp::header_lengths();
     laws::examples::tcp_fields();
     laws::examples::tcp_headers_found();

@@ -49,19 +49,21 @@ fn datagram<'a>(rt: &impl Abort, bytes: &'a [u8]) -> UdpSlice<'a> {
 
 #[test]
 fn header_by_position(rt: HostRuntime) {
-    assert!(rt; UdpHeader::from_slice(&BYTES) == Ok((fields(), &BYTES[8..])));
     let short = want(8, 7, LenSource::Slice, Layer::UdpHeader);
-    assert!(rt; UdpHeader::from_slice(&BYTES[..7]).err() == Some(short));
+    let found = [
+        UdpHeader::from_slice(&BYTES),
+        UdpHeader::from_slice(&BYTES[..7]),
+    ];
+    assert!(rt; found == [Ok((fields(), &BYTES[8..])), Err(short)]);
 }
 
 #[test]
 fn bytes_by_position(rt: HostRuntime) {
-    let header = fields();
-    assert!(rt; header.to_bytes().as_slice() == &BYTES[..8]);
-    assert!(rt; UdpHeader::from_bytes([0, 1, 0, 2, 0, 16, 0xdb, 0xb4]) == fields());
-    assert!(rt; header.header_len() == 8);
-    assert!(rt; UdpHeader::LEN_U16 == 8);
-    assert!(rt; UdpHeader::default().to_bytes() == [0; 8]);
+    let bytes = [0, 1, 0, 2, 0, 16, 0xdb, 0xb4];
+    let written = [fields().to_bytes(), UdpHeader::default().to_bytes()];
+    let lengths = (fields().header_len(), UdpHeader::LEN_U16);
+    let found = (written, UdpHeader::from_bytes(bytes), lengths);
+    assert!(rt; found == ([bytes, [0; 8]], fields(), (8, 8)));
 }
 
 #[test]
@@ -93,8 +95,8 @@ fn numbers_of_datagram(datagram: &UdpSlice<'_>) -> [u16; 4] {
 #[test]
 fn getters_of_the_header_slice(rt: HostRuntime) {
     let header = header_slice(&rt, &BYTES);
-    assert!(rt; numbers_of(&header) == [1, 2, 16, 0xdbb4]);
-    assert!(rt; (header.slice(), header.to_header()) == (&BYTES[..8], fields()));
+    let parts = (numbers_of(&header), header.slice(), header.to_header());
+    assert!(rt; parts == ([1, 2, 16, 0xdbb4], &BYTES[..8], fields()));
 }
 
 #[test]
@@ -112,8 +114,8 @@ fn parts_of_the_datagram(rt: HostRuntime) {
 #[test]
 fn fields_of_the_datagram(rt: HostRuntime) {
     let datagram = datagram(&rt, &BYTES);
-    assert!(rt; numbers_of_datagram(&datagram) == [1, 2, 16, 0xdbb4]);
-    assert!(rt; datagram.to_header() == fields());
+    let parts = (numbers_of_datagram(&datagram), datagram.to_header());
+    assert!(rt; parts == ([1, 2, 16, 0xdbb4], fields()));
 }
 
 // A datagram of 10 bytes whose length field is this.
@@ -135,15 +137,23 @@ fn lengths_of_datagrams(rt: HostRuntime) {
     assert!(rt; payload(&datagram_of(0)) == Ok((all, LenSource::Slice)));
     assert!(rt; payload(&datagram_of(8)) == Ok((&all[..0], LenSource::UdpHeaderLen)));
     assert!(rt; payload(&datagram_of(10)) == Ok((all, LenSource::UdpHeaderLen)));
+}
+
+#[test]
+fn bytes_behind_a_datagram(rt: HostRuntime) {
     assert!(rt; payload(&BYTES) == Ok((&BYTES[8..16], LenSource::UdpHeaderLen)));
 }
 
 #[test]
 fn lengths_of_no_datagrams(rt: HostRuntime) {
     let beyond = want(11, 10, LenSource::Slice, Layer::UdpPayload);
-    assert!(rt; payload(&datagram_of(11)) == Err(beyond));
     let short = want(8, 7, LenSource::Slice, Layer::UdpHeader);
-    assert!(rt; payload(&[0; 7]) == Err(short));
+    let datagram = datagram_of(11);
+    assert!(rt; [payload(&datagram), payload(&[0; 7])] == [Err(beyond), Err(short)]);
+}
+
+#[test]
+fn lengths_below_eight(rt: HostRuntime) {
     for length in 1..8u8 {
         let below = want(8, length.into(), LenSource::UdpHeaderLen, Layer::UdpHeader);
         assert!(rt; payload(&datagram_of(length)) == Err(below));
@@ -158,13 +168,16 @@ fn headers_of_payload_lengths(rt: HostRuntime) {
         length: 65535,
         checksum: 0,
     };
-    assert!(rt; UdpHeader::without_ipv4_checksum(1, 2, 65527) == Ok(header));
     let refused = ValueTooBigError {
         actual: 65528,
         max_allowed: 65527,
         value_type: ValueType::UdpPayloadLengthIpv4,
     };
-    assert!(rt; UdpHeader::without_ipv4_checksum(1, 2, 65528) == Err(refused));
+    let found = [
+        UdpHeader::without_ipv4_checksum(1, 2, 65527),
+        UdpHeader::without_ipv4_checksum(1, 2, 65528),
+    ];
+    assert!(rt; found == [Ok(header), Err(refused)]);
 }
 
 // Each view prints its own name, though both are one type.
@@ -185,6 +198,10 @@ fn laws_are_called(rt: HostRuntime) {
     laws::udp::headers_are_their_bytes(&fields());
     let again = laws::udp::header_is_read_again(&fields(), &BYTES);
     assert!(rt; again == Ok((fields(), &BYTES[8..])));
+}
+
+#[test]
+fn traits_and_examples_are_called() {
     laws::traits::types_are_plain_data();
     laws::traits::errors_hash_all_fields();
     laws::udp::header_lengths();

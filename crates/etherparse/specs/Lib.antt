@@ -1,21 +1,6 @@
-pub mod BuildWriteError
-pub mod Built
-pub mod BuiltFrameExamples
-pub mod BuiltFrames
-pub mod BuiltLaws
-pub mod BuiltSteps
-pub mod Fragments
-pub mod IpDefragBuf
-pub mod IpDefragError
-pub mod IpDefragPool
-pub mod IpFragId
-pub mod IpFragRange
-pub mod Outcome
-pub mod Picture
-pub mod PoolCalls
-pub mod Processed
-pub mod Streams
 pub use Rattle.ep_base.specs as base
+pub use Rattle.ep_build.specs as build
+pub use Rattle.ep_defrag.specs as defrag
 pub use Rattle.ep_ext.specs as ext
 pub use Rattle.ep_icmp.specs as icmp
 pub use Rattle.ep_ip.specs as ip

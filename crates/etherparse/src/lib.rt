@@ -3,10 +3,8 @@
 #![tactic(auto)]
 
 pub mod checksum;
-pub mod defrag;
 pub mod err;
 pub mod laws;
-mod packet_builder;
 
 pub use ep_base::EtherType;
 pub use ep_base::IpDscp;
@@ -22,6 +20,12 @@ pub use ep_base::Ipv6FlowLabel;
 pub use ep_base::LenSource;
 pub use ep_base::ether_type;
 pub use ep_base::ip_number;
+pub use ep_build::LastStep;
+pub use ep_build::LinkStep;
+pub use ep_build::PacketBuilder;
+pub use ep_build::PacketBuilderStep;
+pub use ep_build::TransportStep;
+pub use ep_defrag::defrag;
 pub use ep_ext::IpAuthHeader;
 pub use ep_ext::IpAuthHeaderSlice;
 pub use ep_ext::Ipv4Extensions;
@@ -118,8 +122,3 @@ pub use ep_tcpudp::UdpHeader;
 pub use ep_tcpudp::UdpHeaderSlice;
 pub use ep_tcpudp::UdpSlice;
 pub use ep_tcpudp::tcp_option;
-pub use packet_builder::LastStep;
-pub use packet_builder::LinkStep;
-pub use packet_builder::PacketBuilder;
-pub use packet_builder::PacketBuilderStep;
-pub use packet_builder::TransportStep;

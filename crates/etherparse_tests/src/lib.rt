@@ -3,46 +3,4 @@
 #![tactic(auto)]
 
 #[cfg(test)]
-mod buffers;
-#[cfg(test)]
-mod builder_extensions;
-#[cfg(test)]
-mod builder_links;
-#[cfg(test)]
-mod builder_parts;
-#[cfg(test)]
-mod builder_refusals;
-#[cfg(test)]
-mod builder_rows;
-#[cfg(test)]
-mod builder_tcp;
-#[cfg(test)]
-mod builder_transports;
-#[cfg(test)]
-mod errors;
-#[cfg(test)]
-mod fragments;
-#[cfg(test)]
-mod frames;
-#[cfg(test)]
-mod hostile;
-#[cfg(test)]
-mod memory;
-#[cfg(test)]
-mod names;
-#[cfg(test)]
 mod paths;
-#[cfg(test)]
-mod pool_kinds;
-#[cfg(test)]
-mod pool_memory;
-#[cfg(test)]
-mod pool_orders;
-#[cfg(test)]
-mod pool_refusals;
-#[cfg(test)]
-mod pool_retain;
-#[cfg(test)]
-mod pools;
-#[cfg(test)]
-mod ranges;

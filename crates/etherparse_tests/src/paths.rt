@@ -212,11 +212,14 @@ type ErrorsOfExtensions = (
 
 #[test]
 fn constants(rt: HostRuntime) {
-    assert!(rt; etherparse::ether_type::VLAN_TAGGED_FRAME == EtherType(0x8100));
-    assert!(rt; etherparse::ip_number::IPV6_DEST_OPTIONS == IpNumber(60));
-    assert!(rt; etherparse::tcp_option::KIND_TIMESTAMP == 8);
-    assert!(rt; etherparse::defrag::MAX_IP_DEFRAG_LEN == 65535);
-    assert!(rt; etherparse::defrag::MAX_IP_DEFRAG_LEN_U16 == 65535);
+    let found = (
+        etherparse::ether_type::VLAN_TAGGED_FRAME,
+        etherparse::ip_number::IPV6_DEST_OPTIONS,
+        etherparse::tcp_option::KIND_TIMESTAMP,
+        etherparse::defrag::MAX_IP_DEFRAG_LEN,
+        etherparse::defrag::MAX_IP_DEFRAG_LEN_U16,
+    );
+    assert!(rt; found == (EtherType(0x8100), IpNumber(60), 8, 65535, 65535));
 }
 
 /// The eight bytes of RFC 1071, section 3, whose sum is ddf2.
@@ -225,10 +228,13 @@ fn sums(rt: HostRuntime) {
     let text = [0x00, 0x01, 0xf2, 0x03, 0xf4, 0xf5, 0xf6, 0xf7];
     let checksum = 0x220du16.swap_bytes();
     let none = Sum16BitWords::new();
-    assert!(rt; checksum::sum_pieces(&[&text]) == checksum);
-    assert!(rt; checksum::message_sum(none, &text, &[]).ones_complement() == checksum);
-    assert!(rt; u32_16bit_word::ones_complement(u32_16bit_word::add_slice(0, &text)) == checksum);
-    assert!(rt; u64_16bit_word::ones_complement(u64_16bit_word::add_slice(0, &text)) == checksum);
+    let found = [
+        checksum::sum_pieces(&[&text]),
+        checksum::message_sum(none, &text, &[]).ones_complement(),
+        u32_16bit_word::ones_complement(u32_16bit_word::add_slice(0, &text)),
+        u64_16bit_word::ones_complement(u64_16bit_word::add_slice(0, &text)),
+    ];
+    assert!(rt; found == [checksum; 4]);
 }
 
 /// The sum of a pseudo header is that of its words: 10.0.0.1, 10.0.0.2, 17 and 16; and over IPv6 so
@@ -236,9 +242,9 @@ fn sums(rt: HostRuntime) {
 #[test]
 fn pseudo_sums(rt: HostRuntime) {
     let over_ipv4 = checksum::pseudo_sum_v4([10, 0, 0, 1], [10, 0, 0, 2], IpNumber::UDP, 16);
-    assert!(rt; over_ipv4.ones_complement() == (0xffffu16 - 0x1424).swap_bytes());
     let over_ipv6 = checksum::pseudo_sum_v6([0; 16], [0; 16], IpNumber::UDP, 16);
-    assert!(rt; over_ipv6.ones_complement() == (0xffffu16 - 0x0021).swap_bytes());
+    let found = [over_ipv4.ones_complement(), over_ipv6.ones_complement()];
+    assert!(rt; found == [0xebdbu16.swap_bytes(), 0xffdeu16.swap_bytes()]);
 }
 
 /// The laws of each crate below.
@@ -255,18 +261,24 @@ fn laws_of_members() {
     laws::tcpudp::traits::types_are_plain_data();
 }
 
-/// Those of this crate's own traits.
+/// Those of the traits of the builder.
 #[test]
-fn laws_of_traits() {
-    laws::traits::types_are_plain_data();
-    laws::traits::copies_are_values();
-    laws::traits::copies_never_fail();
-    laws::traits::equals_are_same();
-    laws::traits::equal_payloads_are_told_alike();
-    laws::traits::equal_calls_are_told_alike();
-    laws::traits::errors_by_kind_and_fields();
-    laws::traits::ranges_by_start_and_end();
-    laws::traits::names_by_addresses_and_identification();
-    laws::traits::names_hash_all_fields::<u32>();
-    laws::traits::write_errors_hash_all_fields();
+fn laws_of_the_builder() {
+    laws::build::traits::types_are_plain_data();
+    laws::build::traits::write_errors_hash_all_fields();
+}
+
+/// Those of the traits of reassembly.
+#[test]
+fn laws_of_reassembly() {
+    laws::defrag::traits::types_are_plain_data();
+    laws::defrag::traits::copies_are_values();
+    laws::defrag::traits::copies_never_fail();
+    laws::defrag::traits::equals_are_same();
+    laws::defrag::traits::equal_payloads_are_told_alike();
+    laws::defrag::traits::equal_calls_are_told_alike();
+    laws::defrag::traits::errors_by_kind_and_fields();
+    laws::defrag::traits::ranges_by_start_and_end();
+    laws::defrag::traits::names_by_addresses_and_identification();
+    laws::defrag::traits::names_hash_all_fields::<u32>();
 }

@@ -1,16 +1,16 @@
 -- What a line is to a message, and which line a message's last fragment stood on.
 use Rattle.std.proofs.Common.{◌≡◌, ◌≢◌, ◌∙◌, ap, refl, subst, sym, inl, inr, ◌⊎◌, ◌↔◌, ℕ, ◌<◌, ◌≤◌}
-use Rattle.std.proofs.Common.{◌&&◌, ◌==◌, Bool, true, false, if◌then◌else◌, Option, None, List, []}
+use Rattle.std.proofs.Common.{◌&&◌, ◌==◌, Bool, true, if◌then◌else◌, Option, None, List, []}
 use Rattle.std.proofs.Common.{◌∷◌, ◌++◌, append-nil, append_assoc}
 use Rattle.std.specs.Prelude.{IsTrue, nat_eq}
 use Rattle.std.specs.Cmp.Lexicographic.{pointwise}
 use Rattle.std.proofs.lemmas.Bool.{and_parts, cases_Bool, cases_lt, eq-eqb, eqb-true, le-ltb}
 use Rattle.std.proofs.lemmas.Bool.{lt-ltb}
-use Rattle.etherparse.specs.Fragments.{Fragment, fragment}
-use Rattle.etherparse.specs.IpFragId.{fragment_in, same_addresses, same_name}
-use Rattle.etherparse.specs.Outcome.{Held, Outcome, held_after, outcome}
-use Rattle.etherparse.specs.PoolCalls.{Lists, after_fragment, after_frame, outcome_at}
-use Rattle.etherparse.specs.PoolCalls.{retained_from}
+use Rattle.etherparse.specs.defrag.Fragments.{Fragment, fragment}
+use Rattle.etherparse.specs.defrag.IpFragId.{fragment_in, same_addresses, same_name}
+use Rattle.etherparse.specs.defrag.Outcome.{Held, Outcome, held_after, outcome}
+use Rattle.etherparse.specs.defrag.PoolCalls.{Lists, after_fragment, after_frame, outcome_at}
+use Rattle.etherparse.specs.defrag.PoolCalls.{retained_from}
 use Rattle.etherparse.specs.packet.Class.{Class, FragmentName, class_of}
 use Rattle.etherparse.specs.packet.declared.addresses.Addresses.{Addresses}
 use Rattle.etherparse.specs.packet.declared.addresses.Addresses.TheVariants.{V4, V6}
@@ -19,9 +19,9 @@ use Rattle.etherparse.proofs.OutcomeLemmas.{by_outcome}
 use Rattle.netlines.specs.Answers.{answer_after, class_answer, command_answer, outcome_answer}
 use Rattle.netlines.specs.Arrivals.{HandsInFragment, LastAccepted, held_with_line}
 use Rattle.netlines.specs.Arrivals.{lists_after_lines}
-use Rattle.netlines.specs.Lines.{Command, command_of}
-use Rattle.netlines.specs.Lines.Command.{Frame, Forget, Bad}
-use Rattle.netlines.specs.Replies.{number_after}
+use Rattle.commands.specs.Commands.{Command, command_of}
+use Rattle.commands.specs.Commands.Command.{Frame, Forget, Bad}
+use Rattle.lines.specs.Replies.{number_after}
 use Rattle.netlines.proofs.AnswerLemmas.{held_after_lines-push, lists_after_lines-nil}
 
 -- a name is the same as itself

@@ -9,10 +9,10 @@ use Rattle.std.proofs.lemmas.Bool.{cases_lt, eq-eqb, le-ltb}
 use Rattle.std.proofs.lemmas.Bool.Decides.{nat_tests}
 use Rattle.std.proofs.lemmas.List.{get_or-append_right, get_or_append_left}
 use Rattle.std.proofs.lemmas.List.FromFn.{fill_by_all}
-use Rattle.etherparse.specs.declared.defrag.ip_defrag_error.IpDefragError.{IpDefragError}
-use Rattle.etherparse.specs.Fragments.{Fragment, Holds, end_of, greatest_end, is_complete}
-use Rattle.etherparse.specs.Fragments.{named_end, refusal_at, refusal_of, start_of}
-use Rattle.etherparse.specs.Picture.{byte_at, byte_of, text_of}
+use Rattle.etherparse.specs.defrag.declared.defrag.ip_defrag_error.IpDefragError.{IpDefragError}
+use Rattle.etherparse.specs.defrag.Fragments.{Fragment, Holds, end_of, greatest_end, is_complete}
+use Rattle.etherparse.specs.defrag.Fragments.{named_end, refusal_at, refusal_of, start_of}
+use Rattle.etherparse.specs.defrag.Picture.{byte_at, byte_of, text_of}
 use Rattle.etherparse.proofs.Complete.{complete_Decides}
 use Rattle.etherparse.proofs.Members.{Any-from_AnyOf, AnyOf, AnyOf-left, AnyOf-right}
 use Rattle.etherparse.proofs.Push.{byte_at-push, byte_of-here, greatest_end-push, named_end-push}

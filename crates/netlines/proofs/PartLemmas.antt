@@ -1,21 +1,21 @@
 -- What is answered to a part of a message, by what the pool tells of it.
-use Rattle.std.proofs.Common.{inl, inr, ◌≡◌, ◌∙◌, sym, ap, subst, refl, ℕ, Bool, true, Option, Some}
+use Rattle.std.proofs.Common.{inl, inr, ◌≡◌, ◌∙◌, sym, ap, subst, refl, ℕ, Bool, true, Option}
 use Rattle.std.proofs.Common.{None, Result, is_some, List, []}
 use Rattle.std.specs.Prelude.{codes}
-use Rattle.etherparse.specs.Fragments.{fragment}
-use Rattle.etherparse.specs.Outcome.{Outcome}
-use Rattle.etherparse.specs.Outcome.Outcome.{Completed, Refusal, Waiting}
-use Rattle.etherparse.specs.declared.defrag.ip_defrag_error.IpDefragError.{IpDefragError}
-use Rattle.etherparse.specs.declared.defrag.ip_defrag_payload_vec.IpDefragPayloadVec.{IpDefragPayloadVec}
-use Rattle.etherparse.specs.declared.defrag.ip_frag_id.IpFragId.{IpFragId}
-use Rattle.etherparse.specs.IpFragId.{id_named}
-use Rattle.etherparse.specs.Processed.{PacketsAreAnswered, Processed, WantsAreTold}
-use Rattle.etherparse.specs.Streams.{Pool}
-use Rattle.etherparse.specs.PoolCalls.{FrameAnswered, HasMemory, Lists, ShowsLists, Told}
-use Rattle.etherparse.specs.PoolCalls.{answer_to_frame, lists_with_frame, outcome_at, told_of}
-use Rattle.etherparse.specs.PoolCalls.{told_outcome, want_at_frame}
-use Rattle.etherparse.specs.PoolCalls.Told.{Delivered, Nothing, Refused, NotSliced, Retained}
-use Rattle.etherparse.specs.PoolCalls.Told.{NoMemory}
+use Rattle.etherparse.specs.defrag.Fragments.{fragment}
+use Rattle.etherparse.specs.defrag.Outcome.{Outcome}
+use Rattle.etherparse.specs.defrag.Outcome.Outcome.{Completed, Refusal, Waiting}
+use Rattle.etherparse.specs.defrag.declared.defrag.ip_defrag_error.IpDefragError.{IpDefragError}
+use Rattle.etherparse.specs.defrag.declared.defrag.ip_defrag_payload_vec.IpDefragPayloadVec.{IpDefragPayloadVec}
+use Rattle.etherparse.specs.defrag.declared.defrag.ip_frag_id.IpFragId.{IpFragId}
+use Rattle.etherparse.specs.defrag.IpFragId.{id_named}
+use Rattle.etherparse.specs.defrag.Processed.{PacketsAreAnswered, Processed, WantsAreTold}
+use Rattle.etherparse.specs.defrag.Streams.{Pool}
+use Rattle.etherparse.specs.defrag.PoolCalls.{FrameAnswered, HasMemory, Lists, ShowsLists, Told}
+use Rattle.etherparse.specs.defrag.PoolCalls.{answer_to_frame, lists_with_frame, outcome_at, told_of}
+use Rattle.etherparse.specs.defrag.PoolCalls.{told_outcome}
+use Rattle.etherparse.specs.defrag.PoolCalls.Told.{Delivered, Nothing, Refused, NotSliced, Retained}
+use Rattle.etherparse.specs.defrag.PoolCalls.Told.{NoMemory}
 use Rattle.etherparse.specs.packet.Class.{Class, FragmentName, as_class}
 use Rattle.etherparse.specs.packet.Class.Class.{Cut, Refused as Faulty}
 use Rattle.etherparse.specs.packet.Readable.{message_at}

@@ -27,13 +27,13 @@ use Rattle.netlines.proofs.ReadLemmas.{icmpv4_is, icmpv6_is, segment_is}
 use Rattle.etherparse.specs.packet.Readable.ReadMessage.{Udp}
 use Rattle.etherparse.specs.icmp.declared.transport.icmpv4_header.Icmpv4Header.{Icmpv4Header}
 use Rattle.etherparse.specs.icmp.declared.transport.icmpv6_header.Icmpv6Header.{Icmpv6Header}
-use Rattle.etherparse.specs.Built.{with_message_checksum as built_header}
+use Rattle.etherparse.specs.build.Built.{with_message_checksum as built_header}
 use Rattle.etherparse.specs.packet.Transport.{transport_len, transport_spelling}
 use Rattle.etherparse.specs.packet.declared.net.ip_headers.IpHeaders.{IpHeaders}
 use Rattle.etherparse.specs.packet.declared.net.ip_headers.IpHeaders.TheVariants as packet
-use Rattle.etherparse.specs.declared.defrag.ip_frag_version_spec_id.IpFragVersionSpecId.{IpFragVersionSpecId}
-use Rattle.etherparse.specs.declared.defrag.ip_frag_version_spec_id.IpFragVersionSpecId.TheVariants.{Ipv4}
-use Rattle.etherparse.specs.declared.defrag.ip_frag_version_spec_id.IpFragVersionSpecId.TheVariants.{Ipv6}
+use Rattle.etherparse.specs.defrag.declared.defrag.ip_frag_version_spec_id.IpFragVersionSpecId.{IpFragVersionSpecId}
+use Rattle.etherparse.specs.defrag.declared.defrag.ip_frag_version_spec_id.IpFragVersionSpecId.TheVariants.{Ipv4}
+use Rattle.etherparse.specs.defrag.declared.defrag.ip_frag_version_spec_id.IpFragVersionSpecId.TheVariants.{Ipv6}
 use Rattle.netlines.specs.declared.messages.seal_error.SealError.{SealError}
 use Rattle.netlines.specs.declared.messages.seal_error.SealError.TheVariants.{IcmpOfOtherVersion}
 use Rattle.netlines.specs.declared.messages.seal_error.SealError.TheVariants.{TooLong}

@@ -1,25 +1,25 @@
 -- What is answered to a line after others, and to a list of bytes line by line.
-use Rattle.std.specs.Prelude.{ℕ, Bool, false, is_some, Option, Some, None, Result, Ok, Err, List}
+use Rattle.std.specs.Prelude.{ℕ, Bool, false, is_some, Result, Ok, Err, List}
 use Rattle.std.specs.Prelude.{[], ◌∷◌, ◌++◌, codes, decimal}
 use Rattle.hex.specs.Hex.{encode_lower}
-use Rattle.etherparse.specs.Fragments.{fragment}
-use Rattle.etherparse.specs.Outcome.{Outcome}
-use Rattle.etherparse.specs.Outcome.Outcome.{Completed, Refusal, Waiting}
-use Rattle.etherparse.specs.PoolCalls.{Lists, outcome_at, want_at_frame}
-use Rattle.etherparse.specs.declared.defrag.ip_defrag_error.IpDefragError.{IpDefragError}
-use Rattle.etherparse.specs.declared.defrag.ip_defrag_error.IpDefragError.TheVariants.{AllocationFailure}
-use Rattle.etherparse.specs.declared.defrag.ip_defrag_error.IpDefragError.TheVariants.{ConflictingEnd}
-use Rattle.etherparse.specs.declared.defrag.ip_defrag_error.IpDefragError.TheVariants.{SegmentTooBig}
-use Rattle.etherparse.specs.declared.defrag.ip_defrag_error.IpDefragError.TheVariants.{UnalignedFragmentPayloadLen}
+use Rattle.etherparse.specs.defrag.Fragments.{fragment}
+use Rattle.etherparse.specs.defrag.Outcome.{Outcome}
+use Rattle.etherparse.specs.defrag.Outcome.Outcome.{Completed, Refusal, Waiting}
+use Rattle.etherparse.specs.defrag.PoolCalls.{Lists, outcome_at, want_at_frame}
+use Rattle.etherparse.specs.defrag.declared.defrag.ip_defrag_error.IpDefragError.{IpDefragError}
+use Rattle.etherparse.specs.defrag.declared.defrag.ip_defrag_error.IpDefragError.TheVariants.{AllocationFailure}
+use Rattle.etherparse.specs.defrag.declared.defrag.ip_defrag_error.IpDefragError.TheVariants.{ConflictingEnd}
+use Rattle.etherparse.specs.defrag.declared.defrag.ip_defrag_error.IpDefragError.TheVariants.{SegmentTooBig}
+use Rattle.etherparse.specs.defrag.declared.defrag.ip_defrag_error.IpDefragError.TheVariants.{UnalignedFragmentPayloadLen}
 use Rattle.etherparse.specs.packet.Class.{Class, FragmentName, class_of}
 use Rattle.etherparse.specs.packet.Class.Class.{Whole, Cut, Other, Refused}
 use Rattle.etherparse.specs.packet.Readable.{ReadMessage, message_at}
 use Rattle.etherparse.specs.packet.declared.addresses.Addresses.{Addresses}
 use Rattle.etherparse.specs.packet.declared.err.packet.slice_error.SliceError.{SliceError}
 use Rattle.netlines.specs.Arrivals.{lists_after_lines}
-use Rattle.netlines.specs.Lines.{Command, command_of}
-use Rattle.netlines.specs.Lines.Command.{Frame, Forget, Bad}
-use Rattle.netlines.specs.Replies.{Meaning, replies_to, replies_to_ended}
+use Rattle.commands.specs.Commands.{Command, command_of}
+use Rattle.commands.specs.Commands.Command.{Frame, Forget, Bad}
+use Rattle.lines.specs.Replies.{Meaning, replies_to, replies_to_ended}
 use Rattle.netlines.specs.Verdict.{verdict_of}
 use Rattle.netlines.specs.declared.frames.verdict.Verdict.{Verdict}
 use Rattle.netlines.specs.declared.frames.verdict.Verdict.TheVariants as verdict

@@ -2,14 +2,14 @@
 -- hands in a fragment of the message adds it as its outcome says, a `forget` line drops what came
 -- before a line, and no other line matters.
 use Rattle.std.specs.Prelude.{◌≡◌, ℕ, ◌+◌, List, [], ◌∷◌, ◌++◌}
-use Rattle.etherparse.specs.Fragments.{Fragment}
-use Rattle.etherparse.specs.Outcome.{Held}
-use Rattle.etherparse.specs.PoolCalls.{Lists, after_frame, no_lists, retained_from}
+use Rattle.etherparse.specs.defrag.Fragments.{Fragment}
+use Rattle.etherparse.specs.defrag.Outcome.{Held}
+use Rattle.etherparse.specs.defrag.PoolCalls.{Lists, after_frame, no_lists, retained_from}
 use Rattle.etherparse.specs.packet.Class.{FragmentName, class_of}
 use Rattle.etherparse.specs.packet.Class.Class.{Cut}
-use Rattle.netlines.specs.Lines.{Command, command_of}
-use Rattle.netlines.specs.Lines.Command.{Frame, Forget, Bad}
-use Rattle.netlines.specs.Replies.{number_after}
+use Rattle.commands.specs.Commands.{Command, command_of}
+use Rattle.commands.specs.Commands.Command.{Frame, Forget, Bad}
+use Rattle.lines.specs.Replies.{number_after}
 
 -- the line hands in a frame on this channel, which is this fragment of the message with this name
 pub record HandsInFragment (line : List ℕ) (name : FragmentName) (channel : ℕ)

@@ -1,13 +1,13 @@
 -- What the code writes in answer to a line, and what its pool shows then.
 use Rattle.std.specs.Prelude.{◌≡◌, ℕ, true, MatchResult, Result, List, take}
-use Rattle.etherparse.specs.PoolCalls.{Lists, ShowsLists, lists_with_frame}
-use Rattle.etherparse.specs.Streams.{Pool}
-use Rattle.etherparse.specs.declared.defrag.ip_frag_id.IpFragId.{IpFragId}
+use Rattle.etherparse.specs.defrag.PoolCalls.{Lists, ShowsLists, lists_with_frame}
+use Rattle.etherparse.specs.defrag.Streams.{Pool}
+use Rattle.etherparse.specs.defrag.declared.defrag.ip_frag_id.IpFragId.{IpFragId}
 use Rattle.etherparse.specs.packet.Class.{Class}
 use Rattle.netlines.specs.Answers.{class_answer, class_takes_memory, command_answer}
 use Rattle.netlines.specs.Answers.{command_takes_memory}
 use Rattle.netlines.specs.Arrivals.{lists_with_line}
-use Rattle.netlines.specs.Lines.{Command}
+use Rattle.commands.specs.Commands.{Command}
 
 -- a frame of a class that came on a channel, in the line of this number, is answered by the front
 -- of a text, and the pool shows the lists with it; or memory is wanting where it may be

@@ -21,9 +21,9 @@ use Rattle.etherparse.specs.packet.Readable.{icmpv4, icmpv6, tcp, udp}
 use Rattle.netlines.specs.Verdict.{AddressesFit, pseudo}
 use Rattle.etherparse.specs.packet.declared.addresses.Addresses.{Addresses}
 use Rattle.etherparse.specs.packet.declared.addresses.Addresses.TheVariants.{V4, V6}
-use Rattle.etherparse.specs.declared.defrag.ip_frag_version_spec_id.IpFragVersionSpecId.{IpFragVersionSpecId}
-use Rattle.etherparse.specs.declared.defrag.ip_frag_version_spec_id.IpFragVersionSpecId.TheVariants.{Ipv4}
-use Rattle.etherparse.specs.declared.defrag.ip_frag_version_spec_id.IpFragVersionSpecId.TheVariants.{Ipv6}
+use Rattle.etherparse.specs.defrag.declared.defrag.ip_frag_version_spec_id.IpFragVersionSpecId.{IpFragVersionSpecId}
+use Rattle.etherparse.specs.defrag.declared.defrag.ip_frag_version_spec_id.IpFragVersionSpecId.TheVariants.{Ipv4}
+use Rattle.etherparse.specs.defrag.declared.defrag.ip_frag_version_spec_id.IpFragVersionSpecId.TheVariants.{Ipv6}
 use Rattle.etherparse.specs.packet.declared.net.ip_headers.IpHeaders.{IpHeaders}
 use Rattle.etherparse.specs.packet.declared.net.ip_headers.IpHeaders.TheVariants as packet
 use Rattle.netlines.specs.declared.messages.seal_error.SealError.{SealError}

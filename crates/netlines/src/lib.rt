@@ -4,17 +4,16 @@
 
 mod frames;
 pub mod laws;
-mod lines;
 mod messages;
 
 pub use etherparse::defrag::IpFragVersionSpecId;
 pub use etherparse::{Addresses, Message, VlanId, read_message};
+pub use frames::frame_answerer::FrameAnswerer;
+pub use frames::run_frames::{answers, run, run_over};
 pub use frames::verdict::{Verdict, judge};
-pub use lines::answerer::Answerer;
-pub use lines::in_memory::answers;
-pub use lines::limits::{LINE_LIMIT, LINE_ROOM, READ_COUNT_LIMIT, READ_SIZE_LIMIT, REPLY_ROOM};
-pub use lines::run_error::RunError;
-pub use lines::run_lines::{run, run_over, run_with};
+pub use lines::{
+    Answerer, LINE_LIMIT, READ_COUNT_LIMIT, READ_SIZE_LIMIT, REPLY_ROOM, RunError, run_with,
+};
 pub use messages::letter::Letter;
 pub use messages::post_error::PostError;
 pub use messages::post_message::post;

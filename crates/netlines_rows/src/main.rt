@@ -7,12 +7,12 @@
 #![tactic(auto)]
 
 mod comparison;
+mod frame_count;
 mod headers;
-mod lines;
 
-use crate::comparison::agrees;
+use crate::comparison::{agrees, agrees_in_pieces};
+use crate::frame_count::count_frames;
 use crate::headers::Frames;
-use crate::lines::count_frames;
 use anyhow::{Context, Result};
 use std::process::ExitCode;
 use std::rt::Files;
@@ -27,6 +27,9 @@ fn main(rt: HostRuntime) -> Result<ExitCode> {
         let wanted = read(&rt, name.as_str(), "out")?;
         if !agrees(rt.alloc(), input.as_slice(), wanted.as_slice())? {
             println!(rt; "{name} differs")?;
+            differing += 1;
+        } else if !agrees_in_pieces(rt.alloc(), input.as_slice(), wanted.as_slice())? {
+            println!(rt; "{name} differs where reads give few bytes")?;
             differing += 1;
         }
         count_frames(rt.alloc(), name.as_str(), input.as_slice(), &mut frames)?;

@@ -3,8 +3,6 @@
 #![tactic(auto)]
 
 #[cfg(test)]
-mod earlier_lines;
-#[cfg(test)]
 mod edges;
 #[cfg(test)]
 mod faults;
@@ -14,5 +12,9 @@ mod laws;
 mod messages;
 #[cfg(test)]
 mod post;
+#[cfg(test)]
+mod post_refusals;
+#[cfg(test)]
+mod reuse;
 #[cfg(test)]
 mod streams;

@@ -10,6 +10,7 @@ use ep_tcpudp::{TcpHeader, UdpHeader};
 use netlines::{
     Addresses, IpFragVersionSpecId, Message, SealError, Verdict, judge, read_message, seal_message,
 };
+use std::alloc::Global;
 use std::test::Fail;
 
 const OVER_V4: Addresses = Addresses::V4 {
@@ -48,36 +49,43 @@ fn verdict(addresses: &Addresses, number: u8, message: &[u8]) -> Option<Verdict>
 
 #[test]
 fn icmp_all_ones(rt: HostRuntime) {
-    assert!(rt; verdict(&OVER_V4, 1, &[0; 8]) == Some(Verdict::Bad));
-    let first = [0xff, 0xff, 0, 0, 0, 0, 0, 0];
-    assert!(rt; verdict(&OVER_V4, 1, &first) == Some(Verdict::Good));
-    let twice = [0xff, 0xff, 0xff, 0xff, 0, 0, 0, 0];
-    assert!(rt; verdict(&OVER_V4, 1, &twice) == Some(Verdict::Good));
+    let found = [
+        verdict(&OVER_V4, 1, &[0; 8]),
+        verdict(&OVER_V4, 1, &[0xff, 0xff, 0, 0, 0, 0, 0, 0]),
+        verdict(&OVER_V4, 1, &[0xff, 0xff, 0xff, 0xff, 0, 0, 0, 0]),
+    ];
+    let (good, bad) = (Some(Verdict::Good), Some(Verdict::Bad));
+    assert!(rt; found == [bad, good, good]);
 }
 
 #[test]
 fn messages_without_checksum(rt: HostRuntime) {
-    let icmpv4 = [0xff, 0xff, 0, 0, 0, 0, 0, 0];
-    assert!(rt; verdict(&OVER_V6, 1, &icmpv4) == Some(Verdict::None));
-    let icmpv6 = [0x80, 0, 0, 0, 0, 0, 0, 0];
-    assert!(rt; verdict(&OVER_V4, 58, &icmpv6) == Some(Verdict::None));
     let udp = [0, 1, 0, 2, 0, 8, 0, 0];
-    assert!(rt; verdict(&OVER_V4, 17, &udp) == Some(Verdict::None));
-    assert!(rt; verdict(&OVER_V6, 17, &udp) == Some(Verdict::None));
-    assert!(rt; verdict(&OVER_V4, 253, &[]) == Some(Verdict::None));
+    let found = [
+        verdict(&OVER_V6, 1, &[0xff, 0xff, 0, 0, 0, 0, 0, 0]),
+        verdict(&OVER_V4, 58, &[0x80, 0, 0, 0, 0, 0, 0, 0]),
+        verdict(&OVER_V4, 17, &udp),
+        verdict(&OVER_V6, 17, &udp),
+        verdict(&OVER_V4, 253, &[]),
+    ];
+    assert!(rt; found == [Some(Verdict::None); 5]);
 }
 
 #[test]
 fn messages_with_checksum(rt: HostRuntime) {
     let udp = [0, 1, 0, 2, 0, 0x10, 0xdb, 0xb4, 1, 2, 3, 4, 5, 6, 7, 8];
-    assert!(rt; verdict(&OVER_V4, 17, &udp) == Some(Verdict::Good));
-    assert!(rt; verdict(&OVER_V6, 17, &udp) == Some(Verdict::Bad));
     let echo = [0x80, 0, 0x24, 0x51, 0, 1, 0, 2, 0x61, 0x62];
-    assert!(rt; verdict(&OVER_V6, 58, &echo) == Some(Verdict::Good));
     let segment = [
         0, 1, 0, 2, 0, 0, 0, 3, 0, 0, 0, 0, 0x50, 2, 4, 0, 0x97, 0xda, 0, 0,
     ];
-    assert!(rt; verdict(&OVER_V4, 6, &segment) == Some(Verdict::Good));
+    let found = [
+        verdict(&OVER_V4, 17, &udp),
+        verdict(&OVER_V6, 17, &udp),
+        verdict(&OVER_V6, 58, &echo),
+        verdict(&OVER_V4, 6, &segment),
+    ];
+    let (good, bad) = (Some(Verdict::Good), Some(Verdict::Bad));
+    assert!(rt; found == [good, bad, good, good]);
 }
 
 // What is told of an echo reply of zeros with this checksum in front of a payload, to whose sum it
@@ -93,12 +101,16 @@ fn verdict_of_reply(checksum: u16, payload: &[u8]) -> Option<Verdict> {
 // Words of ffff and of 0, and 16 words 0101 with 0100 behind them.
 #[test]
 fn payloads_of_one_byte_repeated(rt: HostRuntime) {
-    assert!(rt; verdict_of_reply(0, &[0xff; 64]) == Some(Verdict::Good));
-    assert!(rt; verdict_of_reply(0xffff, &[0xff; 64]) == Some(Verdict::Good));
-    assert!(rt; verdict_of_reply(0xffff, &[0; 64]) == Some(Verdict::Good));
-    assert!(rt; verdict_of_reply(0, &[0; 64]) == Some(Verdict::Bad));
-    assert!(rt; verdict_of_reply(0xeeef, &[1; 33]) == Some(Verdict::Good));
-    assert!(rt; verdict_of_reply(0xefee, &[1; 33]) == Some(Verdict::Bad));
+    let found = [
+        verdict_of_reply(0, &[0xff; 64]),
+        verdict_of_reply(0xffff, &[0xff; 64]),
+        verdict_of_reply(0xffff, &[0; 64]),
+        verdict_of_reply(0, &[0; 64]),
+        verdict_of_reply(0xeeef, &[1; 33]),
+        verdict_of_reply(0xefee, &[1; 33]),
+    ];
+    let (good, bad) = (Some(Verdict::Good), Some(Verdict::Bad));
+    assert!(rt; found == [good, good, good, bad, good, bad]);
 }
 
 // Payloads of 1, 2, 3, .. of each length up to 130, of which the longest are summed in lanes, with
@@ -111,12 +123,27 @@ fn payloads_of_every_length(rt: HostRuntime) {
     for len in 0..=130usize {
         let checksum = (65535 - total % 65535) as u16;
         let front = &payload[..len];
-        assert!(rt; verdict_of_reply(checksum, front) == Some(Verdict::Good));
-        assert!(rt; verdict_of_reply(checksum ^ 1, front) == Some(Verdict::Bad));
+        let found = [
+            verdict_of_reply(checksum, front),
+            verdict_of_reply(checksum ^ 1, front),
+        ];
+        assert!(rt; found == [Some(Verdict::Good), Some(Verdict::Bad)]);
         byte = byte.wrapping_add(1);
         payload[len] = byte;
         let weight = if len % 2 == 0 { 256 } else { 1 };
         total = total.wrapping_add(u32::from(byte) * weight);
+    }
+}
+
+// What a message is read as, 1 to 5, and its length; nothing where it can't be read.
+fn kind_and_len(number: u8, bytes: &[u8]) -> (u8, usize) {
+    match read_message(IpNumber(number), bytes) {
+        Ok(Message::Icmpv4(message)) => (1, message.slice().len()),
+        Ok(Message::Tcp(message)) => (2, message.slice().len()),
+        Ok(Message::Udp(message)) => (3, message.slice().len()),
+        Ok(Message::Icmpv6(message)) => (4, message.slice().len()),
+        Ok(Message::Raw(message)) => (5, message.len()),
+        Err(_) => (0, 0),
     }
 }
 
@@ -125,19 +152,15 @@ fn a_message_is_the_slice_of_its_protocol(rt: HostRuntime) {
     let bytes = [
         0xff, 0xff, 0, 0, 0, 8, 0, 0, 0, 0, 0, 0, 0x50, 0, 0, 0, 0, 0, 0, 0,
     ];
-    let numbers = [1, 6, 17, 58, 0, 253];
-    let mut kinds = [0; 6];
-    for (number, kind) in numbers.iter().zip(kinds.iter_mut()) {
-        *kind = match read_message(IpNumber(*number), &bytes) {
-            Ok(Message::Icmpv4(message)) => message.slice().len() + 1000,
-            Ok(Message::Tcp(message)) => message.slice().len() + 2000,
-            Ok(Message::Udp(message)) => message.slice().len() + 3000,
-            Ok(Message::Icmpv6(message)) => message.slice().len() + 4000,
-            Ok(Message::Raw(message)) => message.len() + 5000,
-            Err(_) => 0,
-        };
-    }
-    assert!(rt; kinds == [1020, 2020, 3008, 4020, 5020, 5020]);
+    let found = [
+        kind_and_len(1, &bytes),
+        kind_and_len(6, &bytes),
+        kind_and_len(17, &bytes),
+        kind_and_len(58, &bytes),
+        kind_and_len(0, &bytes),
+        kind_and_len(253, &bytes),
+    ];
+    assert!(rt; found == [(1, 20), (2, 20), (3, 8), (4, 20), (5, 20), (5, 20)]);
 }
 
 // The error of a message that can't be read.
@@ -157,115 +180,141 @@ fn want_of_bytes(required_len: usize, len: usize, layer: Layer) -> Option<SliceE
 
 #[test]
 fn refusals_of_messages(rt: HostRuntime) {
-    let zeros = [0; 19];
-    assert!(rt; fault(1, &zeros[..7]) == want_of_bytes(8, 7, Layer::Icmpv4));
-    assert!(rt; fault(6, &zeros) == want_of_bytes(20, 19, Layer::TcpHeader));
-    assert!(rt; fault(17, &zeros[..7]) == want_of_bytes(8, 7, Layer::UdpHeader));
-    assert!(rt; fault(58, &zeros[..7]) == want_of_bytes(8, 7, Layer::Icmpv6));
-    let timestamp = [13, 0, 0, 0, 0, 0, 0, 0];
-    assert!(rt; fault(1, &timestamp) == want_of_bytes(20, 8, Layer::Icmpv4Timestamp));
+    let faults = [
+        fault(1, &[0; 7]),
+        fault(6, &[0; 19]),
+        fault(17, &[0; 7]),
+        fault(58, &[0; 7]),
+        fault(1, &[13, 0, 0, 0, 0, 0, 0, 0]),
+    ];
+    let wanted = [
+        want_of_bytes(8, 7, Layer::Icmpv4),
+        want_of_bytes(20, 19, Layer::TcpHeader),
+        want_of_bytes(8, 7, Layer::UdpHeader),
+        want_of_bytes(8, 7, Layer::Icmpv6),
+        want_of_bytes(20, 8, Layer::Icmpv4Timestamp),
+    ];
+    assert!(rt; faults == wanted);
+}
+
+#[test]
+fn refusal_of_a_data_offset(rt: HostRuntime) {
     let mut segment = [0; 20];
     segment[12] = 0x40;
     let too_small = HeaderError::DataOffsetTooSmall { data_offset: 4 };
     assert!(rt; fault(6, &segment) == Some(SliceError::Tcp(too_small)));
 }
 
-#[test]
-fn sealed_messages(rt: HostRuntime) -> Result<(), Fail> {
-    let payload = [1, 2, 3, 4, 5, 6, 7, 8];
-    let udp = UdpHeader {
+// A header of a datagram whose checksum is to be set.
+fn udp(checksum: u16) -> TransportHeader {
+    TransportHeader::Udp(UdpHeader {
         source_port: 1,
         destination_port: 2,
         length: 0,
-        checksum: 0xffff,
-    };
-    let over_v4 = seal_message(
-        rt.alloc(),
-        &stream_v4(),
-        TransportHeader::Udp(udp.clone()?),
-        &payload,
-    )?;
-    assert!(rt;
-        over_v4.as_slice() == [0, 1, 0, 2, 0, 0x10, 0xdb, 0xb4, 1, 2, 3, 4, 5, 6, 7, 8].as_slice()
-    );
-    let over_v6 = seal_message(
-        rt.alloc(),
-        &stream_v6(),
-        TransportHeader::Udp(udp),
-        &payload,
-    )?;
-    assert!(rt;
-        over_v6.as_slice() == [0, 1, 0, 2, 0, 0x10, 0xf5, 0xb2, 1, 2, 3, 4, 5, 6, 7, 8].as_slice()
-    );
-    Ok(())
+        checksum,
+    })
 }
 
-#[test]
-fn sealed_icmp(rt: HostRuntime) -> Result<(), Fail> {
-    let reply = TransportHeader::Icmpv4(Icmpv4Header {
+fn icmpv4_reply() -> TransportHeader {
+    TransportHeader::Icmpv4(Icmpv4Header {
         icmp_type: Icmpv4Type::EchoReply(IcmpEchoHeader { id: 0, seq: 0 }),
         checksum: 0,
-    });
-    let message = seal_message(rt.alloc(), &stream_v4(), reply, &[])?;
-    assert!(rt; message.as_slice() == [0, 0, 0xff, 0xff, 0, 0, 0, 0].as_slice());
-    let request = TransportHeader::Icmpv6(Icmpv6Header {
+    })
+}
+
+fn icmpv6_request() -> TransportHeader {
+    TransportHeader::Icmpv6(Icmpv6Header {
         icmp_type: Icmpv6Type::EchoRequest(IcmpEchoHeader { id: 1, seq: 2 }),
         checksum: 0,
-    });
-    let message = seal_message(rt.alloc(), &stream_v6(), request, b"ab")?;
-    assert!(rt; message.as_slice() == [0x80, 0, 0x24, 0x51, 0, 1, 0, 2, 0x61, 0x62].as_slice());
-    Ok(())
+    })
+}
+
+// Whether the message is sealed as these bytes.
+fn seals_as(
+    alloc: Global,
+    stream: &IpFragVersionSpecId,
+    header: TransportHeader,
+    payload: &[u8],
+    bytes: &[u8],
+) -> bool {
+    match seal_message(alloc, stream, header, payload) {
+        Ok(message) => message.as_slice() == bytes,
+        Err(_) => false,
+    }
 }
 
 #[test]
-fn sealed_segment(rt: HostRuntime) -> Result<(), Fail> {
+fn sealed_messages(rt: HostRuntime) {
+    let payload = [1, 2, 3, 4, 5, 6, 7, 8];
+    let over_v4 = [0, 1, 0, 2, 0, 0x10, 0xdb, 0xb4, 1, 2, 3, 4, 5, 6, 7, 8];
+    let over_v6 = [0, 1, 0, 2, 0, 0x10, 0xf5, 0xb2, 1, 2, 3, 4, 5, 6, 7, 8];
+    let sealed = [
+        seals_as(rt.alloc(), &stream_v4(), udp(0xffff), &payload, &over_v4),
+        seals_as(rt.alloc(), &stream_v6(), udp(0xffff), &payload, &over_v6),
+    ];
+    assert!(rt; sealed == [true, true]);
+}
+
+#[test]
+fn sealed_icmp(rt: HostRuntime) {
+    let reply = [0, 0, 0xff, 0xff, 0, 0, 0, 0];
+    let request = [0x80, 0, 0x24, 0x51, 0, 1, 0, 2, 0x61, 0x62];
+    let sealed = [
+        seals_as(rt.alloc(), &stream_v4(), icmpv4_reply(), &[], &reply),
+        seals_as(rt.alloc(), &stream_v6(), icmpv6_request(), b"ab", &request),
+    ];
+    assert!(rt; sealed == [true, true]);
+}
+
+#[test]
+fn sealed_segment(rt: HostRuntime) {
     let mut header = TcpHeader::new(1, 2, 3, 0x400);
     header.syn = true;
-    let message = seal_message(rt.alloc(), &stream_v4(), TransportHeader::Tcp(header), &[])?;
+    let bytes = [
+        0, 1, 0, 2, 0, 0, 0, 3, 0, 0, 0, 0, 0x50, 2, 4, 0, 0x97, 0xda, 0, 0,
+    ];
     assert!(rt;
-        message.as_slice()
-            == [
-                0, 1, 0, 2, 0, 0, 0, 3, 0, 0, 0, 0, 0x50, 2, 4, 0, 0x97, 0xda, 0, 0
-            ]
-            .as_slice()
+        seals_as(
+            rt.alloc(),
+            &stream_v4(),
+            TransportHeader::Tcp(header),
+            &[],
+            &bytes
+        )
     );
-    Ok(())
+}
+
+// The length of a sealed message, or why there is none.
+fn sealed_len(
+    alloc: Global,
+    stream: &IpFragVersionSpecId,
+    header: TransportHeader,
+    payload: &[u8],
+) -> Result<usize, SealError> {
+    match seal_message(alloc, stream, header, payload) {
+        Ok(message) => Ok(message.len()),
+        Err(error) => Err(error),
+    }
 }
 
 #[test]
 fn refusals_of_sealing(rt: HostRuntime) -> Result<(), Fail> {
     let zeros = vec![in rt.alloc(); 0u8; 65528]?;
-    let icmpv6 = TransportHeader::Icmpv6(Icmpv6Header {
-        icmp_type: Icmpv6Type::EchoRequest(IcmpEchoHeader { id: 1, seq: 2 }),
-        checksum: 0,
-    });
-    let answer = seal_message(rt.alloc(), &stream_v4(), icmpv6, &zeros);
-    assert!(rt; answer.err() == Some(SealError::IcmpOfOtherVersion));
-    let icmpv4 = TransportHeader::Icmpv4(Icmpv4Header {
-        icmp_type: Icmpv4Type::EchoReply(IcmpEchoHeader { id: 0, seq: 0 }),
-        checksum: 0,
-    });
-    let answer = seal_message(rt.alloc(), &stream_v6(), icmpv4, &[]);
-    assert!(rt; answer.err() == Some(SealError::IcmpOfOtherVersion));
-    let udp = UdpHeader {
-        source_port: 1,
-        destination_port: 2,
-        length: 0,
-        checksum: 0,
-    };
-    let longer = seal_message(
-        rt.alloc(),
-        &stream_v4(),
-        TransportHeader::Udp(udp.clone()?),
-        &zeros,
+    let found = [
+        sealed_len(rt.alloc(), &stream_v4(), icmpv6_request(), &zeros),
+        sealed_len(rt.alloc(), &stream_v6(), icmpv4_reply(), &[]),
+        sealed_len(rt.alloc(), &stream_v4(), udp(0), &zeros),
+        sealed_len(rt.alloc(), &stream_v4(), udp(0), &zeros[..65527]),
+    ];
+    let other_version = Err(SealError::IcmpOfOtherVersion);
+    assert!(rt;
+        found
+            == [
+                other_version,
+                other_version,
+                Err(SealError::TooLong),
+                Ok(65535)
+            ]
     );
-    assert!(rt; longer.err() == Some(SealError::TooLong));
-    let greatest = seal_message(
-        rt.alloc(),
-        &stream_v4(),
-        TransportHeader::Udp(udp),
-        &zeros[..65527],
-    )?;
-    assert!(rt; greatest.len() == 65535);
     Ok(())
 }

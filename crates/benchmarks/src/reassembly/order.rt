@@ -14,6 +14,8 @@ pub enum Order {
     /// First every second one, so that there are as many sections as there can be, and then the
     /// others.
     EvenFirst,
+    /// As if shuffled, the same way each time.
+    Shuffled,
 }
 
 impl Order {
@@ -27,6 +29,15 @@ impl Order {
             Order::Descending => FRAGMENTS - 1 - place,
             Order::EvenFirst if place < FRAGMENTS / 2 => 2 * place,
             Order::EvenFirst => 2 * (place - FRAGMENTS / 2) + 1,
+            Order::Shuffled => shuffled(shuffled(place)),
         }
     }
+}
+
+// A permutation of the places: an odd factor and a shift by less than all bits are undone by others.
+fn shuffled(place: u16) -> u16
+    ensures { result < 8192 }
+{
+    let product = place.wrapping_mul(0x1d35) % FRAGMENTS;
+    (product ^ (product >> 6)) % FRAGMENTS
 }

@@ -2,9 +2,10 @@
 ghost use Rattle.std.specs.Prelude.{◌≡◌, ◌≤◌, ◌+◌, ◌==◌, if◌then◌else◌, ◌↔◌, IsTrue, ℕ, List};
 ghost use Rattle.std.specs.Prelude.{length, IfOk, IfErr, IfSome, MatchOption};
 ghost use Rattle.captures.specs.Numbers.{word};
-ghost use Rattle.captures.specs.Pcapng.{section_header, interface_description, enhanced_packet};
-ghost use Rattle.captures.specs.Pcapng.{simple_packet, captured_len, IsOther, IsSkipped};
-ghost use Rattle.captures.specs.Pcapng.{IsEnhancedPacket, IsSimplePacket, Reads, RefusesBlock};
+ghost use Rattle.captures.specs.Pcapng.{section_header, interface_description, simple_packet};
+ghost use Rattle.captures.specs.Pcapng.{captured_len, IsOther, IsSkipped, HoldsPacket, Content, Says};
+ghost use Rattle.captures.specs.Pcapng.{IsTimedPacket, IsSimplePacket, Reads, RefusesBlock};
+ghost use Rattle.captures.specs.Pcapng.Content.{Holds};
 
 use crate::CaptureError;
 use crate::byte_order::ByteOrder;
@@ -16,6 +17,8 @@ pub(crate) const SECTION_HEADER: u32 = 0x0a0d_0d0a;
 pub(crate) const BYTE_ORDER_MAGIC: u32 = 0x1a2b_3c4d;
 
 const INTERFACE_DESCRIPTION: u32 = 1;
+
+const OBSOLETE_PACKET: u32 = 2;
 
 const SIMPLE_PACKET: u32 = 3;
 
@@ -37,6 +40,7 @@ fn is_other(order: ByteOrder, front: &[u8]) -> bool
     kind != SECTION_HEADER
         && kind != INTERFACE_DESCRIPTION
         && kind != ENHANCED_PACKET
+        && kind != OBSOLETE_PACKET
         && kind != SIMPLE_PACKET
 }
 
@@ -62,8 +66,9 @@ pub(crate) fn read_block(
     match order.word(block, 0) {
         SECTION_HEADER => begin_section(section, order, block),
         INTERFACE_DESCRIPTION => describe_interface(section, order, block),
-        ENHANCED_PACKET => read_enhanced(section, order, block),
-        SIMPLE_PACKET => read_simple(section, order, block),
+        ENHANCED_PACKET => read_packet(section, order, block),
+        OBSOLETE_PACKET => read_packet(section, order, block),
+        SIMPLE_PACKET => read_packet(section, order, block),
         _ => Ok(Reading {
             after: section,
             channel: 0,
@@ -154,18 +159,18 @@ struct Held<'a> {
     frame: &'a [u8],
 }
 
-fn read_enhanced(
+fn read_packet(
     section: Section,
     order: ByteOrder,
     block: &[u8],
 ) -> Result<Reading<'_>, CaptureError>
     requires size { 12 ≤ length block.now }
-    requires kind { word order block.now 0 ≡ enhanced_packet }
+    requires kind { HoldsPacket order block.now }
     ensures reads { IfOk result (λ r. Reads section order block.now r.after r.channel r.frame.now) }
     ensures size { IfOk result (λ r. length r.frame.now + 12 ≤ length block.now) }
     ensures refused { IfErr result (λ e. RefusesBlock section order block.now e) }
 {
-    let Some(held) = enhanced_frame(section, order, block) else {
+    let Some(held) = held_packet(section, order, block) else {
         return Err(CaptureError::BadBlock);
     };
     if held.captured as usize > FRAME_LIMIT {
@@ -178,20 +183,35 @@ fn read_enhanced(
     })
 }
 
-fn enhanced_frame(section: Section, order: ByteOrder, block: &[u8]) -> Option<Held<'_>>
+fn held_packet(section: Section, order: ByteOrder, block: &[u8]) -> Option<Held<'_>>
     requires size { 12 ≤ length block.now }
-    requires kind { word order block.now 0 ≡ enhanced_packet }
+    requires kind { HoldsPacket order block.now }
+    ensures found { MatchOption result ((content : Content) → Says section order block.now content → ⊥)
+        (λ h. Says section order block.now (Holds h.channel h.frame.now)) }
+    ensures captured { IfSome result (λ h. h.captured ≡ length h.frame.now) }
+    ensures size { IfSome result (λ h. length h.frame.now + 12 ≤ length block.now) }
+{
+    match order.word(block, 0) {
+        ENHANCED_PACKET => timed_packet(section, order, block, order.word(block, 8)),
+        OBSOLETE_PACKET => timed_packet(section, order, block, u32::from(order.half(block, 8))),
+        _ => simple_packet(section, order, block),
+    }
+}
+
+fn timed_packet(
+    section: Section,
+    order: ByteOrder,
+    block: &[u8],
+    interface: u32,
+) -> Option<Held<'_>>
     ensures found { MatchOption result
         ((channel : ℕ) (frame : List ℕ)
-        → IsEnhancedPacket section order block.now channel frame → ⊥)
-        (λ h. IsEnhancedPacket section order block.now h.channel h.frame.now) }
+        → IsTimedPacket interface section order block.now channel frame → ⊥)
+        (λ h. IsTimedPacket interface section order block.now h.channel h.frame.now) }
     ensures captured { IfSome result (λ h. h.captured ≡ length h.frame.now) }
+    ensures size { IfSome result (λ h. length h.frame.now + 12 ≤ length block.now) }
 {
-    if block.len() < 32 {
-        return None;
-    }
-    let interface = order.word(block, 8);
-    if interface >= section.interfaces {
+    if block.len() < 32 || interface >= section.interfaces {
         return None;
     }
     let channel = section.first.checked_add(interface)?;
@@ -206,37 +226,14 @@ fn enhanced_frame(section: Section, order: ByteOrder, block: &[u8]) -> Option<He
     })
 }
 
-fn read_simple(
-    section: Section,
-    order: ByteOrder,
-    block: &[u8],
-) -> Result<Reading<'_>, CaptureError>
-    requires size { 12 ≤ length block.now }
-    requires kind { word order block.now 0 ≡ simple_packet }
-    ensures reads { IfOk result (λ r. Reads section order block.now r.after r.channel r.frame.now) }
-    ensures size { IfOk result (λ r. length r.frame.now + 12 ≤ length block.now) }
-    ensures refused { IfErr result (λ e. RefusesBlock section order block.now e) }
-{
-    let Some(held) = simple_frame(section, order, block) else {
-        return Err(CaptureError::BadBlock);
-    };
-    if held.captured as usize > FRAME_LIMIT {
-        return Err(CaptureError::FrameTooLong(held.captured));
-    }
-    Ok(Reading {
-        after: section,
-        channel: held.channel,
-        frame: held.frame,
-    })
-}
-
-fn simple_frame(section: Section, order: ByteOrder, block: &[u8]) -> Option<Held<'_>>
+fn simple_packet(section: Section, order: ByteOrder, block: &[u8]) -> Option<Held<'_>>
     requires size { 12 ≤ length block.now }
     requires kind { word order block.now 0 ≡ simple_packet }
     ensures found { MatchOption result
         ((channel : ℕ) (frame : List ℕ) → IsSimplePacket section order block.now channel frame → ⊥)
         (λ h. IsSimplePacket section order block.now h.channel h.frame.now) }
     ensures captured { IfSome result (λ h. h.captured ≡ length h.frame.now) }
+    ensures size { IfSome result (λ h. length h.frame.now + 12 ≤ length block.now) }
 {
     if block.len() < 16 || section.interfaces == 0 {
         return None;

@@ -13,6 +13,7 @@ use crate::translation::state::State;
 #[derive(Clone, Copy, Debug, PartialEq, Eq)]
 pub(crate) struct LongBlock {
     pub order: ByteOrder,
+    pub kind: u32,
     pub len: u32,
     /// How many bytes are still to come before its second length.
     pub left: u32,
@@ -38,6 +39,7 @@ pub(crate) fn long_block(state: State, bytes: &[u8]) -> Option<LongBlock>
     }
     Some(LongBlock {
         order,
+        kind: order.word(bytes, 0),
         len,
         left: len - 4 - bytes.len() as u32,
     })

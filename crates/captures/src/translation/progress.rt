@@ -1,6 +1,6 @@
 //! What a run takes of its input, piece by piece.
-ghost use Rattle.std.specs.Prelude.{◌≡◌, ◌≤◌, ◌<◌, ◌*◌, ◌++◌, ℕ, List, length, take, None, Some};
-ghost use Rattle.captures.specs.Dropped.{IsDropped, Leaves};
+ghost use Rattle.std.specs.Prelude.{◌≡◌, ◌≤◌, ◌<◌, ◌+◌, ◌*◌, ◌++◌, ℕ, List, length, take, None, Some};
+ghost use Rattle.captures.specs.Dropped.{IsDropped, Leaves, dropped_len};
 
 use crate::CaptureError;
 use crate::limits::INPUT_ROOM;
@@ -20,6 +20,10 @@ pub(crate) struct Progress<'a> {
     pub begun: Option<LongBlock>,
     /// What is to be held of the bytes.
     pub rest: &'a [u8],
+    /// How many bytes are passed: those of whole units.
+    pub passed: u64,
+    /// How many packets the units hold.
+    pub count: usize,
     /// How many bytes the lines of the packets have.
     pub used: usize,
     /// Why no unit can follow.
@@ -39,7 +43,10 @@ pub(crate) fn take_piece<'a>(
     ensures fits { result.used ≤ length out.new }
     ensures takes { (dropped : List ℕ) → IsDropped state begun dropped
         → Leaves state (dropped ++ bytes.now) result.after result.begun result.rest.now
-        (take result.used out.new) result.refusal }
+        result.count (take result.used out.new) result.refusal }
+    ensures passed { (dropped : List ℕ) → IsDropped state begun dropped
+        → result.passed + dropped_len result.begun + length result.rest.now
+        ≡ length dropped + length bytes.now }
     ensures parts { (front : List ℕ) × (bytes.now ≡ front ++ result.rest.now) }
     ensures room { result.refusal ≡ None → length result.rest.now < INPUT_ROOM }
 {
@@ -55,16 +62,21 @@ fn take_whole<'a>(state: State, bytes: &'a [u8], out: &mut [u8]) -> Progress<'a>
     requires out { 4 * length bytes.now ≤ length out.old }
     ensures fits { result.used ≤ length out.new }
     ensures takes { Leaves state bytes.now result.after result.begun result.rest.now
-        (take result.used out.new) result.refusal }
+        result.count (take result.used out.new) result.refusal }
+    ensures passed { result.passed + dropped_len result.begun + length result.rest.now
+        ≡ length bytes.now }
     ensures parts { (front : List ℕ) × (bytes.now ≡ front ++ result.rest.now) }
     ensures room { result.refusal ≡ None → length result.rest.now < INPUT_ROOM }
 {
     let taken = take_units(state, bytes, out);
+    let passed = (bytes.len() - taken.rest.len()) as u64;
     if taken.refusal.is_some() {
         return Progress {
             after: taken.after,
             begun: None,
             rest: taken.rest,
+            passed,
+            count: taken.count,
             used: taken.used,
             refusal: taken.refusal,
         };
@@ -74,6 +86,8 @@ fn take_whole<'a>(state: State, bytes: &'a [u8], out: &mut [u8]) -> Progress<'a>
             after: taken.after,
             begun: Some(block),
             rest: &[],
+            passed,
+            count: taken.count,
             used: taken.used,
             refusal: None,
         },
@@ -81,6 +95,8 @@ fn take_whole<'a>(state: State, bytes: &'a [u8], out: &mut [u8]) -> Progress<'a>
             after: taken.after,
             begun: None,
             rest: taken.rest,
+            passed,
+            count: taken.count,
             used: taken.used,
             refusal: None,
         },
@@ -94,7 +110,10 @@ fn take_behind<'a>(state: State, block: LongBlock, bytes: &'a [u8], out: &mut [u
     ensures fits { result.used ≤ length out.new }
     ensures takes { (dropped : List ℕ) → IsDropped state (Some block) dropped
         → Leaves state (dropped ++ bytes.now) result.after result.begun result.rest.now
-        (take result.used out.new) result.refusal }
+        result.count (take result.used out.new) result.refusal }
+    ensures passed { (dropped : List ℕ) → IsDropped state (Some block) dropped
+        → result.passed + dropped_len result.begun + length result.rest.now
+        ≡ length dropped + length bytes.now }
     ensures parts { (front : List ℕ) × (bytes.now ≡ front ++ result.rest.now) }
     ensures room { result.refusal ≡ None → length result.rest.now < INPUT_ROOM }
 {
@@ -102,6 +121,7 @@ fn take_behind<'a>(state: State, block: LongBlock, bytes: &'a [u8], out: &mut [u
     let (_, rest) = bytes.split_at(dropped);
     let begun = LongBlock {
         order: block.order,
+        kind: block.kind,
         len: block.len,
         left: block.left - dropped as u32,
     };
@@ -110,6 +130,8 @@ fn take_behind<'a>(state: State, block: LongBlock, bytes: &'a [u8], out: &mut [u
             after: state,
             begun: Some(begun),
             rest,
+            passed: 0,
+            count: 0,
             used: 0,
             refusal: None,
         };
@@ -119,10 +141,21 @@ fn take_behind<'a>(state: State, block: LongBlock, bytes: &'a [u8], out: &mut [u
             after: state,
             begun: Some(begun),
             rest,
+            passed: 0,
+            count: 0,
             used: 0,
             refusal: Some(CaptureError::BadBlock),
         };
     }
     let (_, behind) = rest.split_at(SECOND_LEN);
-    take_whole(state, behind, out)
+    let taken = take_whole(state, behind, out);
+    Progress {
+        after: taken.after,
+        begun: taken.begun,
+        rest: taken.rest,
+        passed: u64::from(block.len) + taken.passed,
+        count: taken.count,
+        used: taken.used,
+        refusal: taken.refusal,
+    }
 }

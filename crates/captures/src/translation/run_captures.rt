@@ -1,11 +1,12 @@
 //! A run: reads, and the lines of the packets that they give.
-ghost use Rattle.std.specs.Prelude.{◌≡◌, ◌≤◌, ◌+◌, ◌*◌, ◌^◌, ◌++◌, ℕ, List, length, OnOk, IfSome};
+ghost use Rattle.std.specs.Prelude.{◌≡◌, ◌≤◌, ◌+◌, ◌-◌, ◌*◌, ◌^◌, ◌++◌, ℕ, List, length, OnOk, IfSome};
 ghost use Rattle.std.specs.Prelude.{IsErrOf, None};
 ghost use Rattle.std.specs.Io.KnownBytes.{Appends, IsAtEnd};
 ghost use Rattle.runs.specs.Known.{KnownCall, Transfers, known_of};
 ghost use Rattle.captures.specs.Dropped.{IsDropped};
 ghost use Rattle.captures.specs.Endings.{ending_of};
 ghost use Rattle.captures.specs.Lines.{Packet, lines_of};
+ghost use Rattle.captures.specs.Places.{block_type, capped};
 ghost use Rattle.captures.specs.Runs.{Runs, IsCapture, capture_to_lines, result_at_end};
 ghost use Rattle.captures.specs.Units.{Takes};
 ghost use Rattle.captures.specs.declared.limits.TheConstants.{INPUT_ROOM};
@@ -13,6 +14,7 @@ ghost use Rattle.captures.specs.declared.translation.state.State.TheVariants.{St
 
 use crate::limits::FIRST_UNIT_LEN;
 use crate::pcapng::long_block::LongBlock;
+use crate::place::{Place, begun_type};
 use crate::translation::progress::take_piece;
 use crate::translation::refusal::Refusal;
 use crate::translation::state::State;
@@ -67,6 +69,8 @@ pub fn run_over<D: Device>(alloc: Global, device: &mut D, reads: u64) -> Result<
     let mut teller = PacketTeller {
         state: State::Start,
         begun: None,
+        count: 0,
+        passed: 0,
     };
     run_translator(alloc, &mut teller, &[], device, reads)
 }
@@ -77,6 +81,26 @@ struct PacketTeller {
     state: State,
     // A long block that is begun, of which nothing is held.
     begun: Option<LongBlock>,
+    // How many packets were told.
+    count: u64,
+    // How many bytes were passed: those of whole units.
+    passed: u64,
+}
+
+impl PacketTeller {
+    // The place of what comes next, of which this is held.
+    fn place(&self, held: &[u8]) -> Place
+        ensures packet { result.packet ≡ capped (self.now.count + 1) }
+        ensures offset { result.offset ≡ self.now.passed }
+        ensures block { (dropped : List ℕ) → IsDropped self.now.state self.now.begun dropped
+            → result.block ≡ block_type self.now.state (dropped ++ held.now) }
+    {
+        Place {
+            packet: self.count.saturating_add(1),
+            offset: self.passed,
+            block: begun_type(self.state, self.begun, held),
+        }
+    }
 }
 
 impl Translator for PacketTeller {
@@ -86,17 +110,21 @@ impl Translator for PacketTeller {
 
     ghost shows = { λ teller held read written. (dropped : List ℕ)
         × IsDropped teller.state teller.begun dropped
-        × Takes Start read teller.state (dropped ++ held) written None };
+        × (count : ℕ) × Takes Start read teller.state (dropped ++ held) count written None
+        × (teller.count ≡ capped count)
+        × (teller.passed ≡ capped (length read - length (dropped ++ held))) };
 
     fn translate<'a>(&mut self, bytes: &'a [u8], out: &mut [u8]) -> Translated<'a> {
         let progress = take_piece(self.state, self.begun, bytes, out);
         self.state = progress.after;
         self.begun = progress.begun;
+        self.count = self.count.saturating_add(progress.count as u64);
+        self.passed = self.passed.saturating_add(progress.passed);
         match progress.refusal {
             Some(error) => Translated {
                 used: progress.used,
                 rest: progress.rest,
-                refusal: Some(Refusal::InCapture(error)),
+                refusal: Some(Refusal::InCapture(error, self.place(progress.rest))),
             },
             None => Translated {
                 used: progress.used,
@@ -106,25 +134,29 @@ impl Translator for PacketTeller {
         }
     }
 
-    fn finish(&mut self, _input: &mut [u8], left: usize, _out: &mut [u8]) -> Finished {
+    fn finish(&mut self, input: &mut [u8], left: usize, _out: &mut [u8]) -> Finished {
+        let place = self.place(&input[..left]);
         Finished {
             used: 0,
-            result: end(self.state, self.begun, left),
+            result: end(self.state, self.begun, left, place),
         }
     }
 }
 
-fn end(state: State, begun: Option<LongBlock>, left: usize) -> Result<(), Refusal>
+// What the end makes of so many bytes that are held, at their place.
+fn end(state: State, begun: Option<LongBlock>, left: usize, place: Place) -> Result<(), Refusal>
     ensures { (dropped : List ℕ) → IsDropped state begun dropped
-        → result ≡ result_at_end state (length dropped + left) }
+        → result ≡ result_at_end state (length dropped + left) place }
 {
     if begun.is_some() {
-        return Err(Refusal::InCapture(CaptureError::CutOff));
+        return Err(Refusal::InCapture(CaptureError::CutOff, place));
     }
     match state {
-        State::Start if left < FIRST_UNIT_LEN => Err(Refusal::InCapture(CaptureError::NotCapture)),
-        State::Start => Err(Refusal::InCapture(CaptureError::CutOff)),
+        State::Start if left < FIRST_UNIT_LEN => {
+            Err(Refusal::InCapture(CaptureError::NotCapture, place))
+        }
+        State::Start => Err(Refusal::InCapture(CaptureError::CutOff, place)),
         _ if left == 0 => Ok(()),
-        _ => Err(Refusal::InCapture(CaptureError::CutOff)),
+        _ => Err(Refusal::InCapture(CaptureError::CutOff, place)),
     }
 }

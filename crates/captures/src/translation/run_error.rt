@@ -5,6 +5,7 @@ ghost use Rattle.captures.specs.Endings.{cause};
 ghost use Rattle.captures.specs.declared.translation.run_error.RunError.TheVariants as run_error;
 
 use crate::CaptureError;
+use crate::place::Place;
 use crate::translation::refusal::Refusal;
 use runs::Fault;
 use thiserror::Error;
@@ -27,9 +28,10 @@ pub enum RunError {
     /// As many reads as a run may make gave bytes.
     #[error("too many reads")]
     TooManyReads,
-    /// The input of [`run`](crate::run) is no capture of Ethernet frames, or is cut off.
-    #[error("{0}")]
-    Capture(CaptureError),
+    /// The input of [`run`](crate::run) is no capture of Ethernet frames, or is cut off, at this
+    /// place.
+    #[error("{1}: {0}")]
+    Capture(CaptureError, Place),
     /// The line with this number, counted from 1, of the input of
     /// [`write_capture`](crate::write_capture) hands in no frame, or one that a line of `run` can't
     /// hold.
@@ -54,7 +56,7 @@ impl From<Refusal> for RunError {
 
     fn from(refusal: Refusal) -> RunError {
         match refusal {
-            Refusal::InCapture(error) => RunError::Capture(error),
+            Refusal::InCapture(error, place) => RunError::Capture(error, place),
             Refusal::InLine(number) => RunError::BadLine(number),
         }
     }

@@ -14,6 +14,8 @@ pub(crate) struct Taken<'a> {
     pub after: State,
     /// What follows the units.
     pub rest: &'a [u8],
+    /// How many packets they hold.
+    pub count: usize,
     /// How many bytes the lines of their packets have.
     pub used: usize,
     /// Why no unit can follow.
@@ -25,17 +27,20 @@ pub(crate) struct Taken<'a> {
 pub(crate) fn take_units<'a>(state: State, bytes: &'a [u8], out: &mut [u8]) -> Taken<'a>
     requires { 4 * length bytes.now ≤ length out.old }
     ensures fits { result.used ≤ length out.new }
-    ensures takes { Takes state bytes.now result.after result.rest.now
+    ensures parts { length result.rest.now ≤ length bytes.now }
+    ensures takes { Takes state bytes.now result.after result.rest.now result.count
         (take result.used out.new) result.refusal }
 {
     let mut after = state;
     let mut rest = bytes;
+    let mut count = 0;
     let mut used = 0;
     'units: loop {
         match front_unit(after, rest) {
             Ok(Some(unit)) => {
                 if !unit.frame.is_empty() {
                     used = append_line(out, used, unit.channel, unit.frame);
+                    count += 1;
                 }
                 after = unit.after;
                 rest = unit.rest;
@@ -44,6 +49,7 @@ pub(crate) fn take_units<'a>(state: State, bytes: &'a [u8], out: &mut [u8]) -> T
                 return Taken {
                     after,
                     rest,
+                    count,
                     used,
                     refusal: None,
                 };
@@ -52,6 +58,7 @@ pub(crate) fn take_units<'a>(state: State, bytes: &'a [u8], out: &mut [u8]) -> T
                 return Taken {
                     after,
                     rest,
+                    count,
                     used,
                     refusal: Some(error),
                 };

@@ -204,13 +204,16 @@ fn misplaced_options(number: IpNumber) -> Option<(HeaderSliceError, Layer)>
     None
 }
 
-// Puts a header into its place. A function that moves so many bytes clears the room for them at its
-// start, so it is only called where there is a header.
+// Puts a header into its place: first an empty one, whose room is then written, so that no bytes are
+// moved on. Not inlined, since a function clears the room of its values at its start.
 #[inline(never)]
 fn put_raw(place: &mut Option<Ipv6RawExtHeader>, header: &Ipv6RawExtHeaderSlice)
     ensures { place.new ≡ Some (raw_of header.now) }
 {
-    *place = Some(header.to_header());
+    *place = Some(Ipv6RawExtHeader::shortest());
+    if let Some(place) = place {
+        place.fill(header.slice());
+    }
 }
 
 // The same of a routing header and the options behind it.
@@ -227,12 +230,13 @@ fn put_routing(
         }) }
 {
     *place = Some(Ipv6RoutingExtensions {
-        routing: header.to_header(),
+        routing: Ipv6RawExtHeader::shortest(),
         final_destination_options: None,
     });
-    if let Some(options) = options {
-        if let Some(routing) = place {
-            put_raw(&mut routing.final_destination_options, options);
+    if let Some(place) = place {
+        place.routing.fill(header.slice());
+        if let Some(options) = options {
+            put_raw(&mut place.final_destination_options, options);
         }
     }
 }
@@ -242,5 +246,8 @@ fn put_routing(
 fn put_auth(place: &mut Option<IpAuthHeader>, header: &IpAuthHeaderSlice)
     ensures { place.new ≡ Some (auth_of header.now) }
 {
-    *place = Some(header.to_header());
+    *place = Some(IpAuthHeader::shortest());
+    if let Some(place) = place {
+        header.put_into(place);
+    }
 }

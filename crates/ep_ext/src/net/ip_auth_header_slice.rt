@@ -117,6 +117,17 @@ impl<'a> IpAuthHeaderSlice<'a> {
         &self.slice[12..]
     }
 
+    // Puts the fields into their places. Nothing is moved but the bytes.
+    pub(super) fn put_into(&self, header: &mut IpAuthHeader)
+        ensures { header.new ≡ auth_of self.now }
+    {
+        let _words = self.slice[1];
+        header.next_header = self.next_header();
+        header.spi = self.spi();
+        header.sequence_number = self.sequence_number();
+        header.icv.fill(self.raw_icv());
+    }
+
     /// The fields.
     pub fn to_header(&self) -> IpAuthHeader
         ensures { result ≡ auth_of self.now }

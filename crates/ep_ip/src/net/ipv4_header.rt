@@ -154,6 +154,7 @@ impl Ipv4Header {
     }
 
     // The bytes of the header with this checksum.
+    #[inline(always)]
     fn bytes_with_checksum(&self, header_checksum: u16) -> ArrayVec<u8, 60>
         ensures bytes { result.items ≡ spelling
             (record self.now { header_checksum = header_checksum }) }
@@ -188,6 +189,7 @@ impl Ipv4Header {
         bytes
     }
 
+    #[inline(always)]
     fn flags_and_offset(&self) -> u16
         ensures value { result ≡ flags_and_offset self.now }
         ensures small { self.now.fragment_offset < 2 ^ 13 }
@@ -201,6 +203,7 @@ impl Ipv4Header {
     /// the header's 16-bit words, with its own field as 0 (RFC 791, section 3.1; RFC 1071).
     ///
     /// It is never ffff, since the first byte is never 0, and the field's value has no part in it.
+    #[inline(always)]
     pub fn calc_header_checksum(&self) -> u16
         ensures value { result ≡ right_checksum self.now }
         ensures below { result < 65535 }
@@ -215,6 +218,7 @@ impl Ipv4Header {
     /// holds. Of the total length nothing is tested.
     ///
     /// Where no memory is left for them, the buffer keeps its bytes.
+    #[inline(always)]
     pub fn write(&self, buffer: &mut Vec<u8>) -> Result<(), AllocError>
         ensures ok { OnOk result (buffer.new.items ≡ buffer.old.items
             ++ spelling (record self.now { header_checksum = right_checksum self.now })) }
@@ -245,6 +249,7 @@ impl Ipv4Header {
     }
 
     /// The header's length in words of 4 bytes, from 5 to 15.
+    #[inline(always)]
     pub fn ihl(&self) -> u8
         ensures value { result ≡ ihl self.now }
         ensures small { result ≤ 15 }
@@ -253,6 +258,7 @@ impl Ipv4Header {
     }
 
     /// The header's length in bytes, from 20 to 60.
+    #[inline(always)]
     pub fn header_len(&self) -> usize
         ensures value { result ≡ header_len self.now }
         ensures small { result ≤ 60 }

@@ -130,6 +130,7 @@ impl Ipv6Header {
     }
 
     /// The bytes of the header.
+    #[inline(always)]
     pub fn to_bytes(&self) -> [u8; 40]
         ensures bytes { result ≡ spelling self.now }
         // They are a header, with these fields.
@@ -140,6 +141,7 @@ impl Ipv6Header {
     }
 
     // Apart from `to_bytes`, whose other clauses follow from these.
+    #[inline(always)]
     fn field_bytes(&self) -> [u8; 40]
         ensures bytes { result ≡ spelling self.now }
         ensures fits { Fits self.now }
@@ -156,6 +158,7 @@ impl Ipv6Header {
     }
 
     // Version, traffic class and flow label, as the first 4 bytes spell them.
+    #[inline(always)]
     fn first_word(&self) -> u32
         ensures value { result ≡ 6 * 2 ^ 28 + self.now.traffic_class * 2 ^
             20 + self.now.flow_label }
@@ -167,6 +170,7 @@ impl Ipv6Header {
     }
 
     /// Appends the bytes of the header.
+    #[inline(always)]
     pub fn write(&self, buffer: &mut Vec<u8>) -> Result<(), AllocError>
         ensures ok { OnOk result (buffer.new.items ≡ buffer.old.items ++ spelling self.now) }
         ensures len { OnOk result (vec_len buffer.new ≡ vec_len buffer.old + 40) }

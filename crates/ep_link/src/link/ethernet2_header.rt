@@ -61,6 +61,7 @@ impl Ethernet2Header {
     }
 
     /// The bytes of the header.
+    #[inline(always)]
     pub fn to_bytes(&self) -> [u8; 14]
         ensures bytes { result ≡ spelling self.now }
         // They spell these fields.
@@ -69,6 +70,7 @@ impl Ethernet2Header {
         self.spelled()
     }
 
+    #[inline(always)]
     fn spelled(&self) -> [u8; 14]
         ensures bytes { result ≡ spelling self.now }
         ensures fits { Fits self.now }
@@ -120,6 +122,7 @@ impl Ethernet2Header {
     }
 
     /// Appends the bytes of the header.
+    #[inline(always)]
     pub fn write(&self, buffer: &mut Vec<u8>) -> Result<(), AllocError>
         ensures ok { OnOk result (buffer.new.items ≡ buffer.old.items ++ spelling self.now) }
         ensures len { OnOk result (vec_len buffer.new ≡ vec_len buffer.old + ethernet_len) }

@@ -131,6 +131,7 @@ impl TransportHeader {
     ///
     /// Refused, with the header unchanged, are a UDP payload above 65527 bytes, a TCP payload above
     /// 65535 bytes less the header, and every ICMPv6 header.
+    #[inline(always)]
     pub fn update_checksum_ipv4(
         &mut self,
         ip_header: &Ipv4Header,
@@ -166,6 +167,7 @@ impl TransportHeader {
     ///
     /// Refused, with the header unchanged, is a payload above 4294967295 bytes less the header, of
     /// any protocol but ICMPv4.
+    #[inline(always)]
     pub fn update_checksum_ipv6(
         &mut self,
         ip_header: &Ipv6Header,
@@ -196,6 +198,7 @@ impl TransportHeader {
     /// Appends the bytes of the header, with length and checksum as they stand.
     ///
     /// Where no memory is left for them, the buffer keeps its bytes.
+    #[inline(always)]
     pub fn write(&self, buffer: &mut Vec<u8>) -> Result<(), AllocError>
         ensures ok { OnOk result (buffer.new.items ≡ buffer.old.items
             ++ transport_spelling self.now) }

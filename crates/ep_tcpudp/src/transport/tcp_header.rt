@@ -81,6 +81,7 @@ impl TcpHeader {
     pub const MAX_DATA_OFFSET: u8 = 15;
 
     /// A header with these numbers, no options, no flags, and 0 elsewhere.
+    #[inline(always)]
     pub fn new(
         source_port: u16,
         destination_port: u16,
@@ -111,6 +112,7 @@ impl TcpHeader {
     }
 
     /// The header's length in words of 4 bytes, from 5 to 15.
+    #[inline(always)]
     pub fn data_offset(&self) -> u8
         ensures value { result ≡ data_offset self.now }
         ensures small { result ≤ 15 }
@@ -120,6 +122,7 @@ impl TcpHeader {
     }
 
     /// The header's length in bytes, from 20 to 60.
+    #[inline(always)]
     pub fn header_len(&self) -> usize
         ensures value { result ≡ header_len self.now }
         ensures small { result ≤ 60 }
@@ -193,6 +196,7 @@ impl TcpHeader {
     /// stands.
     ///
     /// The data offset comes from the options.
+    #[inline(always)]
     pub fn to_bytes(&self) -> ArrayVec<u8, 60>
         ensures bytes { result.items ≡ spelling self.now }
         ensures len { length result.items ≡ header_len self.now }
@@ -203,6 +207,7 @@ impl TcpHeader {
         self.spelled()
     }
 
+    #[inline(always)]
     fn spelled(&self) -> ArrayVec<u8, 60>
         ensures bytes { result.items ≡ spelling self.now }
         ensures len { length result.items ≡ header_len self.now }
@@ -219,6 +224,7 @@ impl TcpHeader {
     }
 
     // The 20 bytes in front of the options, with this checksum.
+    #[inline(always)]
     fn fixed_bytes_with(&self, checksum: u16) -> [u8; 20]
         ensures bytes { result ++ self.now.options
             ≡ spelling (record self.now { checksum = checksum }) }
@@ -255,6 +261,7 @@ impl TcpHeader {
         ]
     }
 
+    #[inline(always)]
     fn offset_and_ns(&self) -> u8
         ensures value { result ≡ data_offset self.now * 16 + flag self.now.ns 1 }
         ensures options { IsTcpOptions self.now.options }
@@ -262,6 +269,7 @@ impl TcpHeader {
         self.data_offset() * 16 + flag(self.ns, 1)
     }
 
+    #[inline(always)]
     fn flags(&self) -> u8
         ensures { result ≡ flags self.now }
     {
@@ -278,6 +286,7 @@ impl TcpHeader {
     /// Appends the bytes of the header, with the checksum as it stands.
     ///
     /// Where no memory is left for them, the buffer keeps its bytes.
+    #[inline(always)]
     pub fn write(&self, buffer: &mut Vec<u8>) -> Result<(), AllocError>
         ensures ok { OnOk result (buffer.new.items ≡ buffer.old.items ++ spelling self.now) }
         ensures len { OnOk result (vec_len buffer.new ≡ vec_len buffer.old + header_len self.now) }
@@ -294,6 +303,7 @@ impl TcpHeader {
     /// TCP header with its checksum as 0, and of the payload.
     ///
     /// A payload above 65535 bytes less the header is refused.
+    #[inline(always)]
     pub fn calc_checksum_ipv4(
         &self,
         ip_header: &Ipv4Header,
@@ -307,6 +317,7 @@ impl TcpHeader {
     }
 
     /// The same between these addresses.
+    #[inline(always)]
     pub fn calc_checksum_ipv4_raw(
         &self,
         source: [u8; 4],
@@ -331,6 +342,7 @@ impl TcpHeader {
     /// The checksum over IPv6, as [`TcpHeader::calc_checksum_ipv4`] over IPv4.
     ///
     /// A payload above 4294967295 bytes less the header is refused.
+    #[inline(always)]
     pub fn calc_checksum_ipv6(
         &self,
         ip_header: &Ipv6Header,
@@ -344,6 +356,7 @@ impl TcpHeader {
     }
 
     /// The same between these addresses.
+    #[inline(always)]
     pub fn calc_checksum_ipv6_raw(
         &self,
         source: [u8; 16],
@@ -366,6 +379,7 @@ impl TcpHeader {
     }
 
     // The checksum behind a pseudo header with this sum.
+    #[inline(always)]
     fn checksum_behind(&self, pseudo: Sum16BitWords, payload: &[u8]) -> u16
         ensures { (front : List ℕ) → SumsWords pseudo front
             → result ≡ right_checksum front self.now payload.now }
@@ -375,6 +389,7 @@ impl TcpHeader {
             .swap_bytes()
     }
 
+    #[inline(always)]
     fn sum_behind(&self, pseudo: Sum16BitWords, payload: &[u8]) -> Sum16BitWords
         ensures { (front : List ℕ) → SumsWords pseudo front
             → result ≡ fold

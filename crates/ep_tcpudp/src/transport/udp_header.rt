@@ -121,6 +121,7 @@ impl UdpHeader {
     ///
     /// A payload above 65527 bytes is refused. Whether the length field fits the payload isn't
     /// tested.
+    #[inline(always)]
     pub fn calc_checksum_ipv4(
         &self,
         ip_header: &Ipv4Header,
@@ -133,6 +134,7 @@ impl UdpHeader {
     }
 
     /// The same between these addresses.
+    #[inline(always)]
     pub fn calc_checksum_ipv4_raw(
         &self,
         source: [u8; 4],
@@ -153,6 +155,7 @@ impl UdpHeader {
     /// The checksum over IPv6, as [`UdpHeader::calc_checksum_ipv4`] over IPv4.
     ///
     /// A payload above 4294967287 bytes is refused.
+    #[inline(always)]
     pub fn calc_checksum_ipv6(
         &self,
         ip_header: &Ipv6Header,
@@ -166,6 +169,7 @@ impl UdpHeader {
     }
 
     /// The same between these addresses.
+    #[inline(always)]
     pub fn calc_checksum_ipv6_raw(
         &self,
         source: [u8; 16],
@@ -184,6 +188,7 @@ impl UdpHeader {
         Ok(self.checksum_over_ipv6(source, destination, payload))
     }
 
+    #[inline(always)]
     fn checksum_over_ipv4(&self, source: [u8; 4], destination: [u8; 4], payload: &[u8]) -> u16
         ensures { result ≡ checksum_v4 source destination self.now payload.now }
     {
@@ -191,6 +196,7 @@ impl UdpHeader {
         self.checksum_behind(pseudo, payload)
     }
 
+    #[inline(always)]
     fn checksum_over_ipv6(&self, source: [u8; 16], destination: [u8; 16], payload: &[u8]) -> u16
         ensures { result ≡ checksum_v6 source destination self.now payload.now }
     {
@@ -199,6 +205,7 @@ impl UdpHeader {
     }
 
     // The checksum behind a pseudo header with this sum.
+    #[inline(always)]
     fn checksum_behind(&self, pseudo: Sum16BitWords, payload: &[u8]) -> u16
         ensures { (front : List ℕ) → SumsWords pseudo front
             → result ≡ right_checksum front self.now payload.now }
@@ -208,6 +215,7 @@ impl UdpHeader {
             .swap_bytes()
     }
 
+    #[inline(always)]
     fn sum_behind(&self, pseudo: Sum16BitWords, payload: &[u8]) -> Sum16BitWords
         ensures { (front : List ℕ) → SumsWords pseudo front
             → result ≡ fold
@@ -246,6 +254,7 @@ impl UdpHeader {
     }
 
     /// The length of a UDP header in bytes.
+    #[inline(always)]
     pub fn header_len(&self) -> usize
         ensures { result ≡ 8 }
     {
@@ -253,6 +262,7 @@ impl UdpHeader {
     }
 
     /// The bytes of the header, with length and checksum as they stand.
+    #[inline(always)]
     pub fn to_bytes(&self) -> [u8; 8]
         ensures bytes { result ≡ spelling self.now }
         // They are a header, with these fields.
@@ -263,6 +273,7 @@ impl UdpHeader {
     }
 
     // The bytes of the header with this checksum.
+    #[inline(always)]
     fn spelled_with(&self, checksum: u16) -> [u8; 8]
         ensures bytes { result ≡ spelling (record self.now { checksum = checksum }) }
         ensures fits { Fits (record self.now { checksum = checksum }) }
@@ -286,6 +297,7 @@ impl UdpHeader {
     /// Appends the bytes of the header, with length and checksum as they stand.
     ///
     /// Where no memory is left for them, the buffer keeps its bytes.
+    #[inline(always)]
     pub fn write(&self, buffer: &mut Vec<u8>) -> Result<(), AllocError>
         ensures ok { OnOk result (buffer.new.items ≡ buffer.old.items ++ spelling self.now) }
         ensures len { OnOk result (vec_len buffer.new ≡ vec_len buffer.old + 8) }

@@ -1,12 +1,12 @@
 //! The texts of answers.
 ghost use Rattle.std.specs.Prelude.{◌≡◌, ◌+◌, ◌*◌, ◌≤◌, ◌<◌, ◌++◌, codes, length, take, IfSome};
 ghost use Rattle.std.specs.Prelude.{MatchOption};
-ghost use Rattle.etherparse.specs.PoolCalls.{HasMemory};
-ghost use Rattle.etherparse.specs.PoolCalls.Told.{Refused};
+ghost use Rattle.etherparse.specs.defrag.PoolCalls.{HasMemory};
+ghost use Rattle.etherparse.specs.defrag.PoolCalls.Told.{Refused};
 ghost use Rattle.netlines.specs.Answers.{message_answer, refusal_answer, verdict_word};
 
 use crate::Verdict;
-use crate::lines::output::{append, append_decimal, append_hex};
+use crate::frames::output::{append, append_decimal, append_hex};
 use etherparse::defrag::IpDefragError;
 
 /// Writes the answer that hands out a message to the front of `out`, and tells how many bytes it

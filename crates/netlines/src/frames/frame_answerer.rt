@@ -1,8 +1,7 @@
 //! Answers to lines by the frames that they and the lines before them hand in.
 ghost use Rattle.std.specs.Prelude.{◌≡◌, ◌≤◌, ◌<◌, ◌*◌, ◌+◌, ℕ, List, [], vec_len, length, take};
 ghost use Rattle.std.specs.Prelude.{IfOk};
-ghost use Rattle.hex.specs.Hex.{decode_of};
-ghost use Rattle.etherparse.specs.PoolCalls.{ShowsLists};
+ghost use Rattle.etherparse.specs.defrag.PoolCalls.{ShowsLists};
 ghost use Rattle.etherparse.specs.packet.Class.{IdentificationFits, as_class, class_of};
 ghost use Rattle.etherparse.specs.packet.Class.{packet_told};
 ghost use Rattle.etherparse.specs.packet.Class.Class.{Whole};
@@ -11,26 +10,24 @@ ghost use Rattle.etherparse.specs.packet.declared.addresses.Addresses.{Addresses
 ghost use Rattle.etherparse.specs.packet.declared.class.Class.TheVariants as told;
 ghost use Rattle.netlines.specs.Answers.{frame_meaning, completed_answer, message_answer};
 ghost use Rattle.netlines.specs.Arrivals.{lists_after_lines};
-ghost use Rattle.netlines.specs.Lines.{command_of, frame_on};
-ghost use Rattle.netlines.specs.Lines.Command.{Forget};
+ghost use Rattle.commands.specs.Commands.Command.{Forget};
+ghost use Rattle.commands.specs.Reads.{Reads};
+ghost use Rattle.commands.specs.Request.{as_command, frame_len};
 ghost use Rattle.netlines.specs.PoolAnswers.{AnswersClass, AnswersCommand};
 ghost use Rattle.netlines.specs.Verdict.{verdict_of};
-ghost use Rattle.netlines.specs.declared.frames.frame_answerer.TheConstants.{FRAME_ROOM};
-ghost use Rattle.netlines.specs.declared.lines.limits.TheConstants.{LINE_LIMIT, REPLY_ROOM};
+ghost use Rattle.commands.specs.declared.hex_digits.TheConstants.{FRAME_ROOM};
+ghost use Rattle.lines.specs.declared.limits.TheConstants.{REPLY_ROOM};
 
 use crate::frames::answer::{refusal_text, write_message};
-use crate::frames::command::{HexFrame, Request, read_request};
-use crate::lines::answerer::Answerer;
-use crate::lines::limits::REPLY_ROOM;
-use crate::lines::output::append;
-use crate::{Addresses, LINE_LIMIT, judge, read_message};
+use crate::frames::output::append;
+use crate::{Addresses, Answerer, REPLY_ROOM, judge, read_message};
+use commands::{LineReader, Request};
 use etherparse::defrag::{IpDefragPayloadVec, IpDefragPool};
-use etherparse::laws::streams::{a_new_pool_shows_no_lists, packets_are_answered, wants_are_told};
+use etherparse::laws::defrag::streams::{
+    a_new_pool_shows_no_lists, packets_are_answered, spare_buffers_show_nothing, wants_are_told,
+};
 use etherparse::{Class, CutMessage, SlicedPacket, WholeMessage};
 use std::alloc::{AllocError, Global};
-
-/// The bytes of a line's frame at most.
-pub const FRAME_ROOM: usize = LINE_LIMIT / 2;
 
 const BAD_LINE: &[u8; 8] = b"bad line";
 
@@ -42,20 +39,21 @@ const REFUSED_FRAME: &[u8; 13] = b"refused frame";
 pub struct FrameAnswerer {
     // The messages on their way, each with the line of the fragment that was accepted last.
     pool: IpDefragPool<u64, u32>,
-    // Room for the bytes of a line's frame.
-    frame: Vec<u8>,
-    ghost frame_len: { vec_len frame ≡ FRAME_ROOM },
+    // The line that has begun.
+    reader: LineReader,
 }
 
 impl FrameAnswerer {
-    /// No message is on its way. The room of a line's frame is taken here.
+    /// No message is on its way and no line has begun. The room of a line's frame is taken here.
     pub fn new(alloc: Global) -> Result<FrameAnswerer, AllocError>
-        ensures { IfOk result (λ answerer. ShowsLists answerer.pool (lists_after_lines [])) }
+        ensures pool { IfOk result
+            (λ answerer. ShowsLists answerer.pool (lists_after_lines [])) }
+        ensures reader { IfOk result (λ answerer. Reads [] answerer.reader) }
     {
         a_new_pool_shows_no_lists();
         Ok(FrameAnswerer {
             pool: IpDefragPool::new(alloc),
-            frame: vec![in alloc; 0; FRAME_ROOM]?,
+            reader: LineReader::new(alloc)?,
         })
     }
 }
@@ -63,54 +61,37 @@ impl FrameAnswerer {
 impl Answerer for FrameAnswerer {
     ghost meaning = { frame_meaning };
 
-    ghost shows = { λ answerer earlier. ShowsLists answerer.pool (lists_after_lines earlier) };
+    ghost shows = { λ answerer earlier front.
+        ShowsLists answerer.pool (lists_after_lines earlier) × Reads front answerer.reader };
 
-    fn answer(&mut self, number: u64, line: &[u8], out: &mut [u8]) -> Result<usize, AllocError> {
-        let end = answer_line(&mut self.pool, self.frame.as_mut_slice(), number, line, out)?;
+    fn take(&mut self, bytes: &[u8]) {
+        self.reader.take(bytes);
+    }
+
+    fn end(&mut self, number: u64, out: &mut [u8]) -> Result<usize, AllocError> {
+        let end = answer_request(&mut self.pool, self.reader.request(), number, out)?;
+        self.reader.restart();
         Ok(append(out, end, b"\n"))
     }
 }
 
-// Writes the answer to a line. `room` is for the bytes of its frame.
-fn answer_line(
+// Writes the answer to what a line asks for.
+fn answer_request(
     pool: &mut IpDefragPool<u64, u32>,
-    room: &mut [u8],
+    request: Request<'_>,
     number: u64,
-    line: &[u8],
     out: &mut [u8],
 ) -> Result<usize, AllocError>
-    requires frame { length room.old ≡ FRAME_ROOM }
+    requires frame { frame_len request ≤ FRAME_ROOM }
     requires room { REPLY_ROOM ≤ length out.old }
     ensures fits { IfOk result (λ end. end < length out.new) }
-    ensures answers { AnswersCommand pool.old pool.new number (command_of line.now) out.new result }
+    ensures answers { AnswersCommand pool.old pool.new number (as_command request.entry) out.new result }
 {
-    match read_request(line) {
-        Request::Frame(frame) => answer_hex_frame(pool, room, number, &frame, out),
+    match request {
+        Request::Frame(frame) => answer_frame(pool, frame.bytes, number, frame.channel, out),
         Request::Forget(from) => forget(pool, from, out),
         Request::Bad => Ok(append(out, 0, BAD_LINE)),
     }
-}
-
-// Writes the answer to a line with these digits.
-fn answer_hex_frame(
-    pool: &mut IpDefragPool<u64, u32>,
-    room: &mut [u8],
-    number: u64,
-    frame: &HexFrame<'_>,
-    out: &mut [u8],
-) -> Result<usize, AllocError>
-    requires frame { length room.old ≡ FRAME_ROOM }
-    requires short { length frame.now.digits.now < LINE_LIMIT }
-    requires room { REPLY_ROOM ≤ length out.old }
-    ensures fits { IfOk result (λ end. end < length out.new) }
-    ensures answers { AnswersCommand pool.old pool.new number
-        (frame_on frame.now.channel (decode_of frame.now.digits.now)) out.new result }
-{
-    let bytes = &mut room[..frame.digits.len() / 2];
-    if bytes.is_empty() || !digits::decode(frame.digits, bytes) {
-        return Ok(append(out, 0, BAD_LINE));
-    }
-    answer_frame(pool, bytes, number, frame.channel, out)
 }
 
 // Writes the answer to a frame.
@@ -183,9 +164,15 @@ fn answer_part(
 {
     packets_are_answered();
     wants_are_told();
+    spare_buffers_show_nothing();
     let addresses = message.addresses;
     match pool.process_cut_message(message, number, channel) {
-        Ok(Some(payload)) => Ok(write_completed(&addresses, &payload, out)),
+        Ok(Some(payload)) => {
+            let end = write_completed(&addresses, &payload, out);
+            // A buffer for which no place is found is dropped.
+            drop(pool.return_buf(payload));
+            Ok(end)
+        }
         Ok(None) => Ok(append(out, 0, b"wait")),
         Err(error) => match refusal_text(&error) {
             Some(text) => Ok(append(out, 0, text)),

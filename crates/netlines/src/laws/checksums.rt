@@ -3,8 +3,8 @@ ghost use Rattle.std.specs.Prelude.{◌≡◌, ◌≢◌, ◌↔◌, ◌+◌, �
 ghost use Rattle.std.specs.Prelude.{length, None, Some, Ok};
 ghost use Rattle.netlines.specs.ChangedWord.{DifferInOneWord, verdict_after};
 ghost use Rattle.etherparse.specs.packet.Readable.{ReadMessage, message_at, udp as udp_number};
-ghost use Rattle.etherparse.specs.Built.{with_message_checksum as built_header};
-ghost use Rattle.etherparse.specs.declared.defrag.ip_frag_version_spec_id.IpFragVersionSpecId.{IpFragVersionSpecId};
+ghost use Rattle.etherparse.specs.build.Built.{with_message_checksum as built_header};
+ghost use Rattle.etherparse.specs.defrag.declared.defrag.ip_frag_version_spec_id.IpFragVersionSpecId.{IpFragVersionSpecId};
 ghost use Rattle.etherparse.specs.packet.Transport.{transport_len, transport_spelling};
 ghost use Rattle.etherparse.specs.packet.declared.addresses.Addresses.{Addresses};
 ghost use Rattle.etherparse.specs.packet.declared.net.ip_headers.IpHeaders.{IpHeaders};

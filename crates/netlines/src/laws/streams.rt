@@ -1,19 +1,19 @@
 //! Laws of lines behind lines.
 ghost use Rattle.std.specs.Prelude.{◌≡◌, ◌≢◌, ◌<◌, ◌≤◌, ◌+◌, ◌-◌, ◌^◌, ℕ, Bool, false, List, []};
 ghost use Rattle.std.specs.Prelude.{◌∷◌, ◌++◌, None, Err};
-ghost use Rattle.etherparse.specs.Fragments.{Fragment};
-ghost use Rattle.etherparse.specs.Outcome.{held_after};
-ghost use Rattle.etherparse.specs.PoolCalls.{no_lists, outcome_at};
+ghost use Rattle.etherparse.specs.defrag.Fragments.{Fragment};
+ghost use Rattle.etherparse.specs.defrag.Outcome.{held_after};
+ghost use Rattle.etherparse.specs.defrag.PoolCalls.{no_lists, outcome_at};
 ghost use Rattle.etherparse.specs.packet.Class.{FragmentName};
 ghost use Rattle.netlines.specs.Answers.{answer_after, frame_meaning, outcome_answer, takes_memory};
 ghost use Rattle.netlines.specs.Arrivals.{HandsInFragment, LastAccepted, lists_after_lines};
-ghost use Rattle.netlines.specs.Lines.{command_of};
-ghost use Rattle.netlines.specs.Lines.Command.{Forget};
-ghost use Rattle.netlines.specs.Replies.{number_after, whole_lines_of};
-ghost use Rattle.netlines.specs.Runs.{IsOutput};
-ghost use Rattle.netlines.specs.declared.lines.run_error.RunError.TheVariants.{Memory};
+ghost use Rattle.commands.specs.Commands.{command_of};
+ghost use Rattle.commands.specs.Commands.Command.{Forget};
+ghost use Rattle.lines.specs.Replies.{number_after, whole_lines_of};
+ghost use Rattle.lines.specs.Runs.{IsOutput};
+ghost use Rattle.lines.specs.declared.run_error.RunError.TheVariants.{Memory};
 
-use etherparse::laws::names::equal_names;
+use etherparse::laws::defrag::names::equal_names;
 
 /// What a line is to a message, whose list is that of its accepted fragments. Before any line it is
 /// empty.

@@ -3,10 +3,10 @@
 ghost use Rattle.std.specs.Prelude.{◌≡◌, pos};
 ghost use Rattle.std.specs.Hash as fed;
 ghost use Rattle.etherparse.specs.base.Traits.{HashIsOfPlace, IsPlainData, VariantFeeds};
-ghost use Rattle.netlines.specs.Endings.{error_place};
+ghost use Rattle.lines.specs.Endings.{error_place};
 ghost use Rattle.netlines.specs.Verdict.{verdict_place};
 ghost use Rattle.netlines.specs.declared.frames.verdict.Verdict.TheVariants as verdict;
-ghost use Rattle.netlines.specs.declared.lines.run_error.RunError.TheVariants as run;
+ghost use Rattle.lines.specs.declared.run_error.RunError.TheVariants as run;
 ghost use Rattle.netlines.specs.declared.messages.post_error.PostError.TheVariants as post;
 ghost use Rattle.netlines.specs.declared.messages.seal_error.SealError.TheVariants as seal;
 
@@ -26,7 +26,7 @@ pub fn types_are_plain_data()
 {
     etherparse::laws::base::traits::types_are_plain_data();
     etherparse::laws::packet::traits::types_are_plain_data();
-    etherparse::laws::traits::types_are_plain_data();
+    etherparse::laws::defrag::traits::types_are_plain_data();
 }
 
 /// A verdict and an error of a run feed a hasher their place, as they are declared.

@@ -27,14 +27,14 @@ returns-clause-takes c dropped d =
     passed_behind c.args.state c.args.block c.min-dropped.result dropped c.args.bytes.now front
     c.split_at-2.result.0.now c.split_at-2.result.1.now d
     (c.split_at.ensures.by_index.0 ∙ ap (λ (l : List ℕ). front ++ l) rest)
-    c.split_at.ensures.front_len (search rules) c.split_at-2.ensures.front_len same _ _ _ _ _
-    c.take_whole.ensures.takes
+    c.split_at.ensures.front_len (search rules) c.split_at-2.ensures.front_len same _ _ _ _ _ _
+    c.take_whole-taken.ensures.takes
 
 pub returns-clause-parts : goal.returns-clause-parts
 returns-clause-parts c =
     let front = c.split_at.result.0.now in
     let back = c.split_at-2.result.0.now in
-    let more = c.take_whole.ensures.parts in (
+    let more = c.take_whole-taken.ensures.parts in (
       front ++ (back ++ more.0),
       c.split_at.ensures.by_index.0 ∙ ap (λ (l : List ℕ). front ++ l)
           (c.split_at-2.ensures.by_index.0 ∙ ap (λ (l : List ℕ). back ++ l) more.1

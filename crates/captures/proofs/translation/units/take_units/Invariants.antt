@@ -3,8 +3,8 @@ use Rattle.captures.proofs.UnitLemmas.{Told}
 use Rattle.captures.proofs.translation.units.take_units.Given as goal
 
 abbrev pub invariant-units : goal.invariant-units
-invariant-units l = Told l.fn.state l.bytes l.after l.rest (take l.used l.out)
-    × (l.used + 4 * length l.rest ≤ length l.out)
+invariant-units l = Told l.fn.state l.bytes l.after l.rest l.count (take l.used l.out)
+    × (l.used + 4 * length l.rest ≤ length l.out) × (l.count + length l.rest ≤ length l.bytes)
 
 abbrev pub decreases-units : goal.decreases-units
 decreases-units l = length l.rest

@@ -1,5 +1,5 @@
 use Rattle.std.proofs.Common.{◌∙◌, ap, refl, Ok}
-use Rattle.etherparse.specs.Processed.{Processed}
+use Rattle.etherparse.specs.defrag.Processed.{Processed}
 use Rattle.netlines.proofs.PartLemmas.{part_answered, part_is, part_wants}
 use Rattle.netlines.proofs.frames.frame_answerer.answer_part.Goals as goal
 
@@ -18,8 +18,11 @@ returns-in-Ok-Some-clause-answers c lists shows =
     c.args.pool.now c.process_cut_message.new.self _ _
     (part_is _ c.args.message refl) c.args.number c.args.channel
     c.process_cut_message.result processed lists shows _
-    (c.in-Ok-Some.is ∙ ap Ok c.in-Ok-Some.field-0-is) tt in
-    (c.write_completed.ensures.bytes ∙ answered.0, answered.1)
+    (c.in-Ok-Some.is ∙ ap Ok c.in-Ok-Some.field-0-is) tt in (
+      c.write_completed-end.ensures.bytes ∙ answered.0,
+      c.spare_buffers_show_nothing.ensures c.process_cut_message.new.self c.return_buf.new.self _
+          c.return_buf.ensures.same answered.1,
+    )
 
 pub returns-in-Ok-None-clause-answers : goal.returns-in-Ok-None-clause-answers
 returns-in-Ok-None-clause-answers c lists shows =

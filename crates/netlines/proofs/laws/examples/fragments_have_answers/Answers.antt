@@ -5,7 +5,7 @@ use Rattle.etherparse.specs.base.Sum.{total}
 use Rattle.etherparse.specs.packet.Tags.{tags_in}
 use Rattle.netlines.specs.Answers.{answer_after}
 use Rattle.netlines.specs.Arrivals.{lists_after_lines}
-use Rattle.netlines.specs.Lines.{command_of}
+use Rattle.commands.specs.Commands.{command_of}
 use Rattle.netlines.proofs.laws.examples.fragments_have_answers.Goals as goal
 
 pub returns-clause-alone : goal.returns-clause-alone

@@ -6,7 +6,7 @@ use Rattle.etherparse.specs.ipslice.Ipv6Walk.{pieces_within}
 use Rattle.etherparse.specs.packet.Tags.{tags_in}
 use Rattle.netlines.specs.Answers.{answer_after}
 use Rattle.netlines.specs.Arrivals.{lists_after_lines}
-use Rattle.netlines.specs.Lines.{command_of}
+use Rattle.commands.specs.Commands.{command_of}
 use Rattle.netlines.proofs.laws.examples.ipv6_lines_have_answers.Goals as goal
 
 pub returns-clause-behind_options : goal.returns-clause-behind_options

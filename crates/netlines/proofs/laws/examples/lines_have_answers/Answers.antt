@@ -4,7 +4,7 @@ use Rattle.hex.specs.Hex.{encode_with, decode_pairs}
 use Rattle.etherparse.specs.base.Sum.{total}
 use Rattle.etherparse.specs.packet.Tags.{tags_in}
 use Rattle.netlines.specs.Answers.{answer_after}
-use Rattle.netlines.specs.Lines.{command_of}
+use Rattle.commands.specs.Commands.{command_of}
 use Rattle.netlines.proofs.laws.examples.lines_have_answers.Goals as goal
 
 pub returns-clause-good : goal.returns-clause-good

@@ -3,7 +3,7 @@ use Rattle.hex.specs.Hex.{decode_pairs}
 use Rattle.etherparse.specs.packet.Tags.{tags_in}
 use Rattle.netlines.specs.Answers.{takes_memory}
 use Rattle.netlines.specs.Arrivals.{lists_after_lines}
-use Rattle.netlines.specs.Lines.{command_of}
+use Rattle.commands.specs.Commands.{command_of}
 use Rattle.netlines.proofs.laws.examples.lines_that_take_memory.Goals as goal
 
 pub returns-clause-fragment : goal.returns-clause-fragment

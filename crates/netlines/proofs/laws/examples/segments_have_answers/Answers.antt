@@ -5,7 +5,7 @@ use Rattle.etherparse.specs.base.Sum.{total}
 use Rattle.etherparse.specs.ipslice.Ipv6Walk.{pieces_within}
 use Rattle.etherparse.specs.packet.Tags.{tags_in}
 use Rattle.netlines.specs.Answers.{answer_after}
-use Rattle.netlines.specs.Lines.{command_of}
+use Rattle.commands.specs.Commands.{command_of}
 use Rattle.netlines.proofs.laws.examples.segments_have_answers.Goals as goal
 
 pub returns-clause-v4 : goal.returns-clause-v4

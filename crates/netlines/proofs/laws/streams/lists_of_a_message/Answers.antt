@@ -1,5 +1,5 @@
 use Rattle.std.proofs.Common.{ap}
-use Rattle.etherparse.specs.PoolCalls.{Lists}
+use Rattle.etherparse.specs.defrag.PoolCalls.{Lists}
 use Rattle.netlines.proofs.AnswerLemmas.{lists_after_lines-nil}
 use Rattle.netlines.proofs.ArrivalLemmas.{fragment_answered, list_with_fragment, list_with_other}
 use Rattle.netlines.proofs.laws.streams.lists_of_a_message.Goals as goal

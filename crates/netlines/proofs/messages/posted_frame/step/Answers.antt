@@ -1,6 +1,6 @@
 use Rattle.std.proofs.Common.{◌≡◌, ◌∙◌, ◌<◌, ◌^◌, sym, ap, subst, length, None}
-use Rattle.etherparse.specs.Built.{packet_with_number, refusal_of, size_of}
-use Rattle.etherparse.specs.declared.packet_builder.packet_impl.PacketImpl.{PacketImpl}
+use Rattle.etherparse.specs.build.Built.{packet_with_number, refusal_of, size_of}
+use Rattle.etherparse.specs.build.PacketImpl.{PacketImpl}
 use Rattle.netlines.specs.Posted.{Piece, frame}
 use Rattle.netlines.specs.PostedHeaders.{headers_of}
 use Rattle.netlines.proofs.PostLemmas.{framed, small_frame, unrefused_piece}

@@ -1,0 +1,96 @@
+/* What is told of the packets of a table: c/tests/packets.txt says how its lines read. */
+#include "etherparse.h"
+#include "fields.h"
+#include <stdio.h>
+#include <stdlib.h>
+#include <string.h>
+
+static ep_packet packet;
+static uint32_t verdict;
+
+/* The value of a field as the table writes it. */
+static int written(const char *path, char *out, size_t room) {
+    if (!strcmp(path, "verdict")) return snprintf(out, room, "%u", verdict);
+    for (size_t i = 0; i < sizeof fields / sizeof *fields; i++) {
+        if (strcmp(fields[i].path, path)) continue;
+        const uint8_t *at = (const uint8_t *)&packet + fields[i].offset;
+        if (fields[i].kind == 'p') {
+            ep_part part;
+            memcpy(&part, at, sizeof part);
+            return snprintf(out, room, "%zu+%zu", part.offset, part.len);
+        }
+        if (fields[i].kind == 'b') {
+            for (size_t k = 0; k < fields[i].size; k++) snprintf(out + 2 * k, room - 2 * k, "%02x", at[k]);
+            return 0;
+        }
+        uint64_t number = 0;
+        memcpy(&number, at, fields[i].size);
+        return snprintf(out, room, "%llu", (unsigned long long)number);
+    }
+    return snprintf(out, room, "no such field");
+}
+
+static void slice(const char *call, const uint8_t *bytes, size_t len) {
+    if (!strcmp(call, "ethernet")) {
+        packet = ep_slice_ethernet(bytes, len);
+        verdict = ep_verdict_ethernet(bytes, len);
+    } else if (!strcmp(call, "linux_sll")) {
+        packet = ep_slice_linux_sll(bytes, len);
+        verdict = ep_verdict_linux_sll(bytes, len);
+    } else {
+        packet = ep_slice_ip(bytes, len);
+        verdict = ep_verdict_ip(bytes, len);
+    }
+}
+
+/* The bytes stand at the end of a block, so that a sanitizer sees a read behind them. */
+static uint8_t *block_of(const char *hex, size_t *len) {
+    *len = strcmp(hex, "-") ? strlen(hex) / 2 : 0;
+    uint8_t *bytes = malloc(*len ? *len : 1);
+    for (size_t i = 0; bytes && i < *len; i++) {
+        unsigned byte;
+        sscanf(hex + 2 * i, "%2x", &byte);
+        bytes[i] = (uint8_t)byte;
+    }
+    return bytes;
+}
+
+static int sums_fail(void) {
+    /* RFC 1071, section 3: the words 0001 f203 f4f5 f6f7 sum to ddf2. */
+    static const uint8_t words[] = {0x00, 0x01, 0xf2, 0x03, 0xf4, 0xf5, 0xf6, 0xf7};
+    static const uint8_t sealed[] = {0x00, 0x01, 0xf2, 0x03, 0xf4, 0xf5, 0xf6, 0xf7, 0x22, 0x0d};
+    return ep_checksum(words, 8) != 0x220d || ep_checksum(words, 0) != 0xffff || ep_checksum_is_right(words, 8) ||
+           ep_checksum_is_right(words, 0) || !ep_checksum_is_right(sealed, 10);
+}
+
+int main(int argc, char **argv) {
+    FILE *table = argc > 1 ? fopen(argv[1], "r") : NULL;
+    static char line[65536], value[256];
+    int passed = 0, failed = 0;
+    if (!table) return 2;
+    while (fgets(line, sizeof line, table)) {
+        if (*line == '#') continue;
+        char *call = strtok(line, " "), *hex = strtok(NULL, " "), *field;
+        size_t len;
+        uint8_t *bytes = block_of(hex, &len);
+        if (!bytes) return 2;
+        slice(call, bytes, len);
+        int wrong = 0;
+        while ((field = strtok(NULL, " \n"))) {
+            char *wanted = strchr(field, '=');
+            *wanted++ = 0;
+            written(field, value, sizeof value);
+            if (strcmp(value, wanted)) {
+                printf("%s %s: %s is %s, not %s\n", call, hex, field, value, wanted);
+                wrong = 1;
+            }
+        }
+        free(bytes);
+        passed += !wrong, failed += wrong;
+    }
+    fclose(table);
+    int wrong = sums_fail();
+    passed += !wrong, failed += wrong;
+    printf("%d passed, %d failed\n", passed, failed);
+    return failed != 0;
+}

@@ -1,0 +1,83 @@
+//! Where in a capture it is refused.
+ghost use Rattle.std.specs.Prelude.{◌≡◌, ◌++◌, ℕ, List};
+ghost use Rattle.captures.specs.Dropped.{IsDropped};
+ghost use Rattle.captures.specs.Places.{block_type};
+
+use crate::byte_order::ByteOrder;
+use crate::pcapng::block::SECTION_HEADER;
+use crate::pcapng::long_block::LongBlock;
+use crate::translation::state::State;
+use std::fmt;
+
+/// Where in a capture it is refused. Counts stop at the greatest number of 64 bits.
+#[derive(Clone, Copy, Debug, PartialEq, Eq)]
+pub struct Place {
+    /// The number of the packet there, or of the first one after it, counted from 1. A packet of
+    /// which no byte was captured isn't counted, as it has no line.
+    pub packet: u64,
+    /// How many bytes come before the file header, packet record or block there.
+    pub offset: u64,
+    /// The type of the block there, in a pcapng file, if as many bytes were read as it has.
+    pub block: Option<u32>,
+}
+
+impl fmt::Display for Place {
+    fn fmt<W: fmt::Write>(&self, f: &mut fmt::Formatter<W>) -> fmt::Result {
+        let (packet, offset) = (self.packet, self.offset);
+        write!(f, "packet {packet}, byte {offset}")?;
+        match self.block {
+            Some(kind) => {
+                let name = block_name(kind);
+                write!(f, ", block type {kind:#x}{name}")
+            }
+            None => Ok(()),
+        }
+    }
+}
+
+// The name that the format gives a block type.
+fn block_name(kind: u32) -> &'static str {
+    match kind {
+        0x0a0d_0d0a => " (section header)",
+        0x1 => " (interface description)",
+        0x2 => " (obsolete packet)",
+        0x3 => " (simple packet)",
+        0x4 => " (name resolution)",
+        0x5 => " (interface statistics)",
+        0x6 => " (enhanced packet)",
+        0x9 => " (systemd journal export)",
+        0xa => " (decryption secrets)",
+        0xbad | 0x4000_0bad => " (custom)",
+        _ => "",
+    }
+}
+
+/// The type of the block of which these bytes are held, behind what was dropped of it.
+pub(crate) fn begun_type(state: State, begun: Option<LongBlock>, held: &[u8]) -> Option<u32>
+    ensures { (dropped : List ℕ) → IsDropped state begun dropped
+        → result ≡ block_type state (dropped ++ held.now) }
+{
+    match begun {
+        Some(block) => Some(block.kind),
+        None => block_type(state, held),
+    }
+}
+
+fn block_type(state: State, bytes: &[u8]) -> Option<u32>
+    ensures { result ≡ block_type state bytes.now }
+{
+    if bytes.len() < 4 {
+        return None;
+    }
+    match state {
+        State::Start => {
+            if ByteOrder::Big.word(bytes, 0) == SECTION_HEADER {
+                Some(SECTION_HEADER)
+            } else {
+                None
+            }
+        }
+        State::Classic(_) => None,
+        State::Pcapng(section) => Some(section.order.word(bytes, 0)),
+    }
+}

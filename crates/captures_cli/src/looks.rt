@@ -1,0 +1,67 @@
+//! What an input looks like by its first bytes, for what is told of one that is refused.
+ghost use Rattle.std.specs.Prelude.{◌≡◌};
+ghost use Rattle.std.specs.List.{list_all};
+ghost use Rattle.captures_cli.specs.Looks.{begins_capture, is_text, look_of};
+
+/// What an input looks like.
+#[derive(Clone, Copy, Debug, PartialEq, Eq)]
+pub enum Look {
+    Empty,
+    Gzip,
+    Zstd,
+    Xz,
+    Bzip2,
+    /// A capture, pcap or pcapng.
+    Capture,
+    Text,
+    Directory,
+    Other,
+}
+
+/// What an input with these first bytes looks like.
+pub fn look_at(front: &[u8]) -> Look
+    ensures { result ≡ look_of front.now }
+{
+    if front.is_empty() {
+        Look::Empty
+    } else if front.starts_with(b"\x1f\x8b") {
+        Look::Gzip
+    } else if front.starts_with(b"\x28\xb5\x2f\xfd") {
+        Look::Zstd
+    } else if front.starts_with(b"\xfd7zXZ\x00") {
+        Look::Xz
+    } else if front.starts_with(b"BZh") {
+        Look::Bzip2
+    } else if begins_capture(front) {
+        Look::Capture
+    } else if is_all_text(front) {
+        Look::Text
+    } else {
+        Look::Other
+    }
+}
+
+// The magic numbers of classic captures in both byte orders and time units, and the type of a
+// section header.
+fn begins_capture(front: &[u8]) -> bool
+    ensures { result ≡ begins_capture front.now }
+{
+    front.starts_with(b"\xa1\xb2\xc3\xd4")
+        || front.starts_with(b"\xd4\xc3\xb2\xa1")
+        || front.starts_with(b"\xa1\xb2\x3c\x4d")
+        || front.starts_with(b"\x4d\x3c\xb2\xa1")
+        || front.starts_with(b"\x0a\x0d\x0d\x0a")
+}
+
+fn is_all_text(front: &[u8]) -> bool
+    ensures { result ≡ list_all is_text front.now }
+{
+    front.iter().all(|byte| is_text(*byte))
+}
+
+// Tabs, ends of lines, and all that UTF-8 has but control characters.
+fn is_text(byte: u8) -> bool
+    ensures { result ≡ is_text byte }
+{
+    byte == b'\t' || byte == b'\n' || byte == b'\r' || (byte >= 32 && byte != 127)
+}

@@ -1,0 +1,83 @@
+//! What is told beside an error: what its input is, or the name of its link type.
+use crate::looks::Look;
+use captures::{CaptureError, RunError};
+use std::fmt;
+
+/// What is told of an error, where the input looks like this.
+#[derive(Clone, Copy, Debug, PartialEq, Eq)]
+pub struct Told {
+    pub error: RunError,
+    pub look: Look,
+}
+
+impl fmt::Display for Told {
+    fn fmt<W: fmt::Write>(&self, f: &mut fmt::Formatter<W>) -> fmt::Result {
+        let error = self.error;
+        let note = note(error, self.look);
+        match error {
+            // An input that is no capture has no place in it.
+            RunError::Capture(CaptureError::NotCapture, _) => write!(f, "no capture file{note}"),
+            _ => write!(f, "{error}{note}"),
+        }
+    }
+}
+
+fn note(error: RunError, look: Look) -> &'static str {
+    match error {
+        RunError::Capture(CaptureError::NotCapture, _) => capture_note(look),
+        RunError::BadLine(1) => text_note(look),
+        RunError::Capture(CaptureError::LinkType(number), _) => link_note(number),
+        RunError::Read => directory_note(look),
+        _ => "",
+    }
+}
+
+fn capture_note(look: Look) -> &'static str {
+    match look {
+        Look::Empty => ": the input is empty",
+        Look::Text => ": the input is text, `captures_cli capture` reads lines of frames",
+        _ => compressed_note(look),
+    }
+}
+
+fn text_note(look: Look) -> &'static str {
+    match look {
+        Look::Capture => ": the input is a capture, `captures_cli lines` reads it",
+        _ => compressed_note(look),
+    }
+}
+
+fn compressed_note(look: Look) -> &'static str {
+    match look {
+        Look::Gzip => ": the input is compressed, `gzip -dc` opens it",
+        Look::Zstd => ": the input is compressed, `zstd -dc` opens it",
+        Look::Xz => ": the input is compressed, `xz -dc` opens it",
+        Look::Bzip2 => ": the input is compressed, `bzip2 -dc` opens it",
+        _ => "",
+    }
+}
+
+fn directory_note(look: Look) -> &'static str {
+    match look {
+        Look::Directory => ": it is a directory",
+        _ => "",
+    }
+}
+
+// The names of the registry of link types, without their prefix.
+fn link_note(number: u16) -> &'static str {
+    match number {
+        0 => ": it is NULL, of BSD loopback",
+        9 => ": it is PPP",
+        12 | 14 | 101 => ": it is RAW, of IP packets",
+        105 => ": it is IEEE802_11, of wireless networks",
+        108 => ": it is LOOP, of OpenBSD loopback",
+        113 => ": it is LINUX_SLL, of cooked captures",
+        127 => ": it is IEEE802_11_RADIOTAP, of wireless networks",
+        189 | 220 => ": it is USB_LINUX",
+        228 => ": it is IPV4",
+        229 => ": it is IPV6",
+        276 => ": it is LINUX_SLL2, of cooked captures",
+        _ => "",
+    }
+}

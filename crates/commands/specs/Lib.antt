@@ -1,0 +1,5 @@
+pub mod Commands
+pub mod Fronts
+pub mod Numbers
+pub mod Reads
+pub mod Request

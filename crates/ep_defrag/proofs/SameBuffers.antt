@@ -1,0 +1,34 @@
+-- Buffers that are compared as the same are the same.
+use Rattle.std.proofs.Common.{◌&&◌, IsTrue, ◌↔◌, ◌≡◌, nat_eq, ap}
+use Rattle.std.proofs.lemmas.Bool.Decides.{Decides-eqb}
+use Rattle.std.specs.Cmp.Lexicographic.{pointwise, pointwise_decides, bytes_decides}
+use Rattle.std.specs.Option.{option_eq}
+use Rattle.ep_base.specs.Traits.{EqualIsSame}
+use Rattle.ep_base.specs.declared.net.ip_number.IpNumber.{IpNumber}
+use Rattle.ep_base.proofs.Same.{field, last_field, one_part, options_same, record_same}
+use Rattle.ep_defrag.specs.IpDefragBuf.{Contents}
+use Rattle.ep_defrag.specs.IpFragRange.{same_range}
+
+numbers_same : EqualIsSame (λ (a b : IpNumber). nat_eq a.0 b.0)
+numbers_same a b = one_part (Decides-eqb a.0 b.0) (λ e i. record { 0 = e i }) (ap (λ n. n.0))
+
+ranges_same : EqualIsSame same_range
+ranges_same a b = record_same
+    (field Decides-eqb (λ r. r.start) (last_field Decides-eqb (λ r. r.end)))
+    (λ start end i. record { start = start i; end = end i })
+
+pub contents_same : (a b : Contents IpNumber)
+    → IsTrue (nat_eq a.ip_number.0 b.ip_number.0
+    && (pointwise nat_eq a.bytes b.bytes
+    && (pointwise same_range a.sections b.sections && option_eq nat_eq a.end b.end))) ↔ (a ≡ b)
+contents_same a b = record_same
+    (field numbers_same (λ c. c.ip_number)
+    (field bytes_decides (λ c. c.bytes)
+    (field (pointwise_decides ranges_same) (λ c. c.sections)
+    (last_field (options_same Decides-eqb) (λ c. c.end)))))
+    (λ ip_number bytes sections end i. record {
+      ip_number = ip_number i;
+      bytes = bytes i;
+      sections = sections i;
+      end = end i;
+    })

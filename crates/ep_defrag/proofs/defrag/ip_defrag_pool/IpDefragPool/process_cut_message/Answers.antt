@@ -1,0 +1,29 @@
+use Rattle.std.proofs.Common.{subst}
+use Rattle.ep_defrag.specs.IpDefragPool.{Accepts, same_id}
+use Rattle.ep_defrag.specs.Streams.{Refuses, fragment_of}
+use Rattle.ep_defrag.specs.declared.defrag.ip_frag_version_spec_id.IpFragVersionSpecId.{IpFragVersionSpecId}
+use Rattle.ep_defrag.proofs.defrag.ip_defrag_pool.IpDefragPool.process_cut_message.Goals as goal
+
+pub returns-clause-accepted : goal.returns-clause-accepted
+returns-clause-accepted g c =
+    subst (λ (ip : IpFragVersionSpecId). Accepts (same_id g.CustomChannelId.PartialEq.eq)
+    c.args.self.now c.add_part.new.self
+    (record {
+      vlan_ids = c.args.message.vlan_ids;
+      ip = ip;
+      payload_ip_number = c.args.message.part.ip_number;
+      channel_id = c.args.channel_id;
+    }) (fragment_of c.args.message.part) c.args.timestamp c.add_part.result)
+    c.spec_id.ensures c.add_part.ensures.accepted
+
+pub returns-clause-refused : goal.returns-clause-refused
+returns-clause-refused g c =
+    subst (λ (ip : IpFragVersionSpecId). Refuses (same_id g.CustomChannelId.PartialEq.eq)
+    c.args.self.now
+    (record {
+      vlan_ids = c.args.message.vlan_ids;
+      ip = ip;
+      payload_ip_number = c.args.message.part.ip_number;
+      channel_id = c.args.channel_id;
+    }) (fragment_of c.args.message.part) c.add_part.result)
+    c.spec_id.ensures c.add_part.ensures.refused

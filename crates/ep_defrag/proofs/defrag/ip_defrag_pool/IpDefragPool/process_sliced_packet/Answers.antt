@@ -1,0 +1,29 @@
+use Rattle.std.proofs.Common.{◌∙◌, ap, subst, sym}
+use Rattle.std.specs.Option.{IfSome}
+use Rattle.ep_packet.specs.Class.{Class, as_class}
+use Rattle.ep_defrag.specs.IpDefragPool.{Accepts, same_id}
+use Rattle.ep_defrag.specs.IpFragId.{fragment_in, id_named}
+use Rattle.ep_defrag.specs.Streams.{OthersStay, Refuses}
+use Rattle.ep_defrag.proofs.defrag.ip_defrag_pool.IpDefragPool.process_sliced_packet.Goals as goal
+
+pub returns-in-Cut-clause-accepted : goal.returns-in-Cut-clause-accepted
+returns-in-Cut-clause-accepted g c =
+    subst (λ (class : Class). IfSome (fragment_in class) (λ told.
+    Accepts (same_id g.CustomChannelId.PartialEq.eq) c.args.self.now
+    c.process_cut_message.new.self (id_named told.0 c.args.channel_id) told.1
+    c.args.timestamp c.process_cut_message.result))
+    (ap as_class (sym c.in-Cut.is) ∙ c.class.ensures.class) c.process_cut_message.ensures.accepted
+
+pub returns-in-Cut-clause-refused : goal.returns-in-Cut-clause-refused
+returns-in-Cut-clause-refused g c =
+    subst (λ (class : Class). IfSome (fragment_in class) (λ told.
+    Refuses (same_id g.CustomChannelId.PartialEq.eq) c.args.self.now
+    (id_named told.0 c.args.channel_id) told.1 c.process_cut_message.result))
+    (ap as_class (sym c.in-Cut.is) ∙ c.class.ensures.class) c.process_cut_message.ensures.refused
+
+pub returns-in-Cut-clause-others : goal.returns-in-Cut-clause-others
+returns-in-Cut-clause-others g c =
+    subst (λ (class : Class). IfSome (fragment_in class) (λ told.
+    OthersStay (same_id g.CustomChannelId.PartialEq.eq) (id_named told.0 c.args.channel_id)
+    c.args.self.now c.process_cut_message.new.self))
+    (ap as_class (sym c.in-Cut.is) ∙ c.class.ensures.class) c.process_cut_message.ensures.others

@@ -1,0 +1,21 @@
+use Rattle.std.proofs.Common.{sym, subst}
+use Rattle.ep_packet.specs.Class.{packet_told}
+use Rattle.ep_defrag.specs.PoolCalls.{FrameAnswered, ShowsLists, Told}
+use Rattle.ep_defrag.proofs.defrag.pool_calls.answer_packet.Goals as goal
+
+pub returns-clause-answered : goal.returns-clause-answered
+returns-clause-answered c fault lists shows =
+    let e = c.process_sliced_packet.ensures in
+    let class = packet_told c.args.packet.now in
+    let pool = c.process_sliced_packet.new.self in
+    subst (λ (told : Told). FrameAnswered (ShowsLists pool) lists class c.args.timestamp
+    c.args.channel fault told) (sym c.reply_of.ensures)
+    (c.packets_are_answered.ensures c.args.pool.now pool class c.args.timestamp c.args.channel
+    c.process_sliced_packet.result
+    (record {
+      passed = e.passed;
+      accepted = e.accepted;
+      refused = e.refused;
+      others = e.others;
+      err = e.err;
+    }) c.requires fault lists shows)

@@ -1,0 +1,7 @@
+use Rattle.std.proofs.Common.{ap}
+use Rattle.ep_defrag.specs.Streams.{Pool}
+use Rattle.ep_defrag.proofs.defrag.streams.Streams.retain.Goals as goal
+
+pub retain_streams-requires-clause-asked : goal.retain_streams-requires-clause-asked
+retain_streams-requires-clause-asked g c =
+    rw (ap (λ (pool : Pool g.row.K.Denot g.row.T.Denot). pool.streams) c.self.view_is) c.requires

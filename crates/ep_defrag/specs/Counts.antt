@@ -1,0 +1,36 @@
+-- How many messages a pool holds, and how many buffers are spare.
+use Rattle.std.specs.Prelude.{◌≡◌, ◌+◌, ◌-◌, ◌≤◌, ◌⊎◌, ℕ, Bool, Option, Some, None, Result, Ok, Err}
+use Rattle.std.specs.Prelude.{length}
+use Rattle.ep_defrag.specs.Streams.{Pool, stream_at}
+
+-- the messages that are on their way
+abbrev pub open_in : {K T : Type 0} → Pool K T → ℕ
+open_in pool = length pool.streams
+
+-- of so many messages, those that are on their way after a fragment: one more where it begins one,
+-- one fewer where it completes one
+abbrev pub held_after : {X E S : Type 0} → Result (Option X) E → Option S → ℕ → ℕ
+held_after (Err error) stream n = n
+held_after (Ok None) None n = n + 1
+held_after (Ok None) (Some s) n = n
+held_after (Ok (Some whole)) None n = n
+held_after (Ok (Some whole)) (Some s) n = n - 1
+
+-- of so many spare buffers, those that are spare after it: one fewer, if there is one, where it
+-- begins a message
+abbrev pub spare_after : {X E S : Type 0} → Result X E → Option S → ℕ → ℕ
+spare_after (Err error) stream n = n
+spare_after (Ok told) None n = n - 1
+spare_after (Ok told) (Some s) n = n
+
+-- both counts after a fragment of this name
+pub record Counts {K T X E : Type 0} (same : K → K → Bool) (old new : Pool K T) (name : K)
+    (result : Result (Option X) E) : Type 0 where
+  pub open_len : open_in new ≡ held_after result (stream_at same old name) (open_in old)
+  pub spare_len : new.spare ≡ spare_after result (stream_at same old name) old.spare
+
+-- the messages that are on their way and the spare buffers are no more than before, or no buffer is
+-- spare: there are as many as messages
+abbrev pub Bounded : {K T : Type 0} → Pool K T → Pool K T → Type 0
+Bounded old new = (open_in new + new.spare ≤ open_in old + old.spare)
+    ⊎ (open_in new + new.spare ≡ open_in new)

@@ -1,0 +1,52 @@
+-- What a pool makes of a fragment, and what it hands out.
+use Rattle.std.specs.Prelude.{ℕ, Bool, ◌&&◌, ◌==◌, nat_eq, Option, Result, List, IfOk, option_map}
+use Rattle.std.specs.Cmp.Lexicographic.{pointwise}
+use Rattle.ep_base.specs.declared.len_source.LenSource.{LenSource}
+use Rattle.ep_base.specs.declared.net.ip_number.IpNumber.{IpNumber}
+use Rattle.ep_defrag.specs.contracts.defrag.ip_frag_version_spec_id.IpFragVersionSpecIdPartialEq.TheImpl as versions
+use Rattle.ep_defrag.specs.declared.defrag.ip_defrag_error.IpDefragError.{IpDefragError}
+use Rattle.ep_defrag.specs.declared.defrag.ip_defrag_payload_vec.IpDefragPayloadVec.{IpDefragPayloadVec}
+use Rattle.ep_defrag.specs.declared.defrag.ip_frag_id.IpFragId.{IpFragId}
+use Rattle.ep_defrag.specs.Fragments.{Fragment}
+use Rattle.ep_defrag.specs.IpFragId.{len_source_of}
+use Rattle.ep_defrag.specs.Outcome.{outcome}
+use Rattle.ep_defrag.specs.Streams.{Becomes, Pool, ShowsStream, stream_at}
+
+-- a message that was put together: its protocol, what the lengths of its fragments came from, and
+-- its bytes
+pub record Payload : Type 0 where
+  pub ip_number : IpNumber
+  pub len_source : LenSource
+  pub bytes : List ℕ
+
+abbrev pub payload_told : IpDefragPayloadVec → Payload
+payload_told whole =
+    record {
+      ip_number = whole.ip_number;
+      len_source = whole.len_source;
+      bytes = whole.payload.items;
+    }
+
+-- names are the same where tags, version, addresses, identification and protocol are, and what the
+-- caller tells messages apart by: the equality of the code
+abbrev pub same_id : {C : Type 0} → (C → C → Bool) → IpFragId C → IpFragId C → Bool
+same_id same_channel a b =
+    pointwise nat_eq a.vlan_ids.items b.vlan_ids.items
+    && (versions.ghosts.eq a.ip b.ip
+    && ((a.payload_ip_number.0 == b.payload_ip_number.0)
+    && same_channel a.channel_id b.channel_id))
+
+-- the message of this name that has these bytes
+abbrev pub payload_of : {C : Type 0} → IpFragId C → List ℕ → Payload
+payload_of id bytes =
+    record { ip_number = id.payload_ip_number; len_source = len_source_of id.ip; bytes = bytes }
+
+-- a fragment of this name that is accepted goes to those that its stream shows, at this time, and a
+-- message that is complete with it is handed out
+abbrev pub Accepts : {C T : Type 0} → (IpFragId C → IpFragId C → Bool)
+    → (old new : Pool (IpFragId C) T) → IpFragId C → Fragment → T
+    → Result (Option IpDefragPayloadVec) IpDefragError → Type 0
+Accepts same old new id f time result = (fs : List Fragment)
+    → ShowsStream (stream_at same old id) fs
+    → IfOk result (λ payload. Becomes (payload_of id) (outcome fs f) time (stream_at same new id)
+    (option_map payload_told payload))

@@ -1,0 +1,18 @@
+-- Memory of messages that ended, for those that begin.
+use Rattle.std.specs.Prelude.{◌≡◌, ◌+◌, ◌≤◌, ℕ, vec_len, vec_capacity}
+use Rattle.ep_defrag.specs.declared.defrag.spare_buffers.SpareBuffers.{SpareBuffers}
+
+-- there are places for the buffers of so many messages more
+pub record HasPlaces (spare : SpareBuffers) (count : ℕ) : Type 0 where
+  pub bytes : vec_len spare.bytes + count ≤ vec_capacity spare.bytes
+  pub sections : vec_len spare.sections + count ≤ vec_capacity spare.sections
+
+-- there are as many of each kind
+pub record SameCounts (old new : SpareBuffers) : Type 0 where
+  pub bytes : vec_len new.bytes ≡ vec_len old.bytes
+  pub sections : vec_len new.sections ≡ vec_len old.sections
+
+-- and no fewer places in all
+pub record NoFewerPlaces (old new : SpareBuffers) : Type 0 where
+  pub bytes : vec_capacity old.bytes ≤ vec_capacity new.bytes
+  pub sections : vec_capacity old.sections ≤ vec_capacity new.sections

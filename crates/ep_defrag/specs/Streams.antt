@@ -1,0 +1,76 @@
+-- The fragmented messages that are on their way, each under its name: which fragments of each were
+-- accepted, and when the last of them.
+use denote.Ref.{Bor}
+use Rattle.std.specs.Prelude.{◌≡◌, ◌≢◌, ◌⊎◌, ℕ, Bool, true, false, Option, Some, None, Result, List}
+use Rattle.std.specs.Prelude.{[], IfErr, IsSomeAnd}
+use Rattle.std.specs.Map.{lookup}
+use Rattle.ep_packet.specs.declared.class.Part.{Part}
+use Rattle.ep_defrag.specs.declared.defrag.ip_defrag_error.IpDefragError.{IpDefragError}
+use Rattle.ep_defrag.specs.declared.defrag.stream.Stream.{Stream}
+use Rattle.ep_defrag.specs.Fragments.{Fragment, fragment}
+use Rattle.ep_defrag.specs.IpDefragBuf.{Shows}
+use Rattle.ep_defrag.specs.Outcome.{Outcome, memory_error, outcome}
+use Rattle.ep_defrag.specs.Outcome.Outcome.{Completed, Refusal, Waiting}
+
+-- the fragment that a part of a message is
+abbrev pub fragment_of : Part → Fragment
+fragment_of part = fragment part.offset part.more_fragments part.bytes.now
+
+-- what a pool holds: streams in no order that means anything, each beside its name; no name is
+-- there twice; and how many buffers of bytes are spare
+pub record Pool (K T : Type 0) : Type 0 where
+  pub streams : List (K × Stream T)
+  pub spare : ℕ
+
+-- the stream of a name, if one is on its way
+abbrev pub stream_at : {K T : Type 0} → (K → K → Bool) → Pool K T → K → Option (Stream T)
+stream_at same pool name = lookup (same name) pool.streams
+
+-- these fragments were accepted since the stream began; of none, there is no stream
+abbrev pub ShowsStream : {T : Type 0} → Option (Stream T) → List Fragment → Type 0
+ShowsStream None fs = fs ≡ []
+ShowsStream (Some s) fs = Shows s.buf fs × (fs ≢ [])
+
+-- the stream is the picture of these fragments, the last of which came at this time
+abbrev pub IsStreamOf : {T : Type 0} → List Fragment → T → Stream T → Type 0
+IsStreamOf fs time s = Shows s.buf fs × (s.timestamp ≡ time)
+
+-- what is handed out after a fragment with this outcome, which came at this time, and its stream
+-- then: it waits with the others; or its message is handed out, and the stream ends
+abbrev pub Becomes : {T X : Type 0} → (List ℕ → X) → Outcome → T
+    → Option (Stream T) → Option X → Type 0
+Becomes whole (Refusal error) time stream told = ⊥
+Becomes whole (Waiting fs) time stream told = (told ≡ None) × IsSomeAnd stream (IsStreamOf fs time)
+Becomes whole (Completed text) time stream told = (told ≡ Some (whole text)) × (stream ≡ None)
+
+-- the error of a fragment with this outcome is its refusal, or else tells of want of memory
+abbrev pub IsErrorOf : Fragment → Outcome → IpDefragError → Type 0
+IsErrorOf f o error = (o ≡ Refusal error) ⊎ (memory_error f o ≡ Some error)
+
+-- each name has the stream that it had
+abbrev pub SameStreams : {K T : Type 0} → (K → K → Bool) → Pool K T → Pool K T → Type 0
+SameStreams {K} same old new = (name : K) → stream_at same new name ≡ stream_at same old name
+
+-- every other name has the stream that it had
+abbrev pub OthersStay : {K T : Type 0} → (K → K → Bool) → K → Pool K T → Pool K T → Type 0
+OthersStay {K} same name old new = (q : K) → same name q ≡ false
+    → stream_at same new q ≡ stream_at same old q
+
+-- a fragment of this name is refused by those that its stream shows, or else may want memory
+abbrev pub Refuses : {K T X : Type 0} → (K → K → Bool) → Pool K T → K → Fragment
+    → Result X IpDefragError → Type 0
+Refuses same old name f result = (fs : List Fragment) → ShowsStream (stream_at same old name) fs
+    → IfErr result (IsErrorOf f (outcome fs f))
+
+-- what is left of a stream by a test of its timestamp: all of it where the test answers `true`,
+-- else nothing
+abbrev pub Retained : {T : Type 0} → (T → Bool → Type 0) → Option (Stream T)
+    → Option (Stream T) → Type 0
+Retained answers None new = new ≡ None
+Retained answers (Some s) new = (new ≡ Some s) × answers s.timestamp true
+    ⊎ (new ≡ None) × answers s.timestamp false
+
+-- the test may be called on the stream's timestamp, if there is one
+abbrev pub MayAsk : {T : Type 0} → (Bor T → Type 0) → Option (Stream T) → Type 0
+MayAsk {T} pre None = Unit {0}
+MayAsk {T} pre (Some s) = (p : Bor T) → p.now ≡ s.timestamp → pre p

@@ -1,0 +1,241 @@
+//! Many fragmented messages, each put together by itself.
+
+ghost use Rattle.std.specs.Prelude.{◌≡◌, ◌+◌, ◌≤◌, [], None, Ok, OnOk, OnErr, IfOk, IfErr, IfSome};
+ghost use Rattle.std.specs.Prelude.{length};
+ghost use Rattle.std.specs.Fn.{FnReturnsAt};
+ghost use Rattle.std.specs.List.{IsDistinct};
+ghost use Rattle.std.specs.Map.{keys_of};
+ghost use Rattle.ep_packet.specs.Class.{IdentificationFits, as_class, packet_told};
+ghost use Rattle.ep_packet.specs.declared.class.Class.TheVariants as told;
+ghost use Rattle.ep_defrag.specs.Counts.{Bounded, Counts, open_in};
+ghost use Rattle.ep_defrag.specs.IpDefragPool.{Accepts, same_id};
+ghost use Rattle.ep_defrag.specs.IpFragId.{fragment_in, id_named};
+ghost use Rattle.ep_defrag.specs.Streams.{MayAsk, OthersStay, Refuses, Retained, SameStreams};
+ghost use Rattle.ep_defrag.specs.Streams.{fragment_of, stream_at};
+
+use super::part::spec_id;
+use super::streams::Streams;
+use super::{IpDefragError, IpDefragPayloadVec, IpFragId};
+use ep_packet::{Class, CutMessage, Part, SlicedPacket};
+use std::alloc::{AllocError, Global};
+use std::hash::{BuildHasher, BuildHasherDefault, FoldHasher, Hash};
+use std::marker::Model;
+
+/// The fragmented messages that are on their way, each under its name, [`IpFragId`].
+///
+/// A message that never completes is held, with its bytes, until [`IpDefragPool::retain`] drops it.
+/// So a caller whose input isn't trusted calls `retain` regularly: a receiver gives a message up by
+/// a timer (RFC 791, section 3.2), over IPv6 60 seconds after the fragment that came first (RFC
+/// 8200, section 4.5).
+#[derive(Drop)]
+pub struct IpDefragPool<
+    Timestamp = (),
+    CustomChannelId: Eq + Hash = (),
+    S: BuildHasher = BuildHasherDefault<FoldHasher>,
+> {
+    streams: Streams<IpFragId<CustomChannelId>, Timestamp, S>,
+}
+
+impl<Timestamp, CustomChannelId: Eq + Hash, S: BuildHasher> Model
+    for IpDefragPool<Timestamp, CustomChannelId, S> {
+    ghost use Rattle.ep_defrag.specs.declared.defrag.ip_frag_id.IpFragId.{IpFragId};
+    ghost use Rattle.ep_defrag.specs.Streams.{Pool};
+
+    ghost Value = { Pool (IpFragId CustomChannelId) Timestamp };
+
+    ghost view = { λ pool. pool.streams };
+}
+
+impl<Timestamp: Drop, CustomChannelId: Eq + Hash + Drop> IpDefragPool<
+    Timestamp,
+    CustomChannelId,
+    BuildHasherDefault<FoldHasher>,
+> {
+    /// A pool with no message. It takes no memory.
+    pub fn new(alloc: Global) -> Self
+        ensures streams { result.streams ≡ [] }
+        ensures spare { result.spare ≡ 0 }
+    {
+        IpDefragPool {
+            streams: Streams::with_hasher(alloc, BuildHasherDefault::new()),
+        }
+    }
+}
+
+impl<Timestamp: Drop, CustomChannelId: Eq + Hash + Drop, S: BuildHasher> IpDefragPool<
+    Timestamp,
+    CustomChannelId,
+    S,
+> {
+    ghost use Rattle.ep_defrag.specs.declared.defrag.ip_frag_id.IpFragId.{IpFragId};
+
+    /// Takes a packet. If it is a fragment, it is added to those of its message that came before
+    /// it, and one that completes the message hands it out. Nothing is held of the message then.
+    /// Any other packet changes nothing.
+    ///
+    /// A fragment is refused as by [`super::IpDefragBuf::add`]. Then the message has the fragments
+    /// and the timestamp that it had.
+    pub fn process_sliced_packet(
+        &mut self,
+        packet: &SlicedPacket<'_>,
+        timestamp: Timestamp,
+        channel_id: CustomChannelId,
+    ) -> Result<Option<IpDefragPayloadVec>, IpDefragError>
+        // A packet that is no fragment changes nothing.
+        ensures passed { fragment_in (packet_told packet.now) ≡ None
+            → (result ≡ Ok None) × (self.new ≡ self.old) }
+        // A fragment goes to the list of its name, and is refused by it or else at its end.
+        ensures accepted { IfSome (fragment_in (packet_told packet.now)) (λ told.
+            Accepts (same_id CustomChannelId.eq) self.old self.new (id_named told.0 channel_id) told.1 timestamp result) }
+        ensures refused { IfSome (fragment_in (packet_told packet.now)) (λ told.
+            Refuses (same_id CustomChannelId.eq) self.old (id_named told.0 channel_id) told.1 result) }
+        // Every other name's list and timestamp stay, and after a refusal all of them do.
+        ensures others { IfSome (fragment_in (packet_told packet.now)) (λ told.
+            OthersStay (same_id CustomChannelId.eq) (id_named told.0 channel_id) self.old self.new) }
+        ensures err { OnErr result (SameStreams (same_id CustomChannelId.eq) self.old self.new) }
+        ensures short { IfOk result
+            (λ payload. IfSome payload (λ whole. length whole.payload.items ≤ 65535)) }
+        // A message that begins takes a spare buffer.
+        ensures counts { IfSome (fragment_in (packet_told packet.now)) (λ told.
+            Counts (same_id CustomChannelId.eq) self.old self.new (id_named told.0 channel_id) result) }
+        ensures bound { Bounded self.old self.new }
+    {
+        // Whole messages aren't looked into.
+        if !packet.is_ip_payload_fragmented() {
+            return Ok(None);
+        }
+        match packet.class() {
+            Class::Cut(message) => self.process_cut_message(message, timestamp, channel_id),
+            _ => Ok(None),
+        }
+    }
+
+    /// Takes a part of a message, as [`IpDefragPool::process_sliced_packet`] takes that of its
+    /// packet: for a caller who has the packet's class ([`SlicedPacket::class`]).
+    pub fn process_cut_message(
+        &mut self,
+        message: CutMessage<'_>,
+        timestamp: Timestamp,
+        channel_id: CustomChannelId,
+    ) -> Result<Option<IpDefragPayloadVec>, IpDefragError>
+        // Over IPv4 an identification has 16 bits.
+        requires { IdentificationFits message.addresses message.identification }
+        ensures accepted { IfSome (fragment_in (as_class (told.Cut message.entry))) (λ named.
+            Accepts (same_id CustomChannelId.eq) self.old self.new (id_named named.0 channel_id)
+            named.1 timestamp result) }
+        ensures refused { IfSome (fragment_in (as_class (told.Cut message.entry))) (λ named.
+            Refuses (same_id CustomChannelId.eq) self.old (id_named named.0 channel_id) named.1
+            result) }
+        ensures others { IfSome (fragment_in (as_class (told.Cut message.entry))) (λ named.
+            OthersStay (same_id CustomChannelId.eq) (id_named named.0 channel_id)
+            self.old self.new) }
+        ensures err { OnErr result (SameStreams (same_id CustomChannelId.eq) self.old self.new) }
+        ensures short { IfOk result
+            (λ payload. IfSome payload (λ whole. length whole.payload.items ≤ 65535)) }
+        ensures counts { IfSome (fragment_in (as_class (told.Cut message.entry))) (λ named.
+            Counts (same_id CustomChannelId.eq) self.old self.new (id_named named.0 channel_id) result) }
+        ensures bound { Bounded self.old self.new }
+    {
+        let CutMessage {
+            vlan_ids,
+            addresses,
+            identification,
+            part,
+        } = message;
+        let id = IpFragId {
+            vlan_ids,
+            ip: spec_id(addresses, identification),
+            payload_ip_number: part.ip_number,
+            channel_id,
+        };
+        self.add_part(id, &part, timestamp)
+    }
+
+    // Takes a part of the message with this name.
+    fn add_part(
+        &mut self,
+        id: IpFragId<CustomChannelId>,
+        part: &Part<'_>,
+        timestamp: Timestamp,
+    ) -> Result<Option<IpDefragPayloadVec>, IpDefragError>
+        ensures accepted { Accepts ⟦<IpFragId<CustomChannelId> as PartialEq>⟧.eq self.old self.new
+            id (fragment_of part.now) timestamp result }
+        ensures refused { Refuses ⟦<IpFragId<CustomChannelId> as PartialEq>⟧.eq self.old id
+            (fragment_of part.now) result }
+        ensures others { OthersStay ⟦<IpFragId<CustomChannelId> as PartialEq>⟧.eq
+            id self.old self.new }
+        ensures err { OnErr result
+            (SameStreams ⟦<IpFragId<CustomChannelId> as PartialEq>⟧.eq self.old self.new) }
+        ensures short { IfOk result
+            (λ payload. IfSome payload (λ whole. length whole.payload.items ≤ 65535)) }
+        ensures counts { Counts ⟦<IpFragId<CustomChannelId> as PartialEq>⟧.eq self.old self.new id result }
+    {
+        let ip_number = id.payload_ip_number;
+        let len_source = id.ip.len_source();
+        match self.streams.add(id, part, timestamp) {
+            Ok(Some(payload)) => Ok(Some(IpDefragPayloadVec {
+                ip_number,
+                len_source,
+                payload,
+            })),
+            Ok(None) => Ok(None),
+            Err(error) => Err(error),
+        }
+    }
+
+    /// Takes back the memory of a message that was handed out, for those that begin later. Where no
+    /// place is found for it, the message is handed back.
+    pub fn return_buf(&mut self, buf: IpDefragPayloadVec) -> Result<(), IpDefragPayloadVec>
+        ensures ok { OnOk result (self.new.spare ≡ self.old.spare + 1) }
+        ensures err { IfErr result (λ given. (given ≡ buf) × (self.new ≡ self.old)) }
+        ensures same { self.new.streams ≡ self.old.streams }
+    {
+        let IpDefragPayloadVec {
+            ip_number,
+            len_source,
+            payload,
+        } = buf;
+        match self.streams.give(payload) {
+            Ok(()) => Ok(()),
+            Err(payload) => Err(IpDefragPayloadVec {
+                ip_number,
+                len_source,
+                payload,
+            }),
+        }
+    }
+
+    /// How many messages are on their way: no name is there twice.
+    pub fn open_len(&self) -> usize
+        ensures len { result ≡ open_in self.now }
+        ensures names { IsDistinct (same_id CustomChannelId.eq) (keys_of self.now.streams) }
+    {
+        self.streams.len()
+    }
+
+    /// How many buffers are kept for messages to come.
+    pub fn spare_len(&self) -> usize
+        ensures { result ≡ self.now.spare }
+    {
+        self.streams.spare_len()
+    }
+
+    /// Keeps exactly the messages to whose timestamp, that of the fragment accepted last, the test
+    /// answers `true`. It is asked once for each. The buffers of the others are spare then; there
+    /// are places for them since these messages began.
+    pub fn retain<F: Fn(&Timestamp) -> bool + Drop>(&mut self, keep: F) -> Result<(), AllocError>
+        requires { (q : IpFragId CustomChannelId)
+            → MayAsk (F.pre keep) (stream_at (same_id CustomChannelId.eq) self.old q) }
+        ensures retained { OnOk result ((q : IpFragId CustomChannelId)
+            → Retained (FnReturnsAt F.Fn keep)
+            (stream_at (same_id CustomChannelId.eq) self.old q) (stream_at (same_id CustomChannelId.eq) self.new q)) }
+        ensures ok { result ≡ Ok tt }
+        ensures err { OnErr result (self.new ≡ self.old) }
+        // As many buffers more are spare as messages are gone.
+        ensures counts { open_in self.new + self.new.spare ≡ open_in self.old + self.old.spare }
+        ensures fewer { open_in self.new ≤ open_in self.old }
+    {
+        self.streams.retain(&keep);
+        Ok(())
+    }
+}

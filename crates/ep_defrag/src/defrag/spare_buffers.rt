@@ -1,0 +1,105 @@
+//! The memory of messages that ended, for those that begin.
+
+ghost use Rattle.std.specs.Prelude.{◌≡◌, ◌+◌, ◌-◌, ◌<◌, ◌≤◌, ℕ, true, if◌then◌else◌, vec_len, vec_capacity};
+ghost use Rattle.ep_defrag.specs.SpareBuffers.{HasPlaces, NoFewerPlaces, SameCounts};
+
+use super::{IpDefragBuf, IpFragRange};
+use std::alloc::Global;
+
+/// Buffers whose message ended, each kind in a list of its own: the bytes of a message are handed
+/// out, and its sections stay.
+#[derive(Drop)]
+pub(crate) struct SpareBuffers {
+    pub bytes: Vec<Vec<u8>>,
+    pub sections: Vec<Vec<IpFragRange>>,
+}
+
+/// Which of the buffers of a new message were spare.
+#[derive(Clone, Copy)]
+pub(crate) struct Taken {
+    pub bytes: bool,
+    pub sections: bool,
+}
+
+impl SpareBuffers {
+    /// None. It takes no memory.
+    pub(crate) fn new(alloc: Global) -> SpareBuffers
+        ensures bytes { vec_len result.bytes ≡ 0 }
+        ensures sections { vec_len result.sections ≡ 0 }
+    {
+        SpareBuffers {
+            bytes: Vec::new(alloc),
+            sections: Vec::new(alloc),
+        }
+    }
+
+    /// Makes places for the buffers of one message more than these, and tells whether they are
+    /// there.
+    pub(crate) fn make_places(&mut self, held: usize) -> bool
+        ensures made { result ≡ true → HasPlaces self.new (held + 1) }
+        ensures same { SameCounts self.old self.new }
+        ensures no_fewer { NoFewerPlaces self.old self.new }
+    {
+        let Some(count) = held.checked_add(1) else {
+            return false;
+        };
+        self.bytes.try_reserve(count).is_ok() && self.sections.try_reserve(count).is_ok()
+    }
+
+    /// Buffers for a message, spare ones where there are some.
+    pub(crate) fn take(&mut self, alloc: Global) -> (Vec<u8>, Vec<IpFragRange>, Taken)
+        ensures fewer { vec_len self.new.bytes ≡ vec_len self.old.bytes - 1 }
+        ensures bytes { vec_len self.old.bytes
+            ≡ vec_len self.new.bytes + (if result.2.bytes then 1 else 0) }
+        ensures sections { vec_len self.old.sections
+            ≡ vec_len self.new.sections + (if result.2.sections then 1 else 0) }
+        ensures no_fewer { NoFewerPlaces self.old self.new }
+    {
+        let bytes = self.bytes.pop();
+        let sections = self.sections.pop();
+        let taken = Taken {
+            bytes: bytes.is_some(),
+            sections: sections.is_some(),
+        };
+        (or_empty(alloc, bytes), or_empty(alloc, sections), taken)
+    }
+
+    /// Takes back those that were spare of a message that didn't begin.
+    pub(crate) fn give_back(&mut self, buf: IpDefragBuf<()>, taken: Taken)
+        requires bytes { taken.bytes ≡ true → vec_len self.old.bytes < vec_capacity self.old.bytes }
+        requires sections { taken.sections ≡ true
+            → vec_len self.old.sections < vec_capacity self.old.sections }
+        ensures bytes { vec_len self.new.bytes
+            ≡ vec_len self.old.bytes + (if taken.bytes then 1 else 0) }
+        ensures sections { vec_len self.new.sections
+            ≡ vec_len self.old.sections + (if taken.sections then 1 else 0) }
+        ensures no_fewer { NoFewerPlaces self.old self.new }
+    {
+        let (bytes, sections) = buf.take_bufs();
+        if taken.bytes {
+            self.bytes.push_reserved(bytes);
+        }
+        if taken.sections {
+            self.sections.push_reserved(sections);
+        }
+    }
+
+    /// Takes both buffers of a message that ended. There are places for them.
+    pub(crate) fn give(&mut self, buf: IpDefragBuf<()>)
+        requires { HasPlaces self.old 1 }
+        ensures bytes { vec_len self.new.bytes ≡ vec_len self.old.bytes + 1 }
+        ensures sections { vec_len self.new.sections ≡ vec_len self.old.sections + 1 }
+        ensures no_fewer { NoFewerPlaces self.old self.new }
+    {
+        let (bytes, sections) = buf.take_bufs();
+        self.bytes.push_reserved(bytes);
+        self.sections.push_reserved(sections);
+    }
+}
+
+fn or_empty<X: Drop>(alloc: Global, buffer: Option<Vec<X>>) -> Vec<X> {
+    match buffer {
+        Some(buffer) => buffer,
+        None => Vec::new(alloc),
+    }
+}

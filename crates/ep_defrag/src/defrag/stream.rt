@@ -1,0 +1,159 @@
+//! A message that is on its way.
+
+ghost use Rattle.std.specs.Prelude.{◌≡◌, ◌++◌, ◌∷◌, ◌+◌, ◌-◌, ◌≤◌, ℕ, [], List, None, false, OnOk};
+ghost use Rattle.std.specs.Prelude.{OnErr, IfErr, IfOk, IfSome, length, option_map, vec_len};
+ghost use Rattle.indexmap.specs.IndexMap.{get, index_map_len};
+ghost use Rattle.ep_defrag.specs.Counts.{held_after, spare_after};
+ghost use Rattle.ep_defrag.specs.Fragments.{Fragment, refusal_of, refusal_at, end_of};
+ghost use Rattle.ep_defrag.specs.IpDefragBuf.{AnswersAdd, Shows};
+ghost use Rattle.ep_defrag.specs.Outcome.{outcome};
+ghost use Rattle.ep_defrag.specs.SpareBuffers.{HasPlaces, SameCounts};
+ghost use Rattle.ep_defrag.specs.Streams.{Becomes, IsErrorOf, IsStreamOf, ShowsStream};
+ghost use Rattle.ep_defrag.specs.Streams.{fragment_of};
+
+use super::ip_defrag_buf::checked_end;
+use super::spare_buffers::SpareBuffers;
+use super::{IpDefragBuf, IpDefragError};
+use ep_packet::Part;
+use indexmap::IndexMap;
+use indexmap::map::Entry;
+use std::alloc::Global;
+use std::hash::{BuildHasher, Hash};
+
+/// A message that is on its way, and when its last fragment came.
+#[derive(Drop)]
+pub(crate) struct Stream<T> {
+    // The protocol is told by the stream's name.
+    pub buf: IpDefragBuf<()>,
+    pub timestamp: T,
+}
+
+impl<T: Drop> Stream<T> {
+    // Takes one more part.
+    fn add(&mut self, part: &Part<'_>, timestamp: T) -> Result<(), IpDefragError>
+        ensures accepted { let f = fragment_of part.now in (fs : List Fragment)
+            → Shows self.old.buf fs →
+            IfOk result (λ u. IsStreamOf (fs ++ f ∷ []) timestamp self.new) }
+        ensures refused { let f = fragment_of part.now in (fs : List Fragment)
+            → Shows self.old.buf fs →
+            AnswersAdd (refusal_of fs f) (end_of f) result }
+        ensures err { OnErr result (self.new ≡ self.old) }
+    {
+        self.buf.add(part.offset, part.more_fragments, part.bytes)?;
+        self.timestamp = timestamp;
+        Ok(())
+    }
+}
+
+// Why a part that would begin a message isn't taken where there is no memory for it: it is refused
+// in want of memory too.
+fn want_of_memory(part: &Part<'_>) -> IpDefragError
+    ensures { let f = fragment_of part.now in IsErrorOf f (outcome [] f) result }
+{
+    match checked_end(None, part.offset, part.more_fragments, part.bytes) {
+        Ok(end) => IpDefragError::AllocationFailure {
+            len: usize::from(end),
+        },
+        Err(error) => error,
+    }
+}
+
+// The buffer of a message of which this is the first part, over memory that is spare where there is
+// some. Where the part isn't taken, that memory stays spare.
+fn begin(
+    alloc: Global,
+    spare: &mut SpareBuffers,
+    part: &Part<'_>,
+) -> Result<IpDefragBuf<()>, IpDefragError>
+    ensures accepted { IfOk result (λ buf. Shows buf (fragment_of part.now ∷ [])) }
+    ensures refused { let f = fragment_of part.now in
+        AnswersAdd (refusal_at None f) (end_of f) result }
+    ensures fewer { OnOk result (vec_len spare.new.bytes ≡ vec_len spare.old.bytes - 1) }
+    ensures same { OnErr result (SameCounts spare.old spare.new) }
+    ensures places { (count : ℕ) → HasPlaces spare.old count → HasPlaces spare.new count }
+{
+    let (bytes, sections, taken) = spare.take(alloc);
+    let mut buf = IpDefragBuf::new((), bytes, sections);
+    match buf.add(part.offset, part.more_fragments, part.bytes) {
+        Ok(()) => Ok(buf),
+        Err(error) => {
+            spare.give_back(buf, taken);
+            Err(error)
+        }
+    }
+}
+
+// The bytes of a message that is complete. Its sections are spare now.
+fn finish(spare: &mut SpareBuffers, buf: IpDefragBuf<()>) -> Vec<u8>
+    requires { HasPlaces spare.old 1 }
+    ensures bytes { result.items ≡ buf.bytes }
+    ensures short { length result.items ≤ 65535 }
+    ensures same { vec_len spare.new.bytes ≡ vec_len spare.old.bytes }
+    ensures places { (count : ℕ) → HasPlaces spare.old (count + 1) → HasPlaces spare.new count }
+{
+    let (bytes, sections) = buf.take_bufs();
+    spare.sections.push_reserved(sections);
+    bytes
+}
+
+// Takes a part of the message with this name. The stream ends where the message is complete. One
+// that is complete at once isn't kept: no packet's part is a whole message, but the contract speaks
+// of every part.
+pub(crate) fn add_part<K: Eq + Hash + Drop, T: Drop, S: BuildHasher>(
+    alloc: Global,
+    streams: &mut IndexMap<K, Stream<T>, S>,
+    spare: &mut SpareBuffers,
+    name: K,
+    part: &Part<'_>,
+    timestamp: T,
+) -> Result<Option<Vec<u8>>, IpDefragError>
+    requires { HasPlaces spare.old (index_map_len streams.old) }
+    ensures accepted { let f = fragment_of part.now in (fs : List Fragment)
+        → ShowsStream (get K.eq streams.old name) fs →
+        IfOk result (λ told. Becomes (λ text. text) (outcome fs f) timestamp
+        (get K.eq streams.new name) (option_map (λ bytes. bytes.items) told)) }
+    ensures refused { let f = fragment_of part.now in (fs : List Fragment)
+        → ShowsStream (get K.eq streams.old name) fs →
+        IfErr result (IsErrorOf f (outcome fs f)) }
+    ensures others { (q : K) → K.eq name q ≡ false
+        → get K.eq streams.new q ≡ get K.eq streams.old q }
+    ensures err { OnErr result ((q : K) → get K.eq streams.new q ≡ get K.eq streams.old q) }
+    ensures short { IfOk result (λ told. IfSome told (λ bytes. length bytes.items ≤ 65535)) }
+    ensures places { HasPlaces spare.new (index_map_len streams.new) }
+    ensures spare { vec_len spare.new.bytes
+        ≡ spare_after result (get K.eq streams.old name) (vec_len spare.old.bytes) }
+    ensures held { index_map_len streams.new
+        ≡ held_after result (get K.eq streams.old name) (index_map_len streams.old) }
+{
+    let held = streams.len();
+    match streams.entry(name) {
+        Ok(Entry::Occupied(mut entry)) => match entry.get_mut().add(part, timestamp) {
+            Ok(()) if entry.get().buf.is_complete() => {
+                Ok(Some(finish(spare, entry.swap_remove().buf)))
+            }
+            Ok(()) => Ok(None),
+            Err(error) => Err(error),
+        },
+        Ok(Entry::Vacant(entry)) => {
+            if !spare.make_places(held) {
+                entry.into_key();
+                return Err(want_of_memory(part));
+            }
+            match begin(alloc, spare, part) {
+                Ok(buf) if buf.is_complete() => {
+                    entry.into_key();
+                    Ok(Some(finish(spare, buf)))
+                }
+                Ok(buf) => {
+                    entry.insert(Stream { buf, timestamp });
+                    Ok(None)
+                }
+                Err(error) => {
+                    entry.into_key();
+                    Err(error)
+                }
+            }
+        }
+        Err(_) => Err(want_of_memory(part)),
+    }
+}

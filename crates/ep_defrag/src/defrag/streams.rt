@@ -1,0 +1,129 @@
+//! The messages that are on their way.
+
+ghost use Rattle.std.specs.Prelude.{◌≡◌, ◌+◌, ◌≤◌, [], List, OnOk, OnErr, IfOk, IfErr, IfSome};
+ghost use Rattle.std.specs.Prelude.{length, option_map};
+ghost use Rattle.std.specs.Fn.{FnReturnsAt};
+ghost use Rattle.std.specs.List.{IsDistinct};
+ghost use Rattle.std.specs.Map.{keys_of};
+ghost use Rattle.ep_defrag.specs.Counts.{Counts, open_in};
+ghost use Rattle.ep_defrag.specs.Fragments.{Fragment};
+ghost use Rattle.ep_defrag.specs.Outcome.{outcome};
+ghost use Rattle.ep_defrag.specs.Streams.{Becomes, MayAsk, OthersStay, Refuses, Retained};
+ghost use Rattle.ep_defrag.specs.Streams.{SameStreams, ShowsStream, fragment_of, stream_at};
+
+use super::IpDefragError;
+use super::retain_streams::retain_streams;
+use super::spare_buffers::SpareBuffers;
+use super::stream::{Stream, add_part};
+use ep_packet::Part;
+use indexmap::IndexMap;
+use std::alloc::Global;
+use std::hash::{BuildHasher, Hash};
+use std::marker::Model;
+
+/// The messages that are on their way, each under its name.
+#[derive(Drop)]
+pub(crate) struct Streams<K: Eq + Hash, T, S: BuildHasher> {
+    alloc: Global,
+    active: IndexMap<K, Stream<T>, S>,
+    // There are places for the buffers of all that are on their way, so that none is lost.
+    spare: SpareBuffers,
+}
+
+impl<K: Eq + Hash, T, S: BuildHasher> Model for Streams<K, T, S> {
+    ghost use Rattle.std.specs.Prelude.{vec_len};
+    ghost use Rattle.indexmap.specs.IndexMap.{index_map_len};
+    ghost use Rattle.ep_defrag.specs.SpareBuffers.{HasPlaces};
+    ghost use Rattle.ep_defrag.specs.Streams.{Pool};
+
+    ghost Value = { Pool K T };
+
+    ghost view = { λ held. record {
+      streams = held.active.entries;
+      spare = vec_len held.spare.bytes;
+    } };
+
+    ghost invariant = { λ held. HasPlaces held.spare (index_map_len held.active) };
+}
+
+impl<K: Eq + Hash + Drop, T: Drop, S: BuildHasher> Streams<K, T, S> {
+    /// No streams. It takes no memory.
+    pub(crate) fn with_hasher(alloc: Global, state: S) -> Self
+        ensures streams { result.streams ≡ [] }
+        ensures spare { result.spare ≡ 0 }
+    {
+        Streams {
+            alloc,
+            active: IndexMap::with_hasher(alloc, state),
+            spare: SpareBuffers::new(alloc),
+        }
+    }
+
+    /// How many messages are on their way.
+    pub(crate) fn len(&self) -> usize
+        ensures len { result ≡ open_in self.now }
+        ensures names { IsDistinct K.eq (keys_of self.now.streams) }
+    {
+        self.active.len()
+    }
+
+    /// How many buffers of bytes are spare.
+    pub(crate) fn spare_len(&self) -> usize
+        ensures { result ≡ self.now.spare }
+    {
+        self.spare.bytes.len()
+    }
+
+    /// Takes the memory of a message, or hands it back where no place is found for it.
+    pub(crate) fn give(&mut self, bytes: Vec<u8>) -> Result<(), Vec<u8>>
+        ensures streams { self.new.streams ≡ self.old.streams }
+        ensures ok { OnOk result (self.new.spare ≡ self.old.spare + 1) }
+        ensures err { IfErr result (λ given. given ≡ bytes) }
+        ensures kept { OnErr result (self.new.spare ≡ self.old.spare) }
+    {
+        if !self.spare.make_places(self.active.len()) {
+            return Err(bytes);
+        }
+        self.spare.bytes.push_reserved(bytes);
+        Ok(())
+    }
+
+    /// Takes a part of the message with this name. One that completes it hands its bytes out, and
+    /// ends the stream.
+    pub(crate) fn add(
+        &mut self,
+        name: K,
+        part: &Part<'_>,
+        timestamp: T,
+    ) -> Result<Option<Vec<u8>>, IpDefragError>
+        ensures accepted { (fs : List Fragment) → ShowsStream (stream_at K.eq self.old name) fs →
+            IfOk result (λ told. Becomes (λ text. text)
+            (outcome fs (fragment_of part.now)) timestamp
+            (stream_at K.eq self.new name) (option_map (λ bytes. bytes.items) told)) }
+        ensures refused { Refuses K.eq self.old name (fragment_of part.now) result }
+        ensures others { OthersStay K.eq name self.old self.new }
+        ensures err { OnErr result (SameStreams K.eq self.old self.new) }
+        ensures short { IfOk result (λ text. IfSome text (λ bytes. length bytes.items ≤ 65535)) }
+        ensures counts { Counts K.eq self.old self.new name result }
+    {
+        add_part(
+            self.alloc,
+            &mut self.active,
+            &mut self.spare,
+            name,
+            part,
+            timestamp,
+        )
+    }
+
+    /// Keeps exactly the streams to whose timestamp the test answers `true`.
+    pub(crate) fn retain<F: Fn(&T) -> bool>(&mut self, keep: &F)
+        requires { (q : K) → MayAsk (F.pre keep.now) (stream_at K.eq self.old q) }
+        ensures retained { (q : K) → Retained (FnReturnsAt F.Fn keep.now)
+            (stream_at K.eq self.old q) (stream_at K.eq self.new q) }
+        ensures counts { open_in self.new + self.new.spare ≡ open_in self.old + self.old.spare }
+        ensures fewer { open_in self.new ≤ open_in self.old }
+    {
+        retain_streams(&mut self.active, &mut self.spare, keep);
+    }
+}

@@ -1,0 +1,296 @@
+//! The definitions of names, of lists of calls and of what is answered to them, at fragments worked
+//! out by hand after RFC 791 and 8200.
+ghost use Rattle.std.specs.Prelude.{◌≡◌, ℕ, true, false, [], ◌∷◌, ◌++◌, List, None, Some};
+ghost use Rattle.std.specs.Prelude.{nat_eq, replicate};
+ghost use Rattle.std.specs.List.{IsDistinct};
+ghost use Rattle.std.specs.Map.{keys_of};
+ghost use Rattle.ep_base.specs.declared.len_source.LenSource.TheVariants.{Ipv4HeaderTotalLen};
+ghost use Rattle.ep_base.specs.declared.len_source.LenSource.TheVariants.{Ipv6HeaderPayloadLen};
+ghost use Rattle.ep_base.specs.declared.net.ip_number.IpNumber.{IpNumber};
+ghost use Rattle.ep_packet.specs.Class.{FragmentName};
+ghost use Rattle.ep_packet.specs.Class.Class.{Cut, Other, Whole, Refused as Faulty};
+ghost use Rattle.ep_packet.specs.Readable.{ReadMessage};
+ghost use Rattle.ep_packet.specs.declared.addresses.Addresses.{Addresses};
+ghost use Rattle.ep_packet.specs.declared.addresses.Addresses.TheVariants.{V4, V6};
+ghost use Rattle.ep_packet.specs.declared.err.packet.slice_error.SliceError.{SliceError};
+ghost use Rattle.ep_defrag.specs.Counts.{open_in};
+ghost use Rattle.ep_defrag.specs.Fragments.{Fragment, fragment};
+ghost use Rattle.ep_defrag.specs.IpDefragBuf.{Shows};
+ghost use Rattle.ep_defrag.specs.IpDefragPool.{same_id};
+ghost use Rattle.ep_defrag.specs.IpFragId.{id_named, same_name};
+ghost use Rattle.ep_defrag.specs.OpenMessages.{IsOpenCount};
+ghost use Rattle.ep_defrag.specs.PoolCalls.{FrameAnswered, HasMemory, Lists, Replies, ShowsLists};
+ghost use Rattle.ep_defrag.specs.PoolCalls.{after_frame, answer_to_frame, no_lists, retained_from};
+ghost use Rattle.ep_defrag.specs.PoolCalls.{want_at, want_at_frame};
+ghost use Rattle.ep_defrag.specs.Processed.{PacketsAreAnswered, WantsAreTold};
+ghost use Rattle.ep_defrag.specs.Streams.{Pool};
+ghost use Rattle.ep_defrag.specs.PoolCalls.Told.{Delivered, NoMemory, NotSliced, Nothing, Refused};
+ghost use Rattle.ep_defrag.specs.PoolCalls.Told.{Retained};
+ghost use Rattle.ep_defrag.specs.declared.defrag.ip_defrag_error.IpDefragError.TheVariants.{AllocationFailure};
+ghost use Rattle.ep_defrag.specs.declared.defrag.ip_defrag_error.IpDefragError.TheVariants.{ConflictingEnd};
+ghost use Rattle.ep_defrag.specs.declared.defrag.ip_frag_id.IpFragId.{IpFragId};
+ghost use Rattle.ep_defrag.specs.declared.defrag.pool_calls.PoolCall.TheVariants.{RetainFrom};
+ghost use Rattle.ep_defrag.specs.declared.defrag.ip_frag_version_spec_id.IpFragVersionSpecId.TheVariants.{Ipv4};
+ghost use Rattle.ep_defrag.specs.declared.defrag.ip_frag_version_spec_id.IpFragVersionSpecId.TheVariants.{Ipv6};
+
+use super::names::equal_names;
+
+/// A new pool shows that no fragment was accepted.
+pub fn a_new_pool_shows_no_lists()
+    ensures { (pool : Pool (IpFragId ℕ) ℕ) → pool.streams ≡ [] → ShowsLists pool no_lists }
+{}
+
+/// What `process_sliced_packet` says of streams, said of the list of each name: the packet is
+/// answered by its name's list, which has its fragment then; or it is out of memory for one that
+/// isn't refused, and all lists stay.
+pub fn packets_are_answered()
+    ensures { PacketsAreAnswered }
+{
+    equal_names::<u32>();
+}
+
+/// No answer to a frame tells out of memory, and what may be told in its place always does.
+pub fn wants_are_told()
+    ensures { WantsAreTold }
+{}
+
+/// What a pool shows is told by its streams alone: spare buffers show nothing.
+pub fn spare_buffers_show_nothing()
+    ensures { (old new : Pool (IpFragId ℕ) ℕ) (lists : Lists) → new.streams ≡ old.streams
+        → ShowsLists old lists → ShowsLists new lists }
+{}
+
+/// As many messages are on their way in a pool, where no name is there twice, as lists that it shows
+/// aren't empty.
+pub fn open_messages_are_counted()
+    ensures { (pool : Pool (IpFragId ℕ) ℕ) (lists : Lists)
+        → IsDistinct (same_id nat_eq) (keys_of pool.streams) → ShowsLists pool lists
+        → IsOpenCount lists (open_in pool) }
+{
+    equal_names::<u32>();
+}
+
+/// Each part of a name has its place.
+pub fn parts_of_names()
+    ensures ipv4 { id_named {C = ℕ}
+        (record {
+          vlan_ids = 5 ∷ 6 ∷ 7 ∷ [];
+          addresses = V4 (10 ∷ 0 ∷ 0 ∷ 1 ∷ []) (10 ∷ 0 ∷ 0 ∷ 2 ∷ []);
+          identification = 258;
+          number = 17;
+        }) 3
+        ≡ record {
+          vlan_ids = record { items = 5 ∷ 6 ∷ 7 ∷ [] };
+          ip = Ipv4 (10 ∷ 0 ∷ 0 ∷ 1 ∷ []) (10 ∷ 0 ∷ 0 ∷ 2 ∷ []) 258;
+          payload_ip_number = record { 0 = 17 };
+          channel_id = 3;
+        } }
+    ensures ipv6 { id_named {C = ℕ}
+        (record {
+          vlan_ids = [];
+          addresses = V6 (253 ∷ replicate 15 1) (253 ∷ replicate 15 2);
+          identification = 16909060;
+          number = 58;
+        }) 3
+        ≡ record {
+          vlan_ids = record { items = [] };
+          ip = Ipv6 (253 ∷ replicate 15 1) (253 ∷ replicate 15 2) 16909060;
+          payload_ip_number = record { 0 = 58 };
+          channel_id = 3;
+        } }
+    ensures third_tag { (addresses : Addresses)
+        → same_name (record
+        { vlan_ids = 5 ∷ 6 ∷ 7 ∷ []; addresses = addresses; identification = 258; number = 17 })
+        (record {
+          vlan_ids = 5 ∷ 6 ∷ 8 ∷ [];
+          addresses = addresses;
+          identification = 258;
+          number = 17;
+        }) ≡ false }
+    ensures fewer_tags { (addresses : Addresses)
+        → same_name (record
+        { vlan_ids = 5 ∷ 6 ∷ []; addresses = addresses; identification = 258; number = 17 })
+        (record {
+          vlan_ids = 5 ∷ 6 ∷ 7 ∷ [];
+          addresses = addresses;
+          identification = 258;
+          number = 17;
+        }) ≡ false }
+    ensures upper_half { same_name
+        (record {
+          vlan_ids = [];
+          addresses = V6 (253 ∷ []) (253 ∷ []);
+          identification = 65543;
+          number = 17;
+        })
+        (record {
+          vlan_ids = [];
+          addresses = V6 (253 ∷ []) (253 ∷ []);
+          identification = 7;
+          number = 17;
+        }) ≡ false }
+    ensures turned { same_name
+        (record {
+          vlan_ids = [];
+          addresses = V4 (1 ∷ []) (2 ∷ []);
+          identification = 7;
+          number = 17;
+        })
+        (record {
+          vlan_ids = [];
+          addresses = V4 (2 ∷ []) (1 ∷ []);
+          identification = 7;
+          number = 17;
+        }) ≡ false }
+{}
+
+/// What is answered to a packet where the last 8 of 16 bytes came at time 4: the message with its
+/// front, the conflict with its end behind it, and nothing to packets that are no fragments; a
+/// frame that breaks its format is told with its fault.
+pub fn answers_behind_a_last_part()
+    ensures ipv4 { (ids : List ℕ) (a b : List ℕ)
+        → answer_to_frame
+        (λ name channel. record { fragments = fragment 1 false (replicate 8 2) ∷ []; time = 4 })
+        (Cut (record { vlan_ids = ids; addresses = V4 a b; identification = 7; number = 17 }) 0 true (replicate 8 1)) 3 None
+        ≡ Delivered (record {
+          ip_number = record { 0 = 17 };
+          len_source = Ipv4HeaderTotalLen;
+          bytes = replicate 8 1 ++ replicate 8 2;
+        }) }
+    ensures ipv6 { (ids : List ℕ) (a b : List ℕ)
+        → answer_to_frame
+        (λ name channel. record { fragments = fragment 1 false (replicate 8 2) ∷ []; time = 4 })
+        (Cut (record { vlan_ids = ids; addresses = V6 a b; identification = 7; number = 58 }) 0 true (replicate 8 1)) 3 None
+        ≡ Delivered (record {
+          ip_number = record { 0 = 58 };
+          len_source = Ipv6HeaderPayloadLen;
+          bytes = replicate 8 1 ++ replicate 8 2;
+        }) }
+    ensures repeat { (name : FragmentName)
+        → answer_to_frame
+        (λ name channel. record { fragments = fragment 1 false (replicate 8 2) ∷ []; time = 4 })
+        (Cut name 1 false (replicate 8 3)) 3 None ≡ Nothing }
+    ensures behind { (name : FragmentName)
+        → answer_to_frame
+        (λ name channel. record { fragments = fragment 1 false (replicate 8 2) ∷ []; time = 4 })
+        (Cut name 2 true (replicate 8 3)) 3 None ≡ Refused (ConflictingEnd 16 24) }
+    ensures whole { (addresses : Addresses) (message : ReadMessage)
+        → answer_to_frame no_lists (Whole addresses 17 [] message) 3 None ≡ Nothing }
+    ensures other { answer_to_frame no_lists Other 3 None ≡ Nothing }
+    ensures faulty { (fault : SliceError)
+        → answer_to_frame no_lists Faulty 3 (Some fault) ≡ NotSliced (Some fault) }
+{}
+
+/// What a fragment makes of the list of a name where the last 8 of 16 bytes came at time 4: one
+/// that is accepted is appended and renews the time, one that is refused or goes to another name or
+/// channel does neither, and a complete list is empty again.
+pub fn lists_behind_a_last_part()
+    ensures appended { after_frame
+        (record { vlan_ids = []; addresses = V4 [] []; identification = 7; number = 17 }) 3
+        (Cut (record { vlan_ids = []; addresses = V4 [] []; identification = 7; number = 17 }) 1
+        true (replicate 8 3)) 9 3
+        (record { fragments = fragment 1 false (replicate 8 2) ∷ []; time = 4 })
+        ≡ record { fragments = fragment 1 false (replicate 8 2) ∷ fragment 1 true (replicate 8 3) ∷ []; time = 9 } }
+    ensures refused { after_frame
+        (record { vlan_ids = []; addresses = V4 [] []; identification = 7; number = 17 }) 3
+        (Cut (record { vlan_ids = []; addresses = V4 [] []; identification = 7; number = 17 }) 2
+        true (replicate 8 3)) 9 3
+        (record { fragments = fragment 1 false (replicate 8 2) ∷ []; time = 4 })
+        ≡ record { fragments = fragment 1 false (replicate 8 2) ∷ []; time = 4 } }
+    ensures other_channel { after_frame
+        (record { vlan_ids = []; addresses = V4 [] []; identification = 7; number = 17 }) 3
+        (Cut (record { vlan_ids = []; addresses = V4 [] []; identification = 7; number = 17 }) 1
+        true (replicate 8 3)) 9 2
+        (record { fragments = fragment 1 false (replicate 8 2) ∷ []; time = 4 })
+        ≡ record { fragments = fragment 1 false (replicate 8 2) ∷ []; time = 4 } }
+    ensures other_name { after_frame
+        (record { vlan_ids = []; addresses = V4 [] []; identification = 7; number = 17 }) 3
+        (Cut (record { vlan_ids = []; addresses = V4 [] []; identification = 8; number = 17 }) 1
+        true (replicate 8 3)) 9 3
+        (record { fragments = fragment 1 false (replicate 8 2) ∷ []; time = 4 })
+        ≡ record { fragments = fragment 1 false (replicate 8 2) ∷ []; time = 4 } }
+    ensures complete { after_frame
+        (record { vlan_ids = []; addresses = V4 [] []; identification = 7; number = 17 }) 3
+        (Cut (record { vlan_ids = []; addresses = V4 [] []; identification = 7; number = 17 }) 0
+        true (replicate 8 3)) 9 3
+        (record { fragments = fragment 1 false (replicate 8 2) ∷ []; time = 4 })
+        ≡ record { fragments = []; time = 9 } }
+{}
+
+/// A list whose last fragment came at the time itself, or later, stays; an earlier one goes.
+pub fn lists_from_a_time_on()
+    ensures earlier { (fs : List Fragment)
+        → retained_from 5 (record { fragments = fs; time = 4 })
+        ≡ record { fragments = []; time = 4 } }
+    ensures at_the_time { (fs : List Fragment)
+        → retained_from 5 (record { fragments = fs; time = 5 })
+        ≡ record { fragments = fs; time = 5 } }
+    ensures later { (fs : List Fragment)
+        → retained_from 5 (record { fragments = fs; time = 6 })
+        ≡ record { fragments = fs; time = 6 } }
+{}
+
+/// Two replies tell out of memory, and others don't.
+pub fn replies_without_memory()
+    ensures fragment { HasMemory (Refused (AllocationFailure 8)) → ⊥ }
+    ensures retain { HasMemory NoMemory → ⊥ }
+    ensures conflict { HasMemory (Refused (ConflictingEnd 16 24)) }
+    ensures nothing { HasMemory Nothing }
+{}
+
+/// Out of memory may be told of a fragment that isn't refused, with its end, where the last 8 of
+/// 16 bytes came before it, and then its list is as it was; and of nothing else, `RetainFrom`
+/// neither.
+pub fn wants_of_memory()
+    ensures fragment { (name : FragmentName)
+        → want_at_frame
+        (λ name channel. record { fragments = fragment 1 false (replicate 8 2) ∷ []; time = 4 })
+        (Cut name 0 true (replicate 8 1)) 3 ≡ Some (Refused (AllocationFailure 8)) }
+    ensures stays { (name : FragmentName)
+        → FrameAnswered (λ after. (after name 3).fragments ≡ fragment 1 false (replicate 8 2) ∷ [])
+        (λ name channel. record { fragments = fragment 1 false (replicate 8 2) ∷ []; time = 4 })
+        (Cut name 0 true (replicate 8 1)) 9 3 None (Refused (AllocationFailure 8)) }
+    ensures refused { (name : FragmentName)
+        → want_at_frame
+        (λ name channel. record { fragments = fragment 1 false (replicate 8 2) ∷ []; time = 4 })
+        (Cut name 2 true (replicate 8 3)) 3 ≡ None }
+    ensures whole { (addresses : Addresses) (message : ReadMessage)
+        → want_at_frame no_lists (Whole addresses 17 [] message) 3 ≡ None }
+    ensures other { want_at_frame no_lists Other 3 ≡ None }
+    ensures faulty { want_at_frame no_lists Faulty 3 ≡ None }
+    ensures retain { want_at no_lists (RetainFrom 5) ≡ None }
+{}
+
+/// What may be answered to `RetainFrom(5)` where the last 8 of 16 bytes came at time 4: `Retained`,
+/// and the list is empty; not out of memory, and no refusal.
+pub fn replies_to_retain_from()
+    ensures retained { (name : FragmentName)
+        → Replies (λ after. (after name 3).fragments ≡ [])
+        (λ name channel. record { fragments = fragment 1 false (replicate 8 2) ∷ []; time = 4 })
+        (RetainFrom 5 ∷ []) (Retained ∷ []) }
+    ensures no_memory { Replies (λ after. Unit {0}) no_lists (RetainFrom 5 ∷ []) (NoMemory ∷ [])
+        → ⊥ }
+    ensures refused { Replies (λ after. Unit {0}) no_lists (RetainFrom 5 ∷ [])
+        (Refused (AllocationFailure 0) ∷ []) → ⊥ }
+    ensures none { Replies (λ after. Unit {0}) no_lists (RetainFrom 5 ∷ []) [] → ⊥ }
+{}
+
+/// A buffer with the second 8 bytes of a message shows that fragment, and not the first one.
+pub fn a_part_that_is_shown()
+    ensures shown { Shows {Number = IpNumber}
+        (record {
+          ip_number = record { 0 = 17 };
+          bytes = replicate 8 0 ++ replicate 8 2;
+          sections = record { start = 8; end = 16 } ∷ [];
+          end = None;
+        })
+        (fragment 1 true (replicate 8 2) ∷ []) }
+    ensures not_shown { Shows {Number = IpNumber}
+        (record {
+          ip_number = record { 0 = 17 };
+          bytes = replicate 8 0 ++ replicate 8 2;
+          sections = record { start = 8; end = 16 } ∷ [];
+          end = None;
+        })
+        (fragment 0 true (replicate 8 2) ∷ []) → ⊥ }
+{}

@@ -1,0 +1,103 @@
+//! Frames with the two halves of a UDP message, as the tests hand them in. The functions have no
+//! contracts: tests alone call them, and are run.
+
+use ep_defrag::defrag::{
+    IpDefragError, IpDefragPayloadVec, IpDefragPool, PoolCall, PoolReply, run_calls,
+};
+use ep_packet::SlicedPacket;
+use std::alloc::Global;
+use std::process::Abort;
+use std::test::*;
+
+/// The first half over IPv4, with identification 7.
+pub const FIRST: [u8; 42] = [
+    0x02, 0, 0, 0, 0, 0x02, 0x02, 0, 0, 0, 0, 0x01, 0x08, 0x00, 0x45, 0, 0, 0x1c, 0, 0x07, 0x20,
+    0x00, 0x40, 0x11, 0x46, 0xc8, 0x0a, 0, 0, 0x01, 0x0a, 0, 0, 0x02, 0x00, 0x01, 0x00, 0x02, 0x00,
+    0x10, 0xdb, 0xb4,
+];
+
+/// The second half.
+pub const SECOND: [u8; 42] = [
+    0x02, 0, 0, 0, 0, 0x02, 0x02, 0, 0, 0, 0, 0x01, 0x08, 0x00, 0x45, 0, 0, 0x1c, 0, 0x07, 0x00,
+    0x01, 0x40, 0x11, 0x66, 0xc7, 0x0a, 0, 0, 0x01, 0x0a, 0, 0, 0x02, 0x01, 0x02, 0x03, 0x04, 0x05,
+    0x06, 0x07, 0x08,
+];
+
+/// The message.
+pub const MESSAGE: [u8; 16] = [
+    0x00, 0x01, 0x00, 0x02, 0x00, 0x10, 0xdb, 0xb4, 0x01, 0x02, 0x03, 0x04, 0x05, 0x06, 0x07, 0x08,
+];
+
+/// The message over IPv6.
+pub const IPV6_MESSAGE: [u8; 16] = [
+    0, 0x01, 0, 0x02, 0, 0x10, 0xf5, 0xb2, 0x01, 0x02, 0x03, 0x04, 0x05, 0x06, 0x07, 0x08,
+];
+
+/// The second half over IPv6, with identification 7.
+pub const IPV6_SECOND: [u8; 70] = [
+    0x02, 0, 0, 0, 0, 0x02, 0x02, 0, 0, 0, 0, 0x01, 0x86, 0xdd, 0x60, 0, 0, 0, 0, 0x10, 0x2c, 0x40,
+    0xfd, 0, 0, 0, 0, 0, 0, 0, 0, 0, 0, 0, 0, 0, 0, 0x01, 0xfd, 0, 0, 0, 0, 0, 0, 0, 0, 0, 0, 0, 0,
+    0, 0, 0x02, 0x11, 0, 0, 0x08, 0, 0, 0, 0x07, 0x01, 0x02, 0x03, 0x04, 0x05, 0x06, 0x07, 0x08,
+];
+
+/// The first half.
+pub const IPV6_FIRST: [u8; 70] = [
+    0x02, 0, 0, 0, 0, 0x02, 0x02, 0, 0, 0, 0, 0x01, 0x86, 0xdd, 0x60, 0, 0, 0, 0, 0x10, 0x2c, 0x40,
+    0xfd, 0, 0, 0, 0, 0, 0, 0, 0, 0, 0, 0, 0, 0, 0, 0x01, 0xfd, 0, 0, 0, 0, 0, 0, 0, 0, 0, 0, 0, 0,
+    0, 0, 0x02, 0x11, 0, 0, 0x01, 0, 0, 0, 0x07, 0, 0x01, 0, 0x02, 0, 0x10, 0xf5, 0xb2,
+];
+
+/// The first half over IPv4 behind three VLAN tags, of the identifiers 5, 6 and 7.
+pub const TAGGED_FIRST: [u8; 54] = [
+    0x02, 0, 0, 0, 0, 0x02, 0x02, 0, 0, 0, 0, 0x01, 0x81, 0, 0, 0x05, 0x81, 0, 0, 0x06, 0x81, 0, 0,
+    0x07, 0x08, 0, 0x45, 0, 0, 0x1c, 0, 0x07, 0x20, 0, 0x40, 0x11, 0x46, 0xc8, 0x0a, 0, 0, 0x01,
+    0x0a, 0, 0, 0x02, 0, 0x01, 0, 0x02, 0, 0x10, 0xdb, 0xb4,
+];
+
+/// The second half behind the same tags.
+pub const TAGGED_SECOND: [u8; 54] = [
+    0x02, 0, 0, 0, 0, 0x02, 0x02, 0, 0, 0, 0, 0x01, 0x81, 0, 0, 0x05, 0x81, 0, 0, 0x06, 0x81, 0, 0,
+    0x07, 0x08, 0, 0x45, 0, 0, 0x1c, 0, 0x07, 0, 0x01, 0x40, 0x11, 0x66, 0xc7, 0x0a, 0, 0, 0x01,
+    0x0a, 0, 0, 0x02, 0x01, 0x02, 0x03, 0x04, 0x05, 0x06, 0x07, 0x08,
+];
+
+/// Hands a frame in; no contract, as above.
+pub fn process(
+    rt: &impl Abort,
+    pool: &mut IpDefragPool<u64, u32>,
+    frame: &[u8],
+    timestamp: u64,
+    channel: u32,
+) -> Result<Option<IpDefragPayloadVec>, IpDefragError> {
+    let Ok(packet) = SlicedPacket::from_ethernet(frame) else {
+        panic!(rt; "a frame isn't sliced");
+    };
+    pool.process_sliced_packet(&packet, timestamp, channel)
+}
+
+/// Hands a frame in, and tells whether it completes a message; no contract, as above.
+pub fn delivers(
+    rt: &impl Abort,
+    pool: &mut IpDefragPool<u64, u32>,
+    frame: &[u8],
+    timestamp: u64,
+    channel: u32,
+) -> bool {
+    match process(rt, pool, frame, timestamp, channel) {
+        Ok(message) => message.is_some(),
+        Err(error) => panic!(rt; "{error}"),
+    }
+}
+
+/// The replies to calls; no contract, as above.
+pub fn replies(
+    rt: &impl Abort,
+    alloc: Global,
+    pool: &mut IpDefragPool<u64, u32>,
+    calls: &[PoolCall<'_>],
+) -> Vec<PoolReply> {
+    let Ok(replies) = run_calls(alloc, pool, calls) else {
+        panic!(rt; "no room for the replies");
+    };
+    replies
+}

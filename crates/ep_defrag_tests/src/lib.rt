@@ -1,0 +1,34 @@
+//! Tests of `ep_defrag` over its public calls. They stand in a crate of their own, so that they are
+//! proved beside it and not with each of its functions once more.
+#![tactic(auto)]
+
+#[cfg(test)]
+mod buffers;
+#[cfg(test)]
+mod errors;
+#[cfg(test)]
+mod fragments;
+#[cfg(test)]
+mod frames;
+#[cfg(test)]
+mod hostile;
+#[cfg(test)]
+mod memory;
+#[cfg(test)]
+mod names;
+#[cfg(test)]
+mod pool_kinds;
+#[cfg(test)]
+mod pool_memory;
+#[cfg(test)]
+mod pool_orders;
+#[cfg(test)]
+mod pool_refusals;
+#[cfg(test)]
+mod pool_retain;
+#[cfg(test)]
+mod pool_reuse;
+#[cfg(test)]
+mod pools;
+#[cfg(test)]
+mod ranges;

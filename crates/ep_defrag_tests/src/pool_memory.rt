@@ -1,0 +1,138 @@
+//! Want of memory in a pool. To be run with each allocation failing in turn, too: then one of the
+//! calls wants memory and leaves the pool as it was, and the next one gets it.
+
+use crate::frames::{FIRST, IPV6_FIRST, IPV6_SECOND, MESSAGE, SECOND, delivers, process};
+use ep_defrag::defrag::{IpDefragError, IpDefragPool, PoolCall, PoolReply, run_calls};
+use std::alloc::Global;
+use std::process::Abort;
+use std::test::*;
+
+#[test]
+fn a_message_wants_memory(rt: HostRuntime) {
+    let mut pool = IpDefragPool::new(rt.alloc());
+    if let Err(error) = process(&rt, &mut pool, &FIRST, 1, 0) {
+        assert!(rt; error == IpDefragError::AllocationFailure { len: 8 });
+        assert!(rt; !delivers(&rt, &mut pool, &FIRST, 1, 0));
+    }
+    if let Err(error) = process(&rt, &mut pool, &SECOND, 2, 1) {
+        assert!(rt; error == IpDefragError::AllocationFailure { len: 16 });
+        assert!(rt; !delivers(&rt, &mut pool, &SECOND, 2, 1));
+    }
+    assert!(rt; pool.retain(|time: &u64| *time >= 2).is_ok());
+    assert!(rt; !delivers_at_last(&rt, &mut pool, &SECOND, 0, 16));
+    assert!(rt; delivers_at_last(&rt, &mut pool, &FIRST, 1, 8));
+}
+
+#[test]
+fn a_list_of_calls_wants_memory(rt: HostRuntime) {
+    let mut pool = IpDefragPool::new(rt.alloc());
+    let frame = |frame| PoolCall::Frame {
+        frame,
+        timestamp: 1,
+        channel: 0,
+    };
+    let calls = [frame(&FIRST[..]), frame(&FIRST[..])];
+    match run_calls(rt.alloc(), &mut pool, &calls) {
+        Ok(replies) => {
+            // At most one of the two wanted memory.
+            let waiting = replies
+                .iter()
+                .filter(|reply| matches!(reply, PoolReply::Nothing));
+            assert!(rt; waiting.count() >= 1);
+            assert!(rt; delivers_at_last(&rt, &mut pool, &SECOND, 0, 16));
+        }
+        Err(_) => assert!(rt; !delivers(&rt, &mut pool, &SECOND, 2, 0)),
+    }
+}
+
+// Hands a frame in until it finds memory, and tells whether it completes a message. One that finds
+// none tells where it ends. It has no contract, as tests alone call it.
+fn delivers_at_last(
+    rt: &impl Abort,
+    pool: &mut IpDefragPool<u64, u32>,
+    frame: &[u8],
+    channel: u32,
+    end: usize,
+) -> bool {
+    match process(rt, pool, frame, 1, channel) {
+        Ok(message) => message.is_some(),
+        Err(error) => {
+            assert!(rt; error == IpDefragError::AllocationFailure { len: end });
+            delivers(rt, pool, frame, 1, channel)
+        }
+    }
+}
+
+/// So many messages that the pool grows several times, whichever growth is refused.
+#[test]
+fn many_messages_want_memory(rt: HostRuntime) {
+    let mut pool = IpDefragPool::new(rt.alloc());
+    for channel in 0..10u32 {
+        assert!(rt; !delivers_at_last(&rt, &mut pool, &FIRST, channel, 8));
+        assert!(rt; !delivers_at_last(&rt, &mut pool, &IPV6_SECOND, channel, 16));
+    }
+    for channel in 0..10u32 {
+        assert!(rt; delivers_at_last(&rt, &mut pool, &SECOND, channel, 16));
+        assert!(rt; delivers_at_last(&rt, &mut pool, &IPV6_FIRST, channel, 8));
+    }
+}
+
+/// A call whose reply tells of want of memory did nothing, and the others did as ever.
+#[test]
+fn one_of_many_calls_wants_memory(rt: HostRuntime) {
+    let mut pool = IpDefragPool::new(rt.alloc());
+    let first = |channel| PoolCall::Frame {
+        frame: &FIRST[..],
+        timestamp: 1,
+        channel,
+    };
+    let second = |channel| PoolCall::Frame {
+        frame: &SECOND[..],
+        timestamp: 2,
+        channel,
+    };
+    let calls = [first(0), first(1), first(2), first(3), first(4), first(5)];
+    let begun = at_last(&rt, rt.alloc(), &mut pool, &calls);
+    let calls = [
+        second(0),
+        second(1),
+        second(2),
+        second(3),
+        second(4),
+        second(5),
+    ];
+    let ended = at_last(&rt, rt.alloc(), &mut pool, &calls);
+    let mut wanting = 0u32;
+    for pair in begun.iter().zip(ended.iter()) {
+        match pair {
+            (PoolReply::Nothing, PoolReply::Payload(message)) => {
+                assert!(rt; message.payload.as_slice() == &MESSAGE[..]);
+            }
+            (PoolReply::Refused(IpDefragError::AllocationFailure { len: 8 }), PoolReply::Nothing)
+            | (
+                PoolReply::Nothing,
+                PoolReply::Refused(IpDefragError::AllocationFailure { len: 16 }),
+            ) => {
+                wanting = wanting.wrapping_add(1);
+            }
+            _ => panic!(rt; "the replies are others"),
+        }
+    }
+    assert!(rt; wanting <= 1);
+}
+
+// The replies to calls, once there is room for them. It has no contract, as tests alone call it.
+fn at_last(
+    rt: &impl Abort,
+    alloc: Global,
+    pool: &mut IpDefragPool<u64, u32>,
+    calls: &[PoolCall<'_>],
+) -> Vec<PoolReply> {
+    if let Ok(replies) = run_calls(alloc, pool, calls) {
+        return replies;
+    }
+    match run_calls(alloc, pool, calls) {
+        Ok(replies) => replies,
+        Err(_) => panic!(rt; "no room for the replies, twice"),
+    }
+}

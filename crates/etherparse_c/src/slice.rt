@@ -1,0 +1,43 @@
+//! Packets, sliced.
+ghost use Rattle.std.specs.Prelude.{◌≡◌, IfOk};
+ghost use Rattle.etherparse.specs.link.Ethernet.{ethernet_len};
+ghost use Rattle.etherparse.specs.link.Sll.{sll_len};
+ghost use Rattle.etherparse.specs.packet.Parts.{ArePartsOf};
+ghost use Rattle.etherparse.specs.packet.Sliced.{sliced_ethernet, sliced_ip, sliced_linux_sll};
+ghost use Rattle.etherparse_c.specs.Packet.{told};
+
+use crate::EpPacket;
+use crate::packet::told;
+use etherparse::SlicedPacket;
+
+/// Tells the parts of an Ethernet II frame, or why it is refused.
+#[unsafe(no_mangle)]
+pub extern "C" fn ep_slice_ethernet(bytes: &[u8]) -> EpPacket
+    ensures exact { result ≡ told ethernet_len (sliced_ethernet bytes.now) }
+    // Each part is the frame from its place on.
+    ensures parts { IfOk (sliced_ethernet bytes.now)
+        (λ packet. ArePartsOf bytes.now ethernet_len packet) }
+{
+    told(bytes, 14, SlicedPacket::from_ethernet(bytes))
+}
+
+/// Tells the parts of a packet of a Linux cooked capture, or why it is refused.
+#[unsafe(no_mangle)]
+pub extern "C" fn ep_slice_linux_sll(bytes: &[u8]) -> EpPacket
+    ensures exact { result ≡ told sll_len (sliced_linux_sll bytes.now) }
+    // Each part is the packet from its place on.
+    ensures parts { IfOk (sliced_linux_sll bytes.now)
+        (λ packet. ArePartsOf bytes.now sll_len packet) }
+{
+    told(bytes, 16, SlicedPacket::from_linux_sll(bytes))
+}
+
+/// Tells the parts of an IP packet of either version, or why it is refused.
+#[unsafe(no_mangle)]
+pub extern "C" fn ep_slice_ip(bytes: &[u8]) -> EpPacket
+    ensures exact { result ≡ told 0 (sliced_ip bytes.now) }
+    // Each part is the packet from its place on.
+    ensures parts { IfOk (sliced_ip bytes.now) (λ packet. ArePartsOf bytes.now 0 packet) }
+{
+    told(bytes, 0, SlicedPacket::from_ip(bytes))
+}

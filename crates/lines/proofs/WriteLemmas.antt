@@ -1,0 +1,123 @@
+-- Replies that wait to be written, and writes.
+use Rattle.std.proofs.Common.{◌≡◌, ◌∙◌, sym, ap, refl, subst, ℕ, List, [], ◌++◌, Bool, true}
+use Rattle.std.proofs.Common.{append_assoc, append-nil}
+use Rattle.runs.specs.declared.fault.Fault.{Fault}
+use Rattle.runs.specs.Calls.{Call}
+use Rattle.runs.specs.Endings.{Ending, Done, Stopped, OutOfMemory, OutOfReads, Refused}
+use Rattle.runs.specs.Writes.{Written, Stops, Delivers}
+use Rattle.runs.proofs.WriteLemmas.{Written-nil, Written-append, Stops-after, Stops-more}
+use Rattle.runs.proofs.WriteLemmas.{Delivers-after}
+use Rattle.lines.specs.declared.run_error.RunError.{RunError}
+use Rattle.lines.specs.declared.run_error.RunError.TheVariants.{Read, Write, WriteZero}
+use Rattle.lines.specs.declared.run_error.RunError.TheVariants.{Memory, TooManyReads}
+use Rattle.lines.specs.Endings.{cause}
+use Rattle.lines.specs.Replies.{Meaning, EndsBefore, replies_after}
+use Rattle.lines.specs.Writes.{Gathers, Serves}
+
+-- an error doesn't tell the end
+pub cause_fails : (e : RunError) → cause e ≡ Done → ⊥
+cause_fails Read is = cc
+cause_fails Write is = cc
+cause_fails WriteZero is = cc
+cause_fails Memory is = cc
+cause_fails TooManyReads is = cc
+
+module _ {D : Type 0} (transition : D → Call → D → Type 0) where
+  -- of what waits a front is written, and the rest is left
+  pub record Left (a : D) (waiting left : List ℕ) (b : D) : Type 0 where
+    pub front : List ℕ
+    pub written : Written transition a front b
+    pub whole : waiting ≡ front ++ left
+
+  pub Left-none : (a : D) (waiting left : List ℕ) → left ≡ waiting → Left a waiting left a
+  Left-none a waiting left is =
+      record { front = []; written = Written-nil transition a; whole = sym is }
+
+  pub Left-all : (a b : D) (waiting left : List ℕ) → Written transition a waiting b → left ≡ []
+      → Left a waiting left b
+  Left-all a b waiting left written is =
+      record {
+        front = waiting;
+        written = written;
+        whole = sym (ap (λ l. waiting ++ l) is ∙ append-nil waiting);
+      }
+
+  -- bytes are gathered,
+  pub Gathers-left : (takes : Bool) (a b : D) (waiting left bytes waiting' : List ℕ)
+      → Left a waiting left b → waiting' ≡ left ++ bytes
+      → Gathers transition takes a waiting bytes Done waiting' b
+  Gathers-left takes a b waiting left bytes waiting' l is = (
+    l.front,
+    l.written,
+    ap (λ w. w ++ bytes) l.whole ∙ append_assoc l.front left bytes
+        ∙ ap (λ w. l.front ++ w) (sym is),
+  )
+
+  -- or memory is wanting for them, and all that waits is written,
+  pub Gathers-memory : (takes : Bool) (a b c : D) (waiting left bytes waiting' : List ℕ)
+      → takes ≡ true → Left a waiting left b → Written transition b left c
+      → Gathers transition takes a waiting bytes OutOfMemory waiting' c
+  Gathers-memory takes a b c waiting left bytes waiting' does l w = (
+    does,
+    subst (λ all. Written transition a all c) (sym l.whole)
+        (Written-append transition a b c l.front left l.written w),
+  )
+
+  -- or a write stops
+  pub Gathers-stops : (takes : Bool) (a b c : D) (waiting left bytes waiting' : List ℕ)
+      → Left a waiting left b → (ending : Ending ⊥) → (ending ≡ Done → ⊥)
+      → Delivers transition b left ending c
+      → Gathers transition takes a waiting bytes ending waiting' c
+  Gathers-stops takes a b c waiting left bytes waiting' l Done fails d = absurd (fails refl)
+  Gathers-stops takes a b c waiting left bytes waiting' l (Stopped fault) fails d =
+      Stops-more transition fault a c waiting bytes
+      (subst (λ all. Stops transition fault a all c) (sym l.whole)
+      (Stops-after transition fault a b c l.front left l.written d))
+  Gathers-stops takes a b c waiting left bytes waiting' l OutOfMemory fails d = absurd d
+  Gathers-stops takes a b c waiting left bytes waiting' l OutOfReads fails d = d
+  Gathers-stops takes a b c waiting left bytes waiting' l (Refused reason) fails d = d
+
+  -- all that was gathered is written
+  pub Delivers-gathered : (takes : Bool) (a b c : D) (waiting bytes waiting' : List ℕ)
+      (ending : Ending ⊥) → Gathers transition takes a waiting bytes Done waiting' b
+      → Delivers transition b waiting' ending c → Delivers transition a (waiting ++ bytes) ending c
+  Delivers-gathered takes a b c waiting bytes waiting' ending g d =
+      subst (λ l. Delivers transition a l ending c) (sym g.2)
+      (Delivers-after transition a b c g.0 waiting' ending g.1 d)
+
+  module _ (P : Ending ⊥ → Type 0) (old new : D) where
+    -- what follows where bytes are not gathered
+    pub Gathers-fails : (takes : Bool) (waiting bytes waiting' : List ℕ)
+        → ((takes ≡ true) × Written transition old waiting new → P OutOfMemory)
+        → ((fault : Fault) → Stops transition fault old (waiting ++ bytes) new → P (Stopped fault))
+        → (ending : Ending ⊥) → (ending ≡ Done → ⊥)
+        → Gathers transition takes old waiting bytes ending waiting' new → P ending
+    Gathers-fails takes waiting bytes waiting' memory stops Done fails g = absurd (fails refl)
+    Gathers-fails takes waiting bytes waiting' memory stops (Stopped fault) fails g = stops fault g
+    Gathers-fails takes waiting bytes waiting' memory stops OutOfMemory fails g = memory g
+    Gathers-fails takes waiting bytes waiting' memory stops OutOfReads fails g = absurd g
+    Gathers-fails takes waiting bytes waiting' memory stops (Refused reason) fails g = absurd g
+
+    -- and where lines are served
+    pub Serves-cases : (m : Meaning) (earlier lines : List (List ℕ)) (ending : Ending ⊥)
+        → (ending ≡ Done → Written transition old (replies_after m earlier lines) new → P Done)
+        → ((replies : List ℕ) → EndsBefore m earlier lines replies
+        → Written transition old replies new → P OutOfMemory)
+        → ((fault : Fault) → Stops transition fault old (replies_after m earlier lines) new
+        → P (Stopped fault))
+        → Serves transition m old earlier lines ending new → P ending
+    Serves-cases m earlier lines Done done memory stops s = done refl s
+    Serves-cases m earlier lines (Stopped fault) done memory stops s = stops fault s
+    Serves-cases m earlier lines OutOfMemory done memory stops s = memory s.0 s.1 s.2
+    Serves-cases m earlier lines OutOfReads done memory stops s = absurd s
+    Serves-cases m earlier lines (Refused reason) done memory stops s = absurd s
+
+  -- what is delivered is served
+  pub Serves-delivered : (m : Meaning) (old new : D) (earlier lines : List (List ℕ))
+      (ending : Ending ⊥) → Delivers transition old (replies_after m earlier lines) ending new
+      → Serves transition m old earlier lines ending new
+  Serves-delivered m old new earlier lines Done d = d
+  Serves-delivered m old new earlier lines (Stopped fault) d = d
+  Serves-delivered m old new earlier lines OutOfMemory d = absurd d
+  Serves-delivered m old new earlier lines OutOfReads d = d
+  Serves-delivered m old new earlier lines (Refused reason) d = d

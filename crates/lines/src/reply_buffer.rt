@@ -1,0 +1,126 @@
+//! Replies that wait to be written together.
+ghost use Rattle.std.specs.Prelude.{◌≡◌, ◌↔◌, ◌≤◌, ◌+◌, ◌++◌, ◌∷◌, ℕ, List, [], IsTrue, OnOk};
+ghost use Rattle.std.specs.Prelude.{OnErr, IfOk, MatchResult, length, take, vec_len};
+ghost use Rattle.runs.specs.Writes.{Delivers};
+ghost use Rattle.lines.specs.Endings.{ending_of};
+ghost use Rattle.lines.specs.Replies.{number_after};
+ghost use Rattle.lines.specs.Writes.{Gathers};
+ghost use Rattle.lines.specs.declared.limits.TheConstants.{REPLY_ROOM};
+ghost use Rattle.lines.specs.declared.reply_buffer.TheConstants.{OUTPUT_ROOM};
+
+use crate::RunError;
+use crate::answerer::Answerer;
+use crate::limits::REPLY_ROOM;
+use runs::{Device, write_whole};
+use std::alloc::{AllocError, Global};
+use std::marker::Model;
+
+/// The bytes of replies that can wait: one more reply fits until 65536 bytes wait.
+pub const OUTPUT_ROOM: usize = REPLY_ROOM + 65_536;
+
+/// Replies that wait to be written. Contracts see their bytes.
+#[derive(Drop)]
+pub struct ReplyBuffer {
+    output: Vec<u8>,
+    used: usize,
+}
+
+impl Model for ReplyBuffer {
+    ghost Value = { List ℕ };
+
+    ghost view = { λ b. take b.used b.output.items };
+
+    ghost invariant = { λ b. (vec_len b.output ≡ OUTPUT_ROOM) × (b.used ≤ OUTPUT_ROOM) };
+}
+
+impl ReplyBuffer {
+    /// An empty buffer, with all the memory that it takes.
+    pub fn new(alloc: Global) -> Result<ReplyBuffer, AllocError>
+        ensures { IfOk result (λ buffer. buffer ≡ []) }
+    {
+        Ok(ReplyBuffer {
+            output: vec![in alloc; 0; OUTPUT_ROOM]?,
+            used: 0,
+        })
+    }
+
+    /// Ends a line, and adds the reply to it. What waits is written first where a reply may have no room; where
+    /// there is no memory for the reply, all that waits is written before that is told.
+    pub fn push<A: Answerer, D: Device>(
+        &mut self,
+        answerer: &mut A,
+        number: u64,
+        device: &mut D,
+    ) -> Result<(), RunError>
+        ensures gathers { (earlier : List (List ℕ)) (line : List ℕ)
+            → A.shows answerer.old earlier line → number ≡ number_after earlier
+            → Gathers D.transition (A.meaning.takes_memory earlier line) device.old self.old
+            (A.meaning.reply earlier line) (ending_of result) self.new device.new }
+        ensures shows { (earlier : List (List ℕ)) (line : List ℕ)
+            → A.shows answerer.old earlier line → number ≡ number_after earlier
+            → OnOk result (A.shows answerer.new (earlier ++ line ∷ []) []) }
+    {
+        if !self.has_room() {
+            self.write_out(device)?;
+        }
+        match self.add(answerer, number) {
+            Ok(()) => Ok(()),
+            Err(_) => {
+                self.write_out(device)?;
+                Err(RunError::Memory)
+            }
+        }
+    }
+
+    // Whether any reply can be added.
+    fn has_room(&self) -> bool
+        ensures { IsTrue result ↔ (length self.now + REPLY_ROOM ≤ OUTPUT_ROOM) }
+    {
+        self.used <= OUTPUT_ROOM - REPLY_ROOM
+    }
+
+    fn add<A: Answerer>(&mut self, answerer: &mut A, number: u64) -> Result<(), AllocError>
+        requires { length self.old + REPLY_ROOM ≤ OUTPUT_ROOM }
+        ensures replies { (earlier : List (List ℕ)) (line : List ℕ)
+            → A.shows answerer.old earlier line → number ≡ number_after earlier
+            → MatchResult result
+            (λ done. (self.new ≡ self.old ++ A.meaning.reply earlier line)
+            × A.shows answerer.new (earlier ++ line ∷ []) [])
+            (λ e. IsTrue (A.meaning.takes_memory earlier line)) }
+        ensures err { OnErr result (self.new ≡ self.old) }
+    {
+        self.used = add_reply(answerer, number, self.output.as_mut_slice(), self.used)?;
+        Ok(())
+    }
+
+    /// Writes what waits.
+    pub fn write_out<D: Device>(&mut self, device: &mut D) -> Result<(), RunError>
+        ensures delivers { Delivers D.transition device.old self.old (ending_of result) device.new }
+        ensures empty { OnOk result (self.new ≡ []) }
+    {
+        write_whole(device, &self.output.as_slice()[..self.used])?;
+        self.used = 0;
+        Ok(())
+    }
+}
+
+// Ends a line, and puts the reply to it behind the first `used` bytes, and returns where it ends.
+fn add_reply<A: Answerer>(
+    answerer: &mut A,
+    number: u64,
+    output: &mut [u8],
+    used: usize,
+) -> Result<usize, AllocError>
+    requires { used + REPLY_ROOM ≤ length output.old }
+    ensures fits { IfOk result (λ end. end ≤ length output.new) }
+    ensures front { take used output.new ≡ take used output.old }
+    ensures replies { (earlier : List (List ℕ)) (line : List ℕ)
+        → A.shows answerer.old earlier line → number ≡ number_after earlier
+        → MatchResult result
+        (λ end. (take end output.new ≡ take used output.old ++ A.meaning.reply earlier line)
+        × A.shows answerer.new (earlier ++ line ∷ []) [])
+        (λ e. IsTrue (A.meaning.takes_memory earlier line)) }
+{
+    let len = answerer.end(number, &mut output[used..])?;
+    Ok(used + len)
+}

@@ -1,0 +1,137 @@
+//! A run in which a reply depends on the lines before it, and memory is wanting in the midst of it.
+ghost use Rattle.std.specs.Prelude.{◌≡◌, ◌≤◌, ◌%◌, ◌==◌, codes, false, length, not, take};
+ghost use Rattle.std.specs.Prelude.{if◌then◌else◌};
+ghost use Rattle.std.specs.List.{list_any};
+ghost use Rattle.lines.specs.Replies.{number_after};
+
+use lines::{Answerer, RunError, answers_by, run_with};
+use runs::ReaderWriter;
+use sessions::Session;
+use std::alloc::AllocError;
+use std::test::Fail;
+
+// Tells of each line whether its number is even, and of an empty one whether it is the first. Each
+// empty line takes memory, of which there is some for so many of them.
+#[derive(Drop)]
+struct Marker {
+    marked: bool,
+    // Whether the next line has a byte.
+    has_byte: bool,
+    room: usize,
+}
+
+fn unmarked(room: usize) -> Marker
+    ensures marked { result.marked ≡ false }
+    ensures has_byte { result.has_byte ≡ false }
+{
+    Marker {
+        marked: false,
+        has_byte: false,
+        room,
+    }
+}
+
+impl Answerer for Marker {
+    ghost meaning = { record {
+      reply = λ earlier line. if length line == 0
+          then (if list_any (λ line. length line == 0) earlier then codes "again\n"
+          else codes "first\n")
+          else (if number_after earlier % 2 == 0 then codes "even\n" else codes "odd\n");
+      takes_memory = λ earlier line. length line == 0;
+    } };
+
+    ghost shows = { λ marker earlier front.
+        (marker.marked ≡ list_any (λ line. length line == 0) earlier)
+        × (not marker.has_byte ≡ (length front == 0)) };
+
+    fn take(&mut self, bytes: &[u8]) {
+        if bytes.is_empty() {
+            return;
+        }
+        self.has_byte = true;
+    }
+
+    fn end(&mut self, number: u64, out: &mut [u8]) -> Result<usize, AllocError> {
+        if self.has_byte {
+            self.has_byte = false;
+            return Ok(put(parity_text(number), out));
+        }
+        let Some(room) = self.room.checked_sub(1) else {
+            return Err(AllocError);
+        };
+        self.room = room;
+        let text = mark_text(self.marked);
+        self.marked = true;
+        Ok(put(text, out))
+    }
+}
+
+// Puts a text into the front of a buffer, and tells its length.
+fn put(text: &[u8], out: &mut [u8]) -> usize
+    requires { length text.now ≤ length out.old }
+    ensures end { result ≡ length text.now }
+    ensures text { take result out.new ≡ text.now }
+{
+    out[..text.len()].copy_from_slice(text);
+    text.len()
+}
+
+fn parity_text(number: u64) -> &'static [u8]
+    ensures text { result.now ≡ (if number % 2 == 0 then codes "even\n" else codes "odd\n") }
+    ensures short { length result.now ≤ 6 }
+{
+    if number % 2 == 0 { b"even\n" } else { b"odd\n" }
+}
+
+fn mark_text(marked: bool) -> &'static [u8]
+    ensures text { result.now ≡ (if marked then codes "again\n" else codes "first\n") }
+    ensures short { length result.now ≤ 6 }
+{
+    if marked { b"again\n" } else { b"first\n" }
+}
+
+const LINES: &[u8] = b"a\nb\n\nc\n\nd";
+
+#[test]
+fn answers_by_earlier_lines(rt: HostRuntime) -> Result<(), Fail> {
+    for (room, answer, written) in [
+        (2, Ok(()), "odd\neven\nfirst\neven\nagain\neven\n"),
+        (1, Err(RunError::Memory), "odd\neven\nfirst\neven\n"),
+        (0, Err(RunError::Memory), "odd\neven\n"),
+    ] {
+        let mut reader = LINES;
+        let mut writer = Vec::new(rt.alloc());
+        let mut device = ReaderWriter {
+            reader: &mut reader,
+            writer: &mut writer,
+        };
+        let result = run_with(rt.alloc(), unmarked(room), &mut device, 10);
+        assert!(rt; result == answer, "room for {room}");
+        assert!(rt; writer.as_slice() == written.as_bytes(), "room for {room}");
+    }
+    Ok(())
+}
+
+#[test]
+fn answers_a_text_in_memory(rt: HostRuntime) -> Result<(), Fail> {
+    let replies = answers_by(rt.alloc(), unmarked(2), LINES)?;
+    assert!(rt; replies.as_slice() == b"odd\neven\nfirst\neven\nagain\neven\n".as_slice());
+    Ok(())
+}
+
+#[test]
+fn answers_a_text_in_pieces(rt: HostRuntime) -> Result<(), Fail> {
+    let mut session = Session::new(rt.alloc(), unmarked(2))?;
+    let mut room = [0u8; 16];
+    let mut written = 0;
+    session.take(b"a")?;
+    session.take(b"\nb\n\nc")?;
+    assert!(rt; !session.hand_out(&mut room[..8], &mut written));
+    assert!(rt; written == 15);
+    assert!(rt; session.hand_out(&mut room, &mut written));
+    assert!(rt; room[..written] == b"odd\neven\nfirst\n"[..]);
+    session.finish()?;
+    assert!(rt; session.has_ended() && session.hand_out(&mut room, &mut written));
+    assert!(rt; room[..written] == b"even\n"[..]);
+    Ok(())
+}

@@ -1,0 +1,5 @@
+//! Tests of `lines` over its public calls, by answerers that know no frame.
+#![tactic(auto)]
+
+#[cfg(test)]
+mod earlier_lines;

@@ -1,0 +1,10 @@
+use Rattle.netlines.proofs.InertLemmas.{refused_inert, unread_ends}
+use Rattle.netlines.proofs.laws.apart.refused_lines_are_inert.Goals as goal
+
+pub returns-clause-inert : goal.returns-clause-inert
+returns-clause-inert c earlier line is =
+    refused_inert c.equal_names.ensures.same earlier line is
+
+pub returns-clause-ends : goal.returns-clause-ends
+returns-clause-ends c earlier line name channel f hands is =
+    unread_ends earlier line name channel f hands is

@@ -1,0 +1,66 @@
+//! Runs in which each line is answered by its frame and those of the lines before it.
+ghost use Rattle.std.specs.Prelude.{◌≡◌, ◌≤◌, length, OnOk, IfOk, IfSome, IsErrOf};
+ghost use Rattle.std.specs.Io.KnownBytes.{Appends, IsAtEnd};
+ghost use Rattle.runs.specs.Known.{KnownCall, known_of};
+ghost use Rattle.netlines.specs.Answers.{answers_of};
+ghost use Rattle.netlines.specs.Runs.{Runs, Transfers};
+
+use crate::frames::frame_answerer::FrameAnswerer;
+use lines::{READ_COUNT_LIMIT, RunError, answers_by, run_with};
+use runs::{Device, ReaderWriter};
+use std::alloc::{AllocError, Global};
+use std::io::{Read, Write};
+
+/// Answers each line of the reader by a line on the writer, up to the end of the reader.
+///
+/// A read that gives nothing tells the end, and nothing is read after it. Any fault that a read or
+/// a write answers ends the run, an interrupted call too. That an error was caused by such a call
+/// is said by [`run_over`] alone: `Read` and `Write` give a failing call no meaning.
+///
+/// Memory is taken before the first read, and then for fragments that aren't refused alone. Where
+/// it runs out for one of these, the answers to all lines before it are written.
+pub fn run<R: Read, W: Write>(alloc: Global, reader: &mut R, writer: &mut W) -> Result<(), RunError>
+    // All lines are answered, and no byte is left to read.
+    ensures ok { OnOk result (IfSome (R.remaining reader.old) (λ bytes.
+        Appends (W.contents writer.old) (W.contents writer.new) (answers_of bytes))) }
+    ensures end { OnOk result (IsAtEnd (R.remaining reader.new)) }
+
+    // However reads and writes cut the bytes, what is written is the output for the bytes read.
+    ensures bytes { Transfers (R.remaining reader.old) (R.remaining reader.new)
+        (W.contents writer.old) (W.contents writer.new) result }
+
+    // The calls, one by one, as far as they show in the known bytes.
+    ensures calls { Runs KnownCall READ_COUNT_LIMIT
+        (known_of (R.remaining reader.old) (W.contents writer.old))
+        (known_of (R.remaining reader.new) (W.contents writer.new)) result }
+
+    // Each of these reads gave a byte at least.
+    ensures too_many { IsErrOf result RunError.TooManyReads
+        → IfSome (R.remaining reader.old) (λ bytes. READ_COUNT_LIMIT ≤ length bytes) }
+{
+    let mut device = ReaderWriter { reader, writer };
+    let result = run_over(alloc, &mut device, READ_COUNT_LIMIT);
+    // No effect at run time. The proof reads here what both hold at the end.
+    let _ = &*device.reader;
+    let _ = &*device.writer;
+    result
+}
+
+/// A run of at most so many reads over any device: each call that it makes, in its order, and how
+/// these calls end it.
+pub fn run_over<D: Device>(alloc: Global, device: &mut D, reads: u64) -> Result<(), RunError>
+    requires { reads ≤ READ_COUNT_LIMIT }
+    ensures { Runs D.transition reads device.old device.new result }
+{
+    let Ok(answerer) = FrameAnswerer::new(alloc) else {
+        return Err(RunError::Memory);
+    };
+    run_with(alloc, answerer, device, reads)
+}
+
+/// The answers to all lines of a text, each ended by 0a. The only error is out of memory.
+pub fn answers(alloc: Global, text: &[u8]) -> Result<Vec<u8>, AllocError>
+    ensures { IfOk result (λ answers. answers.items ≡ answers_of text.now) }
+{
+    answers_by(alloc, FrameAnswerer::new(alloc)?, text)
+}

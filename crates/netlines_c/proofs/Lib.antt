@@ -1,0 +1,2 @@
+mod HeldValues
+mod StreamLemmas

@@ -1,0 +1,14 @@
+use Rattle.std.proofs.Common.{◌∙◌, ap, sym}
+use Rattle.sessions.specs.Sessions.{replies}
+use Rattle.sessions.proofs.SessionLemmas.{waits_more}
+use Rattle.sessions.proofs.session.Session.finish.Goals as goal
+
+pub returns-in-Ok-clause-took : goal.returns-in-Ok-clause-took
+returns-in-Ok-clause-took g c text told took =
+    let m = g.A.Answerer.meaning in
+    let going = c.requires.going in
+    record {
+      goes_on = λ still. absurd (cc);
+      waits = waits_more _ _ _ told _ _ (c.in-Ok.ensures _ _ (took.goes_on going))
+          (ap (λ b. replies m b text) (sym going) ∙ took.waits) (c.text_goes_on.ensures.end m text);
+    }

@@ -1,0 +1,126 @@
+//! Lines that come in pieces.
+ghost use Rattle.std.specs.Prelude.{◌≡◌, ◌≤◌, ◌<◌, ◌+◌, ◌++◌, ℕ, List, [], true, false, length};
+ghost use Rattle.std.specs.Prelude.{take, IfOk, OnOk};
+ghost use Rattle.sessions.specs.Sessions.{IsWrittenOut, Took, Waits, replies};
+
+use lines::laws::text_goes_on;
+use lines::{Answerer, LineAnswerer};
+use runs::Device;
+use std::alloc::{AllocError, Global};
+use std::io;
+
+/// Replies that wait to be handed out. Nothing is read from it, and a write appends.
+#[derive(Drop)]
+pub struct Waiting {
+    output: Vec<u8>,
+}
+
+impl Device for Waiting {
+    ghost transition = { λ s call t. Waits s.output.items call t.output.items };
+
+    fn read_some(&mut self, _buf: &mut [u8]) -> io::Result<usize> {
+        Ok(0)
+    }
+
+    fn write_some(&mut self, buf: &[u8]) -> io::Result<usize> {
+        self.output.extend_from_slice(buf)?;
+        Ok(buf.len())
+    }
+}
+
+/// Lines that come in pieces, and the replies that wait to be handed out.
+#[derive(Drop)]
+pub struct Session<A> {
+    lines: LineAnswerer<A>,
+    waiting: Waiting,
+    has_ended: bool,
+}
+
+impl<A: Answerer + Drop> Session<A> {
+    /// A session that took no byte.
+    pub fn new(alloc: Global, answerer: A) -> Result<Session<A>, AllocError>
+        requires { A.shows answerer [] [] }
+        ensures took { IfOk result (λ session. Took A.meaning A.shows session [] []) }
+        ensures going { IfOk result (λ session. session.has_ended ≡ false) }
+        ensures written { IfOk result IsWrittenOut }
+    {
+        Ok(Session {
+            lines: LineAnswerer::new(alloc, answerer)?,
+            waiting: Waiting {
+                output: Vec::new(alloc),
+            },
+            has_ended: false,
+        })
+    }
+
+    /// Whether the end of the text was told.
+    pub fn has_ended(&self) -> bool
+        ensures { result ≡ self.now.has_ended }
+    {
+        self.has_ended
+    }
+
+    /// Goes on with a piece. The only error is out of memory, and nothing is told of the session
+    /// after it; that lines can't be counted any more is one, too.
+    pub fn take(&mut self, piece: &[u8]) -> Result<(), AllocError>
+        requires going { self.old.has_ended ≡ false }
+        requires written { IsWrittenOut self.old }
+        ensures took { (text told : List ℕ) → Took A.meaning A.shows self.old text told
+            → OnOk result (Took A.meaning A.shows self.new (text ++ piece.now) told) }
+        ensures going { self.new.has_ended ≡ false }
+        ensures written { OnOk result (IsWrittenOut self.new) }
+    {
+        text_goes_on();
+        if self.lines.count >= u64::MAX - piece.len() as u64 {
+            return Err(AllocError);
+        }
+        match self.lines.feed(piece, &mut self.waiting) {
+            Ok(()) => Ok(()),
+            Err(_) => Err(AllocError),
+        }
+    }
+
+    /// Ends the text: a last line that no 0a ended is answered. The error is that of `take`.
+    pub fn finish(&mut self) -> Result<(), AllocError>
+        requires going { self.old.has_ended ≡ false }
+        requires written { IsWrittenOut self.old }
+        ensures took { (text told : List ℕ) → Took A.meaning A.shows self.old text told
+            → OnOk result (Took A.meaning A.shows self.new text told) }
+        ensures ended { self.new.has_ended ≡ true }
+        ensures written { IsWrittenOut self.new }
+    {
+        text_goes_on();
+        self.has_ended = true;
+        if self.lines.count == u64::MAX {
+            return Err(AllocError);
+        }
+        match self.lines.finish(&mut self.waiting) {
+            Ok(()) => Ok(()),
+            Err(_) => Err(AllocError),
+        }
+    }
+
+    /// Hands out all replies that wait, where they have room, and tells how many bytes they are.
+    pub fn hand_out(&mut self, output: &mut [u8], written: &mut usize) -> bool
+        ensures room { result ≡ true → (written.new ≤ length output.new)
+            × ((text told : List ℕ) → Took A.meaning A.shows self.old text told
+            → Took A.meaning A.shows self.new text (told ++ take written.new output.new)
+            × (told ++ take written.new output.new ≡ replies A.meaning self.new.has_ended text)) }
+        ensures none { result ≡ false → (length output.new < written.new)
+            × (output.new ≡ output.old)
+            × ((text told : List ℕ) → Took A.meaning A.shows self.old text told
+            → Took A.meaning A.shows self.new text told
+            × (length told + written.new ≡ length (replies A.meaning self.new.has_ended text))) }
+        ensures going { self.new.has_ended ≡ self.old.has_ended }
+        ensures written { IsWrittenOut self.old → IsWrittenOut self.new }
+    {
+        let waiting = self.waiting.output.len();
+        *written = waiting;
+        if output.len() < waiting {
+            return false;
+        }
+        output[..waiting].copy_from_slice(self.waiting.output.as_slice());
+        self.waiting.output.clear();
+        true
+    }
+}

@@ -1,0 +1,356 @@
+/* Packets, sliced, judged and summed by proved code. Written by tools/bindings.
+   What a caller owes:
+   - no pointer is null, also where the length behind it is 0, and each points to as many bytes or
+     structs as that length says, at most PTRDIFF_MAX bytes of memory that was written before;
+   - nobody writes during a call what it reads, nor reads or writes what it writes; what it writes
+     overlaps nothing else that it is handed.
+   No call keeps a pointer, blocks or ends the process. */
+#ifndef ETHERPARSE_H
+#define ETHERPARSE_H
+#include <stdbool.h>
+#include <stddef.h>
+#include <stdint.h>
+#ifdef __cplusplus
+extern "C" {
+#endif
+
+#define EP_LAYER_LINUX_SLL_HEADER 1
+#define EP_LAYER_ETHERNET2_HEADER 2
+#define EP_LAYER_ETHER_PAYLOAD 3
+#define EP_LAYER_VLAN_HEADER 4
+#define EP_LAYER_MACSEC_HEADER 5
+#define EP_LAYER_MACSEC_PACKET 6
+#define EP_LAYER_IP_HEADER 7
+#define EP_LAYER_IPV4_HEADER 8
+#define EP_LAYER_IPV4_PACKET 9
+#define EP_LAYER_IP_AUTH_HEADER 10
+#define EP_LAYER_IPV6_HEADER 11
+#define EP_LAYER_IPV6_PACKET 12
+#define EP_LAYER_IPV6_EXT_HEADER 13
+#define EP_LAYER_IPV6_HOP_BY_HOP_HEADER 14
+#define EP_LAYER_IPV6_DEST_OPTIONS_HEADER 15
+#define EP_LAYER_IPV6_ROUTE_HEADER 16
+#define EP_LAYER_IPV6_FRAG_HEADER 17
+#define EP_LAYER_UDP_HEADER 18
+#define EP_LAYER_UDP_PAYLOAD 19
+#define EP_LAYER_TCP_HEADER 20
+#define EP_LAYER_ICMPV4 21
+#define EP_LAYER_ICMPV4_TIMESTAMP 22
+#define EP_LAYER_ICMPV4_TIMESTAMP_REPLY 23
+#define EP_LAYER_ICMPV6 24
+#define EP_LAYER_ARP 25
+#define EP_SOURCE_SLICE 1
+#define EP_SOURCE_MACSEC_SHORT_LENGTH 2
+#define EP_SOURCE_IPV4_HEADER_TOTAL_LEN 3
+#define EP_SOURCE_IPV6_HEADER_PAYLOAD_LEN 4
+#define EP_SOURCE_UDP_HEADER_LEN 5
+#define EP_SOURCE_TCP_HEADER_LEN 6
+#define EP_SOURCE_ARP_ADDR_LENGTHS 7
+
+/* A link header. The fields of other kinds are 0. */
+typedef struct {
+    /* 0 none, 1 Ethernet II, 2 a Linux cooked capture. */
+    uint32_t kind;
+    /* The ether type; in a cooked capture the protocol's number, whatever its kind. */
+    uint16_t protocol;
+    /* Of Ethernet II. */
+    uint8_t destination[6];
+    /* Of Ethernet II. */
+    uint8_t source[6];
+    /* Of a cooked capture: 0 to us, 1 broadcast, 2 multicast, 3 to others, 4 from us. */
+    uint16_t packet_type;
+    /* Of a cooked capture: the hardware type (ARPHRD). */
+    uint16_t hardware_type;
+    /* Of a cooked capture: how many bytes of the address are the sender's, as it states it. */
+    uint16_t address_len;
+    /* Of a cooked capture: the sender's address, and bytes without meaning behind it. */
+    uint8_t address[8];
+} ep_link;
+
+/* Where bytes stand in those that were handed in. */
+typedef struct {
+    /* The offset of the first byte. */
+    size_t offset;
+    /* How many bytes. */
+    size_t len;
+} ep_part;
+
+/* A tag between link header and packet. The fields of other kinds are 0. */
+typedef struct {
+    /* Where the tag itself stands. */
+    ep_part header;
+    /* 0 none, 1 VLAN, 2 MACsec. */
+    uint32_t kind;
+    /* The ether type of what follows, 0 behind a changed or encrypted MACsec payload. */
+    uint16_t ether_type;
+    /* Of VLAN: the identifier. */
+    uint16_t vlan_id;
+    /* Of VLAN: the priority code point. */
+    uint8_t priority;
+    /* Of VLAN: whether the frame may be dropped first. */
+    bool drop_eligible;
+    /* Of MACsec: bit ES. */
+    bool end_station;
+    /* Of MACsec: bit SCB. */
+    bool single_copy_broadcast;
+    /* Of MACsec: bit E. */
+    bool encrypted;
+    /* Of MACsec: bit C. */
+    bool changed;
+    /* Of MACsec: whether a channel identifier is there. */
+    bool has_channel;
+    /* Of MACsec: the association number. */
+    uint8_t association;
+    /* Of MACsec: the short length. */
+    uint8_t short_len;
+    /* Of MACsec: the packet number. */
+    uint32_t packet_number;
+    /* Of MACsec: the secure channel identifier. */
+    uint64_t channel;
+} ep_tag;
+
+/* An IPv4 packet (RFC 791). Its options stand at the end of its header. */
+typedef struct {
+    /* The header, options included. */
+    ep_part header;
+    /* The authentication header. */
+    ep_part extensions;
+    /* What follows it, without padding. */
+    ep_part payload;
+    /* The source address. */
+    uint8_t source[4];
+    /* The destination address. */
+    uint8_t destination[4];
+    /* The length of header and payload, as the header states it. */
+    uint16_t total_len;
+    /* What the parts of one message share. */
+    uint16_t identification;
+    /* The offset of the payload in the message, in units of 8 bytes. */
+    uint16_t fragment_offset;
+    /* The header checksum, as it stands. */
+    uint16_t header_checksum;
+    /* Differentiated services code point. */
+    uint8_t dscp;
+    /* Explicit congestion notification. */
+    uint8_t ecn;
+    /* Hops that are left. */
+    uint8_t time_to_live;
+    /* The number of what follows the header. */
+    uint8_t protocol;
+    /* The number of the payload, behind an authentication header. */
+    uint8_t payload_number;
+    /* Whether the packet may not be fragmented. */
+    bool dont_fragment;
+    /* Whether other parts follow. */
+    bool more_fragments;
+    /* Whether the payload is a part of a message. */
+    bool is_part;
+} ep_ipv4;
+
+/* An IPv6 packet (RFC 8200). */
+typedef struct {
+    /* The base header. */
+    ep_part header;
+    /* All extension headers. */
+    ep_part extensions;
+    /* What follows them, without padding. */
+    ep_part payload;
+    /* The source address. */
+    uint8_t source[16];
+    /* The destination address. */
+    uint8_t destination[16];
+    /* The flow label. */
+    uint32_t flow_label;
+    /* What the parts of one message share, by the first fragment header. */
+    uint32_t identification;
+    /* The payload length, as the header states it. */
+    uint16_t payload_length;
+    /* The offset of the payload in the message, in units of 8 bytes, by the first fragment header. */
+    uint16_t fragment_offset;
+    /* The traffic class. */
+    uint8_t traffic_class;
+    /* The number of what follows the base header. */
+    uint8_t next_header;
+    /* Hops that are left. */
+    uint8_t hop_limit;
+    /* The number of the payload, behind the extension headers. */
+    uint8_t payload_number;
+    /* Whether there is a fragment header. */
+    bool has_fragment_header;
+    /* Whether other parts follow, by the first fragment header. */
+    bool more_fragments;
+    /* Whether the payload is a part of a message. */
+    bool is_part;
+} ep_ipv6;
+
+/* An ARP packet (RFC 826). */
+typedef struct {
+    /* The packet. */
+    ep_part packet;
+    /* The sender's hardware address. */
+    ep_part sender_hardware;
+    /* The sender's protocol address. */
+    ep_part sender_protocol;
+    /* The target's hardware address. */
+    ep_part target_hardware;
+    /* The target's protocol address. */
+    ep_part target_protocol;
+    /* The kind of hardware address. */
+    uint16_t hardware_type;
+    /* The kind of protocol address, an ether type. */
+    uint16_t protocol_type;
+    /* 1 request, 2 reply. */
+    uint16_t operation;
+} ep_arp;
+
+/* Why a packet is refused. All fields are 0 where it isn't. */
+typedef struct {
+    /* 0 not refused, 1 too few bytes, and from 2 on a header that breaks its format. */
+    uint32_t kind;
+    /* The layer at fault, numbered from 1 as the errors of `etherparse` name the layers. */
+    uint32_t layer;
+    /* Of too few bytes: how many the layer needs. */
+    size_t needed;
+    /* Of too few bytes: how many are there. */
+    size_t there;
+    /* Of too few bytes: the offset of the layer's first byte. */
+    size_t place;
+    /* Of too few bytes: where their number comes from. */
+    uint32_t source;
+    /* Of a header that breaks its format: the field that it holds in place of a right one. */
+    uint32_t value;
+} ep_refusal;
+
+/* A UDP datagram (RFC 768). */
+typedef struct {
+    /* The header. */
+    ep_part header;
+    /* What follows it. */
+    ep_part payload;
+    /* The source port. */
+    uint16_t source_port;
+    /* The destination port. */
+    uint16_t destination_port;
+    /* The length of header and payload, as the header states it; 0 in a jumbogram. */
+    uint16_t stated_len;
+    /* The checksum, as it stands; 0 where none was sent. */
+    uint16_t checksum;
+} ep_udp;
+
+/* A TCP segment (RFC 9293). Its options stand behind the first 20 bytes of the header. */
+typedef struct {
+    /* The header, options included. */
+    ep_part header;
+    /* What follows it. */
+    ep_part payload;
+    /* The sequence number. */
+    uint32_t sequence_number;
+    /* The acknowledgment number. */
+    uint32_t acknowledgment_number;
+    /* The source port. */
+    uint16_t source_port;
+    /* The destination port. */
+    uint16_t destination_port;
+    /* The window. */
+    uint16_t window_size;
+    /* The checksum, as it stands. */
+    uint16_t checksum;
+    /* The urgent pointer. */
+    uint16_t urgent_pointer;
+    /* Flag NS (RFC 3540). */
+    bool ns;
+    /* Flag FIN. */
+    bool fin;
+    /* Flag SYN. */
+    bool syn;
+    /* Flag RST. */
+    bool rst;
+    /* Flag PSH. */
+    bool psh;
+    /* Flag ACK. */
+    bool ack;
+    /* Flag URG. */
+    bool urg;
+    /* Flag ECE. */
+    bool ece;
+    /* Flag CWR. */
+    bool cwr;
+} ep_tcp;
+
+/* An ICMP message of either version (RFC 792; RFC 4443). */
+typedef struct {
+    /* The header: 20 bytes in ICMPv4's timestamp messages, else 8. */
+    ep_part header;
+    /* What follows it. */
+    ep_part payload;
+    /* The checksum, as it stands. */
+    uint16_t checksum;
+    /* The type. */
+    uint8_t icmp_type;
+    /* The code. */
+    uint8_t code;
+    /* Bytes 4 to 7, whatever the type says of them. */
+    uint8_t rest[4];
+} ep_icmp;
+
+/* What is told of a packet. Every [`EpPart`] counts from the front of the bytes that were handed
+   in. The fields of a layer that isn't there are 0, and all but `refusal` are where it is
+   refused. */
+typedef struct {
+    /* Why there is no packet. */
+    ep_refusal refusal;
+    /* The link header. */
+    ep_link link;
+    /* How many tags there are. */
+    uint32_t tag_count;
+    /* The tags behind the link header, in their order. */
+    ep_tag tags[3];
+    /* What the last ether type names. */
+    ep_part ether_payload;
+    /* The network layer: 0 none, 1 ARP, 4 IPv4, 6 IPv6. */
+    uint32_t net;
+    /* The transport layer: 0 none, or its number: 1 ICMPv4, 6 TCP, 17 UDP, 58 ICMPv6. */
+    uint32_t transport;
+    /* The packet, where it is one of IPv4. */
+    ep_ipv4 ipv4;
+    /* The packet, where it is one of IPv6. */
+    ep_ipv6 ipv6;
+    /* The packet, where it is one of ARP. */
+    ep_arp arp;
+    /* The message, where it is a UDP datagram. */
+    ep_udp udp;
+    /* The message, where it is a TCP segment. */
+    ep_tcp tcp;
+    /* The message, where it is one of ICMP. */
+    ep_icmp icmp;
+} ep_packet;
+
+/* The checksum of the bytes, as it stands in a header, high byte first. */
+uint16_t ep_checksum(const uint8_t *bytes, size_t bytes_len);
+
+/* Whether the words of the bytes sum to all ones, as those of a text with a right checksum do. */
+bool ep_checksum_is_right(const uint8_t *bytes, size_t bytes_len);
+
+/* Tells the parts of an Ethernet II frame, or why it is refused. */
+ep_packet ep_slice_ethernet(const uint8_t *bytes, size_t bytes_len);
+
+/* Tells the parts of a packet of a Linux cooked capture, or why it is refused. */
+ep_packet ep_slice_linux_sll(const uint8_t *bytes, size_t bytes_len);
+
+/* Tells the parts of an IP packet of either version, or why it is refused. */
+ep_packet ep_slice_ip(const uint8_t *bytes, size_t bytes_len);
+
+/* The verdict on the message in an Ethernet II frame: 0 no checksum, 1 a right one, 2 a wrong
+   one, 3 no uncut message that can be read. */
+uint32_t ep_verdict_ethernet(const uint8_t *bytes, size_t bytes_len);
+
+/* That in a packet of a Linux cooked capture. */
+uint32_t ep_verdict_linux_sll(const uint8_t *bytes, size_t bytes_len);
+
+/* That in an IP packet of either version. */
+uint32_t ep_verdict_ip(const uint8_t *bytes, size_t bytes_len);
+
+#ifdef __cplusplus
+}
+#endif
+#endif

@@ -1,0 +1,316 @@
+"""Packets sliced, judged and summed, and lines of hex frames answered, by proved code.
+
+    >>> from etherparse import slice_ethernet
+    >>> slice_ethernet(frame).ipv4.source
+    IPv4Address('10.0.0.1')
+
+The libraries libetherparse and libnetlines are looked for in the folder that ETHERPARSE_LIB_DIR names, in the folder
+that this package was installed beside, and where the loader looks.
+"""
+
+import ctypes as _c
+import enum
+import ipaddress
+import os
+from pathlib import Path
+from typing import List, Optional, Union
+
+from . import _raw
+
+__all__ = [
+    "Arp", "Icmp", "Ipv4", "Ipv6", "Link", "Packet", "Refused", "Session", "Tag", "Tcp", "Udp", "Verdict", "answers",
+    "checksum", "checksum_is_right", "slice_ethernet", "slice_ip", "slice_linux_sll", "verdict_ethernet", "verdict_ip",
+    "verdict_linux_sll",
+]  # fmt: skip
+
+
+def _library(name: str) -> _c.CDLL:
+    file = f"lib{name}.so.0"
+    folders = [os.environ.get("ETHERPARSE_LIB_DIR"), Path(__file__).resolve().parents[3]]
+    for folder in folders:
+        if folder and (Path(folder) / file).exists():
+            return _c.CDLL(str(Path(folder) / file))
+    return _c.CDLL(file)
+
+
+_etherparse = _library("etherparse")
+_raw.declare_etherparse(_etherparse)
+_netlines = _library("netlines")
+_raw.declare_netlines(_netlines)
+
+_KINDS = {
+    1: "too few bytes",
+    2: "packet type of a Linux cooked capture",
+    3: "hardware type of a Linux cooked capture",
+    4: "MACsec version",
+    5: "MACsec short length",
+    6: "IP version",
+    7: "IPv4 version",
+    8: "IPv4 header length",
+    9: "IPv6 version",
+    10: "authentication header length",
+    11: "hop-by-hop options not at the start",
+    12: "TCP data offset",
+}
+
+
+class Refused(ValueError):
+    """A packet that breaks its format.
+
+    `kind` and `layer` are numbered as in etherparse.h. Of too few bytes (kind 1) `needed`, `there`, `place` and
+    `source` are told, of a header that breaks its format `value`, the field that it holds.
+    """
+
+    def __init__(self, refusal: _raw.EpRefusal) -> None:
+        self.kind: int = refusal.kind
+        self.layer: int = refusal.layer
+        self.needed: int = refusal.needed
+        self.there: int = refusal.there
+        self.place: int = refusal.place
+        self.source: int = refusal.source
+        self.value: int = refusal.value
+        if self.kind == 1:
+            text = f"layer {self.layer} at byte {self.place} needs {self.needed} bytes, and {self.there} are there"
+        else:
+            text = f"{_KINDS[self.kind]}: {self.value}"
+        super().__init__(text)
+
+
+class Verdict(enum.Enum):
+    """What the checksum of a message tells."""
+
+    NONE = 0
+    GOOD = 1
+    BAD = 2
+
+
+class _Layer:
+    """A layer: its fields by their names in etherparse.h, parts and byte arrays as bytes."""
+
+    def __init__(self, frame: bytes, fields: _c.Structure) -> None:
+        self._frame = frame
+        self._fields = fields
+
+    def __getattr__(self, name: str) -> Union[int, bool, bytes]:
+        if name.startswith("_"):
+            raise AttributeError(name)
+        value = getattr(self._fields, name)
+        if isinstance(value, _raw.EpPart):
+            return self._frame[value.offset : value.offset + value.len]
+        return bytes(value) if isinstance(value, _c.Array) else value
+
+    def offset(self, name: str) -> int:
+        """Where the part of this name begins in the frame."""
+        return getattr(self._fields, name).offset
+
+
+class Link(_Layer):
+    """A link header: `kind` 1 of Ethernet II, 2 of a Linux cooked capture."""
+
+
+class Tag(_Layer):
+    """A VLAN tag (`kind` 1) or a MACsec header (`kind` 2)."""
+
+
+class Ipv4(_Layer):
+    """An IPv4 packet."""
+
+    @property
+    def source(self) -> ipaddress.IPv4Address:
+        return ipaddress.IPv4Address(bytes(self._fields.source))
+
+    @property
+    def destination(self) -> ipaddress.IPv4Address:
+        return ipaddress.IPv4Address(bytes(self._fields.destination))
+
+
+class Ipv6(_Layer):
+    """An IPv6 packet."""
+
+    @property
+    def source(self) -> ipaddress.IPv6Address:
+        return ipaddress.IPv6Address(bytes(self._fields.source))
+
+    @property
+    def destination(self) -> ipaddress.IPv6Address:
+        return ipaddress.IPv6Address(bytes(self._fields.destination))
+
+
+class Arp(_Layer):
+    """An ARP packet."""
+
+
+class Udp(_Layer):
+    """A UDP datagram."""
+
+
+class Tcp(_Layer):
+    """A TCP segment."""
+
+
+class Icmp(_Layer):
+    """An ICMP message of either version."""
+
+
+class Packet:
+    """A packet that was sliced. A layer that isn't there is None."""
+
+    __slots__ = ("_fields", "_frame")
+
+    def __init__(self, frame: bytes, fields: _raw.EpPacket) -> None:
+        if fields.refusal.kind:
+            raise Refused(fields.refusal)
+        self._frame = frame
+        self._fields = fields
+
+    @property
+    def link(self) -> Optional[Link]:
+        return Link(self._frame, self._fields.link) if self._fields.link.kind else None
+
+    @property
+    def tags(self) -> List[Tag]:
+        return [Tag(self._frame, tag) for tag in self._fields.tags[: self._fields.tag_count]]
+
+    @property
+    def arp(self) -> Optional[Arp]:
+        return Arp(self._frame, self._fields.arp) if self._fields.net == 1 else None
+
+    @property
+    def ipv4(self) -> Optional[Ipv4]:
+        return Ipv4(self._frame, self._fields.ipv4) if self._fields.net == 4 else None
+
+    @property
+    def ipv6(self) -> Optional[Ipv6]:
+        return Ipv6(self._frame, self._fields.ipv6) if self._fields.net == 6 else None
+
+    @property
+    def udp(self) -> Optional[Udp]:
+        return Udp(self._frame, self._fields.udp) if self._fields.transport == 17 else None
+
+    @property
+    def tcp(self) -> Optional[Tcp]:
+        return Tcp(self._frame, self._fields.tcp) if self._fields.transport == 6 else None
+
+    @property
+    def icmp(self) -> Optional[Icmp]:
+        """The ICMP message, over IPv4 or IPv6."""
+        return Icmp(self._frame, self._fields.icmp) if self._fields.transport in (1, 58) else None
+
+    @property
+    def payload(self) -> bytes:
+        """The innermost payload: of the message, else of the IP packet, else what the last ether type names. An ARP
+        packet has none."""
+        for layer in (self.udp, self.tcp, self.icmp, self.ipv4, self.ipv6):
+            if layer:
+                return layer.payload
+        if self.arp:
+            return b""
+        part = self._fields.ether_payload
+        return self._frame[part.offset : part.offset + part.len]
+
+
+def slice_ethernet(frame: bytes) -> Packet:
+    """Slices an Ethernet II frame; raises Refused."""
+    return Packet(frame, _etherparse.ep_slice_ethernet(frame, len(frame)))
+
+
+def slice_linux_sll(packet: bytes) -> Packet:
+    """Slices a packet of a Linux cooked capture; raises Refused."""
+    return Packet(packet, _etherparse.ep_slice_linux_sll(packet, len(packet)))
+
+
+def slice_ip(packet: bytes) -> Packet:
+    """Slices an IP packet of either version; raises Refused."""
+    return Packet(packet, _etherparse.ep_slice_ip(packet, len(packet)))
+
+
+def _verdict(number: int) -> Optional[Verdict]:
+    return Verdict(number) if number < 3 else None
+
+
+def verdict_ethernet(frame: bytes) -> Optional[Verdict]:
+    """The verdict on the message in an Ethernet II frame; None where it has no uncut message that can be read."""
+    return _verdict(_etherparse.ep_verdict_ethernet(frame, len(frame)))
+
+
+def verdict_linux_sll(packet: bytes) -> Optional[Verdict]:
+    """That in a packet of a Linux cooked capture."""
+    return _verdict(_etherparse.ep_verdict_linux_sll(packet, len(packet)))
+
+
+def verdict_ip(packet: bytes) -> Optional[Verdict]:
+    """That in an IP packet of either version."""
+    return _verdict(_etherparse.ep_verdict_ip(packet, len(packet)))
+
+
+def checksum(data: bytes) -> int:
+    """The Internet checksum (RFC 1071), as it stands in a header."""
+    return _etherparse.ep_checksum(data, len(data))
+
+
+def checksum_is_right(data: bytes) -> bool:
+    """Whether the words of the bytes sum to all ones."""
+    return _etherparse.ep_checksum_is_right(data, len(data))
+
+
+def _handed_out(call, room: int) -> bytes:
+    """Calls again with the room that is needed, where there was too little."""
+    while True:
+        output, written = (_c.c_uint8 * room)(), _c.c_size_t(0)
+        status = call(output, room, _c.byref(written))
+        if status == _raw.NETLINES_ANSWERED:
+            return _c.string_at(output, written.value)
+        if status == _raw.NETLINES_WRONG_STATE:
+            raise ValueError("the session is closed, or was told the end")
+        if status != _raw.NETLINES_NO_ROOM:
+            raise MemoryError
+        room = written.value
+
+
+def answers(text: bytes) -> bytes:
+    """The answers to all lines of a text, each ended by a line feed; raises MemoryError."""
+    return _handed_out(lambda *room: _netlines.netlines_answers(text, len(text), *room), len(text) + 64)
+
+
+class Session:
+    """Lines that come in pieces of any length, and the answers to them as they come.
+
+    Fed in any pieces, the answers are `answers` of the whole. After a MemoryError it is closed.
+
+        with Session() as session:
+            for piece in pieces:
+                output.write(session.feed(piece))
+            output.write(session.finish())
+    """
+
+    def __init__(self) -> None:
+        self._raw = _raw.NetlinesSession()
+        if _netlines.netlines_open(_c.byref(self._raw)) != _raw.NETLINES_ANSWERED:
+            raise MemoryError
+
+    def feed(self, piece: bytes) -> bytes:
+        """Takes a piece, and gives the answers to all lines that ended since the last call."""
+        left = [piece]
+
+        def call(*room):
+            taken = left.pop() if left else b""
+            return _netlines.netlines_feed(_c.byref(self._raw), taken, len(taken), *room)
+
+        return _handed_out(call, 256)
+
+    def finish(self) -> bytes:
+        """The answers that are left, with that to a last line that no line feed ended."""
+        return _handed_out(lambda *room: _netlines.netlines_finish(_c.byref(self._raw), *room), 256)
+
+    def close(self) -> None:
+        """Frees what the session holds. Closing it again does nothing."""
+        _netlines.netlines_close(_c.byref(self._raw))
+
+    def __enter__(self) -> "Session":
+        return self
+
+    def __exit__(self, *_) -> None:
+        self.close()
+
+    def __del__(self) -> None:
+        self.close()

@@ -1,0 +1,295 @@
+"""The exports and their structs, for ctypes. Written by tools/bindings."""
+
+import ctypes as c
+
+LAYER_LINUX_SLL_HEADER = 1
+LAYER_ETHERNET2_HEADER = 2
+LAYER_ETHER_PAYLOAD = 3
+LAYER_VLAN_HEADER = 4
+LAYER_MACSEC_HEADER = 5
+LAYER_MACSEC_PACKET = 6
+LAYER_IP_HEADER = 7
+LAYER_IPV4_HEADER = 8
+LAYER_IPV4_PACKET = 9
+LAYER_IP_AUTH_HEADER = 10
+LAYER_IPV6_HEADER = 11
+LAYER_IPV6_PACKET = 12
+LAYER_IPV6_EXT_HEADER = 13
+LAYER_IPV6_HOP_BY_HOP_HEADER = 14
+LAYER_IPV6_DEST_OPTIONS_HEADER = 15
+LAYER_IPV6_ROUTE_HEADER = 16
+LAYER_IPV6_FRAG_HEADER = 17
+LAYER_UDP_HEADER = 18
+LAYER_UDP_PAYLOAD = 19
+LAYER_TCP_HEADER = 20
+LAYER_ICMPV4 = 21
+LAYER_ICMPV4_TIMESTAMP = 22
+LAYER_ICMPV4_TIMESTAMP_REPLY = 23
+LAYER_ICMPV6 = 24
+LAYER_ARP = 25
+SOURCE_SLICE = 1
+SOURCE_MACSEC_SHORT_LENGTH = 2
+SOURCE_IPV4_HEADER_TOTAL_LEN = 3
+SOURCE_IPV6_HEADER_PAYLOAD_LEN = 4
+SOURCE_UDP_HEADER_LEN = 5
+SOURCE_TCP_HEADER_LEN = 6
+SOURCE_ARP_ADDR_LENGTHS = 7
+
+# The answers are written.
+NETLINES_ANSWERED = 0
+# The output has no room for the answers.
+NETLINES_NO_ROOM = 1
+# Out of memory.
+NETLINES_NO_MEMORY = 2
+# The session isn't open, or was told the end, or is open already.
+NETLINES_WRONG_STATE = 3
+
+
+class EpLink(c.Structure):
+    """A link header. The fields of other kinds are 0."""
+
+    _fields_ = [
+        ("kind", c.c_uint32),
+        ("protocol", c.c_uint16),
+        ("destination", c.c_uint8 * 6),
+        ("source", c.c_uint8 * 6),
+        ("packet_type", c.c_uint16),
+        ("hardware_type", c.c_uint16),
+        ("address_len", c.c_uint16),
+        ("address", c.c_uint8 * 8),
+    ]
+
+
+class EpPart(c.Structure):
+    """Where bytes stand in those that were handed in."""
+
+    _fields_ = [
+        ("offset", c.c_size_t),
+        ("len", c.c_size_t),
+    ]
+
+
+class EpTag(c.Structure):
+    """A tag between link header and packet. The fields of other kinds are 0."""
+
+    _fields_ = [
+        ("header", EpPart),
+        ("kind", c.c_uint32),
+        ("ether_type", c.c_uint16),
+        ("vlan_id", c.c_uint16),
+        ("priority", c.c_uint8),
+        ("drop_eligible", c.c_bool),
+        ("end_station", c.c_bool),
+        ("single_copy_broadcast", c.c_bool),
+        ("encrypted", c.c_bool),
+        ("changed", c.c_bool),
+        ("has_channel", c.c_bool),
+        ("association", c.c_uint8),
+        ("short_len", c.c_uint8),
+        ("packet_number", c.c_uint32),
+        ("channel", c.c_uint64),
+    ]
+
+
+class EpIpv4(c.Structure):
+    """An IPv4 packet (RFC 791). Its options stand at the end of its header."""
+
+    _fields_ = [
+        ("header", EpPart),
+        ("extensions", EpPart),
+        ("payload", EpPart),
+        ("source", c.c_uint8 * 4),
+        ("destination", c.c_uint8 * 4),
+        ("total_len", c.c_uint16),
+        ("identification", c.c_uint16),
+        ("fragment_offset", c.c_uint16),
+        ("header_checksum", c.c_uint16),
+        ("dscp", c.c_uint8),
+        ("ecn", c.c_uint8),
+        ("time_to_live", c.c_uint8),
+        ("protocol", c.c_uint8),
+        ("payload_number", c.c_uint8),
+        ("dont_fragment", c.c_bool),
+        ("more_fragments", c.c_bool),
+        ("is_part", c.c_bool),
+    ]
+
+
+class EpIpv6(c.Structure):
+    """An IPv6 packet (RFC 8200)."""
+
+    _fields_ = [
+        ("header", EpPart),
+        ("extensions", EpPart),
+        ("payload", EpPart),
+        ("source", c.c_uint8 * 16),
+        ("destination", c.c_uint8 * 16),
+        ("flow_label", c.c_uint32),
+        ("identification", c.c_uint32),
+        ("payload_length", c.c_uint16),
+        ("fragment_offset", c.c_uint16),
+        ("traffic_class", c.c_uint8),
+        ("next_header", c.c_uint8),
+        ("hop_limit", c.c_uint8),
+        ("payload_number", c.c_uint8),
+        ("has_fragment_header", c.c_bool),
+        ("more_fragments", c.c_bool),
+        ("is_part", c.c_bool),
+    ]
+
+
+class EpArp(c.Structure):
+    """An ARP packet (RFC 826)."""
+
+    _fields_ = [
+        ("packet", EpPart),
+        ("sender_hardware", EpPart),
+        ("sender_protocol", EpPart),
+        ("target_hardware", EpPart),
+        ("target_protocol", EpPart),
+        ("hardware_type", c.c_uint16),
+        ("protocol_type", c.c_uint16),
+        ("operation", c.c_uint16),
+    ]
+
+
+class EpRefusal(c.Structure):
+    """Why a packet is refused. All fields are 0 where it isn't."""
+
+    _fields_ = [
+        ("kind", c.c_uint32),
+        ("layer", c.c_uint32),
+        ("needed", c.c_size_t),
+        ("there", c.c_size_t),
+        ("place", c.c_size_t),
+        ("source", c.c_uint32),
+        ("value", c.c_uint32),
+    ]
+
+
+class EpUdp(c.Structure):
+    """A UDP datagram (RFC 768)."""
+
+    _fields_ = [
+        ("header", EpPart),
+        ("payload", EpPart),
+        ("source_port", c.c_uint16),
+        ("destination_port", c.c_uint16),
+        ("stated_len", c.c_uint16),
+        ("checksum", c.c_uint16),
+    ]
+
+
+class EpTcp(c.Structure):
+    """A TCP segment (RFC 9293). Its options stand behind the first 20 bytes of the header."""
+
+    _fields_ = [
+        ("header", EpPart),
+        ("payload", EpPart),
+        ("sequence_number", c.c_uint32),
+        ("acknowledgment_number", c.c_uint32),
+        ("source_port", c.c_uint16),
+        ("destination_port", c.c_uint16),
+        ("window_size", c.c_uint16),
+        ("checksum", c.c_uint16),
+        ("urgent_pointer", c.c_uint16),
+        ("ns", c.c_bool),
+        ("fin", c.c_bool),
+        ("syn", c.c_bool),
+        ("rst", c.c_bool),
+        ("psh", c.c_bool),
+        ("ack", c.c_bool),
+        ("urg", c.c_bool),
+        ("ece", c.c_bool),
+        ("cwr", c.c_bool),
+    ]
+
+
+class EpIcmp(c.Structure):
+    """An ICMP message of either version (RFC 792; RFC 4443)."""
+
+    _fields_ = [
+        ("header", EpPart),
+        ("payload", EpPart),
+        ("checksum", c.c_uint16),
+        ("icmp_type", c.c_uint8),
+        ("code", c.c_uint8),
+        ("rest", c.c_uint8 * 4),
+    ]
+
+
+class EpPacket(c.Structure):
+    """What is told of a packet. Every [`EpPart`] counts from the front of the bytes that were handed in. The fields of a layer that isn't there are 0, and all but `refusal` are where it is refused."""
+
+    _fields_ = [
+        ("refusal", EpRefusal),
+        ("link", EpLink),
+        ("tag_count", c.c_uint32),
+        ("tags", EpTag * 3),
+        ("ether_payload", EpPart),
+        ("net", c.c_uint32),
+        ("transport", c.c_uint32),
+        ("ipv4", EpIpv4),
+        ("ipv6", EpIpv6),
+        ("arp", EpArp),
+        ("udp", EpUdp),
+        ("tcp", EpTcp),
+        ("icmp", EpIcmp),
+    ]
+
+
+class NetlinesSession(c.Structure):
+    """Lines that come in pieces. It begins as zeros, and is changed by these calls alone."""
+
+    _fields_ = [
+        ("is_open", c.c_bool),
+        ("held", c.c_void_p),
+    ]
+
+assert c.sizeof(EpLink) == 32
+assert c.sizeof(EpPart) == 16
+assert c.sizeof(EpTag) == 48
+assert c.sizeof(EpIpv4) == 72
+assert c.sizeof(EpIpv6) == 104
+assert c.sizeof(EpArp) == 88
+assert c.sizeof(EpRefusal) == 40
+assert c.sizeof(EpUdp) == 40
+assert c.sizeof(EpTcp) == 64
+assert c.sizeof(EpIcmp) == 40
+assert c.sizeof(EpPacket) == 656
+
+assert c.sizeof(NetlinesSession) == 16
+
+
+def declare_etherparse(library: c.CDLL) -> None:
+    """Gives the calls of libetherparse their types."""
+    library.ep_checksum.argtypes = [c.c_char_p, c.c_size_t]
+    library.ep_checksum.restype = c.c_uint16
+    library.ep_checksum_is_right.argtypes = [c.c_char_p, c.c_size_t]
+    library.ep_checksum_is_right.restype = c.c_bool
+    library.ep_slice_ethernet.argtypes = [c.c_char_p, c.c_size_t]
+    library.ep_slice_ethernet.restype = EpPacket
+    library.ep_slice_linux_sll.argtypes = [c.c_char_p, c.c_size_t]
+    library.ep_slice_linux_sll.restype = EpPacket
+    library.ep_slice_ip.argtypes = [c.c_char_p, c.c_size_t]
+    library.ep_slice_ip.restype = EpPacket
+    library.ep_verdict_ethernet.argtypes = [c.c_char_p, c.c_size_t]
+    library.ep_verdict_ethernet.restype = c.c_uint32
+    library.ep_verdict_linux_sll.argtypes = [c.c_char_p, c.c_size_t]
+    library.ep_verdict_linux_sll.restype = c.c_uint32
+    library.ep_verdict_ip.argtypes = [c.c_char_p, c.c_size_t]
+    library.ep_verdict_ip.restype = c.c_uint32
+
+
+def declare_netlines(library: c.CDLL) -> None:
+    """Gives the calls of libnetlines their types."""
+    library.netlines_answers.argtypes = [c.c_char_p, c.c_size_t, c.POINTER(c.c_uint8), c.c_size_t, c.POINTER(c.c_size_t)]
+    library.netlines_answers.restype = c.c_uint32
+    library.netlines_open.argtypes = [c.POINTER(NetlinesSession)]
+    library.netlines_open.restype = c.c_uint32
+    library.netlines_feed.argtypes = [c.POINTER(NetlinesSession), c.c_char_p, c.c_size_t, c.POINTER(c.c_uint8), c.c_size_t, c.POINTER(c.c_size_t)]
+    library.netlines_feed.restype = c.c_uint32
+    library.netlines_finish.argtypes = [c.POINTER(NetlinesSession), c.POINTER(c.c_uint8), c.c_size_t, c.POINTER(c.c_size_t)]
+    library.netlines_finish.restype = c.c_uint32
+    library.netlines_close.argtypes = [c.POINTER(NetlinesSession)]
+    library.netlines_close.restype = None

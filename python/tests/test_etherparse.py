@@ -1,0 +1,137 @@
+"""Run at the top of the repository: python3 -m unittest discover -s python -t python"""
+
+import ipaddress
+import unittest
+from pathlib import Path
+
+import etherparse as ep
+
+TOP = Path(__file__).resolve().parents[2]
+CALLS = {
+    "ethernet": (ep.slice_ethernet, ep.verdict_ethernet),
+    "linux_sll": (ep.slice_linux_sll, ep.verdict_linux_sll),
+    "ip": (ep.slice_ip, ep.verdict_ip),
+}
+UDP = bytes.fromhex(
+    "02000000000202000000000108004500002400070000401166c00a0000010a000002000100020010dbb40102030405060708"
+)
+
+
+def rows():
+    for line in (TOP / "c/tests/packets.txt").read_text().splitlines():
+        if not line.startswith("#"):
+            call, digits, *fields = line.split()
+            frame = bytes.fromhex(digits) if digits != "-" else b""
+            yield call, frame, dict(field.split("=") for field in fields)
+
+
+class Packets(unittest.TestCase):
+    def field(self, packet, frame, path):
+        """The field of this path as the table writes it, by way of the package's own names."""
+        first, _, rest = path.partition(".")
+        layer = packet
+        if rest and first == "tags":
+            index, _, rest = rest.partition(".")
+            layer = packet.tags[int(index)] if int(index) < len(packet.tags) else None
+        elif rest:
+            layer = getattr(packet, first)
+        if not rest:
+            raise unittest.SkipTest(path)
+        value = getattr(layer, rest) if layer else None
+        if isinstance(value, (ipaddress.IPv4Address, ipaddress.IPv6Address)):
+            value = value.packed
+        return value, layer
+
+    def test_table(self):
+        for call, frame, wanted in rows():
+            slice_call, verdict_call = CALLS[call]
+            with self.subTest(call=call, frame=frame.hex()):
+                verdict = verdict_call(frame)
+                self.assertEqual(int(wanted.get("verdict", 3)), 3 if verdict is None else verdict.value)
+                if wanted.get("refusal.kind", "0") != "0":
+                    with self.assertRaises(ep.Refused) as refused:
+                        slice_call(frame)
+                    for name in ("kind", "layer", "needed", "there", "place", "source", "value"):
+                        if f"refusal.{name}" in wanted:
+                            self.assertEqual(getattr(refused.exception, name), int(wanted[f"refusal.{name}"]), name)
+                    continue
+                packet = slice_call(frame)
+                for path, text in wanted.items():
+                    if "." not in path or path.startswith(("refusal", "link.kind")):
+                        continue
+                    value, layer = self.field(packet, frame, path)
+                    if layer is None:
+                        self.assertIn(text, ("0", "0+0"), path)
+                    elif "+" in text:
+                        offset, length = map(int, text.split("+"))
+                        self.assertEqual(value, frame[offset : offset + length], path)
+                        self.assertEqual(layer.offset(path.rpartition(".")[2]), offset, path)
+                    else:
+                        self.assertEqual(value.hex() if isinstance(value, bytes) else str(int(value)), text, path)
+
+    def test_layers(self):
+        packet = ep.slice_ethernet(UDP)
+        self.assertEqual(packet.ipv4.source, ipaddress.ip_address("10.0.0.1"))
+        self.assertEqual(packet.ipv4.destination, ipaddress.ip_address("10.0.0.2"))
+        self.assertEqual((packet.udp.source_port, packet.udp.destination_port), (1, 2))
+        self.assertEqual(packet.payload, bytes(range(1, 9)))
+        self.assertIsNone(packet.tcp)
+        self.assertIsNone(packet.ipv6)
+        self.assertEqual(packet.tags, [])
+        self.assertEqual(packet.link.source, bytes.fromhex("020000000001"))
+        with self.assertRaises(AttributeError):
+            packet.udp.no_such_field
+
+    def test_a_frame_with_a_zero_byte_is_taken_whole(self):
+        self.assertEqual(ep.slice_ethernet(bytes(12) + b"\x88\xcc" + bytes(3)).payload, bytes(3))
+
+    def test_refusal_text(self):
+        with self.assertRaisesRegex(ep.Refused, "layer 2 at byte 0 needs 14 bytes, and 13 are there"):
+            ep.slice_ethernet(bytes(13))
+
+    def test_checksum(self):
+        # RFC 1071, section 3
+        words = bytes.fromhex("0001f203f4f5f6f7")
+        self.assertEqual(ep.checksum(words), 0x220D)
+        self.assertTrue(ep.checksum_is_right(words + b"\x22\x0d"))
+        self.assertFalse(ep.checksum_is_right(words))
+
+
+class Answers(unittest.TestCase):
+    def test_rows(self):
+        texts = sorted((TOP / "crates/netlines_rows/data").glob("*.in"))
+        texts = [text for text in texts if text.stem != "wrong_on_purpose"]
+        self.assertGreater(len(texts), 50)
+        for text in texts:
+            with self.subTest(text.name):
+                self.assertEqual(ep.answers(text.read_bytes()), text.with_suffix(".out").read_bytes())
+
+    def test_rows_in_pieces(self):
+        for text in sorted((TOP / "crates/netlines_rows/data").glob("*.in")):
+            if text.stem == "wrong_on_purpose":
+                continue
+            whole, wanted = text.read_bytes(), text.with_suffix(".out").read_bytes()
+            for size in 1, 7, 65536:
+                with self.subTest(text.name, size=size), ep.Session() as session:
+                    told = [session.feed(whole[at : at + size]) for at in range(0, len(whole), size)]
+                    self.assertEqual(b"".join(told) + session.finish(), wanted)
+
+    def test_no_lines(self):
+        self.assertEqual(ep.answers(b""), b"")
+        self.assertEqual(ep.Session().finish(), b"")
+
+    def test_states(self):
+        session = ep.Session()
+        self.assertEqual(session.feed(b"?"), b"")
+        self.assertEqual(session.finish(), b"bad line\n")
+        self.assertEqual(session.finish(), b"")
+        with self.assertRaises(ValueError):
+            session.feed(b"\n")
+        session.close()
+        with self.assertRaises(ValueError):
+            session.finish()
+        session.close()
+
+
+if __name__ == "__main__":
+    unittest.main()

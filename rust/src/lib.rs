@@ -1,0 +1,166 @@
+//! Safe Rust over `libetherparse` and `libnetlines`, whose code is proved.
+//!
+//! The exports require nothing but what a slice's type says, so that each call is safe for every
+//! slice. All that is unsafe stands in this file.
+
+mod packet;
+pub mod raw;
+mod refusal;
+
+pub use packet::{Link, Net, Packet, Transport};
+pub use refusal::{Fault, Layer, LenSource, Refusal};
+
+use std::error::Error;
+use std::fmt;
+
+/// Slices an Ethernet II frame.
+pub fn slice_ethernet(frame: &[u8]) -> Result<Packet<'_>, Refusal> {
+    // SAFETY: pointer and length are one slice's, here and below.
+    Packet::told(frame, unsafe { raw::ep_slice_ethernet(frame.as_ptr(), frame.len()) })
+}
+
+/// Slices a packet of a Linux cooked capture.
+pub fn slice_linux_sll(packet: &[u8]) -> Result<Packet<'_>, Refusal> {
+    Packet::told(packet, unsafe { raw::ep_slice_linux_sll(packet.as_ptr(), packet.len()) })
+}
+
+/// Slices an IP packet of either version.
+pub fn slice_ip(packet: &[u8]) -> Result<Packet<'_>, Refusal> {
+    Packet::told(packet, unsafe { raw::ep_slice_ip(packet.as_ptr(), packet.len()) })
+}
+
+/// What the checksum of a message tells.
+#[derive(Clone, Copy, Debug, PartialEq, Eq, Hash)]
+pub enum Verdict {
+    /// There is no checksum, or none that is known.
+    None,
+    /// It is right.
+    Good,
+    /// It is wrong.
+    Bad,
+}
+
+fn verdict(number: u32) -> Option<Verdict> {
+    [Verdict::None, Verdict::Good, Verdict::Bad].get(number as usize).copied()
+}
+
+/// The verdict on the message in an Ethernet II frame; none where it has no uncut message that can
+/// be read.
+#[must_use]
+pub fn verdict_ethernet(frame: &[u8]) -> Option<Verdict> {
+    verdict(unsafe { raw::ep_verdict_ethernet(frame.as_ptr(), frame.len()) })
+}
+
+/// That in a packet of a Linux cooked capture.
+#[must_use]
+pub fn verdict_linux_sll(packet: &[u8]) -> Option<Verdict> {
+    verdict(unsafe { raw::ep_verdict_linux_sll(packet.as_ptr(), packet.len()) })
+}
+
+/// That in an IP packet of either version.
+#[must_use]
+pub fn verdict_ip(packet: &[u8]) -> Option<Verdict> {
+    verdict(unsafe { raw::ep_verdict_ip(packet.as_ptr(), packet.len()) })
+}
+
+/// The Internet checksum (RFC 1071), as it stands in a header.
+#[must_use]
+pub fn checksum(bytes: &[u8]) -> u16 {
+    unsafe { raw::ep_checksum(bytes.as_ptr(), bytes.len()) }
+}
+
+/// Whether the words of the bytes sum to all ones.
+#[must_use]
+pub fn checksum_is_right(bytes: &[u8]) -> bool {
+    unsafe { raw::ep_checksum_is_right(bytes.as_ptr(), bytes.len()) }
+}
+
+/// There was no memory for the answers.
+#[derive(Clone, Copy, Debug, PartialEq, Eq)]
+pub struct OutOfMemory;
+
+impl fmt::Display for OutOfMemory {
+    fn fmt(&self, f: &mut fmt::Formatter<'_>) -> fmt::Result {
+        f.write_str("out of memory")
+    }
+}
+
+impl Error for OutOfMemory {}
+
+/// The answers to all lines of a text, each ended by a line feed.
+pub fn answers(text: &[u8]) -> Result<Vec<u8>, OutOfMemory> {
+    // SAFETY: the output was written, and nothing overlaps.
+    handed_out(|output, written| unsafe {
+        raw::netlines_answers(text.as_ptr(), text.len(), output.as_mut_ptr(), output.len(), written)
+    })
+}
+
+/// Lines that come in pieces of any length, and the answers to them as they come. Fed in any pieces,
+/// the answers are [`answers`] of the whole. After [`OutOfMemory`] it answers nothing more.
+#[derive(Debug)]
+pub struct Session {
+    raw: raw::NetlinesSession,
+}
+
+impl Session {
+    /// A session that took no byte.
+    pub fn open() -> Result<Session, OutOfMemory> {
+        let mut session = raw::NetlinesSession { is_open: false, held: std::ptr::null_mut() };
+        // SAFETY: it begins as zeros. Here and below these calls alone change it, and it stays on its
+        // thread, since a pointer isn't `Send`.
+        match unsafe { raw::netlines_open(&mut session) } {
+            raw::NETLINES_ANSWERED => Ok(Session { raw: session }),
+            _ => Err(OutOfMemory),
+        }
+    }
+
+    /// Takes a piece, and gives the answers to all lines that ended since the last call.
+    pub fn feed(&mut self, piece: &[u8]) -> Result<Vec<u8>, OutOfMemory> {
+        let mut piece = piece;
+        handed_out(|output, written| {
+            // SAFETY: the output was written, and nothing overlaps; below, too.
+            let status = unsafe {
+                raw::netlines_feed(
+                    &mut self.raw,
+                    piece.as_ptr(),
+                    piece.len(),
+                    output.as_mut_ptr(),
+                    output.len(),
+                    written,
+                )
+            };
+            piece = &[];
+            status
+        })
+    }
+
+    /// The answers that are left, with that to a last line that no line feed ended.
+    pub fn finish(mut self) -> Result<Vec<u8>, OutOfMemory> {
+        handed_out(|output, written| unsafe {
+            raw::netlines_finish(&mut self.raw, output.as_mut_ptr(), output.len(), written)
+        })
+    }
+}
+
+impl Drop for Session {
+    fn drop(&mut self) {
+        // SAFETY: as above; what it held is freed here alone.
+        unsafe { raw::netlines_close(&mut self.raw) }
+    }
+}
+
+// Calls again with the room that is needed, where there was too little.
+fn handed_out(mut call: impl FnMut(&mut [u8], &mut usize) -> u32) -> Result<Vec<u8>, OutOfMemory> {
+    let mut output = vec![0; 256];
+    loop {
+        let mut written = 0;
+        match call(&mut output, &mut written) {
+            raw::NETLINES_ANSWERED => {
+                output.truncate(written);
+                return Ok(output);
+            }
+            raw::NETLINES_NO_ROOM => output.resize(written, 0),
+            _ => return Err(OutOfMemory),
+        }
+    }
+}

@@ -1,0 +1,152 @@
+//! Packets that were sliced.
+
+use crate::Refusal;
+use crate::raw::{EpArp, EpIcmp, EpIpv4, EpIpv6, EpLink, EpPacket, EpPart, EpTag, EpTcp, EpUdp};
+use std::net::{Ipv4Addr, Ipv6Addr};
+
+/// A packet that was sliced, over the bytes that it was sliced from.
+#[derive(Clone, Debug)]
+pub struct Packet<'a> {
+    bytes: &'a [u8],
+    fields: EpPacket,
+}
+
+/// A link header.
+#[derive(Clone, Copy, Debug, PartialEq, Eq)]
+pub enum Link<'p> {
+    /// Of Ethernet II.
+    Ethernet2(&'p EpLink),
+    /// Of a Linux cooked capture.
+    LinuxSll(&'p EpLink),
+}
+
+/// A packet of the network layer.
+#[derive(Clone, Copy, Debug, PartialEq, Eq)]
+pub enum Net<'p> {
+    /// Of IPv4.
+    Ipv4(&'p EpIpv4),
+    /// Of IPv6.
+    Ipv6(&'p EpIpv6),
+    /// Of ARP.
+    Arp(&'p EpArp),
+}
+
+/// A message of the transport layer.
+#[derive(Clone, Copy, Debug, PartialEq, Eq)]
+pub enum Transport<'p> {
+    /// A UDP datagram.
+    Udp(&'p EpUdp),
+    /// A TCP segment.
+    Tcp(&'p EpTcp),
+    /// An ICMP message over IPv4.
+    Icmpv4(&'p EpIcmp),
+    /// An ICMP message over IPv6.
+    Icmpv6(&'p EpIcmp),
+}
+
+impl<'a> Packet<'a> {
+    pub(crate) fn told(bytes: &'a [u8], fields: EpPacket) -> Result<Packet<'a>, Refusal> {
+        match Refusal::told(&fields.refusal) {
+            Some(refusal) => Err(refusal),
+            None => Ok(Packet { bytes, fields }),
+        }
+    }
+
+    /// All that was told.
+    #[must_use]
+    pub fn fields(&self) -> &EpPacket {
+        &self.fields
+    }
+
+    /// The bytes of a part of this packet.
+    ///
+    /// # Panics
+    ///
+    /// Where the part is another packet's and doesn't lie in this one.
+    #[must_use]
+    pub fn bytes_of(&self, part: EpPart) -> &'a [u8] {
+        &self.bytes[part.offset..][..part.len]
+    }
+
+    /// The link header, if there is one.
+    #[must_use]
+    pub fn link(&self) -> Option<Link<'_>> {
+        match self.fields.link.kind {
+            1 => Some(Link::Ethernet2(&self.fields.link)),
+            2 => Some(Link::LinuxSll(&self.fields.link)),
+            _ => None,
+        }
+    }
+
+    /// The tags behind the link header.
+    #[must_use]
+    pub fn tags(&self) -> &[EpTag] {
+        &self.fields.tags[..self.fields.tag_count as usize]
+    }
+
+    /// The packet of the network layer, if there is one.
+    #[must_use]
+    pub fn net(&self) -> Option<Net<'_>> {
+        match self.fields.net {
+            1 => Some(Net::Arp(&self.fields.arp)),
+            4 => Some(Net::Ipv4(&self.fields.ipv4)),
+            6 => Some(Net::Ipv6(&self.fields.ipv6)),
+            _ => None,
+        }
+    }
+
+    /// The message of the transport layer, if there is one.
+    #[must_use]
+    pub fn transport(&self) -> Option<Transport<'_>> {
+        match self.fields.transport {
+            1 => Some(Transport::Icmpv4(&self.fields.icmp)),
+            6 => Some(Transport::Tcp(&self.fields.tcp)),
+            17 => Some(Transport::Udp(&self.fields.udp)),
+            58 => Some(Transport::Icmpv6(&self.fields.icmp)),
+            _ => None,
+        }
+    }
+
+    /// The innermost payload: of the message, else of the IP packet, else what the last ether type
+    /// names. An ARP packet has none.
+    #[must_use]
+    pub fn payload(&self) -> &'a [u8] {
+        self.bytes_of(match (self.transport(), self.net()) {
+            (Some(Transport::Udp(datagram)), _) => datagram.payload,
+            (Some(Transport::Tcp(segment)), _) => segment.payload,
+            (Some(Transport::Icmpv4(message) | Transport::Icmpv6(message)), _) => message.payload,
+            (None, Some(Net::Ipv4(packet))) => packet.payload,
+            (None, Some(Net::Ipv6(packet))) => packet.payload,
+            (None, Some(Net::Arp(_))) => EpPart { offset: 0, len: 0 },
+            (None, None) => self.fields.ether_payload,
+        })
+    }
+}
+
+impl EpIpv4 {
+    /// The source address.
+    #[must_use]
+    pub fn source_addr(&self) -> Ipv4Addr {
+        self.source.into()
+    }
+
+    /// The destination address.
+    #[must_use]
+    pub fn destination_addr(&self) -> Ipv4Addr {
+        self.destination.into()
+    }
+}
+
+impl EpIpv6 {
+    /// The source address.
+    #[must_use]
+    pub fn source_addr(&self) -> Ipv6Addr {
+        self.source.into()
+    }
+
+    /// The destination address.
+    #[must_use]
+    pub fn destination_addr(&self) -> Ipv6Addr {
+        self.destination.into()
+    }
+}

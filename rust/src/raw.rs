@@ -1,0 +1,499 @@
+//! The exports and their structs. Written by `tools/bindings`.
+
+pub const LAYER_LINUX_SLL_HEADER: u32 = 1;
+pub const LAYER_ETHERNET2_HEADER: u32 = 2;
+pub const LAYER_ETHER_PAYLOAD: u32 = 3;
+pub const LAYER_VLAN_HEADER: u32 = 4;
+pub const LAYER_MACSEC_HEADER: u32 = 5;
+pub const LAYER_MACSEC_PACKET: u32 = 6;
+pub const LAYER_IP_HEADER: u32 = 7;
+pub const LAYER_IPV4_HEADER: u32 = 8;
+pub const LAYER_IPV4_PACKET: u32 = 9;
+pub const LAYER_IP_AUTH_HEADER: u32 = 10;
+pub const LAYER_IPV6_HEADER: u32 = 11;
+pub const LAYER_IPV6_PACKET: u32 = 12;
+pub const LAYER_IPV6_EXT_HEADER: u32 = 13;
+pub const LAYER_IPV6_HOP_BY_HOP_HEADER: u32 = 14;
+pub const LAYER_IPV6_DEST_OPTIONS_HEADER: u32 = 15;
+pub const LAYER_IPV6_ROUTE_HEADER: u32 = 16;
+pub const LAYER_IPV6_FRAG_HEADER: u32 = 17;
+pub const LAYER_UDP_HEADER: u32 = 18;
+pub const LAYER_UDP_PAYLOAD: u32 = 19;
+pub const LAYER_TCP_HEADER: u32 = 20;
+pub const LAYER_ICMPV4: u32 = 21;
+pub const LAYER_ICMPV4_TIMESTAMP: u32 = 22;
+pub const LAYER_ICMPV4_TIMESTAMP_REPLY: u32 = 23;
+pub const LAYER_ICMPV6: u32 = 24;
+pub const LAYER_ARP: u32 = 25;
+pub const SOURCE_SLICE: u32 = 1;
+pub const SOURCE_MACSEC_SHORT_LENGTH: u32 = 2;
+pub const SOURCE_IPV4_HEADER_TOTAL_LEN: u32 = 3;
+pub const SOURCE_IPV6_HEADER_PAYLOAD_LEN: u32 = 4;
+pub const SOURCE_UDP_HEADER_LEN: u32 = 5;
+pub const SOURCE_TCP_HEADER_LEN: u32 = 6;
+pub const SOURCE_ARP_ADDR_LENGTHS: u32 = 7;
+/// The answers are written.
+pub const NETLINES_ANSWERED: u32 = 0;
+/// The output has no room for the answers.
+pub const NETLINES_NO_ROOM: u32 = 1;
+/// Out of memory.
+pub const NETLINES_NO_MEMORY: u32 = 2;
+/// The session isn't open, or was told the end, or is open already.
+pub const NETLINES_WRONG_STATE: u32 = 3;
+
+/// A link header. The fields of other kinds are 0.
+#[repr(C)]
+#[derive(Clone, Copy, Debug, PartialEq, Eq)]
+pub struct EpLink {
+    /// 0 none, 1 Ethernet II, 2 a Linux cooked capture.
+    pub kind: u32,
+    /// The ether type; in a cooked capture the protocol's number, whatever its kind.
+    pub protocol: u16,
+    /// Of Ethernet II.
+    pub destination: [u8; 6],
+    /// Of Ethernet II.
+    pub source: [u8; 6],
+    /// Of a cooked capture: 0 to us, 1 broadcast, 2 multicast, 3 to others, 4 from us.
+    pub packet_type: u16,
+    /// Of a cooked capture: the hardware type (ARPHRD).
+    pub hardware_type: u16,
+    /// Of a cooked capture: how many bytes of the address are the sender's, as it states it.
+    pub address_len: u16,
+    /// Of a cooked capture: the sender's address, and bytes without meaning behind it.
+    pub address: [u8; 8],
+}
+
+/// Where bytes stand in those that were handed in.
+#[repr(C)]
+#[derive(Clone, Copy, Debug, PartialEq, Eq)]
+pub struct EpPart {
+    /// The offset of the first byte.
+    pub offset: usize,
+    /// How many bytes.
+    pub len: usize,
+}
+
+/// A tag between link header and packet. The fields of other kinds are 0.
+#[repr(C)]
+#[derive(Clone, Copy, Debug, PartialEq, Eq)]
+pub struct EpTag {
+    /// Where the tag itself stands.
+    pub header: EpPart,
+    /// 0 none, 1 VLAN, 2 MACsec.
+    pub kind: u32,
+    /// The ether type of what follows, 0 behind a changed or encrypted MACsec payload.
+    pub ether_type: u16,
+    /// Of VLAN: the identifier.
+    pub vlan_id: u16,
+    /// Of VLAN: the priority code point.
+    pub priority: u8,
+    /// Of VLAN: whether the frame may be dropped first.
+    pub drop_eligible: bool,
+    /// Of MACsec: bit ES.
+    pub end_station: bool,
+    /// Of MACsec: bit SCB.
+    pub single_copy_broadcast: bool,
+    /// Of MACsec: bit E.
+    pub encrypted: bool,
+    /// Of MACsec: bit C.
+    pub changed: bool,
+    /// Of MACsec: whether a channel identifier is there.
+    pub has_channel: bool,
+    /// Of MACsec: the association number.
+    pub association: u8,
+    /// Of MACsec: the short length.
+    pub short_len: u8,
+    /// Of MACsec: the packet number.
+    pub packet_number: u32,
+    /// Of MACsec: the secure channel identifier.
+    pub channel: u64,
+}
+
+/// An IPv4 packet (RFC 791). Its options stand at the end of its header.
+#[repr(C)]
+#[derive(Clone, Copy, Debug, PartialEq, Eq)]
+pub struct EpIpv4 {
+    /// The header, options included.
+    pub header: EpPart,
+    /// The authentication header.
+    pub extensions: EpPart,
+    /// What follows it, without padding.
+    pub payload: EpPart,
+    /// The source address.
+    pub source: [u8; 4],
+    /// The destination address.
+    pub destination: [u8; 4],
+    /// The length of header and payload, as the header states it.
+    pub total_len: u16,
+    /// What the parts of one message share.
+    pub identification: u16,
+    /// The offset of the payload in the message, in units of 8 bytes.
+    pub fragment_offset: u16,
+    /// The header checksum, as it stands.
+    pub header_checksum: u16,
+    /// Differentiated services code point.
+    pub dscp: u8,
+    /// Explicit congestion notification.
+    pub ecn: u8,
+    /// Hops that are left.
+    pub time_to_live: u8,
+    /// The number of what follows the header.
+    pub protocol: u8,
+    /// The number of the payload, behind an authentication header.
+    pub payload_number: u8,
+    /// Whether the packet may not be fragmented.
+    pub dont_fragment: bool,
+    /// Whether other parts follow.
+    pub more_fragments: bool,
+    /// Whether the payload is a part of a message.
+    pub is_part: bool,
+}
+
+/// An IPv6 packet (RFC 8200).
+#[repr(C)]
+#[derive(Clone, Copy, Debug, PartialEq, Eq)]
+pub struct EpIpv6 {
+    /// The base header.
+    pub header: EpPart,
+    /// All extension headers.
+    pub extensions: EpPart,
+    /// What follows them, without padding.
+    pub payload: EpPart,
+    /// The source address.
+    pub source: [u8; 16],
+    /// The destination address.
+    pub destination: [u8; 16],
+    /// The flow label.
+    pub flow_label: u32,
+    /// What the parts of one message share, by the first fragment header.
+    pub identification: u32,
+    /// The payload length, as the header states it.
+    pub payload_length: u16,
+    /// The offset of the payload in the message, in units of 8 bytes, by the first fragment header.
+    pub fragment_offset: u16,
+    /// The traffic class.
+    pub traffic_class: u8,
+    /// The number of what follows the base header.
+    pub next_header: u8,
+    /// Hops that are left.
+    pub hop_limit: u8,
+    /// The number of the payload, behind the extension headers.
+    pub payload_number: u8,
+    /// Whether there is a fragment header.
+    pub has_fragment_header: bool,
+    /// Whether other parts follow, by the first fragment header.
+    pub more_fragments: bool,
+    /// Whether the payload is a part of a message.
+    pub is_part: bool,
+}
+
+/// An ARP packet (RFC 826).
+#[repr(C)]
+#[derive(Clone, Copy, Debug, PartialEq, Eq)]
+pub struct EpArp {
+    /// The packet.
+    pub packet: EpPart,
+    /// The sender's hardware address.
+    pub sender_hardware: EpPart,
+    /// The sender's protocol address.
+    pub sender_protocol: EpPart,
+    /// The target's hardware address.
+    pub target_hardware: EpPart,
+    /// The target's protocol address.
+    pub target_protocol: EpPart,
+    /// The kind of hardware address.
+    pub hardware_type: u16,
+    /// The kind of protocol address, an ether type.
+    pub protocol_type: u16,
+    /// 1 request, 2 reply.
+    pub operation: u16,
+}
+
+/// Why a packet is refused. All fields are 0 where it isn't.
+#[repr(C)]
+#[derive(Clone, Copy, Debug, PartialEq, Eq)]
+pub struct EpRefusal {
+    /// 0 not refused, 1 too few bytes, and from 2 on a header that breaks its format.
+    pub kind: u32,
+    /// The layer at fault, numbered from 1 as the errors of `etherparse` name the layers.
+    pub layer: u32,
+    /// Of too few bytes: how many the layer needs.
+    pub needed: usize,
+    /// Of too few bytes: how many are there.
+    pub there: usize,
+    /// Of too few bytes: the offset of the layer's first byte.
+    pub place: usize,
+    /// Of too few bytes: where their number comes from.
+    pub source: u32,
+    /// Of a header that breaks its format: the field that it holds in place of a right one.
+    pub value: u32,
+}
+
+/// A UDP datagram (RFC 768).
+#[repr(C)]
+#[derive(Clone, Copy, Debug, PartialEq, Eq)]
+pub struct EpUdp {
+    /// The header.
+    pub header: EpPart,
+    /// What follows it.
+    pub payload: EpPart,
+    /// The source port.
+    pub source_port: u16,
+    /// The destination port.
+    pub destination_port: u16,
+    /// The length of header and payload, as the header states it; 0 in a jumbogram.
+    pub stated_len: u16,
+    /// The checksum, as it stands; 0 where none was sent.
+    pub checksum: u16,
+}
+
+/// A TCP segment (RFC 9293). Its options stand behind the first 20 bytes of the header.
+#[repr(C)]
+#[derive(Clone, Copy, Debug, PartialEq, Eq)]
+pub struct EpTcp {
+    /// The header, options included.
+    pub header: EpPart,
+    /// What follows it.
+    pub payload: EpPart,
+    /// The sequence number.
+    pub sequence_number: u32,
+    /// The acknowledgment number.
+    pub acknowledgment_number: u32,
+    /// The source port.
+    pub source_port: u16,
+    /// The destination port.
+    pub destination_port: u16,
+    /// The window.
+    pub window_size: u16,
+    /// The checksum, as it stands.
+    pub checksum: u16,
+    /// The urgent pointer.
+    pub urgent_pointer: u16,
+    /// Flag NS (RFC 3540).
+    pub ns: bool,
+    /// Flag FIN.
+    pub fin: bool,
+    /// Flag SYN.
+    pub syn: bool,
+    /// Flag RST.
+    pub rst: bool,
+    /// Flag PSH.
+    pub psh: bool,
+    /// Flag ACK.
+    pub ack: bool,
+    /// Flag URG.
+    pub urg: bool,
+    /// Flag ECE.
+    pub ece: bool,
+    /// Flag CWR.
+    pub cwr: bool,
+}
+
+/// An ICMP message of either version (RFC 792; RFC 4443).
+#[repr(C)]
+#[derive(Clone, Copy, Debug, PartialEq, Eq)]
+pub struct EpIcmp {
+    /// The header: 20 bytes in ICMPv4's timestamp messages, else 8.
+    pub header: EpPart,
+    /// What follows it.
+    pub payload: EpPart,
+    /// The checksum, as it stands.
+    pub checksum: u16,
+    /// The type.
+    pub icmp_type: u8,
+    /// The code.
+    pub code: u8,
+    /// Bytes 4 to 7, whatever the type says of them.
+    pub rest: [u8; 4],
+}
+
+/// What is told of a packet. Every [`EpPart`] counts from the front of the bytes that were handed
+/// in. The fields of a layer that isn't there are 0, and all but `refusal` are where it is refused.
+#[repr(C)]
+#[derive(Clone, Copy, Debug, PartialEq, Eq)]
+pub struct EpPacket {
+    /// Why there is no packet.
+    pub refusal: EpRefusal,
+    /// The link header.
+    pub link: EpLink,
+    /// How many tags there are.
+    pub tag_count: u32,
+    /// The tags behind the link header, in their order.
+    pub tags: [EpTag; 3],
+    /// What the last ether type names.
+    pub ether_payload: EpPart,
+    /// The network layer: 0 none, 1 ARP, 4 IPv4, 6 IPv6.
+    pub net: u32,
+    /// The transport layer: 0 none, or its number: 1 ICMPv4, 6 TCP, 17 UDP, 58 ICMPv6.
+    pub transport: u32,
+    /// The packet, where it is one of IPv4.
+    pub ipv4: EpIpv4,
+    /// The packet, where it is one of IPv6.
+    pub ipv6: EpIpv6,
+    /// The packet, where it is one of ARP.
+    pub arp: EpArp,
+    /// The message, where it is a UDP datagram.
+    pub udp: EpUdp,
+    /// The message, where it is a TCP segment.
+    pub tcp: EpTcp,
+    /// The message, where it is one of ICMP.
+    pub icmp: EpIcmp,
+}
+
+/// Lines that come in pieces. It begins as zeros, and is changed by these calls alone.
+#[repr(C)]
+#[derive(Clone, Copy, Debug, PartialEq, Eq)]
+pub struct NetlinesSession {
+    /// Whether it was opened and not closed.
+    pub is_open: bool,
+    /// For these calls alone.
+    pub held: *mut std::ffi::c_void,
+}
+
+unsafe extern "C" {
+    pub(crate) fn ep_checksum(bytes: *const u8, bytes_len: usize) -> u16;
+    pub(crate) fn ep_checksum_is_right(bytes: *const u8, bytes_len: usize) -> bool;
+    pub(crate) fn ep_slice_ethernet(bytes: *const u8, bytes_len: usize) -> EpPacket;
+    pub(crate) fn ep_slice_linux_sll(bytes: *const u8, bytes_len: usize) -> EpPacket;
+    pub(crate) fn ep_slice_ip(bytes: *const u8, bytes_len: usize) -> EpPacket;
+    pub(crate) fn ep_verdict_ethernet(bytes: *const u8, bytes_len: usize) -> u32;
+    pub(crate) fn ep_verdict_linux_sll(bytes: *const u8, bytes_len: usize) -> u32;
+    pub(crate) fn ep_verdict_ip(bytes: *const u8, bytes_len: usize) -> u32;
+    pub(crate) fn netlines_answers(text: *const u8, text_len: usize, output: *mut u8, output_len: usize, written: *mut usize) -> u32;
+    pub(crate) fn netlines_open(session: *mut NetlinesSession) -> u32;
+    pub(crate) fn netlines_feed(session: *mut NetlinesSession, piece: *const u8, piece_len: usize, output: *mut u8, output_len: usize, written: *mut usize) -> u32;
+    pub(crate) fn netlines_finish(session: *mut NetlinesSession, output: *mut u8, output_len: usize, written: *mut usize) -> u32;
+    pub(crate) fn netlines_close(session: *mut NetlinesSession);
+}
+
+// The layout of the exports' sources.
+const _: () = assert!(size_of::<EpLink>() == 32);
+const _: () = assert!(std::mem::offset_of!(EpLink, kind) == 0);
+const _: () = assert!(std::mem::offset_of!(EpLink, protocol) == 4);
+const _: () = assert!(std::mem::offset_of!(EpLink, destination) == 6);
+const _: () = assert!(std::mem::offset_of!(EpLink, source) == 12);
+const _: () = assert!(std::mem::offset_of!(EpLink, packet_type) == 18);
+const _: () = assert!(std::mem::offset_of!(EpLink, hardware_type) == 20);
+const _: () = assert!(std::mem::offset_of!(EpLink, address_len) == 22);
+const _: () = assert!(std::mem::offset_of!(EpLink, address) == 24);
+const _: () = assert!(size_of::<EpPart>() == 16);
+const _: () = assert!(std::mem::offset_of!(EpPart, offset) == 0);
+const _: () = assert!(std::mem::offset_of!(EpPart, len) == 8);
+const _: () = assert!(size_of::<EpTag>() == 48);
+const _: () = assert!(std::mem::offset_of!(EpTag, header) == 0);
+const _: () = assert!(std::mem::offset_of!(EpTag, kind) == 16);
+const _: () = assert!(std::mem::offset_of!(EpTag, ether_type) == 20);
+const _: () = assert!(std::mem::offset_of!(EpTag, vlan_id) == 22);
+const _: () = assert!(std::mem::offset_of!(EpTag, priority) == 24);
+const _: () = assert!(std::mem::offset_of!(EpTag, drop_eligible) == 25);
+const _: () = assert!(std::mem::offset_of!(EpTag, end_station) == 26);
+const _: () = assert!(std::mem::offset_of!(EpTag, single_copy_broadcast) == 27);
+const _: () = assert!(std::mem::offset_of!(EpTag, encrypted) == 28);
+const _: () = assert!(std::mem::offset_of!(EpTag, changed) == 29);
+const _: () = assert!(std::mem::offset_of!(EpTag, has_channel) == 30);
+const _: () = assert!(std::mem::offset_of!(EpTag, association) == 31);
+const _: () = assert!(std::mem::offset_of!(EpTag, short_len) == 32);
+const _: () = assert!(std::mem::offset_of!(EpTag, packet_number) == 36);
+const _: () = assert!(std::mem::offset_of!(EpTag, channel) == 40);
+const _: () = assert!(size_of::<EpIpv4>() == 72);
+const _: () = assert!(std::mem::offset_of!(EpIpv4, header) == 0);
+const _: () = assert!(std::mem::offset_of!(EpIpv4, extensions) == 16);
+const _: () = assert!(std::mem::offset_of!(EpIpv4, payload) == 32);
+const _: () = assert!(std::mem::offset_of!(EpIpv4, source) == 48);
+const _: () = assert!(std::mem::offset_of!(EpIpv4, destination) == 52);
+const _: () = assert!(std::mem::offset_of!(EpIpv4, total_len) == 56);
+const _: () = assert!(std::mem::offset_of!(EpIpv4, identification) == 58);
+const _: () = assert!(std::mem::offset_of!(EpIpv4, fragment_offset) == 60);
+const _: () = assert!(std::mem::offset_of!(EpIpv4, header_checksum) == 62);
+const _: () = assert!(std::mem::offset_of!(EpIpv4, dscp) == 64);
+const _: () = assert!(std::mem::offset_of!(EpIpv4, ecn) == 65);
+const _: () = assert!(std::mem::offset_of!(EpIpv4, time_to_live) == 66);
+const _: () = assert!(std::mem::offset_of!(EpIpv4, protocol) == 67);
+const _: () = assert!(std::mem::offset_of!(EpIpv4, payload_number) == 68);
+const _: () = assert!(std::mem::offset_of!(EpIpv4, dont_fragment) == 69);
+const _: () = assert!(std::mem::offset_of!(EpIpv4, more_fragments) == 70);
+const _: () = assert!(std::mem::offset_of!(EpIpv4, is_part) == 71);
+const _: () = assert!(size_of::<EpIpv6>() == 104);
+const _: () = assert!(std::mem::offset_of!(EpIpv6, header) == 0);
+const _: () = assert!(std::mem::offset_of!(EpIpv6, extensions) == 16);
+const _: () = assert!(std::mem::offset_of!(EpIpv6, payload) == 32);
+const _: () = assert!(std::mem::offset_of!(EpIpv6, source) == 48);
+const _: () = assert!(std::mem::offset_of!(EpIpv6, destination) == 64);
+const _: () = assert!(std::mem::offset_of!(EpIpv6, flow_label) == 80);
+const _: () = assert!(std::mem::offset_of!(EpIpv6, identification) == 84);
+const _: () = assert!(std::mem::offset_of!(EpIpv6, payload_length) == 88);
+const _: () = assert!(std::mem::offset_of!(EpIpv6, fragment_offset) == 90);
+const _: () = assert!(std::mem::offset_of!(EpIpv6, traffic_class) == 92);
+const _: () = assert!(std::mem::offset_of!(EpIpv6, next_header) == 93);
+const _: () = assert!(std::mem::offset_of!(EpIpv6, hop_limit) == 94);
+const _: () = assert!(std::mem::offset_of!(EpIpv6, payload_number) == 95);
+const _: () = assert!(std::mem::offset_of!(EpIpv6, has_fragment_header) == 96);
+const _: () = assert!(std::mem::offset_of!(EpIpv6, more_fragments) == 97);
+const _: () = assert!(std::mem::offset_of!(EpIpv6, is_part) == 98);
+const _: () = assert!(size_of::<EpArp>() == 88);
+const _: () = assert!(std::mem::offset_of!(EpArp, packet) == 0);
+const _: () = assert!(std::mem::offset_of!(EpArp, sender_hardware) == 16);
+const _: () = assert!(std::mem::offset_of!(EpArp, sender_protocol) == 32);
+const _: () = assert!(std::mem::offset_of!(EpArp, target_hardware) == 48);
+const _: () = assert!(std::mem::offset_of!(EpArp, target_protocol) == 64);
+const _: () = assert!(std::mem::offset_of!(EpArp, hardware_type) == 80);
+const _: () = assert!(std::mem::offset_of!(EpArp, protocol_type) == 82);
+const _: () = assert!(std::mem::offset_of!(EpArp, operation) == 84);
+const _: () = assert!(size_of::<EpRefusal>() == 40);
+const _: () = assert!(std::mem::offset_of!(EpRefusal, kind) == 0);
+const _: () = assert!(std::mem::offset_of!(EpRefusal, layer) == 4);
+const _: () = assert!(std::mem::offset_of!(EpRefusal, needed) == 8);
+const _: () = assert!(std::mem::offset_of!(EpRefusal, there) == 16);
+const _: () = assert!(std::mem::offset_of!(EpRefusal, place) == 24);
+const _: () = assert!(std::mem::offset_of!(EpRefusal, source) == 32);
+const _: () = assert!(std::mem::offset_of!(EpRefusal, value) == 36);
+const _: () = assert!(size_of::<EpUdp>() == 40);
+const _: () = assert!(std::mem::offset_of!(EpUdp, header) == 0);
+const _: () = assert!(std::mem::offset_of!(EpUdp, payload) == 16);
+const _: () = assert!(std::mem::offset_of!(EpUdp, source_port) == 32);
+const _: () = assert!(std::mem::offset_of!(EpUdp, destination_port) == 34);
+const _: () = assert!(std::mem::offset_of!(EpUdp, stated_len) == 36);
+const _: () = assert!(std::mem::offset_of!(EpUdp, checksum) == 38);
+const _: () = assert!(size_of::<EpTcp>() == 64);
+const _: () = assert!(std::mem::offset_of!(EpTcp, header) == 0);
+const _: () = assert!(std::mem::offset_of!(EpTcp, payload) == 16);
+const _: () = assert!(std::mem::offset_of!(EpTcp, sequence_number) == 32);
+const _: () = assert!(std::mem::offset_of!(EpTcp, acknowledgment_number) == 36);
+const _: () = assert!(std::mem::offset_of!(EpTcp, source_port) == 40);
+const _: () = assert!(std::mem::offset_of!(EpTcp, destination_port) == 42);
+const _: () = assert!(std::mem::offset_of!(EpTcp, window_size) == 44);
+const _: () = assert!(std::mem::offset_of!(EpTcp, checksum) == 46);
+const _: () = assert!(std::mem::offset_of!(EpTcp, urgent_pointer) == 48);
+const _: () = assert!(std::mem::offset_of!(EpTcp, ns) == 50);
+const _: () = assert!(std::mem::offset_of!(EpTcp, fin) == 51);
+const _: () = assert!(std::mem::offset_of!(EpTcp, syn) == 52);
+const _: () = assert!(std::mem::offset_of!(EpTcp, rst) == 53);
+const _: () = assert!(std::mem::offset_of!(EpTcp, psh) == 54);
+const _: () = assert!(std::mem::offset_of!(EpTcp, ack) == 55);
+const _: () = assert!(std::mem::offset_of!(EpTcp, urg) == 56);
+const _: () = assert!(std::mem::offset_of!(EpTcp, ece) == 57);
+const _: () = assert!(std::mem::offset_of!(EpTcp, cwr) == 58);
+const _: () = assert!(size_of::<EpIcmp>() == 40);
+const _: () = assert!(std::mem::offset_of!(EpIcmp, header) == 0);
+const _: () = assert!(std::mem::offset_of!(EpIcmp, payload) == 16);
+const _: () = assert!(std::mem::offset_of!(EpIcmp, checksum) == 32);
+const _: () = assert!(std::mem::offset_of!(EpIcmp, icmp_type) == 34);
+const _: () = assert!(std::mem::offset_of!(EpIcmp, code) == 35);
+const _: () = assert!(std::mem::offset_of!(EpIcmp, rest) == 36);
+const _: () = assert!(size_of::<EpPacket>() == 656);
+const _: () = assert!(std::mem::offset_of!(EpPacket, refusal) == 0);
+const _: () = assert!(std::mem::offset_of!(EpPacket, link) == 40);
+const _: () = assert!(std::mem::offset_of!(EpPacket, tag_count) == 72);
+const _: () = assert!(std::mem::offset_of!(EpPacket, tags) == 80);
+const _: () = assert!(std::mem::offset_of!(EpPacket, ether_payload) == 224);
+const _: () = assert!(std::mem::offset_of!(EpPacket, net) == 240);
+const _: () = assert!(std::mem::offset_of!(EpPacket, transport) == 244);
+const _: () = assert!(std::mem::offset_of!(EpPacket, ipv4) == 248);
+const _: () = assert!(std::mem::offset_of!(EpPacket, ipv6) == 320);
+const _: () = assert!(std::mem::offset_of!(EpPacket, arp) == 424);
+const _: () = assert!(std::mem::offset_of!(EpPacket, udp) == 512);
+const _: () = assert!(std::mem::offset_of!(EpPacket, tcp) == 552);
+const _: () = assert!(std::mem::offset_of!(EpPacket, icmp) == 616);
+const _: () = assert!(size_of::<NetlinesSession>() == 16);
+const _: () = assert!(std::mem::offset_of!(NetlinesSession, is_open) == 0);
+const _: () = assert!(std::mem::offset_of!(NetlinesSession, held) == 8);

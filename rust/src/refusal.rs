@@ -1,0 +1,140 @@
+//! Why a packet is refused.
+
+use crate::raw::{self, EpRefusal};
+use std::error::Error;
+use std::fmt;
+
+/// Why a packet is refused.
+#[derive(Clone, Copy, Debug, PartialEq, Eq)]
+pub enum Refusal {
+    /// A layer has too few bytes.
+    TooFewBytes {
+        /// The layer.
+        layer: Layer,
+        /// How many bytes it needs.
+        needed: usize,
+        /// How many are there.
+        there: usize,
+        /// The offset of its first byte.
+        place: usize,
+        /// Where the number of bytes that are there comes from.
+        source: LenSource,
+    },
+    /// A header breaks its format.
+    Header {
+        /// The layer.
+        layer: Layer,
+        /// What is wrong.
+        fault: Fault,
+        /// The field that it holds in place of a right one.
+        value: u32,
+    },
+}
+
+/// The layers of a packet, numbered as the exports number them.
+#[derive(Clone, Copy, Debug, PartialEq, Eq)]
+pub struct Layer(pub u32);
+
+/// Where the length that bounds a layer comes from.
+#[derive(Clone, Copy, Debug, PartialEq, Eq)]
+pub enum LenSource {
+    /// The bytes that were handed in.
+    Slice,
+    /// The short length of a MACsec header.
+    MacsecShortLength,
+    /// The total length of an IPv4 header.
+    Ipv4HeaderTotalLen,
+    /// The payload length of an IPv6 header.
+    Ipv6HeaderPayloadLen,
+    /// The length field of a UDP header.
+    UdpHeaderLen,
+    /// The data offset of a TCP header.
+    TcpHeaderLen,
+    /// The address lengths of an ARP packet.
+    ArpAddrLengths,
+}
+
+/// What is wrong in a header.
+#[derive(Clone, Copy, Debug, PartialEq, Eq)]
+pub enum Fault {
+    /// A packet type of a Linux cooked capture above 4.
+    LinuxSllPacketType,
+    /// A hardware type of a Linux cooked capture that isn't read.
+    LinuxSllHardwareType,
+    /// MACsec version 1.
+    MacsecVersion,
+    /// A MACsec short length without room for the ether type.
+    MacsecShortLen,
+    /// An IP version that is neither 4 nor 6.
+    IpVersion,
+    /// An IPv4 header of another version.
+    Ipv4Version,
+    /// An IPv4 header length below 5.
+    Ipv4HeaderLen,
+    /// An IPv6 header of another version.
+    Ipv6Version,
+    /// An authentication header of length 0.
+    AuthHeaderLen,
+    /// Hop-by-hop options behind another extension header.
+    HopByHopNotAtStart,
+    /// A TCP data offset below 5.
+    TcpDataOffset,
+}
+
+impl Refusal {
+    /// None where nothing is refused.
+    pub(crate) fn told(raw: &EpRefusal) -> Option<Refusal> {
+        let layer = Layer(raw.layer);
+        let fault = match raw.kind {
+            0 => return None,
+            1 => {
+                return Some(Refusal::TooFewBytes {
+                    layer,
+                    needed: raw.needed,
+                    there: raw.there,
+                    place: raw.place,
+                    source: LenSource::told(raw.source),
+                });
+            }
+            2 => Fault::LinuxSllPacketType,
+            3 => Fault::LinuxSllHardwareType,
+            4 => Fault::MacsecVersion,
+            5 => Fault::MacsecShortLen,
+            6 => Fault::IpVersion,
+            7 => Fault::Ipv4Version,
+            8 => Fault::Ipv4HeaderLen,
+            9 => Fault::Ipv6Version,
+            10 => Fault::AuthHeaderLen,
+            11 => Fault::HopByHopNotAtStart,
+            _ => Fault::TcpDataOffset,
+        };
+        Some(Refusal::Header { layer, fault, value: raw.value })
+    }
+}
+
+impl LenSource {
+    fn told(number: u32) -> LenSource {
+        match number {
+            raw::SOURCE_SLICE => LenSource::Slice,
+            raw::SOURCE_MACSEC_SHORT_LENGTH => LenSource::MacsecShortLength,
+            raw::SOURCE_IPV4_HEADER_TOTAL_LEN => LenSource::Ipv4HeaderTotalLen,
+            raw::SOURCE_IPV6_HEADER_PAYLOAD_LEN => LenSource::Ipv6HeaderPayloadLen,
+            raw::SOURCE_UDP_HEADER_LEN => LenSource::UdpHeaderLen,
+            raw::SOURCE_TCP_HEADER_LEN => LenSource::TcpHeaderLen,
+            _ => LenSource::ArpAddrLengths,
+        }
+    }
+}
+
+impl fmt::Display for Refusal {
+    fn fmt(&self, f: &mut fmt::Formatter<'_>) -> fmt::Result {
+        match self {
+            Refusal::TooFewBytes { layer, needed, there, place, .. } => {
+                write!(f, "layer {} at byte {place} needs {needed} bytes, and {there} are there", layer.0)
+            }
+            Refusal::Header { fault, value, .. } => write!(f, "{fault:?}: {value}"),
+        }
+    }
+}
+
+impl Error for Refusal {}

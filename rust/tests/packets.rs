@@ -1,0 +1,135 @@
+//! What the wrapper tells of packets, and the answers to the worked rows.
+
+use etherparse_proved::{
+    Fault, Layer, LenSource, Link, Net, Refusal, Session, Transport, Verdict, answers, checksum, checksum_is_right, raw,
+    slice_ethernet, slice_ip, slice_linux_sll, verdict_ethernet, verdict_ip, verdict_linux_sll,
+};
+use std::fs;
+use std::path::Path;
+
+const TOP: &str = concat!(env!("CARGO_MANIFEST_DIR"), "/..");
+
+fn bytes(hex: &str) -> Vec<u8> {
+    if hex == "-" {
+        return Vec::new();
+    }
+    (0..hex.len() / 2).map(|i| u8::from_str_radix(&hex[2 * i..2 * i + 2], 16).unwrap()).collect()
+}
+
+/// The rows of the table: the call, the bytes, and the fields that are told.
+fn rows() -> Vec<(String, Vec<u8>, Vec<(String, String)>)> {
+    let table = fs::read_to_string(Path::new(TOP).join("c/tests/packets.txt")).unwrap();
+    let rows = table.lines().filter(|line| !line.starts_with('#'));
+    rows.map(|line| {
+        let mut words = line.split(' ');
+        let call = words.next().unwrap().to_string();
+        let frame = bytes(words.next().unwrap());
+        let fields = words.map(|word| word.split_once('=').unwrap());
+        (call, frame, fields.map(|(name, value)| (name.to_string(), value.to_string())).collect())
+    })
+    .collect()
+}
+
+fn number(fields: &[(String, String)], name: &str) -> Option<usize> {
+    fields.iter().find(|field| field.0 == name).map(|field| field.1.parse().unwrap())
+}
+
+#[test]
+fn table() {
+    let mut refused = 0;
+    for (call, frame, fields) in rows() {
+        let (told, verdict) = match call.as_str() {
+            "ethernet" => (slice_ethernet(&frame), verdict_ethernet(&frame)),
+            "linux_sll" => (slice_linux_sll(&frame), verdict_linux_sll(&frame)),
+            _ => (slice_ip(&frame), verdict_ip(&frame)),
+        };
+        let wanted = [Some(Verdict::None), Some(Verdict::Good), Some(Verdict::Bad), None];
+        assert_eq!(verdict, wanted[number(&fields, "verdict").unwrap_or(3)]);
+        let kind = number(&fields, "refusal.kind").unwrap_or(0);
+        let Err(refusal) = told else {
+            assert_eq!(kind, 0);
+            continue;
+        };
+        refused += 1;
+        let layer = Layer(number(&fields, "refusal.layer").unwrap() as u32);
+        match refusal {
+            Refusal::TooFewBytes { needed, there, place, source, layer: told } => {
+                assert_eq!((kind, layer), (1, told));
+                assert_eq!(Some(needed), number(&fields, "refusal.needed"));
+                assert_eq!(Some(there), number(&fields, "refusal.there"));
+                assert_eq!(Some(place), number(&fields, "refusal.place"));
+                let sources = [LenSource::Slice, LenSource::Ipv4HeaderTotalLen, LenSource::Ipv6HeaderPayloadLen];
+                let others = [LenSource::UdpHeaderLen, LenSource::ArpAddrLengths];
+                let index = number(&fields, "refusal.source").unwrap();
+                assert_eq!(source, [sources[0], sources[0], sources[0], sources[1], sources[2], others[0], others[0], others[1]][index]);
+            }
+            Refusal::Header { layer: told, value, .. } => {
+                assert_eq!(layer, told);
+                assert_eq!(Some(value as usize), number(&fields, "refusal.value"));
+            }
+        }
+    }
+    assert!(refused > 30);
+}
+
+#[test]
+fn layers_borrow_the_frame() {
+    let frame = bytes("02000000000202000000000108004500002400070000401166c00a0000010a000002000100020010dbb40102030405060708");
+    let packet = slice_ethernet(&frame).unwrap();
+    let Some(Net::Ipv4(ip)) = packet.net() else { panic!() };
+    assert_eq!(ip.source_addr().to_string(), "10.0.0.1");
+    assert_eq!(ip.destination_addr().to_string(), "10.0.0.2");
+    assert_eq!(packet.bytes_of(ip.header), &frame[14..34]);
+    let Some(Transport::Udp(datagram)) = packet.transport() else { panic!() };
+    assert_eq!((datagram.source_port, datagram.destination_port), (1, 2));
+    assert!(matches!(packet.link(), Some(Link::Ethernet2(_))));
+    assert!(packet.tags().is_empty());
+    let payload = packet.payload();
+    drop(packet);
+    assert_eq!(payload, [1, 2, 3, 4, 5, 6, 7, 8]);
+}
+
+#[test]
+fn faults_have_texts() {
+    let refusal = slice_ip(&[0x50; 41]).unwrap_err();
+    assert_eq!(refusal, Refusal::Header { layer: Layer(raw::LAYER_IP_HEADER), fault: Fault::IpVersion, value: 5 });
+    let error: Box<dyn std::error::Error> = slice_ethernet(&[0; 13]).unwrap_err().into();
+    assert_eq!(error.to_string(), "layer 2 at byte 0 needs 14 bytes, and 13 are there");
+}
+
+#[test]
+fn sums() {
+    // RFC 1071, section 3
+    let words = bytes("0001f203f4f5f6f7");
+    assert_eq!(checksum(&words), 0x220d);
+    assert!(!checksum_is_right(&words));
+    assert!(checksum_is_right(&bytes("0001f203f4f5f6f7220d")));
+    assert_eq!(checksum(&[]), 0xffff);
+}
+
+#[test]
+fn rows_are_answered() {
+    let mut count = 0;
+    for entry in fs::read_dir(Path::new(TOP).join("crates/netlines_rows/data")).unwrap() {
+        let path = entry.unwrap().path();
+        let shown_to_differ = path.file_stem().is_some_and(|name| name == "wrong_on_purpose");
+        if path.extension().is_some_and(|extension| extension == "in") && !shown_to_differ {
+            let wanted = fs::read(path.with_extension("out")).unwrap();
+            let text = fs::read(&path).unwrap();
+            assert!(answers(&text).unwrap() == wanted, "{}", path.display());
+            for size in [1, 7, 65536] {
+                let mut session = Session::open().unwrap();
+                let mut told = Vec::new();
+                for piece in text.chunks(size) {
+                    told.extend(session.feed(piece).unwrap());
+                }
+                told.extend(session.finish().unwrap());
+                assert!(told == wanted, "{} in pieces of {size}", path.display());
+            }
+            count += 1;
+        }
+    }
+    assert!(count > 50);
+    assert_eq!(answers(&[]), Ok(Vec::new()));
+    assert_eq!(Session::open().unwrap().finish(), Ok(Vec::new()));
+}
