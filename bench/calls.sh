@@ -7,7 +7,6 @@ cpu=${1:-x86-64-v2}
 source bench/common.sh
 
 rounds=20
-# What puts messages together is for reassembly.sh.
-mapfile -t names < <(grep -vxE 'ascending|descending|even_first|shuffled|interleaved' crates/benchmarks/args)
+mapfile -t names <crates/benchmarks/args
 # A turn is a block of 20 times 1000 packets.
 race_by_name benchmarks plain_calls 20000 benchmark "${names[@]}"

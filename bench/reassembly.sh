@@ -8,7 +8,7 @@ cpu=${1:-x86-64-v2}
 source bench/common.sh
 
 # A turn is a message of 8192 fragments.
-race_by_name benchmarks plain_reassembly 8192 order ascending descending even_first shuffled
+race_by_name reassembly_benchmarks plain_reassembly 8192 order ascending descending even_first shuffled
 
 # A turn is 100,000 messages of two fragments.
-race_by_name benchmarks plain_reassembly 200000 pool interleaved
+race_by_name reassembly_benchmarks plain_reassembly 200000 pool interleaved

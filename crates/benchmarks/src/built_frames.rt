@@ -1,6 +1,7 @@
 //! Frames that are built, one after another in the same memory.
-use crate::job::{Measured, PACKETS, Repeats};
+use crate::job::PACKETS;
 use crate::random::Random;
+use benchmark_runs::{Measured, Repeats};
 use etherparse::PacketBuilder;
 use etherparse::err::packet::BuildWriteError;
 use std::alloc::{AllocError, Global};

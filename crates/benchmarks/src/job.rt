@@ -1,5 +1,6 @@
 //! What a benchmark is, and how its time is taken.
 use crate::random::Random;
+use benchmark_runs::{Measured, Repeats};
 use std::alloc::{AllocError, Global};
 use std::io;
 use std::time::{Duration, Instant};
@@ -15,23 +16,6 @@ pub trait Job {
     /// Does the job with a packet, and gives the sum of all that it computed. It has no contract:
     /// the sum is compared with that of a plain program.
     fn sum(packet: &[u8]) -> u64;
-}
-
-/// How often a job is done with all packets: in so many blocks of so many turns.
-#[derive(Clone, Copy)]
-pub struct Repeats {
-    pub blocks: u32,
-    pub turns: u32,
-}
-
-/// What a benchmark gives.
-#[derive(Clone, Copy)]
-pub struct Measured {
-    /// The mixed sums of all packets, the same in each run, so that two programs of the same job
-    /// can be compared.
-    pub sum: u64,
-    /// The time of the fastest block, without that of making the packets.
-    pub fastest: Duration,
 }
 
 /// Does a job with each of 1000 packets, again and again.

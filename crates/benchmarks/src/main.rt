@@ -1,10 +1,9 @@
-//! Benchmarks of library calls and of putting messages together, a module for each kind of packet.
+//! Benchmarks of library calls, a module for each kind of packet.
 //!
 //! The arguments name the benchmarks that are run, one after another. Each does its job once with
-//! each of 1000 packets, or puts its messages together once, and prints a line with its name and a
-//! sum of all that it computed. Where the first argument is `--timed`, it works on packets a
-//! thousand times, in blocks of twenty, and puts messages together twenty times, and also prints
-//! the nanoseconds of the fastest block or time.
+//! each of 1000 packets, and prints a line with its name and a sum of all that it computed. Where
+//! the first argument is `--timed`, it works on the packets a thousand times, in blocks of twenty,
+//! and also prints the nanoseconds of the fastest block.
 #![tactic(auto)]
 
 mod built_frames;
@@ -17,7 +16,6 @@ mod ipv6_extensions;
 mod job;
 mod links;
 mod random;
-mod reassembly;
 mod segments;
 mod sliced_packets;
 
@@ -28,85 +26,60 @@ use crate::echoes::{Icmpv4Echoes, Icmpv6Echoes};
 use crate::ip_packets::{Ipv4Packets, Ipv6Packets, Ipv6PacketsTwoExtensions};
 use crate::ipv4_headers::Ipv4Headers;
 use crate::ipv6_extensions::{ReadExtensions, SkippedExtensions};
-use crate::job::{Measured, Repeats};
 use crate::links::{ArpPackets, EthernetFrames, VlanTags};
-use crate::reassembly::Order;
 use crate::segments::TcpSegments;
 use crate::sliced_packets::{SlicedFrames, SlicedMix};
+use benchmark_runs::{Benchmarks, Measured, Repeats};
+use std::io;
 use std::process::ExitCode;
-use std::{env, io};
+
+/// The benchmarks of library calls.
+struct CallBenchmarks;
+
+impl Benchmarks for CallBenchmarks {
+    /// It has no contract: the time is a measurement, and the sum is compared with that of a plain
+    /// program.
+    fn measure(rt: &HostRuntime, name: &str, repeats: Repeats) -> io::Result<Option<Measured>> {
+        let measured = match name {
+            "ipv4_headers" => job::measure::<Ipv4Headers>(rt, repeats)?,
+            "ipv4_packets" => job::measure::<Ipv4Packets>(rt, repeats)?,
+            "ipv6_packets" => job::measure::<Ipv6Packets>(rt, repeats)?,
+            "ipv6_packets_two_extensions" => job::measure::<Ipv6PacketsTwoExtensions>(rt, repeats)?,
+            "skipped_extensions_0" => job::measure::<SkippedExtensions<0>>(rt, repeats)?,
+            "skipped_extensions_1" => job::measure::<SkippedExtensions<1>>(rt, repeats)?,
+            "skipped_extensions_4" => job::measure::<SkippedExtensions<4>>(rt, repeats)?,
+            "read_extensions_0" => job::measure::<ReadExtensions<0>>(rt, repeats)?,
+            "read_extensions_1" => job::measure::<ReadExtensions<1>>(rt, repeats)?,
+            "read_extensions_4" => job::measure::<ReadExtensions<4>>(rt, repeats)?,
+            "udp_datagrams" => job::measure::<UdpDatagrams>(rt, repeats)?,
+            "tcp_segments" => job::measure::<TcpSegments>(rt, repeats)?,
+            "checksums_20" => job::measure::<Checksums<20>>(rt, repeats)?,
+            "checksums_64" => job::measure::<Checksums<64>>(rt, repeats)?,
+            "checksums_576" => job::measure::<Checksums<576>>(rt, repeats)?,
+            "checksums_1500" => job::measure::<Checksums<1500>>(rt, repeats)?,
+            "ethernet_frames" => job::measure::<EthernetFrames>(rt, repeats)?,
+            "vlan_tags" => job::measure::<VlanTags>(rt, repeats)?,
+            "arp_packets" => job::measure::<ArpPackets>(rt, repeats)?,
+            "icmpv4_echoes" => job::measure::<Icmpv4Echoes>(rt, repeats)?,
+            "icmpv6_echoes" => job::measure::<Icmpv6Echoes>(rt, repeats)?,
+            "sliced_udp_ipv4" => job::measure::<SlicedFrames<0>>(rt, repeats)?,
+            "sliced_tcp_ipv4" => job::measure::<SlicedFrames<1>>(rt, repeats)?,
+            "sliced_udp_ipv6" => job::measure::<SlicedFrames<2>>(rt, repeats)?,
+            "sliced_one_vlan" => job::measure::<SlicedFrames<3>>(rt, repeats)?,
+            "sliced_two_vlans" => job::measure::<SlicedFrames<4>>(rt, repeats)?,
+            "sliced_ipv6_options" => job::measure::<SlicedFrames<5>>(rt, repeats)?,
+            "sliced_arp" => job::measure::<SlicedFrames<6>>(rt, repeats)?,
+            "sliced_refused" => job::measure::<SlicedFrames<7>>(rt, repeats)?,
+            "sliced_mix" => job::measure::<SlicedMix>(rt, repeats)?,
+            "built_udp_ipv4" => built_frames::measure::<UdpIpv4>(rt, repeats)?,
+            "built_tcp_ipv6" => built_frames::measure::<TcpIpv6>(rt, repeats)?,
+            _ => return Ok(None),
+        };
+        Ok(Some(measured))
+    }
+}
 
 /// It has no contract: what it prints is compared with what a plain program prints.
 fn main(rt: HostRuntime) -> io::Result<ExitCode> {
-    let words: Vec<String> = env::args(&rt)?.skip(1).collect(rt.alloc())?;
-    let is_timed = words.first().is_some_and(|word| word.as_str() == "--timed");
-    let repeats = if is_timed {
-        Repeats {
-            blocks: 50,
-            turns: 20,
-        }
-    } else {
-        Repeats {
-            blocks: 1,
-            turns: 1,
-        }
-    };
-    for name in words.iter().skip(usize::from(is_timed)) {
-        let Some(measured) = measure(&rt, name.as_str(), repeats)? else {
-            eprintln!(rt; "benchmarks: no benchmark has the name {name}")?;
-            return Ok(ExitCode::FAILURE);
-        };
-        let sum = measured.sum;
-        if is_timed {
-            println!(rt; "{name} {sum} {}", measured.fastest.as_nanos())?;
-        } else {
-            println!(rt; "{name} {sum}")?;
-        }
-    }
-    Ok(ExitCode::SUCCESS)
-}
-
-/// It has no contract, as `main`.
-fn measure(rt: &HostRuntime, name: &str, repeats: Repeats) -> io::Result<Option<Measured>> {
-    let measured = match name {
-        "ipv4_headers" => job::measure::<Ipv4Headers>(rt, repeats)?,
-        "ipv4_packets" => job::measure::<Ipv4Packets>(rt, repeats)?,
-        "ipv6_packets" => job::measure::<Ipv6Packets>(rt, repeats)?,
-        "ipv6_packets_two_extensions" => job::measure::<Ipv6PacketsTwoExtensions>(rt, repeats)?,
-        "skipped_extensions_0" => job::measure::<SkippedExtensions<0>>(rt, repeats)?,
-        "skipped_extensions_1" => job::measure::<SkippedExtensions<1>>(rt, repeats)?,
-        "skipped_extensions_4" => job::measure::<SkippedExtensions<4>>(rt, repeats)?,
-        "read_extensions_0" => job::measure::<ReadExtensions<0>>(rt, repeats)?,
-        "read_extensions_1" => job::measure::<ReadExtensions<1>>(rt, repeats)?,
-        "read_extensions_4" => job::measure::<ReadExtensions<4>>(rt, repeats)?,
-        "udp_datagrams" => job::measure::<UdpDatagrams>(rt, repeats)?,
-        "tcp_segments" => job::measure::<TcpSegments>(rt, repeats)?,
-        "checksums_20" => job::measure::<Checksums<20>>(rt, repeats)?,
-        "checksums_64" => job::measure::<Checksums<64>>(rt, repeats)?,
-        "checksums_576" => job::measure::<Checksums<576>>(rt, repeats)?,
-        "checksums_1500" => job::measure::<Checksums<1500>>(rt, repeats)?,
-        "ethernet_frames" => job::measure::<EthernetFrames>(rt, repeats)?,
-        "vlan_tags" => job::measure::<VlanTags>(rt, repeats)?,
-        "arp_packets" => job::measure::<ArpPackets>(rt, repeats)?,
-        "icmpv4_echoes" => job::measure::<Icmpv4Echoes>(rt, repeats)?,
-        "icmpv6_echoes" => job::measure::<Icmpv6Echoes>(rt, repeats)?,
-        "sliced_udp_ipv4" => job::measure::<SlicedFrames<0>>(rt, repeats)?,
-        "sliced_tcp_ipv4" => job::measure::<SlicedFrames<1>>(rt, repeats)?,
-        "sliced_udp_ipv6" => job::measure::<SlicedFrames<2>>(rt, repeats)?,
-        "sliced_one_vlan" => job::measure::<SlicedFrames<3>>(rt, repeats)?,
-        "sliced_two_vlans" => job::measure::<SlicedFrames<4>>(rt, repeats)?,
-        "sliced_ipv6_options" => job::measure::<SlicedFrames<5>>(rt, repeats)?,
-        "sliced_arp" => job::measure::<SlicedFrames<6>>(rt, repeats)?,
-        "sliced_refused" => job::measure::<SlicedFrames<7>>(rt, repeats)?,
-        "sliced_mix" => job::measure::<SlicedMix>(rt, repeats)?,
-        "built_udp_ipv4" => built_frames::measure::<UdpIpv4>(rt, repeats)?,
-        "built_tcp_ipv6" => built_frames::measure::<TcpIpv6>(rt, repeats)?,
-        "ascending" => reassembly::measure(rt, Order::Ascending, repeats.turns)?,
-        "descending" => reassembly::measure(rt, Order::Descending, repeats.turns)?,
-        "even_first" => reassembly::measure(rt, Order::EvenFirst, repeats.turns)?,
-        "shuffled" => reassembly::measure(rt, Order::Shuffled, repeats.turns)?,
-        "interleaved" => reassembly::measure_interleaved(rt, repeats.turns)?,
-        _ => return Ok(None),
-    };
-    Ok(Some(measured))
+    benchmark_runs::run::<CallBenchmarks>(&rt)
 }

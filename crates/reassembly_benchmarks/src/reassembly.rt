@@ -1,12 +1,8 @@
 //! Messages that are put together: one of 65535 bytes from 8192 fragments, or 100,000 of two
 //! fragments each, which a pool holds at once.
-mod interleaved;
-mod order;
-
-use crate::job::Measured;
-use crate::reassembly::interleaved::put_together;
-use crate::reassembly::order::FRAGMENTS;
-pub use crate::reassembly::order::Order;
+use crate::interleaved::put_together;
+use crate::order::{FRAGMENTS, Order};
+use benchmark_runs::Measured;
 use ep_base::{IpFragOffset, IpNumber};
 use etherparse::defrag::{IpDefragBuf, IpDefragPool};
 use std::alloc::{AllocError, Global};

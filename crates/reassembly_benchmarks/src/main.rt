@@ -1,0 +1,40 @@
+//! Benchmarks of putting messages together, by a buffer and by a pool.
+//!
+//! The arguments name the benchmarks that are run, one after another. Each puts its messages
+//! together once, and prints a line with its name and a sum of all that it computed. Where the first
+//! argument is `--timed`, it puts them together twenty times, and also prints the nanoseconds of the
+//! fastest time.
+#![tactic(auto)]
+
+mod interleaved;
+mod order;
+mod reassembly;
+
+use crate::order::Order;
+use benchmark_runs::{Benchmarks, Measured, Repeats};
+use std::io;
+use std::process::ExitCode;
+
+/// The benchmarks of putting messages together.
+struct ReassemblyBenchmarks;
+
+impl Benchmarks for ReassemblyBenchmarks {
+    /// It has no contract: the time is a measurement, and the sum is compared with that of a plain
+    /// program.
+    fn measure(rt: &HostRuntime, name: &str, repeats: Repeats) -> io::Result<Option<Measured>> {
+        let order = match name {
+            "ascending" => Order::Ascending,
+            "descending" => Order::Descending,
+            "even_first" => Order::EvenFirst,
+            "shuffled" => Order::Shuffled,
+            "interleaved" => return reassembly::measure_interleaved(rt, repeats.turns).map(Some),
+            _ => return Ok(None),
+        };
+        reassembly::measure(rt, order, repeats.turns).map(Some)
+    }
+}
+
+/// It has no contract: what it prints is compared with what a plain program prints.
+fn main(rt: HostRuntime) -> io::Result<ExitCode> {
+    benchmark_runs::run::<ReassemblyBenchmarks>(&rt)
+}
