@@ -104,8 +104,13 @@ def is_tests(crate):
     return crate.endswith(("_tests", "_examples", "_rows"))
 
 
+# What the programs of benchmarks share: like them it has no contract, law or test.
+BENCHMARKS = "benchmark_runs"
+
+
 def libraries():
-    return [it for it in listed() if not is_tests(it) and os.path.exists(os.path.join(ROOT, it, "src", "lib.rt"))]
+    libraries = [it for it in listed() if os.path.exists(os.path.join(ROOT, it, "src", "lib.rt"))]
+    return [it for it in libraries if not is_tests(it) and it != BENCHMARKS]
 
 
 def files_of(crate):
