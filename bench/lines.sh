@@ -7,6 +7,7 @@ cpu=${1:-}
 source bench/common.sh
 
 rounds=40
+sinks=(null pipe)
 ours=netlines_cli
 plain=plain_lines
 tuned=tuned_lines
@@ -64,7 +65,7 @@ race() {
     local sink input=$work/lines.in
     "$work/make_lines" "${@:2}" >"$input"
     compare "$input" "$1"
-    for sink in null pipe; do
+    for sink in "${sinks[@]}"; do
         measure "$input" "$sink" "$1"
     done
     rm "$input"
@@ -86,4 +87,14 @@ for version in 4 6; do
         race "IPv$version, fragments of 64 bytes, $together together" cut "$version" 50000 64 "$together"
         race "IPv$version, fragments of 1448 bytes, $together together" cut "$version" 5000 1448 "$together"
     done
+done
+
+rounds=10
+sinks=(null)
+for version in 4 6; do
+    race "IPv$version, fragments of 64 bytes, 200,000 together" cut "$version" 200000 64 200000
+done
+orders=(ascending descending "every second one first" shuffled)
+for order in "${!orders[@]}"; do
+    race "IPv4, 8,188 fragments, ${orders[$order]}" ordered "$order" 50
 done

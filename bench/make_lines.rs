@@ -6,6 +6,10 @@
 //! `cut VERSION COUNT SIZE TOGETHER`: COUNT datagrams over IPv4 (4) or IPv6 (6), each cut in four
 //! fragments of SIZE bytes. So many datagrams are on their way at once: the first fragments of all
 //! of them, then the second ones, and so on.
+//!
+//! `ordered ORDER COUNT`: COUNT datagrams of 65,504 bytes over IPv4, one after another, each in
+//! 8,188 fragments of 8 bytes, in ORDER 0 as they follow, 1 the last one first, 2 every second one
+//! and then the others, 3 as if shuffled.
 
 use std::io::{self, BufWriter, Write};
 use std::ops::{Range, RangeInclusive};
@@ -23,6 +27,8 @@ const SEED: u64 = 0x9e37_79b9_7f4a_7c15;
 const SIZES: RangeInclusive<usize> = 42..=65535;
 const FRAGMENTS: usize = 4;
 const LARGEST_FRAGMENT: usize = 16376;
+const UNIT: usize = 8;
+const UNITS: usize = 8188;
 
 /// Vigna's generator xorshift64*.
 struct Random(u64);
@@ -195,6 +201,36 @@ fn write_cut(
     Ok(())
 }
 
+/// The fragments of a datagram in the order of this number.
+fn order(random: &mut Random, number: usize) -> Option<Vec<usize>> {
+    let mut places: Vec<usize> = (0..UNITS).collect();
+    match number {
+        0 => {}
+        1 => places.reverse(),
+        2 => places.sort_by_key(|place| place % 2),
+        3 => {
+            for last in (1..UNITS).rev() {
+                places.swap(last, random.next() as usize % (last + 1));
+            }
+        }
+        _ => return None,
+    }
+    Some(places)
+}
+
+fn write_ordered(out: &mut impl Write, number: usize, count: usize) -> Option<io::Result<()>> {
+    let mut random = Random(SEED);
+    for _ in 0..count {
+        let cut = Cut::new(&mut random, Version::V4, UNITS * UNIT);
+        for place in order(&mut random, number)? {
+            if let Err(error) = write_line(out, &cut.frame(place * UNIT, UNIT)) {
+                return Some(Err(error));
+            }
+        }
+    }
+    Some(Ok(()))
+}
+
 /// Writes what the arguments ask for, if they do.
 fn write_lines(out: &mut impl Write, words: &[&str]) -> Option<io::Result<()>> {
     let (kind, numbers) = words.split_first()?;
@@ -211,6 +247,7 @@ fn write_lines(out: &mut impl Write, words: &[&str]) -> Option<io::Result<()>> {
             };
             Some(write_cut(out, version, count, size, together))
         }
+        ("ordered", &[number, count]) => write_ordered(out, number, count),
         _ => None,
     }
 }
@@ -222,8 +259,9 @@ fn main() -> ExitCode {
     let Some(written) = write_lines(&mut out, &words) else {
         eprintln!("usage: make_lines whole COUNT SIZE, with a size of 42 to 65535 bytes, or");
         eprintln!(
-            "       make_lines cut VERSION COUNT SIZE TOGETHER, with a size of 8 to 16376 bytes"
+            "       make_lines cut VERSION COUNT SIZE TOGETHER, with a size of 8 to 16376 bytes, or"
         );
+        eprintln!("       make_lines ordered ORDER COUNT, with an order of 0 to 3");
         return ExitCode::FAILURE;
     };
     match written.and_then(|()| out.flush()) {
