@@ -104,13 +104,13 @@ def is_tests(crate):
     return crate.endswith(("_tests", "_examples", "_rows"))
 
 
-# What the programs of benchmarks share: like them it has no contract, law or test.
-BENCHMARKS = "benchmark_runs"
+# What the programs of benchmarks share, and the tests: like them they have no contract, law or test.
+SHARED = ("benchmark_runs", "fault_devices")
 
 
 def libraries():
     libraries = [it for it in listed() if os.path.exists(os.path.join(ROOT, it, "src", "lib.rt"))]
-    return [it for it in libraries if not is_tests(it) and it != BENCHMARKS]
+    return [it for it in libraries if not is_tests(it) and it not in SHARED]
 
 
 def files_of(crate):

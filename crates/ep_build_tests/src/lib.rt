@@ -7,6 +7,8 @@ mod extensions;
 #[cfg(test)]
 mod links;
 #[cfg(test)]
+mod memory;
+#[cfg(test)]
 mod parts;
 #[cfg(test)]
 mod refusals;

@@ -1,6 +1,6 @@
 //! Every refusal, with a buffer that held a byte, which stays as it was; their order; their texts.
 
-use crate::parts::{PAYLOAD, arp, ethernet2, ipv4, ipv6};
+use crate::parts::{ethernet2, ipv4, ipv6};
 use ep_base::IpNumber;
 use ep_base::err::{ValueTooBigError, ValueType};
 use ep_build::err::packet::BuildWriteError;
@@ -15,7 +15,7 @@ use std::test::*;
 // them.
 
 // Where the byte wants memory, the next try gets it.
-fn held(rt: &impl Abort, alloc: Global) -> Vec<u8> {
+pub(super) fn held(rt: &impl Abort, alloc: Global) -> Vec<u8> {
     let mut buffer = Vec::new(alloc);
     assert!(rt; buffer.push(0xaa).is_ok() || buffer.push(0xaa).is_ok());
     buffer
@@ -175,43 +175,4 @@ fn texts(rt: HostRuntime) -> Result<(), Fail> {
         "no memory left for the packet | an ICMPv6 message over IPv4, which has no checksum";
     assert!(rt; text.as_str() == wanted);
     Ok(())
-}
-
-// Whether the step told of want of memory, and the buffer is as it was.
-fn wanted_memory(told: Result<(), BuildWriteError>, buffer: &[u8]) -> bool {
-    match told {
-        Ok(()) => false,
-        Err(error) => error.memory() && buffer == [0xaa].as_slice(),
-    }
-}
-
-// The tests below are to be run with each allocation failing in turn, too: where a step wants
-// memory, the next one writes the packet.
-
-#[test]
-fn want_of_memory_for_a_message(rt: HostRuntime) {
-    let mut buffer = held(&rt, rt.alloc());
-    let told = ipv4().udp(1, 2).write(&mut buffer, &PAYLOAD);
-    let written = told.is_ok()
-        || wanted_memory(told, &buffer) && ipv4().udp(1, 2).write(&mut buffer, &PAYLOAD).is_ok();
-    assert!(rt; written && buffer.len() == 1 + 36);
-}
-
-#[test]
-fn want_of_memory_for_a_payload(rt: HostRuntime) {
-    let mut buffer = held(&rt, rt.alloc());
-    let told = ipv4().write(&mut buffer, IpNumber(253), &PAYLOAD);
-    let written = told.is_ok()
-        || wanted_memory(told, &buffer)
-            && ipv4().write(&mut buffer, IpNumber(253), &PAYLOAD).is_ok();
-    assert!(rt; written && buffer.len() == 1 + 28);
-}
-
-#[test]
-fn want_of_memory_for_arp(rt: HostRuntime) {
-    let mut buffer = held(&rt, rt.alloc());
-    let told = ethernet2().arp(arp(&rt)).write(&mut buffer);
-    let written = told.is_ok()
-        || wanted_memory(told, &buffer) && ethernet2().arp(arp(&rt)).write(&mut buffer).is_ok();
-    assert!(rt; written && buffer.len() == 1 + 42);
 }

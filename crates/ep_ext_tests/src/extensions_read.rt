@@ -2,18 +2,18 @@
 
 use crate::ipv4_extensions::AUTH;
 use crate::ipv6_extensions::CHAIN;
-use crate::piece_reader::{PieceReader, failing_reader, reader_of};
 use ep_base::IpNumber;
 use ep_ext::err::ip_auth;
 use ep_ext::err::ipv6_exts::{HeaderError, HeaderReadError};
 use ep_ext::{Ipv4Extensions, Ipv6Extensions};
+use fault_devices::{Fault, FaultReader};
 use std::io::ErrorKind;
 use std::test::*;
 
 // How a chain was read from a reader: the headers and the number behind them, the kind of a failed
 // read, or the fault.
 fn read_kind(
-    reader: &mut PieceReader,
+    reader: &mut FaultReader<'_>,
     first: u8,
 ) -> Result<(Ipv6Extensions, IpNumber), Result<HeaderError, ErrorKind>> {
     match Ipv6Extensions::read(reader, IpNumber(first)) {
@@ -39,14 +39,14 @@ fn a_chain_is_read_in_pieces(rt: HostRuntime) {
     let bytes = CHAIN;
     let (headers, _, _, _) = Ipv6Extensions::from_slice_lax(IpNumber(0), &bytes);
     for piece in [1usize, 5, 100] {
-        let mut reader = reader_of(&bytes, piece);
+        let mut reader = FaultReader::new(&bytes, piece);
         let is_read = is_chain(read_kind(&mut reader, 0), &headers);
         assert!(rt; (is_read, reader.rest) == (true, &bytes[72..]));
     }
 }
 
 // Why a chain was not read, if it was not.
-fn why_unread(reader: &mut PieceReader, first: u8) -> Option<Result<HeaderError, ErrorKind>> {
+fn why_unread(reader: &mut FaultReader<'_>, first: u8) -> Option<Result<HeaderError, ErrorKind>> {
     match read_kind(reader, first) {
         Ok(_) => None,
         Err(fault) => Some(fault),
@@ -58,7 +58,7 @@ fn each_read_of_a_chain_fails(rt: HostRuntime) {
     let bytes = CHAIN;
     let reset = ErrorKind::ConnectionReset;
     for call in 0..72usize {
-        let mut reader = failing_reader(&bytes, 1, call, reset);
+        let mut reader = FaultReader::failing(&bytes, 1, call, Fault::Fails(reset));
         assert!(rt; why_unread(&mut reader, 0) == Some(Err(reset)));
     }
 }
@@ -67,17 +67,17 @@ fn each_read_of_a_chain_fails(rt: HostRuntime) {
 fn a_reader_ends_within_a_chain(rt: HostRuntime) {
     let bytes = CHAIN;
     for len in 0..72usize {
-        let mut reader = reader_of(&bytes[..len], 100);
+        let mut reader = FaultReader::new(&bytes[..len], 100);
         assert!(rt; why_unread(&mut reader, 0) == Some(Err(ErrorKind::UnexpectedEof)));
     }
 }
 
 #[test]
 fn faults_of_a_chain_that_is_read(rt: HostRuntime) {
-    let mut misplaced = reader_of(&[0u8; 16], 100);
+    let mut misplaced = FaultReader::new(&[0u8; 16], 100);
     let found = (why_unread(&mut misplaced, 60), misplaced.rest.len());
     assert!(rt; found == (Some(Ok(HeaderError::HopByHopNotAtStart)), 8));
-    let mut zero = reader_of(&[0u8; 16], 100);
+    let mut zero = FaultReader::new(&[0u8; 16], 100);
     let found = (why_unread(&mut zero, 51), zero.rest.len());
     let fault = HeaderError::IpAuth(ip_auth::HeaderError::ZeroPayloadLen);
     assert!(rt; found == (Some(Ok(fault)), 4));
@@ -86,7 +86,7 @@ fn faults_of_a_chain_that_is_read(rt: HostRuntime) {
 // How the header of IPv4 was read: its length and the number behind it, the kind of a failed read,
 // or the fault.
 fn ipv4_kind(
-    reader: &mut PieceReader,
+    reader: &mut FaultReader<'_>,
     first: u8,
 ) -> Result<(usize, IpNumber), Result<ip_auth::HeaderError, ErrorKind>> {
     match Ipv4Extensions::read(reader, IpNumber(first)) {
@@ -99,7 +99,7 @@ fn ipv4_kind(
 #[test]
 fn the_header_of_ipv4_is_read(rt: HostRuntime) {
     let bytes = AUTH;
-    let mut reader = reader_of(&bytes, 1);
+    let mut reader = FaultReader::new(&bytes, 1);
     let found = (ipv4_kind(&mut reader, 51), reader.rest);
     assert!(rt; found == (Ok((16, IpNumber(6))), &bytes[16..]));
 }
@@ -107,7 +107,7 @@ fn the_header_of_ipv4_is_read(rt: HostRuntime) {
 #[test]
 fn another_number_than_51_leaves_a_reader(rt: HostRuntime) {
     let bytes = AUTH;
-    let mut reader = reader_of(&bytes, 1);
+    let mut reader = FaultReader::new(&bytes, 1);
     let found = (ipv4_kind(&mut reader, 6), reader.calls);
     assert!(rt; found == (Ok((0, IpNumber(6))), 0));
 }
@@ -117,14 +117,14 @@ fn each_read_of_the_header_of_ipv4_fails(rt: HostRuntime) {
     let bytes = AUTH;
     let reset = ErrorKind::ConnectionReset;
     for call in 0..16usize {
-        let mut reader = failing_reader(&bytes, 1, call, reset);
+        let mut reader = FaultReader::failing(&bytes, 1, call, Fault::Fails(reset));
         assert!(rt; ipv4_kind(&mut reader, 51) == Err(Err(reset)));
     }
 }
 
 #[test]
 fn a_length_field_of_zero_behind_ipv4_is_read(rt: HostRuntime) {
-    let mut reader = reader_of(&[0; 16], 100);
+    let mut reader = FaultReader::new(&[0; 16], 100);
     let found = (ipv4_kind(&mut reader, 51), reader.rest.len());
     assert!(rt; found == (Err(Ok(ip_auth::HeaderError::ZeroPayloadLen)), 4));
 }

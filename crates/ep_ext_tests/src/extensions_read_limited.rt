@@ -3,13 +3,13 @@ ghost use Rattle.std.specs.Prelude.{◌<◌};
 
 use crate::ipv4_extensions::AUTH;
 use crate::ipv6_extensions::CHAIN;
-use crate::piece_reader::{PieceReader, failing_reader, reader_of};
 use ep_base::err::{Layer, LenError};
 use ep_base::{IpNumber, LenSource};
 use ep_ext::err::ip_auth;
 use ep_ext::err::ipv6_exts::{HeaderError, HeaderLimitedReadError};
 use ep_ext::io::LimitedReader;
 use ep_ext::{Ipv4Extensions, Ipv6Extensions};
+use fault_devices::{Fault, FaultReader};
 use std::io::ErrorKind;
 use std::test::*;
 
@@ -24,7 +24,7 @@ pub enum Refusal {
 // A chain from a reader with this limit: the headers, the number and how many bytes are left
 // behind.
 fn read_within(
-    inner: PieceReader,
+    inner: FaultReader<'_>,
     limit: usize,
     first: u8,
 ) -> Result<(Ipv6Extensions, IpNumber, usize), Refusal>
@@ -41,7 +41,7 @@ fn read_within(
 }
 
 // Why it was not read, if it was not.
-fn why_refused(inner: PieceReader, limit: usize, first: u8) -> Option<Refusal>
+fn why_refused(inner: FaultReader<'_>, limit: usize, first: u8) -> Option<Refusal>
     requires { limit < 1000 }
 {
     match read_within(inner, limit, first) {
@@ -64,7 +64,7 @@ fn beyond(required_len: usize, len: usize, layer: Layer, layer_start_offset: usi
 fn a_limited_chain_is_that_of_the_slice(rt: HostRuntime) {
     let bytes = CHAIN;
     let (headers, _, _, _) = Ipv6Extensions::from_slice_lax(IpNumber(0), &bytes);
-    let found = read_within(reader_of(&bytes, 5), 72, 0);
+    let found = read_within(FaultReader::new(&bytes, 5), 72, 0);
     assert!(rt; found == Ok((headers, IpNumber(17), 2)));
 }
 
@@ -73,7 +73,12 @@ fn each_read_of_a_limited_chain_fails(rt: HostRuntime) {
     let bytes = CHAIN;
     let fault = Some(Refusal::Io(ErrorKind::ConnectionReset));
     for call in 0..72usize {
-        let reader = failing_reader(&bytes, 1, call, ErrorKind::ConnectionReset);
+        let reader = FaultReader::failing(
+            &bytes,
+            1,
+            call,
+            Fault::Fails(ErrorKind::ConnectionReset),
+        );
         assert!(rt; why_refused(reader, 72, 0) == fault);
     }
 }
@@ -83,7 +88,7 @@ fn a_limited_reader_ends_within_a_chain(rt: HostRuntime) {
     let bytes = CHAIN;
     let fault = Some(Refusal::Io(ErrorKind::UnexpectedEof));
     for len in 0..72usize {
-        assert!(rt; why_refused(reader_of(&bytes[..len], 100), 72, 0) == fault);
+        assert!(rt; why_refused(FaultReader::new(&bytes[..len], 100), 72, 0) == fault);
     }
 }
 
@@ -91,8 +96,8 @@ fn a_limited_reader_ends_within_a_chain(rt: HostRuntime) {
 fn a_chain_at_its_limit(rt: HostRuntime) {
     let bytes = CHAIN;
     let found = (
-        why_refused(reader_of(&bytes, 100), 72, 0),
-        why_refused(reader_of(&bytes, 100), 73, 0),
+        why_refused(FaultReader::new(&bytes, 100), 72, 0),
+        why_refused(FaultReader::new(&bytes, 100), 73, 0),
     );
     assert!(rt; found == (None, None));
 }
@@ -112,15 +117,15 @@ fn a_chain_beyond_its_limit(rt: HostRuntime) {
         (71, 8, 7, Layer::Ipv6ExtHeader, 104),
     ] {
         let want = beyond(required_len, len, layer, place);
-        assert!(rt; why_refused(reader_of(&bytes, 100), limit, 0) == Some(want));
+        assert!(rt; why_refused(FaultReader::new(&bytes, 100), limit, 0) == Some(want));
     }
 }
 
 #[test]
 fn faults_of_a_limited_chain(rt: HostRuntime) {
     let found = (
-        why_refused(reader_of(&[0; 16], 100), 16, 60),
-        why_refused(reader_of(&[0; 16], 100), 16, 51),
+        why_refused(FaultReader::new(&[0; 16], 100), 16, 60),
+        why_refused(FaultReader::new(&[0; 16], 100), 16, 51),
     );
     let misplaced = Refusal::Content(HeaderError::HopByHopNotAtStart);
     let zero = HeaderError::IpAuth(ip_auth::HeaderError::ZeroPayloadLen);
@@ -129,7 +134,7 @@ fn faults_of_a_limited_chain(rt: HostRuntime) {
 
 // The header of IPv4 from a reader with this limit, as above.
 fn read_ipv4_within(
-    inner: PieceReader,
+    inner: FaultReader<'_>,
     limit: usize,
     first: u8,
 ) -> Result<(Ipv4Extensions, IpNumber, usize), Refusal>
@@ -147,7 +152,7 @@ fn read_ipv4_within(
     }
 }
 
-fn why_ipv4_refused(inner: PieceReader, limit: usize) -> Option<Refusal>
+fn why_ipv4_refused(inner: FaultReader<'_>, limit: usize) -> Option<Refusal>
     requires { limit < 1000 }
 {
     match read_ipv4_within(inner, limit, 51) {
@@ -160,7 +165,7 @@ fn why_ipv4_refused(inner: PieceReader, limit: usize) -> Option<Refusal>
 fn the_limited_header_of_ipv4_is_that_of_the_slice(rt: HostRuntime) {
     let bytes = AUTH;
     let (headers, _, _, _) = Ipv4Extensions::from_slice_lax(IpNumber(51), &bytes);
-    let found = read_ipv4_within(reader_of(&bytes, 5), 16, 51);
+    let found = read_ipv4_within(FaultReader::new(&bytes, 5), 16, 51);
     assert!(rt; found == Ok((headers, IpNumber(6), 1)));
 }
 
@@ -170,10 +175,15 @@ fn each_read_of_the_limited_header_of_ipv4_fails(rt: HostRuntime) {
     let fault = Some(Refusal::Io(ErrorKind::ConnectionReset));
     let end = Some(Refusal::Io(ErrorKind::UnexpectedEof));
     for count in 0..16usize {
-        let reader = failing_reader(&bytes, 1, count, ErrorKind::ConnectionReset);
+        let reader = FaultReader::failing(
+            &bytes,
+            1,
+            count,
+            Fault::Fails(ErrorKind::ConnectionReset),
+        );
         let found = (
             why_ipv4_refused(reader, 16),
-            why_ipv4_refused(reader_of(&bytes[..count], 100), 16),
+            why_ipv4_refused(FaultReader::new(&bytes[..count], 100), 16),
         );
         assert!(rt; found == (fault, end));
     }
@@ -183,10 +193,10 @@ fn each_read_of_the_limited_header_of_ipv4_fails(rt: HostRuntime) {
 fn the_header_of_ipv4_at_its_limit(rt: HostRuntime) {
     let bytes = AUTH;
     let found = (
-        why_ipv4_refused(reader_of(&bytes, 9), 16),
-        why_ipv4_refused(reader_of(&bytes, 9), 17),
-        why_ipv4_refused(reader_of(&bytes, 9), 15),
-        why_ipv4_refused(reader_of(&[0; 16], 9), 16),
+        why_ipv4_refused(FaultReader::new(&bytes, 9), 16),
+        why_ipv4_refused(FaultReader::new(&bytes, 9), 17),
+        why_ipv4_refused(FaultReader::new(&bytes, 9), 15),
+        why_ipv4_refused(FaultReader::new(&[0; 16], 9), 16),
     );
     let want = beyond(16, 15, Layer::IpAuthHeader, 40);
     let zero = HeaderError::IpAuth(ip_auth::HeaderError::ZeroPayloadLen);
@@ -196,6 +206,6 @@ fn the_header_of_ipv4_at_its_limit(rt: HostRuntime) {
 #[test]
 fn another_number_than_51_leaves_a_limited_reader(rt: HostRuntime) {
     let bytes = AUTH;
-    let found = read_ipv4_within(reader_of(&bytes, 9), 16, 6);
+    let found = read_ipv4_within(FaultReader::new(&bytes, 9), 16, 6);
     assert!(rt; found == Ok((Ipv4Extensions::default(), IpNumber(6), 17)));
 }

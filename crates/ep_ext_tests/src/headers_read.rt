@@ -2,7 +2,6 @@
 ghost use Rattle.std.specs.Prelude.{◌<◌};
 
 use crate::extensions_read_limited::Refusal;
-use crate::piece_reader::{PieceReader, failing_reader, reader_of};
 use ep_base::LenSource;
 use ep_base::err::{Layer, LenError};
 use ep_ext::err::io::LimitedReadError;
@@ -10,6 +9,7 @@ use ep_ext::err::ip_auth::{HeaderError, HeaderLimitedReadError, HeaderReadError}
 use ep_ext::err::ipv6_exts;
 use ep_ext::io::LimitedReader;
 use ep_ext::{IpAuthHeader, Ipv6FragmentHeader, Ipv6RawExtHeader};
+use fault_devices::{Fault, FaultReader};
 use std::io::ErrorKind;
 use std::test::*;
 
@@ -23,14 +23,14 @@ const AUTH: [u8; 18] = [
 ];
 
 // Whether the header that is read has these bytes, or why none is read.
-fn read_raw(reader: &mut PieceReader, bytes: &[u8]) -> Result<bool, ErrorKind> {
+pub fn read_raw(reader: &mut FaultReader<'_>, bytes: &[u8]) -> Result<bool, ErrorKind> {
     match Ipv6RawExtHeader::read(reader) {
         Ok(header) => Ok(header.to_bytes().as_slice() == bytes),
         Err(error) => Err(error.kind()),
     }
 }
 
-fn read_fragment(reader: &mut PieceReader, bytes: &[u8]) -> Result<bool, ErrorKind> {
+pub fn read_fragment(reader: &mut FaultReader<'_>, bytes: &[u8]) -> Result<bool, ErrorKind> {
     match Ipv6FragmentHeader::read(reader) {
         Ok(header) => Ok(header.to_bytes().as_slice() == bytes),
         Err(error) => Err(error.kind()),
@@ -38,7 +38,7 @@ fn read_fragment(reader: &mut PieceReader, bytes: &[u8]) -> Result<bool, ErrorKi
 }
 
 // The same, with no kind where the header breaks its format.
-fn read_auth(reader: &mut PieceReader, bytes: &[u8]) -> Result<bool, Option<ErrorKind>> {
+pub fn read_auth(reader: &mut FaultReader<'_>, bytes: &[u8]) -> Result<bool, Option<ErrorKind>> {
     match IpAuthHeader::read(reader) {
         Ok(header) => Ok(header.to_bytes().as_slice() == bytes),
         Err(HeaderReadError::Io(error)) => Err(Some(error.kind())),
@@ -51,7 +51,7 @@ fn headers_are_read_in_pieces(rt: HostRuntime) {
     let bytes = RAW;
     let behind = [0xaa, 0xbb];
     for piece in [1usize, 3, 100] {
-        let mut reader = reader_of(&bytes, piece);
+        let mut reader = FaultReader::new(&bytes, piece);
         let read = read_raw(&mut reader, &bytes[..16]);
         assert!(rt; (read, reader.rest) == (Ok(true), behind.as_slice()));
     }
@@ -62,7 +62,7 @@ fn fragment_headers_are_read_in_pieces(rt: HostRuntime) {
     let bytes = FRAGMENT;
     let behind = [0xaa, 0xbb];
     for piece in [1usize, 3, 100] {
-        let mut reader = reader_of(&bytes, piece);
+        let mut reader = FaultReader::new(&bytes, piece);
         let read = read_fragment(&mut reader, &bytes[..8]);
         assert!(rt; (read, reader.rest) == (Ok(true), behind.as_slice()));
     }
@@ -73,7 +73,7 @@ fn authentication_headers_are_read_in_pieces(rt: HostRuntime) {
     let bytes = AUTH;
     let behind = [0xaa, 0xbb];
     for piece in [1usize, 3, 100] {
-        let mut reader = reader_of(&bytes, piece);
+        let mut reader = FaultReader::new(&bytes, piece);
         let read = read_auth(&mut reader, &bytes[..16]);
         assert!(rt; (read, reader.rest) == (Ok(true), behind.as_slice()));
     }
@@ -86,15 +86,20 @@ fn a_raw_header_from_a_failing_reader(rt: HostRuntime) {
     // The two reads of the header, whole; then byte by byte.
     for (piece, calls) in [(100usize, 2usize), (1, 16)] {
         for call in 0..calls {
-            let mut failing = failing_reader(&bytes, piece, call, denied);
-            let mut interrupted = failing_reader(&bytes, piece, call, ErrorKind::Interrupted);
+            let mut failing = FaultReader::failing(&bytes, piece, call, Fault::Fails(denied));
+            let mut interrupted = FaultReader::failing(
+                &bytes,
+                piece,
+                call,
+                Fault::Fails(ErrorKind::Interrupted),
+            );
             let found = (
                 read_raw(&mut failing, &bytes[..16]),
                 read_raw(&mut interrupted, &bytes[..16]),
             );
             assert!(rt; found == (Err(denied), Ok(true)));
         }
-        let mut reader = failing_reader(&bytes, piece, calls, denied);
+        let mut reader = FaultReader::failing(&bytes, piece, calls, Fault::Fails(denied));
         let read = read_raw(&mut reader, &bytes[..16]);
         assert!(rt; (read, reader.calls) == (Ok(true), calls));
     }
@@ -106,10 +111,10 @@ fn a_fragment_header_from_a_failing_reader(rt: HostRuntime) {
     let bytes = FRAGMENT;
     for (piece, calls) in [(100usize, 1usize), (1, 8)] {
         for call in 0..calls {
-            let mut failing = failing_reader(&bytes, piece, call, denied);
+            let mut failing = FaultReader::failing(&bytes, piece, call, Fault::Fails(denied));
             assert!(rt; read_fragment(&mut failing, &bytes[..8]) == Err(denied));
         }
-        let mut reader = failing_reader(&bytes, piece, calls, denied);
+        let mut reader = FaultReader::failing(&bytes, piece, calls, Fault::Fails(denied));
         let read = read_fragment(&mut reader, &bytes[..8]);
         assert!(rt; (read, reader.calls) == (Ok(true), calls));
     }
@@ -121,10 +126,10 @@ fn an_authentication_header_from_a_failing_reader(rt: HostRuntime) {
     let bytes = AUTH;
     for (piece, calls) in [(100usize, 2usize), (1, 16)] {
         for call in 0..calls {
-            let mut failing = failing_reader(&bytes, piece, call, denied);
+            let mut failing = FaultReader::failing(&bytes, piece, call, Fault::Fails(denied));
             assert!(rt; read_auth(&mut failing, &bytes[..16]) == Err(Some(denied)));
         }
-        let mut reader = failing_reader(&bytes, piece, calls, denied);
+        let mut reader = FaultReader::failing(&bytes, piece, calls, Fault::Fails(denied));
         let read = read_auth(&mut reader, &bytes[..16]);
         assert!(rt; (read, reader.calls) == (Ok(true), calls));
     }
@@ -136,30 +141,36 @@ fn readers_that_end_within_a_header(rt: HostRuntime) {
     let (raw, auth, fragment) = (RAW, AUTH, FRAGMENT);
     for len in 0..16usize {
         let found = (
-            read_raw(&mut reader_of(&raw[..len], 5), &[]),
-            read_auth(&mut reader_of(&auth[..len], 5), &[]),
+            read_raw(&mut FaultReader::new(&raw[..len], 5), &[]),
+            read_auth(&mut FaultReader::new(&auth[..len], 5), &[]),
         );
         assert!(rt; found == (Err(end), Err(Some(end))));
     }
     for len in 0..8usize {
-        let found = read_fragment(&mut reader_of(&fragment[..len], 5), &[]);
+        let found = read_fragment(&mut FaultReader::new(&fragment[..len], 5), &[]);
         assert!(rt; found == Err(end));
     }
 }
 
 #[test]
 fn a_length_byte_of_zero_is_read(rt: HostRuntime) {
-    let mut reader = reader_of(&[0; 16], 100);
+    let mut reader = FaultReader::new(&[0; 16], 100);
     let read = read_auth(&mut reader, &[]);
     assert!(rt; (read, reader.rest.len()) == (Err(None), 4));
 }
 
 // A reader that gives three bytes a call, of which so many may be read, 10 bytes into a packet.
-fn limited(bytes: &[u8], max_len: usize) -> LimitedReader<PieceReader<'_>>
+fn limited(bytes: &[u8], max_len: usize) -> LimitedReader<FaultReader<'_>>
     requires { max_len < 1000 }
 {
     let source = LenSource::Ipv6HeaderPayloadLen;
-    LimitedReader::new(reader_of(bytes, 3), max_len, source, 10, Layer::Ipv6Header)
+    LimitedReader::new(
+        FaultReader::new(bytes, 3),
+        max_len,
+        source,
+        10,
+        Layer::Ipv6Header,
+    )
 }
 
 // How a header is refused that wants so many bytes, of the ones that are there.
@@ -173,7 +184,7 @@ fn want(required_len: usize, len: usize, layer: Layer, layer_start_offset: usize
     })
 }
 
-type Limited<'a> = LimitedReader<PieceReader<'a>>;
+pub type Limited<'a> = LimitedReader<FaultReader<'a>>;
 
 fn refusal(error: LimitedReadError) -> Refusal {
     match error {
@@ -183,21 +194,21 @@ fn refusal(error: LimitedReadError) -> Refusal {
 }
 
 // Whether the header that is read has these bytes, or why none is read.
-fn limited_raw(reader: &mut Limited<'_>, bytes: &[u8]) -> Result<bool, Refusal> {
+pub fn limited_raw(reader: &mut Limited<'_>, bytes: &[u8]) -> Result<bool, Refusal> {
     match Ipv6RawExtHeader::read_limited(reader) {
         Ok(header) => Ok(header.to_bytes().as_slice() == bytes),
         Err(error) => Err(refusal(error)),
     }
 }
 
-fn limited_fragment(reader: &mut Limited<'_>, bytes: &[u8]) -> Result<bool, Refusal> {
+pub fn limited_fragment(reader: &mut Limited<'_>, bytes: &[u8]) -> Result<bool, Refusal> {
     match Ipv6FragmentHeader::read_limited(reader) {
         Ok(header) => Ok(header.to_bytes().as_slice() == bytes),
         Err(error) => Err(refusal(error)),
     }
 }
 
-fn limited_auth(reader: &mut Limited<'_>, bytes: &[u8]) -> Result<bool, Refusal> {
+pub fn limited_auth(reader: &mut Limited<'_>, bytes: &[u8]) -> Result<bool, Refusal> {
     match IpAuthHeader::read_limited(reader) {
         Ok(header) => Ok(header.to_bytes().as_slice() == bytes),
         Err(HeaderLimitedReadError::Io(error)) => Err(Refusal::Io(error.kind())),
@@ -291,7 +302,7 @@ fn a_length_byte_of_zero_within_a_limit(rt: HostRuntime) {
 
 // A reader of one byte a call that fails at this one, and of which so many may be read.
 fn failing_limited(bytes: &[u8], call: usize, max_len: usize) -> Limited<'_> {
-    let inner = failing_reader(bytes, 1, call, ErrorKind::PermissionDenied);
+    let inner = FaultReader::failing(bytes, 1, call, Fault::Fails(ErrorKind::PermissionDenied));
     LimitedReader::new(inner, max_len, LenSource::Slice, 0, Layer::Ipv6Packet)
 }
 
@@ -342,9 +353,9 @@ fn raw_headers_of_every_length_are_read(rt: HostRuntime) {
     for words in 0..=255u8 {
         bytes[1] = words;
         let len = (usize::from(words) + 1) * 8;
-        let mut whole = reader_of(&bytes, 4096);
+        let mut whole = FaultReader::new(&bytes, 4096);
         let read = (read_raw(&mut whole, &bytes[..len]), whole.rest.len());
-        let inner = reader_of(&bytes, 4096);
+        let inner = FaultReader::new(&bytes, 4096);
         let mut reader = LimitedReader::new(inner, len, LenSource::Slice, 0, Layer::Ipv6Packet);
         let limited = (limited_raw(&mut reader, &bytes[..len]), reader.read_len());
         assert!(rt; (read, limited) == ((Ok(true), 2050 - len), (Ok(true), len)));
@@ -357,9 +368,9 @@ fn authentication_headers_of_every_length_are_read(rt: HostRuntime) {
     for words in 1..=255u8 {
         bytes[1] = words;
         let len = (usize::from(words) + 2) * 4;
-        let mut whole = reader_of(&bytes, 4096);
+        let mut whole = FaultReader::new(&bytes, 4096);
         let read = (read_auth(&mut whole, &[]).is_ok(), whole.rest.len());
-        let inner = reader_of(&bytes, 4096);
+        let inner = FaultReader::new(&bytes, 4096);
         let mut reader = LimitedReader::new(inner, len, LenSource::Slice, 0, Layer::Ipv6Packet);
         let limited = (limited_auth(&mut reader, &[]).is_ok(), reader.read_len());
         assert!(rt; (read, limited) == ((true, 1030 - len), (true, len)));

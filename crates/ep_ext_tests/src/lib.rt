@@ -9,6 +9,8 @@ mod extensions_read_limited;
 #[cfg(test)]
 mod exts_errors;
 #[cfg(test)]
+mod failing_reads;
+#[cfg(test)]
 mod headers;
 #[cfg(test)]
 mod headers_read;
@@ -22,7 +24,5 @@ mod ipv6_extensions_follow;
 mod limited_reader;
 #[cfg(test)]
 mod memory;
-#[cfg(test)]
-mod piece_reader;
 #[cfg(test)]
 mod places;

@@ -2,7 +2,6 @@
 
 use crate::extensions_read_limited::Refusal;
 use crate::exts_errors::reads_as;
-use crate::piece_reader::{PieceReader, failing_reader, reader_of};
 use ep_base::LenSource;
 use ep_base::err::{Layer, LenError};
 use ep_ext::err::io::LimitedReadError;
@@ -11,6 +10,7 @@ use ep_ext::err::ip_auth::{
 };
 use ep_ext::err::ipv6_exts::ExtPayloadLenError;
 use ep_ext::io::LimitedReader;
+use fault_devices::{Fault, FaultReader};
 use std::io::ErrorKind;
 use std::test::*;
 
@@ -20,7 +20,13 @@ const BYTES: [u8; 6] = [1, 2, 3, 4, 5, 6];
 fn a_new_reader(rt: HostRuntime) {
     let bytes = BYTES;
     let source = LenSource::Ipv4HeaderTotalLen;
-    let reader = LimitedReader::new(reader_of(&bytes, 1), 5, source, 20, Layer::Ipv4Packet);
+    let reader = LimitedReader::new(
+        FaultReader::new(&bytes, 1),
+        5,
+        source,
+        20,
+        Layer::Ipv4Packet,
+    );
     let found = (
         reader.max_len(),
         reader.len_source(),
@@ -34,7 +40,7 @@ fn a_new_reader(rt: HostRuntime) {
 
 // Why a read failed, if it did.
 fn read_fault<const N: usize>(
-    reader: &mut LimitedReader<PieceReader<'_>>,
+    reader: &mut LimitedReader<FaultReader<'_>>,
     buffer: &mut [u8; N],
 ) -> Option<Refusal> {
     match reader.read_exact(buffer) {
@@ -48,7 +54,13 @@ fn read_fault<const N: usize>(
 fn reads_up_to_the_limit(rt: HostRuntime) {
     let bytes = BYTES;
     let source = LenSource::Ipv4HeaderTotalLen;
-    let mut reader = LimitedReader::new(reader_of(&bytes, 1), 5, source, 20, Layer::Ipv4Packet);
+    let mut reader = LimitedReader::new(
+        FaultReader::new(&bytes, 1),
+        5,
+        source,
+        20,
+        Layer::Ipv4Packet,
+    );
     let mut two = [0; 2];
     let fault = read_fault(&mut reader, &mut two);
     assert!(rt; (fault, two, reader.read_len()) == (None, [1, 2], 2));
@@ -65,7 +77,13 @@ fn reads_up_to_the_limit(rt: HostRuntime) {
 fn no_reads_beyond_the_limit(rt: HostRuntime) {
     let bytes = BYTES;
     let source = LenSource::Ipv4HeaderTotalLen;
-    let mut reader = LimitedReader::new(reader_of(&bytes, 1), 5, source, 20, Layer::Ipv4Packet);
+    let mut reader = LimitedReader::new(
+        FaultReader::new(&bytes, 1),
+        5,
+        source,
+        20,
+        Layer::Ipv4Packet,
+    );
     let mut two = [0; 2];
     let fault = read_fault(&mut reader, &mut two);
     let want = Refusal::Len(LenError {
@@ -86,7 +104,13 @@ fn no_reads_beyond_the_limit(rt: HostRuntime) {
 fn a_layer_begins(rt: HostRuntime) {
     let bytes = BYTES;
     let source = LenSource::Ipv4HeaderTotalLen;
-    let mut reader = LimitedReader::new(reader_of(&bytes, 1), 5, source, 20, Layer::Ipv4Packet);
+    let mut reader = LimitedReader::new(
+        FaultReader::new(&bytes, 1),
+        5,
+        source,
+        20,
+        Layer::Ipv4Packet,
+    );
     let fault = read_fault(&mut reader, &mut [0; 2]);
     reader.start_layer(Layer::IpAuthHeader);
     let found = (
@@ -102,7 +126,7 @@ fn a_layer_begins(rt: HostRuntime) {
 #[test]
 fn a_failed_read_counts_for_nothing(rt: HostRuntime) {
     let bytes = BYTES;
-    let inner = failing_reader(&bytes, 1, 2, ErrorKind::PermissionDenied);
+    let inner = FaultReader::failing(&bytes, 1, 2, Fault::Fails(ErrorKind::PermissionDenied));
     let mut reader = LimitedReader::new(inner, 5, LenSource::Slice, 0, Layer::Ipv4Packet);
     let mut two = [0; 2];
     let first = read_fault(&mut reader, &mut two);

@@ -1,129 +1,10 @@
 //! Runs over readers and writers that give and take little, and fail.
-ghost use Rattle.std.specs.Prelude.{◌≡◌, IfOk};
-
+use fault_devices::{Fault, FaultReader, FaultWriter, Tally};
 use netlines::device::ReaderWriter;
 use netlines::{RunError, answers, run, run_over};
 use std::alloc::{AllocError, Global};
-use std::io::{self, ErrorKind, Read, Write};
+use std::io::ErrorKind;
 use std::test::Fail;
-
-/// What a reader or a writer does at one of its calls, and at none before it.
-#[derive(Clone, Copy, PartialEq)]
-pub enum Fault {
-    Interrupted,
-    Other,
-    Nothing,
-}
-
-impl Fault {
-    fn answer(self) -> io::Result<usize>
-        ensures { IfOk result (λ count. count ≡ 0) }
-    {
-        match self {
-            Fault::Interrupted => Err(ErrorKind::Interrupted.into()),
-            Fault::Other => Err(ErrorKind::Other.into()),
-            Fault::Nothing => Ok(0),
-        }
-    }
-}
-
-/// Gives one byte a call.
-#[derive(Drop)]
-pub struct ByteReader<'a> {
-    rest: &'a [u8],
-    pub calls: usize,
-    fault: Option<(usize, Fault)>,
-}
-
-/// A reader of these bytes, with a fault at a call. It has no contract: tests alone call it, and
-/// are run.
-pub fn reader_of(bytes: &[u8], fault: Option<(usize, Fault)>) -> ByteReader<'_> {
-    ByteReader {
-        rest: bytes,
-        calls: 0,
-        fault,
-    }
-}
-
-impl<'a> Read for ByteReader<'a> {
-    fn read(&mut self, buf: &mut [u8]) -> io::Result<usize> {
-        let call = self.calls;
-        self.calls = call.saturating_add(1);
-        if let Some((at, fault)) = self.fault
-            && at == call
-        {
-            return fault.answer();
-        }
-        match (self.rest.split_first(), buf.first_mut()) {
-            (Some((byte, rest)), Some(first)) => {
-                *first = *byte;
-                self.rest = rest;
-                Ok(1)
-            }
-            _ => Ok(0),
-        }
-    }
-}
-
-/// Takes one byte a call.
-#[derive(Drop)]
-pub struct ByteWriter {
-    pub taken: Vec<u8>,
-    pub calls: usize,
-    fault: Option<(usize, Fault)>,
-}
-
-/// A writer that took nothing so far, with a fault at a call. It has no contract: tests alone call
-/// it, and are run.
-pub fn writer_of(alloc: Global, fault: Option<(usize, Fault)>) -> ByteWriter {
-    ByteWriter {
-        taken: Vec::new(alloc),
-        calls: 0,
-        fault,
-    }
-}
-
-impl Write for ByteWriter {
-    fn write(&mut self, buf: &[u8]) -> io::Result<usize> {
-        let call = self.calls;
-        self.calls = call.saturating_add(1);
-        if let Some((at, fault)) = self.fault
-            && at == call
-        {
-            return fault.answer();
-        }
-        match buf.first() {
-            Some(byte) => {
-                self.taken.push(*byte)?;
-                Ok(1)
-            }
-            None => Ok(0),
-        }
-    }
-
-    fn flush(&mut self) -> io::Result<()> {
-        Ok(())
-    }
-}
-
-// Takes all bytes at once, and counts the calls and the bytes.
-#[derive(Drop)]
-struct CountingWriter {
-    pub calls: usize,
-    bytes: usize,
-}
-
-impl Write for CountingWriter {
-    fn write(&mut self, buf: &[u8]) -> io::Result<usize> {
-        self.calls = self.calls.saturating_add(1);
-        self.bytes = self.bytes.saturating_add(buf.len());
-        Ok(buf.len())
-    }
-
-    fn flush(&mut self) -> io::Result<()> {
-        Ok(())
-    }
-}
 
 const BAD_LINE: &[u8] = b"bad line\n";
 
@@ -159,8 +40,8 @@ fn answers_each_line_once(rt: HostRuntime) -> Result<(), Fail> {
         let mut output = Vec::new(rt.alloc());
         run(rt.alloc(), &mut &*input, &mut output)?;
         assert!(rt; output.as_slice() == want.as_slice(), "{count} lines");
-        let mut output = writer_of(rt.alloc(), None);
-        run(rt.alloc(), &mut reader_of(input, None), &mut output)?;
+        let mut output = FaultWriter::new(rt.alloc(), 1);
+        run(rt.alloc(), &mut FaultReader::new(input, 1), &mut output)?;
         assert!(rt;
             output.taken.as_slice() == want.as_slice(),
             "{count} lines by bytes"
@@ -200,24 +81,28 @@ fn skips_the_rest_of_a_long_line(rt: HostRuntime) -> Result<(), Fail> {
 
 #[test]
 fn stops_at_each_read_that_fails(rt: HostRuntime) -> Result<(), Fail> {
-    for fault in [Fault::Interrupted, Fault::Other] {
+    let mut tally = Tally::new("run, bad lines", "a read fails or is interrupted");
+    for kind in [ErrorKind::Interrupted, ErrorKind::Other] {
+        tally.count(INPUT.len().saturating_add(1));
         for at in 0..INPUT.len() + 1 {
-            let mut reader = reader_of(INPUT, Some((at, fault)));
+            let mut reader = FaultReader::failing(INPUT, 1, at, Fault::Fails(kind));
             let mut output = Vec::new(rt.alloc());
             let result = run(rt.alloc(), &mut reader, &mut output);
             assert!(rt; result == Err(RunError::Read), "at {at}");
             assert!(rt; reader.calls == at.saturating_add(1), "at {at}");
             let want = bad_lines(rt.alloc(), ended_lines(&INPUT[..at]))?;
             assert!(rt; output.as_slice() == want.as_slice(), "at {at}");
+            tally.tries();
         }
     }
+    println!(rt; "{tally}")?;
     Ok(())
 }
 
 #[test]
 fn ends_at_a_read_that_gives_nothing(rt: HostRuntime) -> Result<(), Fail> {
     for at in 0..INPUT.len() + 1 {
-        let mut reader = reader_of(INPUT, Some((at, Fault::Nothing)));
+        let mut reader = FaultReader::failing(INPUT, 1, at, Fault::MovesNone);
         let mut output = Vec::new(rt.alloc());
         run(rt.alloc(), &mut reader, &mut output)?;
         assert!(rt; reader.calls == at.saturating_add(1), "at {at}");
@@ -231,24 +116,31 @@ fn ends_at_a_read_that_gives_nothing(rt: HostRuntime) -> Result<(), Fail> {
 
 #[test]
 fn stops_at_each_write_that_fails(rt: HostRuntime) -> Result<(), Fail> {
+    let mut tally = Tally::new(
+        "run, bad lines",
+        "a write fails, is interrupted or takes nothing",
+    );
     let want = bad_lines(rt.alloc(), 6)?;
     let faults = [
-        (Fault::Interrupted, RunError::Write),
-        (Fault::Other, RunError::Write),
-        (Fault::Nothing, RunError::WriteZero),
+        (Fault::Fails(ErrorKind::Interrupted), RunError::Write),
+        (Fault::Fails(ErrorKind::Other), RunError::Write),
+        (Fault::MovesNone, RunError::WriteZero),
     ];
     for (fault, error) in faults {
+        tally.count(want.len());
         for at in 0..want.len() {
-            let mut writer = writer_of(rt.alloc(), Some((at, fault)));
-            let result = run(rt.alloc(), &mut reader_of(INPUT, None), &mut writer);
+            let mut writer = FaultWriter::failing(rt.alloc(), 1, at, fault);
+            let result = run(rt.alloc(), &mut FaultReader::new(INPUT, 1), &mut writer);
             assert!(rt; result == Err(error), "at {at}");
             assert!(rt; writer.calls == at.saturating_add(1), "at {at}");
             assert!(rt;
                 writer.taken.as_slice() == &want.as_slice()[..at],
                 "at {at}"
             );
+            tally.tries();
         }
     }
+    println!(rt; "{tally}")?;
     Ok(())
 }
 
@@ -262,8 +154,8 @@ fn makes_no_more_reads_than_it_may(rt: HostRuntime) -> Result<(), Fail> {
         (3, 3, Err(RunError::TooManyReads), "bad line\n"),
         (4, 4, Ok(()), "bad line\nbad line\n"),
     ] {
-        let mut reader = reader_of(text, None);
-        let mut writer = writer_of(rt.alloc(), None);
+        let mut reader = FaultReader::new(text, 1);
+        let mut writer = FaultWriter::new(rt.alloc(), 1);
         let mut device = ReaderWriter {
             reader: &mut reader,
             writer: &mut writer,
@@ -275,42 +167,13 @@ fn makes_no_more_reads_than_it_may(rt: HostRuntime) -> Result<(), Fail> {
     Ok(())
 }
 
-// Tells how many bytes it was asked for at most, and ends at once.
-#[derive(Drop)]
-struct SizeReader {
-    size: usize,
-}
-
-impl Read for SizeReader {
-    fn read(&mut self, buf: &mut [u8]) -> io::Result<usize> {
-        self.size = buf.len();
-        Ok(0)
-    }
-}
-
 #[test]
 fn reads_up_to_65536_bytes(rt: HostRuntime) -> Result<(), Fail> {
-    let mut reader = SizeReader { size: 0 };
-    let mut writer = writer_of(rt.alloc(), None);
+    let mut reader = FaultReader::new(b"", 1);
+    let mut writer = FaultWriter::new(rt.alloc(), 1);
     assert!(rt; run(rt.alloc(), &mut reader, &mut writer) == Ok(()));
-    assert!(rt; reader.size == 65536);
+    assert!(rt; reader.room == 65536);
     Ok(())
-}
-
-// Where an allocation fails, nothing is read and nothing written. The test holds in both cases, for
-// runs of it in which an allocation is made to fail.
-#[test]
-fn makes_no_call_without_memory(rt: HostRuntime) {
-    let mut reader = reader_of(INPUT, None);
-    let mut writer = CountingWriter { calls: 0, bytes: 0 };
-    let result = run(rt.alloc(), &mut reader, &mut writer);
-    let counts = (reader.calls, writer.calls, writer.bytes);
-    if result == Err(RunError::Memory) {
-        assert!(rt; counts == (0, 0, 0));
-    } else {
-        assert!(rt; result == Ok(()));
-        assert!(rt; counts == (INPUT.len() + 1, 6, 54));
-    }
 }
 
 // The answers to one read go out together: 65536 bytes and one reply more fit a write.
@@ -318,10 +181,13 @@ fn makes_no_call_without_memory(rt: HostRuntime) {
 fn writes_few_times(rt: HostRuntime) -> Result<(), Fail> {
     for (lines, calls) in [(0, 0), (1, 1), (3, 1), (7_282, 1), (7_283, 2), (30_000, 5)] {
         let input = vec![in rt.alloc(); b'\n'; lines]?;
-        let mut writer = CountingWriter { calls: 0, bytes: 0 };
+        let mut writer = FaultWriter::new(rt.alloc(), usize::MAX);
         run(rt.alloc(), &mut input.as_slice(), &mut writer)?;
         assert!(rt; writer.calls == calls, "{lines} lines");
-        assert!(rt; writer.bytes == lines * BAD_LINE.len(), "{lines} lines");
+        assert!(rt;
+            writer.taken.len() == lines * BAD_LINE.len(),
+            "{lines} lines"
+        );
     }
     Ok(())
 }

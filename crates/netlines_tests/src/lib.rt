@@ -9,6 +9,8 @@ mod faults;
 #[cfg(test)]
 mod laws;
 #[cfg(test)]
+mod memory;
+#[cfg(test)]
 mod messages;
 #[cfg(test)]
 mod post;
@@ -16,5 +18,7 @@ mod post;
 mod post_refusals;
 #[cfg(test)]
 mod reuse;
+#[cfg(test)]
+mod rows;
 #[cfg(test)]
 mod streams;

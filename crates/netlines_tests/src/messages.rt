@@ -23,7 +23,7 @@ const OVER_V6: Addresses = Addresses::V6 {
     destination: [0xfd, 0, 0, 0, 0, 0, 0, 0, 0, 0, 0, 0, 0, 0, 0, 2],
 };
 
-fn stream_v4() -> IpFragVersionSpecId {
+pub(super) fn stream_v4() -> IpFragVersionSpecId {
     IpFragVersionSpecId::Ipv4 {
         source: [10, 0, 0, 1],
         destination: [10, 0, 0, 2],
@@ -31,7 +31,7 @@ fn stream_v4() -> IpFragVersionSpecId {
     }
 }
 
-fn stream_v6() -> IpFragVersionSpecId {
+pub(super) fn stream_v6() -> IpFragVersionSpecId {
     IpFragVersionSpecId::Ipv6 {
         source: [0xfd, 0, 0, 0, 0, 0, 0, 0, 0, 0, 0, 0, 0, 0, 0, 1],
         destination: [0xfd, 0, 0, 0, 0, 0, 0, 0, 0, 0, 0, 0, 0, 0, 0, 2],
@@ -206,7 +206,7 @@ fn refusal_of_a_data_offset(rt: HostRuntime) {
 }
 
 // A header of a datagram whose checksum is to be set.
-fn udp(checksum: u16) -> TransportHeader {
+pub(super) fn udp(checksum: u16) -> TransportHeader {
     TransportHeader::Udp(UdpHeader {
         source_port: 1,
         destination_port: 2,
@@ -215,14 +215,14 @@ fn udp(checksum: u16) -> TransportHeader {
     })
 }
 
-fn icmpv4_reply() -> TransportHeader {
+pub(super) fn icmpv4_reply() -> TransportHeader {
     TransportHeader::Icmpv4(Icmpv4Header {
         icmp_type: Icmpv4Type::EchoReply(IcmpEchoHeader { id: 0, seq: 0 }),
         checksum: 0,
     })
 }
 
-fn icmpv6_request() -> TransportHeader {
+pub(super) fn icmpv6_request() -> TransportHeader {
     TransportHeader::Icmpv6(Icmpv6Header {
         icmp_type: Icmpv6Type::EchoRequest(IcmpEchoHeader { id: 1, seq: 2 }),
         checksum: 0,

@@ -1,61 +1,37 @@
 //! Messages over and over, each in the memory of those before it, and two runs side by side.
-use crate::faults::{reader_of, writer_of};
-use netlines::{RunError, answers, laws, run};
+use crate::rows::TWO_FRAGMENTS;
+use fault_devices::FaultReader;
+use netlines::{answers, laws, run};
 use std::alloc::{AllocError, Global};
 use std::test::Fail;
 
-// The halves of a UDP message (the row `two_fragments`), and then the three pieces of a TCP segment
-// in the order third, first, second (the row `posted_tcp`).
-const LINES: [(&str, &str); 5] = [
-    (
-        "frame 0 02000000000202000000000108004500001c00072000401146c80a0000010a000002000100020010dbb4",
-        "wait\n",
-    ),
-    (
-        "frame 0 02000000000202000000000108004500001c00070001401166c70a0000010a0000020102030405060708",
-        "message 17 good 000100020010dbb40102030405060708\n",
-    ),
-    (
-        "frame 0 02000000000202000000000108004500001800070002400666d50a0000010a00000297da0000",
-        "wait\n",
-    ),
-    (
-        "frame 0 02000000000202000000000108004500001c00072000400646d30a0000010a0000020001000200000003",
-        "wait\n",
-    ),
-    (
-        "frame 0 02000000000202000000000108004500001c00072001400646d20a0000010a0000020000000050020400",
-        "message 6 good 0001000200000003000000005002040097da0000\n",
-    ),
-];
+/// The halves of a UDP message (the row `two_fragments`), and then the three pieces of a TCP segment
+/// in the order third, first, second (the row `posted_tcp`).
+pub const ROUND: &[u8; 457] =
+    b"frame 0 02000000000202000000000108004500001c00072000401146c80a0000010a000002\
+    000100020010dbb4\nframe 0 02000000000202000000000108004500001c00070001401166c70a0000010a000002\
+    0102030405060708\nframe 0 02000000000202000000000108004500001800070002400666d50a0000010a000002\
+    97da0000\nframe 0 02000000000202000000000108004500001c00072000400646d30a0000010a000002\
+    0001000200000003\nframe 0 02000000000202000000000108004500001c00072001400646d20a0000010a000002\
+    0000000050020400\n";
 
-// The lines so many times over.
-fn text_of_lines(alloc: Global, times: u32) -> Result<Vec<u8>, AllocError> {
-    let mut text = Vec::new(alloc);
-    for _ in 0..times {
-        for (line, _) in LINES {
-            text.extend_from_slice(line.as_bytes())?;
-            text.push(b'\n')?;
-        }
-    }
-    Ok(text)
-}
+/// The answers to these lines.
+pub const ROUND_ANSWERS: &[u8; 120] = b"wait\nmessage 17 good 000100020010dbb40102030405060708\n\
+    wait\nwait\nmessage 6 good 0001000200000003000000005002040097da0000\n";
 
-// The answers to them.
-fn answers_to_lines(alloc: Global, times: u32) -> Result<Vec<u8>, AllocError> {
-    let mut answers = Vec::new(alloc);
+// So many times over.
+fn repeated(alloc: Global, text: &[u8], times: u32) -> Result<Vec<u8>, AllocError> {
+    let mut all = Vec::new(alloc);
     for _ in 0..times {
-        for (_, answer) in LINES {
-            answers.extend_from_slice(answer.as_bytes())?;
-        }
+        all.extend_from_slice(text)?;
     }
-    Ok(answers)
+    Ok(all)
 }
 
 #[test]
 fn ten_times_over(rt: HostRuntime) -> Result<(), Fail> {
-    let text = text_of_lines(rt.alloc(), 10)?;
-    let want = answers_to_lines(rt.alloc(), 10)?;
+    let text = repeated(rt.alloc(), ROUND, 10)?;
+    let want = repeated(rt.alloc(), ROUND_ANSWERS, 10)?;
     let mut output = Vec::new(rt.alloc());
     run(rt.alloc(), &mut text.as_slice(), &mut output)?;
     assert!(rt; output.as_slice() == want.as_slice());
@@ -64,31 +40,11 @@ fn ten_times_over(rt: HostRuntime) -> Result<(), Fail> {
     Ok(())
 }
 
-// Whichever allocation is made to fail, with buffers that are spare or without: the answers are a
-// front of those that are wanted. The test's own texts are made first.
-#[test]
-fn three_times_over_without_memory(rt: HostRuntime) -> Result<(), Fail> {
-    let text = text_of_lines(rt.alloc(), 3)?;
-    let want = answers_to_lines(rt.alloc(), 3)?;
-    let mut writer = writer_of(rt.alloc(), None);
-    writer.taken.try_reserve(want.len())?;
-    let result = run(rt.alloc(), &mut text.as_slice(), &mut writer);
-    let written = writer.taken.as_slice();
-    if result == Ok(()) {
-        assert!(rt; written == want.as_slice());
-    } else {
-        assert!(rt; result == Err(RunError::Memory));
-        assert!(rt; want.as_slice().starts_with(written));
-    }
-    Ok(())
-}
-
 // The halves of the UDP message with a line between them.
-fn halves_around(alloc: Global, between: &str) -> Result<Vec<u8>, AllocError> {
+fn halves_around(alloc: Global, between: &[u8]) -> Result<Vec<u8>, AllocError> {
     let mut text = Vec::new(alloc);
-    for line in [LINES[0].0, between, LINES[1].0] {
-        text.extend_from_slice(line.as_bytes())?;
-        text.push(b'\n')?;
+    for part in [&TWO_FRAGMENTS[..93], between, b"\n", &TWO_FRAGMENTS[93..]] {
+        text.extend_from_slice(part)?;
     }
     Ok(text)
 }
@@ -97,15 +53,15 @@ fn halves_around(alloc: Global, between: &str) -> Result<Vec<u8>, AllocError> {
 // lines 1 and 3.
 #[test]
 fn two_runs_over_the_same_halves(rt: HostRuntime) -> Result<(), Fail> {
-    let one = halves_around(rt.alloc(), LINES[2].0)?;
-    let other = halves_around(rt.alloc(), "forgets")?;
+    let one = halves_around(rt.alloc(), &ROUND[186..270])?;
+    let other = halves_around(rt.alloc(), b"forgets")?;
     let mut told = Vec::new(rt.alloc());
     let mut other_told = Vec::new(rt.alloc());
     let results = laws::two_runs(
         rt.alloc(),
         &mut one.as_slice(),
         &mut told,
-        &mut reader_of(other.as_slice(), None),
+        &mut FaultReader::new(other.as_slice(), 1),
         &mut other_told,
     );
     assert!(rt; results == (Ok(()), Ok(())));

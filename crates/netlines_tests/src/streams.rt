@@ -1,8 +1,9 @@
 //! Runs in which messages are put together, over readers and writers that fail while one is on its
 //! way, and without memory.
-use crate::faults::{Fault, reader_of, writer_of};
+use fault_devices::{Fault, FaultReader, FaultWriter, Tally};
 use netlines::{RunError, run};
 use std::alloc::{AllocError, Global};
+use std::io::ErrorKind;
 use std::test::Fail;
 
 // Two halves of a UDP message with another message between them, the first half on a channel of its
@@ -63,10 +64,10 @@ fn puts_messages_together(rt: HostRuntime) -> Result<(), Fail> {
     let mut whole = Vec::new(rt.alloc());
     run(rt.alloc(), &mut text.as_slice(), &mut whole)?;
     assert!(rt; whole.as_slice() == want.as_slice());
-    let mut by_bytes = writer_of(rt.alloc(), None);
+    let mut by_bytes = FaultWriter::new(rt.alloc(), 1);
     run(
         rt.alloc(),
-        &mut reader_of(text.as_slice(), None),
+        &mut FaultReader::new(text.as_slice(), 1),
         &mut by_bytes,
     )?;
     assert!(rt; by_bytes.taken.as_slice() == want.as_slice());
@@ -79,7 +80,8 @@ fn stops_at_each_read_that_fails_while_messages_are_on_their_way(
 ) -> Result<(), Fail> {
     let text = text_of_lines(rt.alloc())?;
     for at in 0..text.len() + 1 {
-        let mut reader = reader_of(text.as_slice(), Some((at, Fault::Other)));
+        let fault = Fault::Fails(ErrorKind::Other);
+        let mut reader = FaultReader::failing(text.as_slice(), 1, at, fault);
         let mut output = Vec::new(rt.alloc());
         let result = run(rt.alloc(), &mut reader, &mut output);
         assert!(rt; result == Err(RunError::Read), "at {at}");
@@ -96,11 +98,11 @@ fn stops_at_each_write_that_fails_while_messages_are_on_their_way(
     let text = text_of_lines(rt.alloc())?;
     let want = answers_to(rt.alloc(), LINES.len())?;
     for (fault, error) in [
-        (Fault::Other, RunError::Write),
-        (Fault::Nothing, RunError::WriteZero),
+        (Fault::Fails(ErrorKind::Other), RunError::Write),
+        (Fault::MovesNone, RunError::WriteZero),
     ] {
         for at in 0..want.len() {
-            let mut writer = writer_of(rt.alloc(), Some((at, fault)));
+            let mut writer = FaultWriter::failing(rt.alloc(), 1, at, fault);
             let result = run(rt.alloc(), &mut text.as_slice(), &mut writer);
             assert!(rt; result == Err(error), "at {at}");
             assert!(rt;
@@ -111,27 +113,3 @@ fn stops_at_each_write_that_fails_while_messages_are_on_their_way(
     }
     Ok(())
 }
-
-// Whichever allocation is made to fail: the answers to all lines before a fragment are written,
-// or none where nothing was read, or all of them. The test's own texts are made first.
-#[test]
-fn answers_a_front_of_the_lines_without_memory(rt: HostRuntime) -> Result<(), Fail> {
-    let text = text_of_lines(rt.alloc())?;
-    let want = answers_to(rt.alloc(), LINES.len())?;
-    let mut writer = writer_of(rt.alloc(), None);
-    writer.taken.try_reserve(want.len())?;
-    let result = run(rt.alloc(), &mut text.as_slice(), &mut writer);
-    let written = writer.taken.as_slice();
-    if result == Ok(()) {
-        assert!(rt; written == want.as_slice());
-    } else {
-        assert!(rt; result == Err(RunError::Memory));
-        assert!(rt; want.as_slice().starts_with(written));
-        let answered = ended_lines(written);
-        assert!(rt; answered == 0 || TAKES_MEMORY[answered.min(7)]);
-    }
-    Ok(())
-}
-
-// For which of the lines memory may be wanting: the fragments.
-const TAKES_MEMORY: [bool; 8] = [true, true, false, false, true, false, true, false];

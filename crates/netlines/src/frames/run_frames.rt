@@ -38,8 +38,30 @@ pub fn run<R: Read, W: Write>(alloc: Global, reader: &mut R, writer: &mut W) -> 
     ensures too_many { IsErrOf result RunError.TooManyReads
         → IfSome (R.remaining reader.old) (λ bytes. READ_COUNT_LIMIT ≤ length bytes) }
 {
+    run_bounded(alloc, reader, writer, READ_COUNT_LIMIT)
+}
+
+/// [`run`] with at most so many reads, of which the one that tells the end is one.
+pub fn run_bounded<R: Read, W: Write>(
+    alloc: Global,
+    reader: &mut R,
+    writer: &mut W,
+    reads: u64,
+) -> Result<(), RunError>
+    requires { reads ≤ READ_COUNT_LIMIT }
+    ensures ok { OnOk result (IfSome (R.remaining reader.old) (λ bytes.
+        Appends (W.contents writer.old) (W.contents writer.new) (answers_of bytes))) }
+    ensures end { OnOk result (IsAtEnd (R.remaining reader.new)) }
+    ensures bytes { Transfers (R.remaining reader.old) (R.remaining reader.new)
+        (W.contents writer.old) (W.contents writer.new) result }
+    ensures calls { Runs KnownCall reads
+        (known_of (R.remaining reader.old) (W.contents writer.old))
+        (known_of (R.remaining reader.new) (W.contents writer.new)) result }
+    ensures too_many { IsErrOf result RunError.TooManyReads
+        → IfSome (R.remaining reader.old) (λ bytes. reads ≤ length bytes) }
+{
     let mut device = ReaderWriter { reader, writer };
-    let result = run_over(alloc, &mut device, READ_COUNT_LIMIT);
+    let result = run_over(alloc, &mut device, reads);
     // No effect at run time. The proof reads here what both hold at the end.
     let _ = &*device.reader;
     let _ = &*device.writer;

@@ -1,0 +1,165 @@
+//! The readers and writers of tests: a call moves few bytes, calls are counted, and one of them
+//! fails or moves fewer. They have no contracts: tests alone call them, and are run.
+#![tactic(auto)]
+
+ghost use Rattle.std.specs.Prelude.{◌≤◌, IfOk, length};
+
+use std::alloc::Global;
+use std::fmt;
+use std::io::{self, ErrorKind, Read, Write};
+
+/// What a call does in place of moving as many bytes as the others.
+#[derive(Clone, Copy, Debug, PartialEq, Eq)]
+pub enum Fault {
+    Fails(ErrorKind),
+    MovesNone,
+    MovesOne,
+}
+
+// How many bytes of so many the call with this number moves.
+fn moved(call: usize, piece: usize, fault: Option<(usize, Fault)>, len: usize) -> io::Result<usize>
+    ensures { IfOk result (λ moved. moved ≤ len) }
+{
+    match fault {
+        Some((at, Fault::Fails(kind))) if at == call => Err(kind.into()),
+        Some((at, Fault::MovesNone)) if at == call => Ok(0),
+        Some((at, Fault::MovesOne)) if at == call => Ok(len.min(1)),
+        _ => Ok(len.min(piece)),
+    }
+}
+
+/// A reader of bytes.
+#[derive(Drop)]
+pub struct FaultReader<'a> {
+    /// The bytes that aren't read.
+    pub rest: &'a [u8],
+    pub calls: usize,
+    /// The room that the last call was given.
+    pub room: usize,
+    piece: usize,
+    fault: Option<(usize, Fault)>,
+}
+
+impl<'a> FaultReader<'a> {
+    /// Gives so many bytes a call, as long as there are some.
+    pub fn new(bytes: &'a [u8], piece: usize) -> FaultReader<'a> {
+        FaultReader {
+            rest: bytes,
+            calls: 0,
+            room: 0,
+            piece,
+            fault: None,
+        }
+    }
+
+    /// The same but for this call, counted from 0.
+    pub fn failing(bytes: &'a [u8], piece: usize, call: usize, fault: Fault) -> FaultReader<'a> {
+        FaultReader {
+            rest: bytes,
+            calls: 0,
+            room: 0,
+            piece,
+            fault: Some((call, fault)),
+        }
+    }
+}
+
+impl<'a> Read for FaultReader<'a> {
+    fn read(&mut self, buf: &mut [u8]) -> io::Result<usize> {
+        let call = self.calls;
+        self.calls = call.saturating_add(1);
+        self.room = buf.len();
+        let len = buf.len().min(self.rest.len());
+        let count = moved(call, self.piece, self.fault, len)?;
+        let (given, rest) = self.rest.split_at(count);
+        buf[..count].copy_from_slice(given);
+        self.rest = rest;
+        Ok(count)
+    }
+}
+
+/// A writer that keeps the bytes.
+#[derive(Drop)]
+pub struct FaultWriter {
+    pub taken: Vec<u8>,
+    pub calls: usize,
+    piece: usize,
+    fault: Option<(usize, Fault)>,
+}
+
+impl FaultWriter {
+    /// Takes so many bytes a call at most.
+    pub fn new(alloc: Global, piece: usize) -> FaultWriter {
+        FaultWriter {
+            taken: Vec::new(alloc),
+            calls: 0,
+            piece,
+            fault: None,
+        }
+    }
+
+    /// The same but for this call, counted from 0.
+    pub fn failing(alloc: Global, piece: usize, call: usize, fault: Fault) -> FaultWriter {
+        FaultWriter {
+            taken: Vec::new(alloc),
+            calls: 0,
+            piece,
+            fault: Some((call, fault)),
+        }
+    }
+}
+
+impl Write for FaultWriter {
+    fn write(&mut self, buf: &[u8]) -> io::Result<usize> {
+        let call = self.calls;
+        self.calls = call.saturating_add(1);
+        let count = moved(call, self.piece, self.fault, buf.len())?;
+        self.taken.extend_from_slice(&buf[..count])?;
+        Ok(count)
+    }
+
+    fn flush(&mut self) -> io::Result<()> {
+        Ok(())
+    }
+}
+
+/// At how many places a call can fail so, and at how many of them a test let it. `tools/faults_tried`
+/// reads what it prints.
+#[derive(Drop)]
+pub struct Tally {
+    call: &'static str,
+    fault: &'static str,
+    places: usize,
+    tried: usize,
+}
+
+impl Tally {
+    pub fn new(call: &'static str, fault: &'static str) -> Tally {
+        Tally {
+            call,
+            fault,
+            places: 0,
+            tried: 0,
+        }
+    }
+
+    /// Counts the places that a call without a fault has.
+    pub fn count(&mut self, places: usize) {
+        self.places = self.places.saturating_add(places);
+    }
+
+    /// Counts a place that is tried.
+    pub fn tries(&mut self) {
+        self.tried = self.tried.saturating_add(1);
+    }
+}
+
+impl fmt::Display for Tally {
+    fn fmt<W: fmt::Write>(&self, f: &mut fmt::Formatter<W>) -> fmt::Result {
+        write!(
+            f,
+            "tally: {}: {}: {}: {}",
+            self.call, self.fault, self.places, self.tried
+        )
+    }
+}
