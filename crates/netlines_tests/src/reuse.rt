@@ -29,8 +29,8 @@ const LINES: [(&str, &str); 5] = [
     ),
 ];
 
-// The lines so many times over.
-fn text_of_lines(alloc: Global, times: u32) -> Result<Vec<u8>, AllocError> {
+/// The lines so many times over.
+pub fn text_of_lines(alloc: Global, times: u32) -> Result<Vec<u8>, AllocError> {
     let mut text = Vec::new(alloc);
     for _ in 0..times {
         for (line, _) in LINES {
@@ -41,8 +41,8 @@ fn text_of_lines(alloc: Global, times: u32) -> Result<Vec<u8>, AllocError> {
     Ok(text)
 }
 
-// The answers to them.
-fn answers_to_lines(alloc: Global, times: u32) -> Result<Vec<u8>, AllocError> {
+/// The answers to them.
+pub fn answers_to_lines(alloc: Global, times: u32) -> Result<Vec<u8>, AllocError> {
     let mut answers = Vec::new(alloc);
     for _ in 0..times {
         for (_, answer) in LINES {
