@@ -9,6 +9,8 @@ mod reassembly;
 use crate::frames::read_frame;
 use crate::pool::{Pool, add_part};
 use crate::reassembly::Reassembly;
+use std::collections::HashMap;
+use std::hash::{BuildHasher, RandomState};
 use std::process::ExitCode;
 use std::time::{Duration, Instant};
 
@@ -51,14 +53,26 @@ fn shuffled(place: u16) -> u16 {
     (product ^ (product >> 6)) % FRAGMENTS
 }
 
-/// The message that a frame completes.
-fn process(pool: &mut Pool<(), ()>, frame: &[u8]) -> Option<Vec<u8>> {
+/// The sum with the message that a frame completes.
+fn sum_with<S: BuildHasher>(sum: u64, pool: &mut Pool<(), (), S>, frame: &[u8]) -> u64 {
+    let Some(bytes) = process(pool, frame) else {
+        return sum;
+    };
+    let ends = bytes.first().zip(bytes.last());
+    let (first, last) = ends.map_or((0, 0), |(first, last)| (*first, *last));
+    sum.wrapping_mul(31)
+        .wrapping_add(bytes.len() as u64)
+        .wrapping_add(u64::from(first))
+        .wrapping_add(u64::from(last))
+}
+
+fn process<S: BuildHasher>(pool: &mut Pool<(), (), S>, frame: &[u8]) -> Option<Vec<u8>> {
     let packet = read_frame(frame).ok()?;
     add_part(pool, &packet, packet.part?, (), ()).ok()?
 }
 
 /// 100,000 messages of two fragments, all of whose first fragments come before the second ones.
-fn put_together(pool: &mut Pool<(), ()>) -> u64 {
+fn put_interleaved<S: BuildHasher>(pool: &mut Pool<(), (), S>) -> u64 {
     let mut frame = [0; 98];
     frame[..34].copy_from_slice(&[
         2, 0, 0, 0, 0, 2, 2, 0, 0, 0, 0, 1, 8, 0, 0x45, 0, 0, 84, 0, 0, 0, 0, 64, 17, 0, 0, 10, 0, 0, 0, 10, 0, 0, 2,
@@ -74,31 +88,55 @@ fn put_together(pool: &mut Pool<(), ()>) -> u64 {
                 frame[18] = high;
                 frame[19] = low;
                 frame[34] = low;
-                if let Some(bytes) = process(pool, &frame) {
-                    let ends = bytes.first().zip(bytes.last());
-                    let (first, last) = ends.map_or((0, 0), |(first, last)| (*first, *last));
-                    sum = sum
-                        .wrapping_mul(31)
-                        .wrapping_add(bytes.len() as u64)
-                        .wrapping_add(u64::from(first))
-                        .wrapping_add(u64::from(last));
-                }
+                sum = sum_with(sum, pool, &frame);
             }
         }
     }
     sum
 }
 
-fn measure_interleaved(turns: u32) -> (u64, Duration) {
-    let mut pool = Pool::default();
+/// 8000 messages of two fragments, so many at once, under names that collide by the hasher of the proved program, and by none here.
+fn put_colliding<S: BuildHasher>(pool: &mut Pool<(), (), S>, names: u32) -> u64 {
+    let mut frame = [0; 126];
+    frame[..14].copy_from_slice(&[2, 0, 0, 0, 0, 2, 2, 0, 0, 0, 0, 1, 0x86, 0xdd]);
+    frame[14..22].copy_from_slice(&[0x60, 0, 0, 0, 0, 72, 44, 64]);
+    frame[30..38].copy_from_slice(&0x9e37_79b9_7f4a_7c15_u64.to_le_bytes());
+    frame[38] = 0xfd;
+    frame[53] = 2;
+    frame[54] = 17;
+    frame[61] = 7;
+    let mut sum = 0u64;
+    for _ in 0..8000 / names {
+        for flags in [1, 8 * 8] {
+            frame[57] = flags;
+            for name in 0..names {
+                frame[22..26].copy_from_slice(&name.to_be_bytes());
+                frame[62] = (name % 251) as u8;
+                sum = sum_with(sum, pool, &frame);
+            }
+        }
+    }
+    sum
+}
+
+/// The benchmark of this name, in one pool: none where no benchmark has it.
+fn measure_pool<S: BuildHasher>(mut pool: Pool<(), (), S>, name: &str, turns: u32) -> Option<(u64, Duration)> {
+    let names = match name.strip_prefix("colliding_") {
+        Some(names) => Some(names.parse().ok()?),
+        None if name == "interleaved" => None,
+        None => return None,
+    };
     let mut sum = 0;
     let mut fastest = Duration::MAX;
     for _ in 0..turns {
         let start = Instant::now();
-        sum = put_together(&mut pool);
+        sum = match names {
+            Some(names) => put_colliding(&mut pool, names),
+            None => put_interleaved(&mut pool),
+        };
         fastest = fastest.min(start.elapsed());
     }
-    (sum, fastest)
+    Some((sum, fastest))
 }
 
 fn main() -> ExitCode {
@@ -113,12 +151,15 @@ fn main() -> ExitCode {
         .collect();
     for name in words.iter().skip(usize::from(is_timed)) {
         let turns = if is_timed { 20 } else { 1 };
-        let (sum, fastest) = if name == "interleaved" {
-            measure_interleaved(turns)
-        } else if let Some(order) = Order::of_name(name) {
-            measure(order, &message, turns)
+        let measured = if let Some(order) = Order::of_name(name) {
+            Some(measure(order, &message, turns))
+        } else if let Some(name) = name.strip_suffix("_random") {
+            measure_pool(HashMap::with_hasher(RandomState::new()), name, turns)
         } else {
-            eprintln!("plain_reassembly: no order has the name {name}");
+            measure_pool(<Pool<(), ()>>::default(), name, turns)
+        };
+        let Some((sum, fastest)) = measured else {
+            eprintln!("plain_reassembly: no benchmark has the name {name}");
             return ExitCode::FAILURE;
         };
         if is_timed {

@@ -4,7 +4,7 @@ use crate::frames::{Addresses, Packet, Part, VlanIds};
 use crate::reassembly::{FoldHasher, Reassembly, Refusal};
 use std::collections::HashMap;
 use std::collections::hash_map::Entry;
-use std::hash::{BuildHasherDefault, Hash};
+use std::hash::{BuildHasher, BuildHasherDefault, Hash};
 
 /// What a fragment's message is known by.
 #[derive(PartialEq, Eq, Hash)]
@@ -23,11 +23,11 @@ pub struct Stream<T> {
     pub timestamp: T,
 }
 
-pub type Pool<C, T> = HashMap<Name<C>, Stream<T>, BuildHasherDefault<FoldHasher>>;
+pub type Pool<C, T, S = BuildHasherDefault<FoldHasher>> = HashMap<Name<C>, Stream<T>, S>;
 
 /// Adds a packet, which is this part of a message, to the others of it. The message is handed out if it is complete now.
-pub fn add_part<C: Eq + Hash, T>(
-    pool: &mut Pool<C, T>,
+pub fn add_part<C: Eq + Hash, T, S: BuildHasher>(
+    pool: &mut Pool<C, T, S>,
     packet: &Packet,
     part: Part,
     channel: C,

@@ -6,6 +6,7 @@ use ep_defrag::defrag::{
 };
 use ep_packet::SlicedPacket;
 use std::alloc::Global;
+use std::hash::BuildHasher;
 use std::process::Abort;
 use std::test::*;
 
@@ -62,9 +63,9 @@ pub const TAGGED_SECOND: [u8; 54] = [
 ];
 
 /// Hands a frame in; no contract, as above.
-pub fn process(
+pub fn process<S: BuildHasher>(
     rt: &impl Abort,
-    pool: &mut IpDefragPool<u64, u32>,
+    pool: &mut IpDefragPool<u64, u32, S>,
     frame: &[u8],
     timestamp: u64,
     channel: u32,
@@ -76,9 +77,9 @@ pub fn process(
 }
 
 /// Hands a frame in, and tells whether it completes a message; no contract, as above.
-pub fn delivers(
+pub fn delivers<S: BuildHasher>(
     rt: &impl Abort,
-    pool: &mut IpDefragPool<u64, u32>,
+    pool: &mut IpDefragPool<u64, u32, S>,
     frame: &[u8],
     timestamp: u64,
     channel: u32,
@@ -90,10 +91,10 @@ pub fn delivers(
 }
 
 /// The replies to calls; no contract, as above.
-pub fn replies(
+pub fn replies<S: BuildHasher>(
     rt: &impl Abort,
     alloc: Global,
-    pool: &mut IpDefragPool<u64, u32>,
+    pool: &mut IpDefragPool<u64, u32, S>,
     calls: &[PoolCall<'_>],
 ) -> Vec<PoolReply> {
     let Ok(replies) = run_calls(alloc, pool, calls) else {

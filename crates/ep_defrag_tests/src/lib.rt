@@ -11,6 +11,8 @@ mod fragments;
 #[cfg(test)]
 mod frames;
 #[cfg(test)]
+mod hasher_states;
+#[cfg(test)]
 mod hostile;
 #[cfg(test)]
 mod memory;

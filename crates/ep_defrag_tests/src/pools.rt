@@ -6,6 +6,8 @@ use crate::frames::{
 use ep_base::{IpNumber, LenSource};
 use ep_defrag::defrag::{IpDefragError, IpDefragPayloadVec, IpDefragPool, PoolCall, PoolReply};
 use ep_packet::Class;
+use std::alloc::Global;
+use std::hash::BuildHasher;
 use std::process::Abort;
 use std::test::*;
 
@@ -84,9 +86,13 @@ fn refused_fragments_keep_the_time(rt: HostRuntime) {
     assert!(rt; !delivers(&rt, &mut pool, &FIRST, 6, 0));
 }
 
-#[test]
-fn calls_in_a_row(rt: HostRuntime) {
-    let mut pool = IpDefragPool::new(rt.alloc());
+/// Makes calls of each kind, and fails where a reply is another than the row's. It has no contract,
+/// as above.
+pub fn answers_calls_in_a_row<S: BuildHasher + Drop>(
+    rt: &impl Abort,
+    alloc: Global,
+    mut pool: IpDefragPool<u64, u32, S>,
+) {
     let frame = |frame, timestamp| PoolCall::Frame {
         frame,
         timestamp,
@@ -99,7 +105,7 @@ fn calls_in_a_row(rt: HostRuntime) {
         frame(&FIRST[..], 4),
         PoolCall::RetainFrom(5),
     ];
-    let replies = replies(&rt, rt.alloc(), &mut pool, &calls);
+    let replies = replies(rt, alloc, &mut pool, &calls);
     let [
         PoolReply::Nothing,
         PoolReply::Nothing,
@@ -111,4 +117,9 @@ fn calls_in_a_row(rt: HostRuntime) {
         panic!(rt; "the replies are others");
     };
     assert!(rt; is_udp(message, LenSource::Ipv4HeaderTotalLen, &MESSAGE));
+}
+
+#[test]
+fn calls_in_a_row(rt: HostRuntime) {
+    answers_calls_in_a_row(&rt, rt.alloc(), IpDefragPool::new(rt.alloc()));
 }

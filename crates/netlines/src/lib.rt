@@ -9,7 +9,9 @@ mod messages;
 pub use etherparse::defrag::IpFragVersionSpecId;
 pub use etherparse::{Addresses, Message, VlanId, read_message};
 pub use frames::frame_answerer::FrameAnswerer;
-pub use frames::run_frames::{answers, run, run_bounded, run_over};
+pub use frames::run_frames::{
+    answers, run, run_bounded, run_over, run_over_with_hasher, run_with_hasher,
+};
 pub use frames::verdict::{Verdict, judge};
 pub use lines::{
     Answerer, LINE_LIMIT, READ_COUNT_LIMIT, READ_SIZE_LIMIT, REPLY_ROOM, RunError, run_with,

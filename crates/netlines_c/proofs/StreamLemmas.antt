@@ -2,9 +2,7 @@
 use Rattle.std.proofs.Common.{◌≡◌, ◌∙◌, sym, ap, subst, ℕ, Bool, List, Option, Some, true}
 use Rattle.std.specs.Prelude.{unwrap_or}
 use Rattle.netlines.specs.Answers.{frame_meaning}
-use Rattle.netlines.specs.declared.frames.frame_answerer.FrameAnswerer.{FrameAnswerer}
 use Rattle.sessions.specs.Sessions.{IsWrittenOut, Took, replies}
-use Rattle.sessions.specs.declared.session.Session.{Session}
 use Rattle.netlines_c.specs.Streams.{IsSession, TookText, shows_lines}
 use Rattle.netlines_c.specs.declared.session.NetlinesSession.{NetlinesSession}
 use Rattle.netlines_c.specs.declared.stream.Stream.{Stream}
@@ -28,8 +26,8 @@ taken_written s y is_session is_open held =
     (same_stream old.0 y s.held.value old.1 held) old.2
 
 -- the stream that is put back
-pub put_took : (s : NetlinesSession) (new : Session FrameAnswerer) (ended : Bool)
-    (text told : List ℕ) → s.held.value ≡ Some (record { session = new }) → s.is_open ≡ true
+pub put_took : (s : NetlinesSession) (new : _) (ended : Bool) (text told : List ℕ)
+    → s.held.value ≡ Some (record { session = new }) → s.is_open ≡ true
     → new.has_ended ≡ ended → Took frame_meaning shows_lines new text told
     → TookText s ended text told
 put_took s new ended text told held is_open is took = record {

@@ -10,7 +10,7 @@ use Rattle.netlines_c.specs.declared.session.NetlinesSession.{NetlinesSession}
 use Rattle.netlines_c.specs.declared.stream.Stream.{Stream}
 
 -- what is known after these lines, where of the next one this front is read
-abbrev pub shows_lines : FrameAnswerer → List (List ℕ) → List ℕ → Type 0
+abbrev pub shows_lines : {S H : Type 0} → FrameAnswerer S H → List (List ℕ) → List ℕ → Type 0
 shows_lines answerer earlier front =
     ShowsLists answerer.pool (lists_after_lines earlier) × Reads front answerer.reader
 

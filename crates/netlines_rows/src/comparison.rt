@@ -2,8 +2,9 @@
 ghost use Rattle.std.specs.Prelude.{◌≡◌, ◌↔◌, IfOk, IsTrue};
 ghost use Rattle.netlines.specs.Answers.{answers_of};
 
-use netlines::RunError;
+use netlines::{READ_COUNT_LIMIT, RunError};
 use std::alloc::Global;
+use std::hash::BuildHasher;
 use std::io::{self, Read};
 
 /// Whether a run over the input writes exactly what is wanted.
@@ -34,13 +35,18 @@ impl<'a> Read for PieceReader<'a> {
 }
 
 /// Whether runs write the same where a read gives a byte, a pair of digits or one byte more, about
-/// as many digits as are read at once, or all that it has room for. It has no contract: it is run,
-/// as a test is.
-pub fn agrees_in_pieces(alloc: Global, input: &[u8], wanted: &[u8]) -> Result<bool, RunError> {
+/// as many digits as are read at once, or all that it has room for; with such a hasher's state for
+/// the names of messages. It has no contract: it is run, as a test is.
+pub fn agrees_in_pieces<S: BuildHasher + Copy>(
+    alloc: Global,
+    state: S,
+    input: &[u8],
+    wanted: &[u8],
+) -> Result<bool, RunError> {
     for size in [1, 2, 3, 31, 32, 33, 65_536] {
         let mut reader = PieceReader { rest: input, size };
         let mut output = Vec::new(alloc);
-        netlines::run(alloc, &mut reader, &mut output)?;
+        netlines::run_with_hasher(alloc, state, &mut reader, &mut output, READ_COUNT_LIMIT)?;
         if output.as_slice() != wanted {
             return Ok(false);
         }

@@ -2,8 +2,9 @@
 //!
 //! A row NAME is an input, `NAME.in`, and the output that it has to give, `NAME.out`. The rows were
 //! worked out by a program that is independent of this project. The arguments name the rows that
-//! are compared. Those that differ are told, and then the program fails. The file `refusals` says of
-//! each frame that is refused which layer breaks, and where that begins.
+//! are compared, with each hasher's state for the names of messages. Those that differ are told, and
+//! then the program fails. The file `refusals` says of each frame that is refused which layer breaks,
+//! and where that begins.
 #![tactic(auto)]
 
 mod comparison;
@@ -14,12 +15,15 @@ use crate::comparison::{agrees, agrees_in_pieces};
 use crate::frame_count::count_frames;
 use crate::headers::Frames;
 use anyhow::{Context, Result};
+use std::hash::{BuildHasherDefault, FoldHasher, RandomState};
 use std::process::ExitCode;
 use std::rt::Files;
 use std::{env, fs};
 
 fn main(rt: HostRuntime) -> Result<ExitCode> {
     let names: Vec<String> = env::args(&rt)?.skip(1).collect(rt.alloc())?;
+    let fixed = BuildHasherDefault::<FoldHasher>::new();
+    let random = RandomState::new(&rt).context("taking random keys")?;
     let mut differing = 0usize;
     let mut frames = Frames::new(rt.alloc());
     for name in &names {
@@ -28,8 +32,11 @@ fn main(rt: HostRuntime) -> Result<ExitCode> {
         if !agrees(rt.alloc(), input.as_slice(), wanted.as_slice())? {
             println!(rt; "{name} differs")?;
             differing += 1;
-        } else if !agrees_in_pieces(rt.alloc(), input.as_slice(), wanted.as_slice())? {
+        } else if !agrees_in_pieces(rt.alloc(), fixed, input.as_slice(), wanted.as_slice())? {
             println!(rt; "{name} differs where reads give few bytes")?;
+            differing += 1;
+        } else if !agrees_in_pieces(rt.alloc(), random, input.as_slice(), wanted.as_slice())? {
+            println!(rt; "{name} differs where names are hashed by random keys")?;
             differing += 1;
         }
         count_frames(rt.alloc(), name.as_str(), input.as_slice(), &mut frames)?;

@@ -7,6 +7,8 @@ mod edges;
 #[cfg(test)]
 mod faults;
 #[cfg(test)]
+mod hasher_states;
+#[cfg(test)]
 mod laws;
 #[cfg(test)]
 mod memory;

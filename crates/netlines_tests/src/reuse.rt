@@ -19,8 +19,8 @@ pub const ROUND: &[u8; 457] =
 pub const ROUND_ANSWERS: &[u8; 120] = b"wait\nmessage 17 good 000100020010dbb40102030405060708\n\
     wait\nwait\nmessage 6 good 0001000200000003000000005002040097da0000\n";
 
-// So many times over.
-fn repeated(alloc: Global, text: &[u8], times: u32) -> Result<Vec<u8>, AllocError> {
+/// The bytes so many times over.
+pub fn repeated(alloc: Global, text: &[u8], times: u32) -> Result<Vec<u8>, AllocError> {
     let mut all = Vec::new(alloc);
     for _ in 0..times {
         all.extend_from_slice(text)?;

@@ -1,7 +1,8 @@
 //! Many messages on their way at once.
 
-use ep_packet::SlicedPacket;
+use crate::pools::sum_with;
 use etherparse::defrag::IpDefragPool;
+use std::hash::BuildHasher;
 
 /// How many messages there are for each of two sources.
 const IDENTIFICATIONS: u16 = 50_000;
@@ -21,7 +22,7 @@ const HEADERS: [u8; 34] = [
 /// Puts 100,000 messages of two fragments together, all of whose first fragments come before the
 /// second ones, and gives a sum of what is handed out. It has no contract: the sum is compared with
 /// that of a plain program.
-pub fn put_together(pool: &mut IpDefragPool) -> u64 {
+pub fn put_together<S: BuildHasher>(pool: &mut IpDefragPool<(), (), S>) -> u64 {
     let mut frame = [0; FRAME_LEN];
     frame[..34].copy_from_slice(&HEADERS);
     let mut sum = 0;
@@ -40,24 +41,4 @@ pub fn put_together(pool: &mut IpDefragPool) -> u64 {
         }
     }
     sum
-}
-
-/// The sum with what the pool hands out for a frame; it has no contract, as `put_together`.
-fn sum_with(sum: u64, pool: &mut IpDefragPool, frame: &[u8]) -> u64 {
-    let Ok(packet) = SlicedPacket::from_ethernet(frame) else {
-        return 0;
-    };
-    match pool.process_sliced_packet(&packet, (), ()) {
-        Ok(Some(whole)) => {
-            let bytes = whole.payload.as_slice();
-            let ends = bytes.first().zip(bytes.last());
-            let (first, last) = ends.map_or((0, 0), |(first, last)| (*first, *last));
-            sum.wrapping_mul(31)
-                .wrapping_add(bytes.len() as u64)
-                .wrapping_add(u64::from(first))
-                .wrapping_add(u64::from(last))
-        }
-        Ok(None) => sum,
-        Err(_) => 0,
-    }
 }

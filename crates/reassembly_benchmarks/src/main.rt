@@ -6,8 +6,10 @@
 //! fastest time.
 #![tactic(auto)]
 
+mod colliding;
 mod interleaved;
 mod order;
+mod pools;
 mod reassembly;
 
 use crate::order::Order;
@@ -27,8 +29,7 @@ impl Benchmarks for ReassemblyBenchmarks {
             "descending" => Order::Descending,
             "even_first" => Order::EvenFirst,
             "shuffled" => Order::Shuffled,
-            "interleaved" => return reassembly::measure_interleaved(rt, repeats.turns).map(Some),
-            _ => return Ok(None),
+            _ => return pools::measure(rt, name, repeats.turns),
         };
         reassembly::measure(rt, order, repeats.turns).map(Some)
     }

@@ -1,10 +1,8 @@
-//! Messages that are put together: one of 65535 bytes from 8192 fragments, or 100,000 of two
-//! fragments each, which a pool holds at once.
-use crate::interleaved::put_together;
+//! A message of 65535 bytes that is put together from 8192 fragments.
 use crate::order::{FRAGMENTS, Order};
 use benchmark_runs::Measured;
 use ep_base::{IpFragOffset, IpNumber};
-use etherparse::defrag::{IpDefragBuf, IpDefragPool};
+use etherparse::defrag::IpDefragBuf;
 use std::alloc::{AllocError, Global};
 use std::io;
 use std::time::{Duration, Instant};
@@ -27,20 +25,6 @@ pub fn measure(rt: &HostRuntime, order: Order, turns: u32) -> io::Result<Measure
         fastest = fastest.min(start.elapsed(rt)?);
         sum = sum_of(&buf, accepted);
         (data, sections) = buf.take_bufs();
-    }
-    Ok(Measured { sum, fastest })
-}
-
-/// Puts the many messages together so many times, each time in the same pool, and takes the time of
-/// the fastest. It has no contract, as `measure`.
-pub fn measure_interleaved(rt: &HostRuntime, turns: u32) -> io::Result<Measured> {
-    let mut pool = IpDefragPool::new(rt.alloc());
-    let mut sum = 0;
-    let mut fastest = Duration::MAX;
-    for _ in 0..turns {
-        let start = Instant::now(rt)?;
-        sum = put_together(&mut pool);
-        fastest = fastest.min(start.elapsed(rt)?);
     }
     Ok(Measured { sum, fastest })
 }

@@ -51,14 +51,14 @@ impl<Timestamp: Drop, CustomChannelId: Eq + Hash + Drop> IpDefragPool<
     CustomChannelId,
     BuildHasherDefault<FoldHasher>,
 > {
-    /// A pool with no message. It takes no memory.
+    /// A pool with no message, for input that is trusted: names are hashed by a fixed seed, so that
+    /// they can be chosen to collide. [`IpDefragPool::with_hasher`] takes another state. It takes no
+    /// memory.
     pub fn new(alloc: Global) -> Self
         ensures streams { result.streams ≡ [] }
         ensures spare { result.spare ≡ 0 }
     {
-        IpDefragPool {
-            streams: Streams::with_hasher(alloc, BuildHasherDefault::new()),
-        }
+        IpDefragPool::with_hasher(alloc, BuildHasherDefault::new())
     }
 }
 
@@ -68,6 +68,18 @@ impl<Timestamp: Drop, CustomChannelId: Eq + Hash + Drop, S: BuildHasher> IpDefra
     S,
 > {
     ghost use Rattle.ep_defrag.specs.declared.defrag.ip_frag_id.IpFragId.{IpFragId};
+
+    /// A pool with no message, whose names are hashed by this state. It takes no memory. What calls
+    /// answer doesn't depend on the state: no clause of theirs names it. Where strangers choose the
+    /// names, a [`std::hash::RandomState`] keeps them from colliding by intent.
+    pub fn with_hasher(alloc: Global, state: S) -> Self
+        ensures streams { result.streams ≡ [] }
+        ensures spare { result.spare ≡ 0 }
+    {
+        IpDefragPool {
+            streams: Streams::with_hasher(alloc, state),
+        }
+    }
 
     /// Takes a packet. If it is a fragment, it is added to those of its message that came before
     /// it, and one that completes the message hands it out. Nothing is held of the message then.

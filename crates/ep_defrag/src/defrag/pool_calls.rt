@@ -18,6 +18,7 @@ use crate::laws::streams::{open_messages_are_counted, packets_are_answered};
 use ep_packet::SlicedPacket;
 use ep_packet::err::packet::SliceError;
 use std::alloc::{AllocError, Global};
+use std::hash::BuildHasher;
 
 /// What is asked of a pool.
 #[derive(Clone, Copy, Debug, PartialEq, Eq)]
@@ -54,7 +55,7 @@ pub enum PoolReply {
 }
 
 // Answers one call.
-fn answer(pool: &mut IpDefragPool<u64, u32>, call: &PoolCall<'_>) -> PoolReply
+fn answer<S: BuildHasher>(pool: &mut IpDefragPool<u64, u32, S>, call: &PoolCall<'_>) -> PoolReply
     ensures answered { (lists : Lists) → ShowsLists pool.old lists
         → Answered (ShowsLists pool.new) lists call.now (as_told result) }
     ensures bound { Bounded pool.old pool.new }
@@ -69,8 +70,8 @@ fn answer(pool: &mut IpDefragPool<u64, u32>, call: &PoolCall<'_>) -> PoolReply
     }
 }
 
-fn answer_frame(
-    pool: &mut IpDefragPool<u64, u32>,
+fn answer_frame<S: BuildHasher>(
+    pool: &mut IpDefragPool<u64, u32, S>,
     frame: &[u8],
     timestamp: u64,
     channel: u32,
@@ -86,8 +87,8 @@ fn answer_frame(
     }
 }
 
-fn answer_packet(
-    pool: &mut IpDefragPool<u64, u32>,
+fn answer_packet<S: BuildHasher>(
+    pool: &mut IpDefragPool<u64, u32, S>,
     packet: &SlicedPacket<'_>,
     timestamp: u64,
     channel: u32,
@@ -113,7 +114,7 @@ fn reply_of(outcome: Result<Option<IpDefragPayloadVec>, IpDefragError>) -> PoolR
     }
 }
 
-fn retain_from(pool: &mut IpDefragPool<u64, u32>, from: u64) -> PoolReply
+fn retain_from<S: BuildHasher>(pool: &mut IpDefragPool<u64, u32, S>, from: u64) -> PoolReply
     ensures told { as_told result ≡ Retained }
     ensures lists { (lists : Lists) → ShowsLists pool.old lists
         → ShowsLists pool.new (λ name channel. retained_from from (lists name channel)) }
@@ -125,10 +126,11 @@ fn retain_from(pool: &mut IpDefragPool<u64, u32>, from: u64) -> PoolReply
     }
 }
 
-/// Answers calls in turn. The replies have their room first, so that an error changes nothing.
-pub fn run_calls(
+/// Answers calls in turn, over a pool of any hasher's state. The replies have their room first, so
+/// that an error changes nothing.
+pub fn run_calls<S: BuildHasher>(
     alloc: Global,
-    pool: &mut IpDefragPool<u64, u32>,
+    pool: &mut IpDefragPool<u64, u32, S>,
     calls: &[PoolCall<'_>],
 ) -> Result<Vec<PoolReply>, AllocError>
     // Each reply is that of its name's own list of fragments; or it tells of want of memory, to a

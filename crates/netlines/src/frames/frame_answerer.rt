@@ -28,6 +28,7 @@ use etherparse::laws::defrag::streams::{
 };
 use etherparse::{Class, CutMessage, SlicedPacket, WholeMessage};
 use std::alloc::{AllocError, Global};
+use std::hash::{BuildHasher, BuildHasherDefault, FoldHasher};
 
 const BAD_LINE: &[u8; 8] = b"bad line";
 
@@ -36,29 +37,41 @@ const REFUSED_FRAME: &[u8; 13] = b"refused frame";
 /// Answers each line by its frame and by the fragments of the same message in the lines before it,
 /// and drops messages where a line says so.
 #[derive(Drop)]
-pub struct FrameAnswerer {
+pub struct FrameAnswerer<S: BuildHasher = BuildHasherDefault<FoldHasher>> {
     // The messages on their way, each with the line of the fragment that was accepted last.
-    pool: IpDefragPool<u64, u32>,
+    pool: IpDefragPool<u64, u32, S>,
     // The line that has begun.
     reader: LineReader,
 }
 
-impl FrameAnswerer {
-    /// No message is on its way and no line has begun. The room of a line's frame is taken here.
+impl FrameAnswerer<BuildHasherDefault<FoldHasher>> {
+    /// [`FrameAnswerer::with_hasher`] with std's state of a fixed seed.
     pub fn new(alloc: Global) -> Result<FrameAnswerer, AllocError>
+        ensures pool { IfOk result
+            (λ answerer. ShowsLists answerer.pool (lists_after_lines [])) }
+        ensures reader { IfOk result (λ answerer. Reads [] answerer.reader) }
+    {
+        FrameAnswerer::with_hasher(alloc, BuildHasherDefault::new())
+    }
+}
+
+impl<S: BuildHasher + Drop> FrameAnswerer<S> {
+    /// No message is on its way and no line has begun. The names of messages are hashed by this
+    /// state. The room of a line's frame is taken here.
+    pub fn with_hasher(alloc: Global, state: S) -> Result<FrameAnswerer<S>, AllocError>
         ensures pool { IfOk result
             (λ answerer. ShowsLists answerer.pool (lists_after_lines [])) }
         ensures reader { IfOk result (λ answerer. Reads [] answerer.reader) }
     {
         a_new_pool_shows_no_lists();
         Ok(FrameAnswerer {
-            pool: IpDefragPool::new(alloc),
+            pool: IpDefragPool::with_hasher(alloc, state),
             reader: LineReader::new(alloc)?,
         })
     }
 }
 
-impl Answerer for FrameAnswerer {
+impl<S: BuildHasher> Answerer for FrameAnswerer<S> {
     ghost meaning = { frame_meaning };
 
     ghost shows = { λ answerer earlier front.
@@ -76,8 +89,8 @@ impl Answerer for FrameAnswerer {
 }
 
 // Writes the answer to what a line asks for.
-fn answer_request(
-    pool: &mut IpDefragPool<u64, u32>,
+fn answer_request<S: BuildHasher>(
+    pool: &mut IpDefragPool<u64, u32, S>,
     request: Request<'_>,
     number: u64,
     out: &mut [u8],
@@ -95,8 +108,8 @@ fn answer_request(
 }
 
 // Writes the answer to a frame.
-fn answer_frame(
-    pool: &mut IpDefragPool<u64, u32>,
+fn answer_frame<S: BuildHasher>(
+    pool: &mut IpDefragPool<u64, u32, S>,
     frame: &[u8],
     number: u64,
     channel: u32,
@@ -115,8 +128,8 @@ fn answer_frame(
 }
 
 // Writes the answer to a frame that was sliced.
-fn answer_packet(
-    pool: &mut IpDefragPool<u64, u32>,
+fn answer_packet<S: BuildHasher>(
+    pool: &mut IpDefragPool<u64, u32, S>,
     packet: &SlicedPacket<'_>,
     number: u64,
     channel: u32,
@@ -149,8 +162,8 @@ fn write_whole(message: &WholeMessage<'_>, out: &mut [u8]) -> usize
 }
 
 // Takes a part of a message, and writes the answer to it.
-fn answer_part(
-    pool: &mut IpDefragPool<u64, u32>,
+fn answer_part<S: BuildHasher>(
+    pool: &mut IpDefragPool<u64, u32, S>,
     message: CutMessage<'_>,
     number: u64,
     channel: u32,
@@ -197,7 +210,11 @@ fn write_completed(addresses: &Addresses, payload: &IpDefragPayloadVec, out: &mu
 }
 
 // Drops the messages whose last fragment stood before the line of this number.
-fn forget(pool: &mut IpDefragPool<u64, u32>, from: u64, out: &mut [u8]) -> Result<usize, AllocError>
+fn forget<S: BuildHasher>(
+    pool: &mut IpDefragPool<u64, u32, S>,
+    from: u64,
+    out: &mut [u8],
+) -> Result<usize, AllocError>
     requires room { REPLY_ROOM ≤ length out.old }
     ensures fits { IfOk result (λ end. end < length out.new) }
     ensures answers { (number : ℕ)

@@ -9,6 +9,7 @@ use crate::frames::frame_answerer::FrameAnswerer;
 use lines::{READ_COUNT_LIMIT, RunError, answers_by, run_with};
 use runs::{Device, ReaderWriter};
 use std::alloc::{AllocError, Global};
+use std::hash::{BuildHasher, BuildHasherDefault, FoldHasher};
 use std::io::{Read, Write};
 
 /// Answers each line of the reader by a line on the writer, up to the end of the reader.
@@ -19,6 +20,9 @@ use std::io::{Read, Write};
 ///
 /// Memory is taken before the first read, and then for fragments that aren't refused alone. Where
 /// it runs out for one of these, the answers to all lines before it are written.
+///
+/// The names of messages are hashed by a fixed seed. Where strangers choose the names, take
+/// [`run_with_hasher`].
 pub fn run<R: Read, W: Write>(alloc: Global, reader: &mut R, writer: &mut W) -> Result<(), RunError>
     // All lines are answered, and no byte is left to read.
     ensures ok { OnOk result (IfSome (R.remaining reader.old) (λ bytes.
@@ -41,7 +45,7 @@ pub fn run<R: Read, W: Write>(alloc: Global, reader: &mut R, writer: &mut W) -> 
     run_bounded(alloc, reader, writer, READ_COUNT_LIMIT)
 }
 
-/// [`run`] with at most so many reads, of which the one that tells the end is one.
+/// [`run`] of at most so many reads, of which the one that tells the end is one.
 pub fn run_bounded<R: Read, W: Write>(
     alloc: Global,
     reader: &mut R,
@@ -60,8 +64,46 @@ pub fn run_bounded<R: Read, W: Write>(
     ensures too_many { IsErrOf result RunError.TooManyReads
         → IfSome (R.remaining reader.old) (λ bytes. reads ≤ length bytes) }
 {
+    run_with_hasher(
+        alloc,
+        BuildHasherDefault::<FoldHasher>::new(),
+        reader,
+        writer,
+        reads,
+    )
+}
+
+/// [`run_bounded`] with the names of messages hashed by this state. The state changes no byte of
+/// the output: no clause names it. A [`std::hash::RandomState`] keeps names that strangers choose
+/// from colliding by intent.
+pub fn run_with_hasher<S: BuildHasher + Drop, R: Read, W: Write>(
+    alloc: Global,
+    state: S,
+    reader: &mut R,
+    writer: &mut W,
+    reads: u64,
+) -> Result<(), RunError>
+    requires { reads ≤ READ_COUNT_LIMIT }
+    // All lines are answered, and no byte is left to read.
+    ensures ok { OnOk result (IfSome (R.remaining reader.old) (λ bytes.
+        Appends (W.contents writer.old) (W.contents writer.new) (answers_of bytes))) }
+    ensures end { OnOk result (IsAtEnd (R.remaining reader.new)) }
+
+    // However reads and writes cut the bytes, what is written is the output for the bytes read.
+    ensures bytes { Transfers (R.remaining reader.old) (R.remaining reader.new)
+        (W.contents writer.old) (W.contents writer.new) result }
+
+    // The calls, one by one, as far as they show in the known bytes.
+    ensures calls { Runs KnownCall reads
+        (known_of (R.remaining reader.old) (W.contents writer.old))
+        (known_of (R.remaining reader.new) (W.contents writer.new)) result }
+
+    // Each of these reads gave a byte at least.
+    ensures too_many { IsErrOf result RunError.TooManyReads
+        → IfSome (R.remaining reader.old) (λ bytes. reads ≤ length bytes) }
+{
     let mut device = ReaderWriter { reader, writer };
-    let result = run_over(alloc, &mut device, reads);
+    let result = run_over_with_hasher(alloc, state, &mut device, reads);
     // No effect at run time. The proof reads here what both hold at the end.
     let _ = &*device.reader;
     let _ = &*device.writer;
@@ -74,7 +116,25 @@ pub fn run_over<D: Device>(alloc: Global, device: &mut D, reads: u64) -> Result<
     requires { reads ≤ READ_COUNT_LIMIT }
     ensures { Runs D.transition reads device.old device.new result }
 {
-    let Ok(answerer) = FrameAnswerer::new(alloc) else {
+    run_over_with_hasher(
+        alloc,
+        BuildHasherDefault::<FoldHasher>::new(),
+        device,
+        reads,
+    )
+}
+
+/// [`run_over`] with the names of messages hashed by this state, as in [`run_with_hasher`].
+pub fn run_over_with_hasher<S: BuildHasher + Drop, D: Device>(
+    alloc: Global,
+    state: S,
+    device: &mut D,
+    reads: u64,
+) -> Result<(), RunError>
+    requires { reads ≤ READ_COUNT_LIMIT }
+    ensures { Runs D.transition reads device.old device.new result }
+{
+    let Ok(answerer) = FrameAnswerer::with_hasher(alloc, state) else {
         return Err(RunError::Memory);
     };
     run_with(alloc, answerer, device, reads)

@@ -4,7 +4,7 @@ use Rattle.ep_defrag.specs.PoolCalls.{FrameAnswered, ShowsLists, Told}
 use Rattle.ep_defrag.proofs.defrag.pool_calls.answer_packet.Goals as goal
 
 pub returns-clause-answered : goal.returns-clause-answered
-returns-clause-answered c fault lists shows =
+returns-clause-answered g c fault lists shows =
     let e = c.process_sliced_packet.ensures in
     let class = packet_told c.args.packet.now in
     let pool = c.process_sliced_packet.new.self in

@@ -8,7 +8,7 @@ use Rattle.ep_defrag.proofs.Runs.{replies_with_memory}
 use Rattle.ep_defrag.proofs.defrag.pool_calls.run_calls.Goals as goal
 
 pub loop-call-preserved : goal.loop-call-preserved
-loop-call-preserved c =
+loop-call-preserved g c =
     let i = c.loop-call.invariant in
     let pushed = rw c.unwrap.ensures at c.push.ensures.items in
     let longer = rw c.unwrap.ensures at c.push.ensures.len in
@@ -46,22 +46,22 @@ loop-call-preserved c =
     }
 
 pub returns-clause-replies : goal.returns-clause-replies
-returns-clause-replies c lists shows =
+returns-clause-replies g c lists shows =
     subst (λ (calls : List PoolCall). Replies (ShowsLists c.loop-call.pool) lists calls
     (map as_told c.loop-call.replies.items))
     (take_all c.loop-call.call-index c.args.calls.now (omega arith))
     (c.loop-call.invariant.replies_so_far lists shows)
 
 pub returns-clause-told : goal.returns-clause-told
-returns-clause-told c lists shows has =
+returns-clause-told g c lists shows has =
     (replies_with_memory (ShowsLists c.loop-call.pool) lists c.args.calls.now
-    (map as_told c.loop-call.replies.items) (returns-clause-replies c lists shows) has).0
+    (map as_told c.loop-call.replies.items) (returns-clause-replies g c lists shows) has).0
 
 pub returns-clause-lists : goal.returns-clause-lists
-returns-clause-lists c lists shows has =
+returns-clause-lists g c lists shows has =
     (replies_with_memory (ShowsLists c.loop-call.pool) lists c.args.calls.now
-    (map as_told c.loop-call.replies.items) (returns-clause-replies c lists shows) has).1
+    (map as_told c.loop-call.replies.items) (returns-clause-replies g c lists shows) has).1
 
 pub returns-clause-bound : goal.returns-clause-bound
-returns-clause-bound c lists most shows has start never =
+returns-clause-bound g c lists most shows has start never =
     c.loop-call.invariant.bounded lists most shows has start never

@@ -8,7 +8,7 @@ use Rattle.ep_defrag.proofs.defrag.pool_calls.run_calls.Given as goal
 
 -- the replies so far are those to the calls so far
 abbrev pub invariant-loop-call : goal.invariant-loop-call
-invariant-loop-call l = record {
+invariant-loop-call g l = record {
   len : vec_len l.replies ≡ l.call-index;
   room : length l.calls ≤ vec_capacity l.replies;
   replies_so_far : (lists : Lists) → ShowsLists l.fn.pool lists

@@ -4,7 +4,7 @@ use Rattle.netlines.proofs.PartLemmas.{part_answered, part_is, part_wants}
 use Rattle.netlines.proofs.frames.frame_answerer.answer_part.Goals as goal
 
 pub returns-in-Ok-Some-clause-answers : goal.returns-in-Ok-Some-clause-answers
-returns-in-Ok-Some-clause-answers c lists shows =
+returns-in-Ok-Some-clause-answers g c lists shows =
     let e = c.process_cut_message.ensures in
     let processed : Processed _ _ _ _ _ _ =
     record {
@@ -25,7 +25,7 @@ returns-in-Ok-Some-clause-answers c lists shows =
     )
 
 pub returns-in-Ok-None-clause-answers : goal.returns-in-Ok-None-clause-answers
-returns-in-Ok-None-clause-answers c lists shows =
+returns-in-Ok-None-clause-answers g c lists shows =
     let e = c.process_cut_message.ensures in
     let processed : Processed _ _ _ _ _ _ =
     record {
@@ -43,7 +43,7 @@ returns-in-Ok-None-clause-answers c lists shows =
     (c.append.ensures.text ∙ answered.0, answered.1)
 
 pub returns-in-Some-clause-answers : goal.returns-in-Some-clause-answers
-returns-in-Some-clause-answers c lists shows =
+returns-in-Some-clause-answers g c lists shows =
     let e = c.process_cut_message.ensures in
     let processed : Processed _ _ _ _ _ _ =
     record {
@@ -60,7 +60,7 @@ returns-in-Some-clause-answers c lists shows =
     (c.append-in-Some.ensures.text ∙ c.in-Some.ensures.text.1 ∙ answered.0, answered.1)
 
 pub returns-in-None-clause-answers : goal.returns-in-None-clause-answers
-returns-in-None-clause-answers c lists shows =
+returns-in-None-clause-answers g c lists shows =
     let e = c.process_cut_message.ensures in
     let processed : Processed _ _ _ _ _ _ =
     record {

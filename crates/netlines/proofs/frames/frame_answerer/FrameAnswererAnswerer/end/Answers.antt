@@ -4,7 +4,7 @@ use Rattle.netlines.proofs.AnswerLemmas.{answered_lists, answered_memory, answer
 use Rattle.netlines.proofs.frames.frame_answerer.FrameAnswererAnswerer.end.Goals as goal
 
 pub returns-in_err-end-clause-replies : goal.returns-in_err-end-clause-replies
-returns-in_err-end-clause-replies c earlier line shows numbered =
+returns-in_err-end-clause-replies g c earlier line shows numbered =
     let exit = err_from_is_err_and c.from_residual.result c.from_residual.ensures.1 in
     let wants = answered_memory c.args.self.now.pool c.answer_request.new.pool c.args.number _ line
     earlier shows.0 numbered (c.request.ensures.command line shows.1)
@@ -12,7 +12,7 @@ returns-in_err-end-clause-replies c earlier line shows numbered =
     rw (exit.1) wants
 
 pub returns-clause-replies : goal.returns-clause-replies
-returns-clause-replies c earlier line shows numbered =
+returns-clause-replies g c earlier line shows numbered =
     let answers = c.in_ok-end.ensures.answers in
     let command = c.request.ensures.command line shows.1 in (
       c.append.ensures.text

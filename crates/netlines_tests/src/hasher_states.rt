@@ -1,0 +1,65 @@
+//! Runs with random keys for the names of messages: the bytes, the calls and the ends that the state
+//! of a fixed seed has.
+use crate::faults::{reader_of, writer_of};
+use crate::reuse::{ROUND, ROUND_ANSWERS, repeated};
+use netlines::device::ReaderWriter;
+use netlines::{READ_COUNT_LIMIT, RunError, run_over_with_hasher, run_with_hasher};
+use std::hash::RandomState;
+use std::test::Fail;
+
+#[test]
+fn puts_messages_together(rt: HostRuntime) -> Result<(), Fail> {
+    let text = repeated(rt.alloc(), ROUND, 3)?;
+    let want = repeated(rt.alloc(), ROUND_ANSWERS, 3)?;
+    let mut writer = writer_of(rt.alloc(), None);
+    run_with_hasher(
+        rt.alloc(),
+        RandomState::new(&rt)?,
+        &mut reader_of(text.as_slice(), None),
+        &mut writer,
+        READ_COUNT_LIMIT,
+    )?;
+    assert!(rt; writer.taken.as_slice() == want.as_slice());
+    Ok(())
+}
+
+// A read a byte, and one that tells the end.
+#[test]
+fn makes_no_more_reads_than_it_may(rt: HostRuntime) -> Result<(), Fail> {
+    for (text, reads, answer, written) in [
+        ("", 0u8, Err(RunError::TooManyReads), ""),
+        ("", 1, Ok(()), ""),
+        ("a\nb", 3, Err(RunError::TooManyReads), "bad line\n"),
+        ("a\nb", 4, Ok(()), "bad line\nbad line\n"),
+    ] {
+        let mut reader = reader_of(text.as_bytes(), None);
+        let mut writer = writer_of(rt.alloc(), None);
+        let result = run_with_hasher(
+            rt.alloc(),
+            RandomState::new(&rt)?,
+            &mut reader,
+            &mut writer,
+            u64::from(reads),
+        );
+        assert!(rt; result == answer);
+        assert!(rt; reader.calls == usize::from(reads));
+        assert!(rt; writer.taken.as_slice() == written.as_bytes());
+    }
+    Ok(())
+}
+
+#[test]
+fn runs_over_a_device(rt: HostRuntime) -> Result<(), Fail> {
+    let mut reader = reader_of(b"a\nb", None);
+    let mut writer = writer_of(rt.alloc(), None);
+    let mut device = ReaderWriter {
+        reader: &mut reader,
+        writer: &mut writer,
+    };
+    let state = RandomState::new(&rt)?;
+    let result = run_over_with_hasher(rt.alloc(), state, &mut device, 3);
+    assert!(rt; result == Err(RunError::TooManyReads));
+    assert!(rt; reader.calls == 3);
+    assert!(rt; writer.taken.as_slice() == b"bad line\n".as_slice());
+    Ok(())
+}
