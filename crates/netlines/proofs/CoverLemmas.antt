@@ -14,6 +14,7 @@ use Rattle.etherparse.proofs.Members.{AllByRecursion-push, Any-from_AnyOf, AnyOf
 use Rattle.etherparse.proofs.OutcomeLemmas.{is_completed, is_waiting}
 use Rattle.netlines.proofs.PieceLemmas.{ArePiecesOf, IsPieceOf, complete_to_end, greatest_within}
 use Rattle.netlines.proofs.PieceLemmas.{piece_taken, text_is}
+use Rattle.netlines.proofs.WaitingLemmas.{AllWait}
 
 -- x is one of the list
 abbrev pub IsIn : {X : Type 0} → X → List X → Type 0
@@ -63,23 +64,6 @@ named_some (f ∷ fs) (inr h) = elim (cases_Bool f.more) [
 -- each of these fragments is one of the parts
 abbrev pub AreAmong : List Fragment → List Fragment → Type 0
 AreAmong parts fs = AllByRecursion (λ f. IsIn f parts) fs
-
--- each is accepted behind those before it, and none completes the message
-abbrev pub AllWait : List Fragment → List Fragment → Type 0
-AllWait before [] = Unit {0}
-AllWait before (f ∷ fs) =
-    (outcome before f ≡ Waiting (before ++ f ∷ [])) × AllWait (before ++ f ∷ []) fs
-
-pub AllWait-push : (before fs : List Fragment) (f : Fragment) → AllWait before fs
-    → outcome (before ++ fs) f ≡ Waiting ((before ++ fs) ++ f ∷ []) → AllWait before (fs ++ f ∷ [])
-AllWait-push before [] f all is =
-    (subst (λ (gs : List Fragment). outcome gs f ≡ Waiting (gs ++ f ∷ [])) (append-nil before) is, tt)
-AllWait-push before (g ∷ fs) f all is = (
-  all.0,
-  AllWait-push (before ++ g ∷ []) fs f all.1
-      (subst (λ (gs : List Fragment). outcome gs f ≡ Waiting (gs ++ f ∷ []))
-      (sym (append_assoc before (g ∷ []) fs)) is),
-)
 
 module _ (message : List ℕ) (short : length message ≤ 65535) (parts : List Fragment)
     (cut : IsCutOf message parts) where

@@ -27,7 +27,7 @@ use Rattle.netlines.proofs.InertLemmas.{first_byte, refusal_other}
 use Rattle.netlines.proofs.WaitingLemmas.{AllWait, HandIn, are_waiting, none_held}
 
 -- what is answered where a message is completed, and where it isn't
-not_message : (answer : List ℕ) → (get_or answer 0 0 ≡ 109 → ⊥)
+pub not_message : (answer : List ℕ) → (get_or answer 0 0 ≡ 109 → ⊥)
     → (answer ≡ codes "refused message" → ⊥) → HandsOut answer → ⊥
 not_message answer first other (inl is) =
     first (first_byte answer (message_answer is.0 is.1 is.2) is.3)
@@ -48,7 +48,7 @@ refusal_hands_nothing (AllocationFailure len) =
     not_message [] (λ e. let r : 0 ≡ 109 = e in absurd (omega (arith, r)))
     (refusal_other (AllocationFailure len))
 
-waiting_hands_nothing : HandsOut (codes "wait") → ⊥
+pub waiting_hands_nothing : HandsOut (codes "wait") → ⊥
 waiting_hands_nothing =
     not_message (codes "wait") (λ e. let w : 119 ≡ 109 = e in absurd (omega (arith, w)))
     (λ e. let w : 119 ≡ 114 = first_byte (codes "wait") (codes "refused message") e in
