@@ -146,7 +146,7 @@ module _ (letter : Letter) (whole : WholeIsRead) (refused : RefusedIsRead)
 
 -- ---- all frames of an input
 
-by_parts : {X : Type 0} (P : X → Type 0) (xs ys : List X) → AllByRecursion P (xs ++ ys)
+pub by_parts : {X : Type 0} (P : X → Type 0) (xs ys : List X) → AllByRecursion P (xs ++ ys)
     → AllByRecursion P xs × AllByRecursion P ys
 by_parts P [] ys all = (tt, all)
 by_parts P (x ∷ xs) ys all = let rest = by_parts P xs ys all.1 in ((all.0, rest.0), rest.1)
@@ -159,7 +159,7 @@ module _ (sent : FragmentName → ℕ → List ℕ) where
   abbrev ArePosted : List (List ℕ) → Type 0
   ArePosted lines = AllByRecursion IsPostedLine lines
 
-  posted_parts : (earlier : List (List ℕ)) (line : List ℕ)
+  pub posted_parts : (earlier : List (List ℕ)) (line : List ℕ)
       → AreAllPosted sent (earlier ++ line ∷ []) → ArePosted earlier × IsPostedLine line
   posted_parts earlier line all =
       let parts = by_parts IsPostedLine earlier (line ∷ [])
