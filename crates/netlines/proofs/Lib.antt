@@ -20,6 +20,7 @@ mod PostedCut
 mod PostedFrames
 mod PostedPieces
 mod ReadLemmas
+mod Reassembled
 mod ReplayLemmas
 mod SealedLemmas
 mod UnrefusedLemmas

@@ -5,13 +5,13 @@ use Rattle.etherparse.specs.defrag.Fragments.{Fragment}
 use Rattle.etherparse.specs.defrag.IpFragId.{fragment_in, same_name}
 use Rattle.etherparse.specs.defrag.Outcome.{Held, Outcome, outcome}
 use Rattle.etherparse.specs.defrag.Outcome.Outcome.{Completed, Refusal, Waiting}
-use Rattle.etherparse.specs.defrag.PoolCalls.{no_lists}
+use Rattle.etherparse.specs.defrag.PoolCalls.{no_lists, outcome_at}
 use Rattle.etherparse.specs.packet.Class.{FragmentName, class_of}
 use Rattle.commands.specs.Commands.{Command, command_of}
 use Rattle.commands.specs.Commands.Command.{Frame, Forget, Bad}
 use Rattle.netlines.specs.Alone.{texts_that_matter}
 use Rattle.netlines.specs.Answers.{message_answer}
-use Rattle.netlines.specs.Arrivals.{held_with_line}
+use Rattle.netlines.specs.Arrivals.{HandsInFragment, held_with_line, lists_after_lines}
 use Rattle.netlines.specs.declared.frames.verdict.Verdict.{Verdict}
 
 -- of texts, one for each of these lines, those for the lines that matter to a message, without the
@@ -31,6 +31,13 @@ HandsOut answer =
     ((number : ℕ) × (verdict : Verdict) × (text : List ℕ)
     × (answer ≡ message_answer number verdict text))
     ⊎ (answer ≡ codes "refused message")
+
+-- the line hands in a fragment that completes the message of this name with this text
+pub record Completes (earlier : List (List ℕ)) (line : List ℕ) (name : FragmentName) (channel : ℕ)
+    (text : List ℕ) : Type 0 where
+  pub fragment : Fragment
+  pub hands_in : HandsInFragment line name channel fragment
+  pub becomes : outcome_at (lists_after_lines earlier) name channel fragment ≡ Completed text
 
 -- the lines whose fragments wait for the rest of a message, after a line with a fragment of it: a
 -- refused one leaves them, a complete message leaves none
