@@ -32,7 +32,7 @@ answer_is earlier line = refl
 module _ (same : (a b : FragmentName) → IsTrue (same_name a b) ↔ (a ≡ b)) (name : FragmentName)
     (channel : ℕ) where
   -- every list is this one
-  abbrev all_hold : Held → Lists
+  abbrev pub all_hold : Held → Lists
   all_hold h other_name other = h
 
   -- a line that matters is answered by the list of the message
@@ -79,13 +79,13 @@ module _ (same : (a b : FragmentName) → IsTrue (same_name a b) ↔ (a ≡ b)) 
   command_stays Bad number h t = refl
 
   -- the answers to the lines that matter, by these lines alone
-  abbrev answers_by : Held → List (ℕ × List ℕ) → List (ℕ × List ℕ)
+  abbrev pub answers_by : Held → List (ℕ × List ℕ) → List (ℕ × List ℕ)
   answers_by h [] = []
   answers_by h (pair ∷ pairs) =
       (pair.0, command_answer (all_hold h) (command_of pair.1))
       ∷ answers_by (held_with_line name channel pair.0 (command_of pair.1) h) pairs
 
-  answered_by : (earlier lines : List (List ℕ)) (count : ℕ) → count ≡ length earlier
+  pub answered_by : (earlier lines : List (List ℕ)) (count : ℕ) → count ≡ length earlier
       → matter_behind name channel count lines (answers_behind earlier lines)
       ≡ answers_by (lists_after_lines earlier name channel)
       (matter_behind name channel count lines lines)

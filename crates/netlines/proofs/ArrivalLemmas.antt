@@ -57,7 +57,7 @@ class_answered earlier line channel bytes class command read =
 -- a line that hands in a fragment of a message
 module _ (line : List ℕ) (name : FragmentName) (channel : ℕ) (f : Fragment)
     (hands : HandsInFragment line name channel f) where
-  held_with_fragment : (number : ℕ) (h : Held)
+  pub held_with_fragment : (number : ℕ) (h : Held)
       → held_with_line name channel number (command_of line) h
       ≡ held_after h number (outcome h.fragments f)
   held_with_fragment number h =

@@ -104,7 +104,7 @@ inert earlier line leaves later bad is_bad =
 -- ---- refused lines
 
 -- a text that begins otherwise is none of the answers of refusals
-first_byte : (a b : List ℕ) → a ≡ b → get_or a 0 0 ≡ get_or b 0 0
+pub first_byte : (a b : List ℕ) → a ≡ b → get_or a 0 0 ≡ get_or b 0 0
 first_byte a b = ap (λ (t : List ℕ). get_or t 0 0)
 
 ninth_byte : (a b : List ℕ) → a ≡ b → get_or a 8 0 ≡ get_or b 8 0
@@ -148,7 +148,7 @@ completed_other addresses number text (Ok read) =
 completed_other addresses number text (Err error) = refused_message
 
 -- no refusal is answered as a message that can't be read is
-refusal_other : (error : IpDefragError) → refusal_answer error ≡ codes "refused message" → ⊥
+pub refusal_other : (error : IpDefragError) → refusal_answer error ≡ codes "refused message" → ⊥
 refusal_other (SegmentTooBig offset payload_len max) is =
     let e : 108 ≡ 109 = ninth_byte (codes "refused long") (codes "refused message") is in
     absurd (omega (arith, e))

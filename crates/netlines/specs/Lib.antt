@@ -7,7 +7,9 @@ pub mod PoolAnswers
 pub mod PostRefusal
 pub mod Posted
 pub mod PostedHeaders
+pub mod PostedInput
 pub mod Runs
 pub mod Sealed
 pub mod TwoRuns
 pub mod Verdict
+pub mod Waiting

@@ -1,7 +1,9 @@
 //! Laws of checksums. What they want of addresses and headers every value has (`super::values`).
 ghost use Rattle.std.specs.Prelude.{◌≡◌, ◌≢◌, ◌↔◌, ◌+◌, ◌≤◌, ◌<◌, ℕ, true, false, List, ◌++◌};
 ghost use Rattle.std.specs.Prelude.{length, None, Some, Ok};
+ghost use Rattle.netlines.specs.Answers.{answer_after, message_answer};
 ghost use Rattle.netlines.specs.ChangedWord.{DifferInOneWord, verdict_after};
+ghost use Rattle.etherparse.specs.packet.Class.{FragmentName};
 ghost use Rattle.etherparse.specs.packet.Readable.{ReadMessage, message_at, udp as udp_number};
 ghost use Rattle.etherparse.specs.build.Built.{with_message_checksum as built_header};
 ghost use Rattle.etherparse.specs.defrag.declared.defrag.ip_frag_version_spec_id.IpFragVersionSpecId.{IpFragVersionSpecId};
@@ -13,6 +15,7 @@ ghost use Rattle.netlines.specs.Sealed.{HeaderFits, IsSealable, addresses_of, is
 ghost use Rattle.netlines.specs.Sealed.{number_of, seal_refusal, sealed_message_bytes};
 ghost use Rattle.netlines.specs.Sealed.{stream_between};
 ghost use Rattle.netlines.specs.Verdict.{AddressesFit, summed_bytes, summed_text, verdict_of};
+ghost use Rattle.netlines.specs.Waiting.{Completes};
 ghost use Rattle.netlines.specs.declared.messages.seal_error.SealError.TheVariants.{IcmpOfOtherVersion};
 ghost use Rattle.netlines.specs.declared.messages.seal_error.SealError.TheVariants.{TooLong};
 
@@ -73,7 +76,7 @@ pub fn built_is_good()
 /// new message, where it can be read, is good exactly where 0000 and ffff were exchanged and not
 /// all that is summed is zero, and else bad.
 pub fn one_changed_word()
-    ensures { (addresses : Addresses) (number : ℕ) (bytes behind new : List ℕ)
+    ensures message { (addresses : Addresses) (number : ℕ) (bytes behind new : List ℕ)
         (message changed : ReadMessage) → AddressesFit addresses
         → message_at number bytes ≡ Ok message → verdict_of addresses message ≡ Verdict.Good
         → bytes ≡ summed_bytes message ++ behind → (words : DifferInOneWord (summed_bytes message)
@@ -82,4 +85,18 @@ pub fn one_changed_word()
         → message_at number (new ++ behind) ≡ Ok changed
         → verdict_of addresses changed
         ≡ verdict_after words.old_word words.new_word (summed_text addresses changed) }
+    // So it is of two messages that came in fragments under one name, however they were cut.
+    ensures reassembled { (name : FragmentName) (channel other : ℕ)
+        (earlier others : List (List ℕ)) (line changed_line text behind new : List ℕ)
+        (message changed : ReadMessage) → AddressesFit name.addresses
+        → Completes earlier line name channel text → message_at name.number text ≡ Ok message
+        → answer_after earlier line ≡ message_answer name.number Verdict::Good text
+        → text ≡ summed_bytes message ++ behind → (words : DifferInOneWord (summed_bytes message)
+        new)
+        → (name.number ≡ udp_number → (length words.front ≢ 4) × (length words.front ≢ 6))
+        → Completes others changed_line name other (new ++ behind)
+        → message_at name.number (new ++ behind) ≡ Ok changed
+        → answer_after others changed_line ≡ message_answer name.number
+        (verdict_after words.old_word words.new_word (summed_text name.addresses changed))
+        (new ++ behind) }
 {}
