@@ -2,8 +2,8 @@
 //! interface. The files are made by hand from the format's description.
 use crate::lines::refused;
 use captures::{CaptureError, RunError, run};
+use fault_devices::FaultReader;
 use std::alloc::{AllocError, Global};
-use std::io::{self, Read};
 use std::test::Fail;
 
 // A section header, and an interface of link type 1 that cuts nothing.
@@ -41,30 +41,13 @@ fn with_long_block(alloc: Global, kind: u32, len: u32, second: u32) -> Result<Ve
     Ok(file)
 }
 
-// Gives at most so many bytes a read.
-#[derive(Drop)]
-struct PieceReader<'a> {
-    rest: &'a [u8],
-    size: usize,
-}
-
-impl<'a> Read for PieceReader<'a> {
-    fn read(&mut self, buf: &mut [u8]) -> io::Result<usize> {
-        let len = self.size.min(self.rest.len()).min(buf.len());
-        let (piece, rest) = self.rest.split_at(len);
-        buf[..len].copy_from_slice(piece);
-        self.rest = rest;
-        Ok(len)
-    }
-}
-
 fn lines_by_pieces(
     alloc: Global,
     file: &[u8],
     size: usize,
 ) -> Result<(Result<(), RunError>, Vec<u8>), AllocError> {
     let mut lines = Vec::new(alloc);
-    let mut reader = PieceReader { rest: file, size };
+    let mut reader = FaultReader::new(file, size);
     let result = run(alloc, &mut reader, &mut lines);
     Ok((result, lines))
 }

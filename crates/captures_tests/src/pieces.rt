@@ -3,52 +3,12 @@ use crate::blocks::{TWO_SECTIONS, TWO_SECTIONS_LINES};
 use crate::classic::LITTLE_NANOSECONDS;
 use crate::lines::LINES;
 use captures::{CaptureError, Place, RunError, run, write_capture};
-use std::io::{self, ErrorKind, Read, Write};
+use fault_devices::{Fault, FaultReader, FaultWriter};
+use std::io::ErrorKind;
 use std::test::Fail;
 
-// Gives a byte a read, and then the end or a fault.
-#[derive(Drop)]
-pub(super) struct ByteReader<'a> {
-    pub rest: &'a [u8],
-    pub fails: bool,
-}
-
-impl<'a> Read for ByteReader<'a> {
-    fn read(&mut self, buf: &mut [u8]) -> io::Result<usize> {
-        match (self.rest.split_first(), buf.first_mut()) {
-            (Some((byte, rest)), Some(first)) => {
-                *first = *byte;
-                self.rest = rest;
-                Ok(1)
-            }
-            _ if self.fails => Err(ErrorKind::Other.into()),
-            _ => Ok(0),
-        }
-    }
-}
-
-// Takes a byte a write, as long as there is room, and then fails.
-#[derive(Drop)]
-struct ByteWriter {
-    taken: Vec<u8>,
-    room: usize,
-}
-
-impl Write for ByteWriter {
-    fn write(&mut self, buf: &[u8]) -> io::Result<usize> {
-        match buf.first() {
-            Some(byte) if self.taken.len() < self.room => {
-                self.taken.push(*byte)?;
-                Ok(1)
-            }
-            _ => Err(ErrorKind::Other.into()),
-        }
-    }
-
-    fn flush(&mut self) -> io::Result<()> {
-        Ok(())
-    }
-}
+// What a call ends by that fails.
+const FAILS: Fault = Fault::Fails(ErrorKind::Other);
 
 #[test]
 fn one_byte_a_call(rt: HostRuntime) -> Result<(), Fail> {
@@ -56,14 +16,8 @@ fn one_byte_a_call(rt: HostRuntime) -> Result<(), Fail> {
         (LITTLE_NANOSECONDS.as_slice(), LINES.as_slice()),
         (TWO_SECTIONS.as_slice(), TWO_SECTIONS_LINES.as_slice()),
     ] {
-        let mut reader = ByteReader {
-            rest: file,
-            fails: false,
-        };
-        let mut writer = ByteWriter {
-            taken: Vec::new(rt.alloc()),
-            room: lines.len(),
-        };
+        let mut reader = FaultReader::new(file, 1);
+        let mut writer = FaultWriter::new(rt.alloc(), 1);
         assert!(rt; run(rt.alloc(), &mut reader, &mut writer) == Ok(()));
         assert!(rt; writer.taken.as_slice() == lines);
     }
@@ -74,17 +28,11 @@ fn one_byte_a_call(rt: HostRuntime) -> Result<(), Fail> {
 fn reads_that_fail(rt: HostRuntime) -> Result<(), Fail> {
     let mut capture = Vec::new(rt.alloc());
     // The first line, and a byte of the second.
-    let mut reader = ByteReader {
-        rest: &LINES[..110],
-        fails: true,
-    };
+    let mut reader = FaultReader::failing(&LINES[..110], 1, 110, FAILS);
     assert!(rt; write_capture(rt.alloc(), &mut reader, &mut capture) == Err(RunError::Read));
     assert!(rt; capture.len() == 90);
     let mut lines = Vec::new(rt.alloc());
-    let mut reader = ByteReader {
-        rest: capture.as_slice(),
-        fails: true,
-    };
+    let mut reader = FaultReader::failing(capture.as_slice(), 1, 90, FAILS);
     assert!(rt; run(rt.alloc(), &mut reader, &mut lines) == Err(RunError::Read));
     assert!(rt; lines.as_slice() == &LINES[..109]);
     Ok(())
@@ -94,10 +42,7 @@ fn reads_that_fail(rt: HostRuntime) -> Result<(), Fail> {
 fn writes_that_fail(rt: HostRuntime) -> Result<(), Fail> {
     // Within the header, and within the second packet's head.
     for room in [0, 23, 100] {
-        let mut writer = ByteWriter {
-            taken: Vec::new(rt.alloc()),
-            room,
-        };
+        let mut writer = FaultWriter::failing(rt.alloc(), 1, room, FAILS);
         let result = write_capture(rt.alloc(), &mut LINES.as_slice(), &mut writer);
         assert!(rt; result == Err(RunError::Write));
         assert!(rt; writer.taken.len() == room);

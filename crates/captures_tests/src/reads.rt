@@ -1,11 +1,11 @@
 //! Runs of which one read fails or gives nothing, before and after the last byte of each header and
 //! packet, and runs of few reads. Each other read gives a byte.
 use crate::lines::refused;
-use crate::pieces::ByteReader;
 use captures::device::ReaderWriter;
 use captures::{CaptureError, RunError, run, run_over, write_capture, write_capture_over};
+use fault_devices::{Fault, FaultReader};
 use std::alloc::Global;
-use std::io::{self, ErrorKind, Read};
+use std::io::ErrorKind;
 use std::test::Fail;
 
 // A header of 24 bytes, and packets of one byte and of two.
@@ -19,48 +19,9 @@ const LINES: &[u8; 24] = b"frame 0 01\nframe 0 0203\n";
 // The same packets with their times, in a line of 15 bytes and one of 17.
 const TIMED_LINES: &[u8; 32] = b"frame 0 01 5 6\nframe 0 0203 7 8\n";
 
-#[derive(Clone, Copy, Debug, PartialEq, Eq)]
-enum Odd {
-    Interrupted,
-    Fails,
-    GivesNothing,
-}
+const INTERRUPTED: Fault = Fault::Fails(ErrorKind::Interrupted);
 
-#[derive(Drop)]
-struct OddReader<'a> {
-    inner: ByteReader<'a>,
-    // How many reads come before the odd one.
-    before: usize,
-    odd: Odd,
-    calls: usize,
-}
-
-impl<'a> OddReader<'a> {
-    fn new(bytes: &'a [u8], before: usize, odd: Odd) -> OddReader<'a> {
-        OddReader {
-            inner: ByteReader {
-                rest: bytes,
-                fails: false,
-            },
-            before,
-            odd,
-            calls: 0,
-        }
-    }
-}
-
-impl<'a> Read for OddReader<'a> {
-    fn read(&mut self, buf: &mut [u8]) -> io::Result<usize> {
-        let is_odd = self.calls == self.before;
-        self.calls = self.calls.saturating_add(1);
-        match self.odd {
-            Odd::Interrupted if is_odd => Err(ErrorKind::Interrupted.into()),
-            Odd::Fails if is_odd => Err(ErrorKind::Other.into()),
-            Odd::GivesNothing if is_odd => Ok(0),
-            _ => self.inner.read(buf),
-        }
-    }
-}
+const FAILS: Fault = Fault::Fails(ErrorKind::Other);
 
 // The lines that a front of the capture gives.
 fn lines_of(n: usize) -> &'static [u8] {
@@ -83,13 +44,13 @@ fn end_of_capture(n: usize) -> Result<(), RunError> {
 
 #[test]
 fn each_read_of_a_run(rt: HostRuntime) -> Result<(), Fail> {
-    for odd in [Odd::Interrupted, Odd::Fails, Odd::GivesNothing] {
+    for fault in [INTERRUPTED, FAILS, Fault::MovesNone] {
         for before in [0, 23, 24, 40, 41, 58, 59] {
-            let mut reader = OddReader::new(CAPTURE, before, odd);
+            let mut reader = FaultReader::failing(CAPTURE, 1, before, fault);
             let mut lines = Vec::new(rt.alloc());
             let result = run(rt.alloc(), &mut reader, &mut lines);
-            let wanted = match odd {
-                Odd::GivesNothing => end_of_capture(before),
+            let wanted = match fault {
+                Fault::MovesNone => end_of_capture(before),
                 _ => Err(RunError::Read),
             };
             assert!(rt; result == wanted);
@@ -111,9 +72,9 @@ fn capture_of(n: usize) -> &'static [u8] {
 
 #[test]
 fn each_read_of_lines(rt: HostRuntime) -> Result<(), Fail> {
-    for odd in [Odd::Interrupted, Odd::Fails] {
+    for fault in [INTERRUPTED, FAILS] {
         for before in [0, 14, 15, 31, 32] {
-            let mut reader = OddReader::new(TIMED_LINES, before, odd);
+            let mut reader = FaultReader::failing(TIMED_LINES, 1, before, fault);
             let mut capture = Vec::new(rt.alloc());
             let result = write_capture(rt.alloc(), &mut reader, &mut capture);
             assert!(rt; result == Err(RunError::Read));
@@ -126,7 +87,7 @@ fn each_read_of_lines(rt: HostRuntime) -> Result<(), Fail> {
 
 fn run_of(
     alloc: Global,
-    reader: &mut OddReader<'_>,
+    reader: &mut FaultReader<'_>,
     writer: &mut Vec<u8>,
     reads: u8,
 ) -> Result<(), RunError> {
@@ -138,7 +99,7 @@ fn run_of(
 #[test]
 fn runs_of_few_reads(rt: HostRuntime) -> Result<(), Fail> {
     for reads in [0u8, 1, 41, 59, 60, 61] {
-        let mut reader = OddReader::new(CAPTURE, 100, Odd::Fails);
+        let mut reader = FaultReader::new(CAPTURE, 1);
         let mut lines = Vec::new(rt.alloc());
         let result = run_of(rt.alloc(), &mut reader, &mut lines, reads);
         let (wanted, calls) = if reads < 60 {
@@ -155,7 +116,7 @@ fn runs_of_few_reads(rt: HostRuntime) -> Result<(), Fail> {
 
 fn run_of_lines(
     alloc: Global,
-    reader: &mut OddReader<'_>,
+    reader: &mut FaultReader<'_>,
     writer: &mut Vec<u8>,
     reads: u8,
 ) -> Result<(), RunError> {
@@ -166,7 +127,7 @@ fn run_of_lines(
 #[test]
 fn runs_of_few_reads_of_lines(rt: HostRuntime) -> Result<(), Fail> {
     for reads in [0u8, 1, 15, 32, 33, 34] {
-        let mut reader = OddReader::new(TIMED_LINES, 100, Odd::Fails);
+        let mut reader = FaultReader::new(TIMED_LINES, 1);
         let mut capture = Vec::new(rt.alloc());
         let result = run_of_lines(rt.alloc(), &mut reader, &mut capture, reads);
         let (wanted, calls) = if reads < 33 {

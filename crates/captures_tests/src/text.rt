@@ -1,9 +1,9 @@
 //! Captures that are written of lines.
 use crate::lines::{LINES, lines_of};
-use crate::pieces::ByteReader;
 use captures::{RunError, write_capture};
+use fault_devices::{Fault, FaultReader};
 use std::alloc::{AllocError, Global};
-use std::io::Read;
+use std::io::{ErrorKind, Read};
 use std::test::Fail;
 
 // The file header, by the draft: low byte first, microseconds, version 2.4, snap length 262,144,
@@ -129,10 +129,7 @@ fn each_front_of_a_text(rt: HostRuntime) -> Result<(), Fail> {
         assert!(rt; &capture.as_slice()[..24] == HEADER.as_slice());
         assert!(rt; &capture.as_slice()[24..] == packets);
         let mut bytewise = Vec::new(rt.alloc());
-        let mut reader = ByteReader {
-            rest: &TWO_LINES[..n],
-            fails: false,
-        };
+        let mut reader = FaultReader::new(&TWO_LINES[..n], 1);
         assert!(rt; write_capture(rt.alloc(), &mut reader, &mut bytewise) == wanted);
         assert!(rt; bytewise.as_slice() == capture.as_slice());
     }
@@ -170,10 +167,10 @@ fn longest_frame(rt: HostRuntime) -> Result<(), Fail> {
 fn line_without_end(rt: HostRuntime) -> Result<(), Fail> {
     for (len, wanted) in [(200_021, RunError::Read), (200_022, RunError::BadLine(1))] {
         let text = vec![in rt.alloc(); b'0'; len]?;
-        let mut reader = text.as_slice().chain(ByteReader {
-            rest: b"",
-            fails: true,
-        });
+        let fault = Fault::Fails(ErrorKind::Other);
+        let mut reader = text
+            .as_slice()
+            .chain(FaultReader::failing(b"", 1, 0, fault));
         let mut capture = Vec::new(rt.alloc());
         let result = write_capture(rt.alloc(), &mut reader, &mut capture);
         assert!(rt; result == Err(wanted));

@@ -2,79 +2,33 @@
 //! writes take 50 bytes at most.
 use crate::classic::LITTLE_MICROSECONDS;
 use crate::lines::LINES;
-use crate::pieces::ByteReader;
 use captures::device::ReaderWriter;
 use captures::{RunError, run, write_capture};
-use runs::{Fault, write_whole};
-use std::alloc::Global;
-use std::io::{self, ErrorKind, Write};
+use fault_devices::{Fault, FaultReader, FaultWriter};
+use runs::write_whole;
+use std::io::{self, ErrorKind};
 use std::test::Fail;
 
-#[derive(Clone, Copy, Debug, PartialEq, Eq)]
-enum Odd {
-    Fails,
-    TakesNothing,
-    TakesOne,
-}
-
-#[derive(Drop)]
-struct OddWriter {
-    taken: Vec<u8>,
-    /// How many writes come before the odd one.
-    before: usize,
-    odd: Odd,
-    calls: usize,
-}
-
-impl OddWriter {
-    fn new(alloc: Global, before: usize, odd: Odd) -> OddWriter {
-        OddWriter {
-            taken: Vec::new(alloc),
-            before,
-            odd,
-            calls: 0,
-        }
-    }
-}
-
-impl Write for OddWriter {
-    fn write(&mut self, buf: &[u8]) -> io::Result<usize> {
-        let is_odd = self.calls == self.before;
-        self.calls = self.calls.saturating_add(1);
-        let most = match self.odd {
-            Odd::Fails if is_odd => return Err(ErrorKind::Other.into()),
-            Odd::TakesNothing if is_odd => 0,
-            Odd::TakesOne if is_odd => 1,
-            _ => 50,
-        };
-        let len = buf.len().min(most);
-        self.taken.extend_from_slice(&buf[..len])?;
-        Ok(len)
-    }
-
-    fn flush(&mut self) -> io::Result<()> {
-        Ok(())
-    }
-}
+const FAILS: Fault = Fault::Fails(ErrorKind::Other);
 
 // What an odd write ends a run by, if it does.
-fn ended_by(odd: Odd) -> Result<(), RunError> {
-    match odd {
-        Odd::Fails => Err(RunError::Write),
-        Odd::TakesNothing => Err(RunError::WriteZero),
-        Odd::TakesOne => Ok(()),
+fn ended_by(fault: Fault) -> Result<(), RunError> {
+    match fault {
+        Fault::Fails(_) => Err(RunError::Write),
+        Fault::MovesNone => Err(RunError::WriteZero),
+        Fault::MovesOne => Ok(()),
     }
 }
 
 #[test]
 fn each_write_of_some_bytes(rt: HostRuntime) -> Result<(), Fail> {
-    for (odd, result, len) in [
-        (Odd::Fails, Err(Fault::WriteFailed), 50),
-        (Odd::TakesNothing, Err(Fault::NothingTaken), 50),
-        (Odd::TakesOne, Ok(()), 202),
+    for (fault, result, len) in [
+        (FAILS, Err(runs::Fault::WriteFailed), 50),
+        (Fault::MovesNone, Err(runs::Fault::NothingTaken), 50),
+        (Fault::MovesOne, Ok(()), 202),
     ] {
         let mut nothing = io::empty();
-        let mut writer = OddWriter::new(rt.alloc(), 1, odd);
+        let mut writer = FaultWriter::failing(rt.alloc(), 50, 1, fault);
         let mut device = ReaderWriter {
             reader: &mut nothing,
             writer: &mut writer,
@@ -89,19 +43,16 @@ fn each_write_of_some_bytes(rt: HostRuntime) -> Result<(), Fail> {
 // writes begin at these places, and there is no sixth.
 #[test]
 fn each_write_of_a_run(rt: HostRuntime) -> Result<(), Fail> {
-    for odd in [Odd::Fails, Odd::TakesNothing, Odd::TakesOne] {
+    for fault in [FAILS, Fault::MovesNone, Fault::MovesOne] {
         for (before, place) in [(0, 0), (1, 50), (2, 100), (3, 109), (4, 159), (5, 202)] {
-            let mut reader = ByteReader {
-                rest: LITTLE_MICROSECONDS.as_slice(),
-                fails: false,
-            };
-            let mut writer = OddWriter::new(rt.alloc(), before, odd);
+            let mut reader = FaultReader::new(LITTLE_MICROSECONDS.as_slice(), 1);
+            let mut writer = FaultWriter::failing(rt.alloc(), 50, before, fault);
             let result = run(rt.alloc(), &mut reader, &mut writer);
-            if place == 202 || odd == Odd::TakesOne {
+            if place == 202 || fault == Fault::MovesOne {
                 assert!(rt; result == Ok(()));
                 assert!(rt; writer.taken.as_slice() == LINES.as_slice());
             } else {
-                assert!(rt; result == ended_by(odd));
+                assert!(rt; result == ended_by(fault));
                 assert!(rt; place <= LINES.len());
                 assert!(rt; writer.taken.as_slice() == &LINES[..place]);
             }
@@ -116,15 +67,15 @@ fn each_write_of_a_capture(rt: HostRuntime) -> Result<(), Fail> {
     let mut whole = Vec::new(rt.alloc());
     assert!(rt; write_capture(rt.alloc(), &mut LINES.as_slice(), &mut whole) == Ok(()));
     assert!(rt; whole.len() == 148);
-    for odd in [Odd::Fails, Odd::TakesNothing, Odd::TakesOne] {
+    for fault in [FAILS, Fault::MovesNone, Fault::MovesOne] {
         for (before, place) in [(0, 0), (1, 24), (2, 74), (3, 124), (4, 148)] {
-            let mut writer = OddWriter::new(rt.alloc(), before, odd);
+            let mut writer = FaultWriter::failing(rt.alloc(), 50, before, fault);
             let result = write_capture(rt.alloc(), &mut LINES.as_slice(), &mut writer);
-            if place == 148 || odd == Odd::TakesOne {
+            if place == 148 || fault == Fault::MovesOne {
                 assert!(rt; result == Ok(()));
                 assert!(rt; writer.taken.as_slice() == whole.as_slice());
             } else {
-                assert!(rt; result == ended_by(odd));
+                assert!(rt; result == ended_by(fault));
                 assert!(rt; place <= whole.len());
                 assert!(rt; writer.taken.as_slice() == &whole.as_slice()[..place]);
             }

@@ -103,7 +103,7 @@ fn used_memory_shows_nothing(rt: HostRuntime) {
 }
 
 /// To be run with each allocation failing in turn, too: a fragment that finds no memory leaves
-/// both numbers, a buffer is handed back or kept, and the next call has memory.
+/// both numbers, a buffer is kept or handed back as it was, and the next call has memory.
 #[test]
 fn reuse_wants_memory(rt: HostRuntime) {
     let mut pool = IpDefragPool::new(rt.alloc());
@@ -127,9 +127,10 @@ fn reuse_wants_memory(rt: HostRuntime) {
             panic!(rt; "the first half doesn't complete the message");
         };
         let spare = pool.spare_len();
-        match pool.return_buf(whole) {
-            Ok(()) => assert!(rt; pool.spare_len() > spare),
-            Err(whole) => assert!(rt; whole.payload.as_slice() == &MESSAGE[..]),
+        if let Err(whole) = pool.return_buf(whole) {
+            assert!(rt; whole.payload.as_slice() == &MESSAGE[..] && pool.spare_len() == spare);
+            assert!(rt; pool.return_buf(whole).is_ok());
         }
+        assert!(rt; pool.spare_len() > spare);
     }
 }

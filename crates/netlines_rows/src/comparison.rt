@@ -2,10 +2,10 @@
 ghost use Rattle.std.specs.Prelude.{◌≡◌, ◌↔◌, IfOk, IsTrue};
 ghost use Rattle.netlines.specs.Answers.{answers_of};
 
+use fault_devices::FaultReader;
 use netlines::{READ_COUNT_LIMIT, RunError};
 use std::alloc::Global;
 use std::hash::BuildHasher;
-use std::io::{self, Read};
 
 /// Whether a run over the input writes exactly what is wanted.
 pub fn agrees(alloc: Global, input: &[u8], wanted: &[u8]) -> Result<bool, RunError>
@@ -15,23 +15,6 @@ pub fn agrees(alloc: Global, input: &[u8], wanted: &[u8]) -> Result<bool, RunErr
     let mut output = Vec::new(alloc);
     netlines::run(alloc, &mut reader, &mut output)?;
     Ok(output.as_slice() == wanted)
-}
-
-// Gives at most so many bytes a call.
-#[derive(Drop)]
-struct PieceReader<'a> {
-    rest: &'a [u8],
-    size: usize,
-}
-
-impl<'a> Read for PieceReader<'a> {
-    fn read(&mut self, buf: &mut [u8]) -> io::Result<usize> {
-        let len = buf.len().min(self.rest.len()).min(self.size);
-        let (given, rest) = self.rest.split_at(len);
-        buf[..len].copy_from_slice(given);
-        self.rest = rest;
-        Ok(len)
-    }
 }
 
 /// Whether runs write the same where a read gives a byte, a pair of digits or one byte more, about
@@ -44,7 +27,7 @@ pub fn agrees_in_pieces<S: BuildHasher + Copy>(
     wanted: &[u8],
 ) -> Result<bool, RunError> {
     for size in [1, 2, 3, 31, 32, 33, 65_536] {
-        let mut reader = PieceReader { rest: input, size };
+        let mut reader = FaultReader::new(input, size);
         let mut output = Vec::new(alloc);
         netlines::run_with_hasher(alloc, state, &mut reader, &mut output, READ_COUNT_LIMIT)?;
         if output.as_slice() != wanted {

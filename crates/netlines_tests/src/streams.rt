@@ -78,7 +78,9 @@ fn puts_messages_together(rt: HostRuntime) -> Result<(), Fail> {
 fn stops_at_each_read_that_fails_while_messages_are_on_their_way(
     rt: HostRuntime,
 ) -> Result<(), Fail> {
+    let mut tally = Tally::new("run, messages on their way", "a read fails");
     let text = text_of_lines(rt.alloc())?;
+    tally.count(text.len().saturating_add(1));
     for at in 0..text.len() + 1 {
         let fault = Fault::Fails(ErrorKind::Other);
         let mut reader = FaultReader::failing(text.as_slice(), 1, at, fault);
@@ -87,7 +89,9 @@ fn stops_at_each_read_that_fails_while_messages_are_on_their_way(
         assert!(rt; result == Err(RunError::Read), "at {at}");
         let want = answers_to(rt.alloc(), ended_lines(&text.as_slice()[..at]))?;
         assert!(rt; output.as_slice() == want.as_slice(), "at {at}");
+        tally.tries();
     }
+    println!(rt; "{tally}")?;
     Ok(())
 }
 
@@ -95,12 +99,17 @@ fn stops_at_each_read_that_fails_while_messages_are_on_their_way(
 fn stops_at_each_write_that_fails_while_messages_are_on_their_way(
     rt: HostRuntime,
 ) -> Result<(), Fail> {
+    let mut tally = Tally::new(
+        "run, messages on their way",
+        "a write fails or takes nothing",
+    );
     let text = text_of_lines(rt.alloc())?;
     let want = answers_to(rt.alloc(), LINES.len())?;
     for (fault, error) in [
         (Fault::Fails(ErrorKind::Other), RunError::Write),
         (Fault::MovesNone, RunError::WriteZero),
     ] {
+        tally.count(want.len());
         for at in 0..want.len() {
             let mut writer = FaultWriter::failing(rt.alloc(), 1, at, fault);
             let result = run(rt.alloc(), &mut text.as_slice(), &mut writer);
@@ -109,7 +118,9 @@ fn stops_at_each_write_that_fails_while_messages_are_on_their_way(
                 writer.taken.as_slice() == &want.as_slice()[..at],
                 "at {at}"
             );
+            tally.tries();
         }
     }
+    println!(rt; "{tally}")?;
     Ok(())
 }
