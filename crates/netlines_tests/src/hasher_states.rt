@@ -3,7 +3,9 @@
 use crate::faults::{reader_of, writer_of};
 use crate::reuse::{ROUND, ROUND_ANSWERS, repeated};
 use netlines::device::ReaderWriter;
-use netlines::{READ_COUNT_LIMIT, RunError, run_over_with_hasher, run_with_hasher};
+use netlines::{
+    FrameAnswerer, READ_COUNT_LIMIT, RunError, run_over_with_hasher, run_with, run_with_hasher,
+};
 use std::hash::RandomState;
 use std::test::Fail;
 
@@ -48,18 +50,26 @@ fn makes_no_more_reads_than_it_may(rt: HostRuntime) -> Result<(), Fail> {
     Ok(())
 }
 
+// By the run itself, and by an answerer that is handed to it.
 #[test]
 fn runs_over_a_device(rt: HostRuntime) -> Result<(), Fail> {
-    let mut reader = reader_of(b"a\nb", None);
-    let mut writer = writer_of(rt.alloc(), None);
-    let mut device = ReaderWriter {
-        reader: &mut reader,
-        writer: &mut writer,
-    };
     let state = RandomState::new(&rt)?;
-    let result = run_over_with_hasher(rt.alloc(), state, &mut device, 3);
-    assert!(rt; result == Err(RunError::TooManyReads));
-    assert!(rt; reader.calls == 3);
-    assert!(rt; writer.taken.as_slice() == b"bad line\n".as_slice());
+    for by_answerer in [false, true] {
+        let mut reader = reader_of(b"a\nb", None);
+        let mut writer = writer_of(rt.alloc(), None);
+        let mut device = ReaderWriter {
+            reader: &mut reader,
+            writer: &mut writer,
+        };
+        let result = if by_answerer {
+            let answerer = FrameAnswerer::with_hasher(rt.alloc(), state)?;
+            run_with(rt.alloc(), answerer, &mut device, 3)
+        } else {
+            run_over_with_hasher(rt.alloc(), state, &mut device, 3)
+        };
+        assert!(rt; result == Err(RunError::TooManyReads));
+        assert!(rt; reader.calls == 3);
+        assert!(rt; writer.taken.as_slice() == b"bad line\n".as_slice());
+    }
     Ok(())
 }
