@@ -25,11 +25,11 @@ use Rattle.netlines.specs.Arrivals.{HandsInFragment, held_behind, held_with_line
 use Rattle.netlines.specs.Letter.{LetterFits, name_of, piece_class}
 use Rattle.netlines.specs.Posted.{Piece, frame, is_cut, pieces_from, posted_frames}
 use Rattle.netlines.specs.PostedInput.{AnswersAgree, AreAllPosted, HandsOutPosted, IsPostedFrame}
-use Rattle.netlines.specs.PostedInput.{IsPostedOn, line_of_message}
+use Rattle.netlines.specs.PostedInput.{IsPostedOn}
 use Rattle.netlines.specs.PostRefusal.{post_refusal}
 use Rattle.netlines.specs.Sealed.{addresses_of}
 use Rattle.netlines.specs.Verdict.{verdict_of}
-use Rattle.netlines.specs.Waiting.{HandsOut}
+use Rattle.netlines.specs.Waiting.{HandsOut, line_of_message}
 use Rattle.netlines.specs.declared.messages.letter.Letter.{Letter}
 use Rattle.netlines.proofs.ArrivalLemmas.{class_answered, fragment_answered, held_with_fragment}
 use Rattle.netlines.proofs.ArrivalLemmas.{line_is}

@@ -15,9 +15,9 @@ use Rattle.netlines.specs.Alone.{answers_behind}
 use Rattle.netlines.specs.Arrivals.{HandsInFragment}
 use Rattle.netlines.specs.Letter.{LetterFits, name_of, piece_class}
 use Rattle.netlines.specs.Posted.{Piece, frame, is_cut, pieces_from, posted_frames}
-use Rattle.netlines.specs.PostedInput.{HandInFrames, IsFirstCover, line_of_message}
+use Rattle.netlines.specs.PostedInput.{HandInFrames, IsFirstCover}
 use Rattle.netlines.specs.PostRefusal.{post_refusal}
-use Rattle.netlines.specs.Waiting.{lines_for, texts_for, waiting_lines}
+use Rattle.netlines.specs.Waiting.{line_of_message, lines_for, texts_for, waiting_lines}
 use Rattle.netlines.specs.declared.messages.letter.Letter.{Letter}
 use Rattle.netlines.proofs.AllPosted.{are_cut, class_is, from_map, in_map, is_in, is_short, parts}
 use Rattle.netlines.proofs.AllPosted.{by_parts, piece_in}

@@ -44,7 +44,7 @@ module _ (same : (a b : FragmentName) → IsTrue (same_name a b) ↔ (a ≡ b)) 
   abbrev pub HandIn : List (List ℕ) → List Fragment → Type 0
   HandIn lines fs = AllZip (λ line f. HandsInFragment line name channel f) lines fs
 
-  HandIn-push : (lines : List (List ℕ)) (fs : List Fragment) (line : List ℕ) (f : Fragment)
+  pub HandIn-push : (lines : List (List ℕ)) (fs : List Fragment) (line : List ℕ) (f : Fragment)
       → HandIn lines fs → HandsInFragment line name channel f
       → HandIn (lines ++ line ∷ []) (fs ++ f ∷ [])
   HandIn-push [] [] line f all hands = (hands, tt)
