@@ -73,8 +73,14 @@ module _ (place : ℕ) (xs ys : List ℕ) (even : place % 2 ≡ 0) (size : lengt
 
   same_rest : drop 2 (drop place ys) ≡ drop 2 (drop place xs)
   same_rest = same_list (drop 2 (drop place ys)) (drop 2 (drop place xs))
-      (omega (arith, length-drop 2 (drop place ys), length-drop place ys,
-      length-drop 2 (drop place xs), length-drop place xs, size))
+      (omega (
+        arith,
+        length-drop 2 (drop place ys),
+        length-drop place ys,
+        length-drop 2 (drop place xs),
+        length-drop place xs,
+        size,
+      ))
       (λ k below. at ys k ∙ sym (agree (place + (2 + k)) (λ e. omega arith) (λ e. omega arith))
       ∙ sym (at xs k)) where
         at : (zs : List ℕ) (k : ℕ)
@@ -92,8 +98,13 @@ module _ (place : ℕ) (xs ys : List ℕ) (even : place % 2 ≡ 0) (size : lengt
 
   word_len : (zs : List ℕ) → length zs ≡ length xs
       → length (take 2 (drop place zs)) ≡ length (take 2 (drop place xs))
-  word_len zs same = omega (arith, length-take 2 (drop place zs), length-drop place zs,
-      length-take 2 (drop place xs), length-drop place xs)
+  word_len zs same = omega (
+    arith,
+    length-take 2 (drop place zs),
+    length-drop place zs,
+    length-take 2 (drop place xs),
+    length-drop place xs,
+  )
 
   no_rest : length xs ≡ place + 1 → drop 2 (drop place xs) ≡ []
   no_rest last = same_list (drop 2 (drop place xs)) []
