@@ -1,9 +1,9 @@
 -- Fragments of which one has a changed word show texts that differ in this word at most.
-use Rattle.std.proofs.Common.{◌≡◌, ◌≢◌, ◌∙◌, ap, refl, subst, sym, inl, inr, ◌⊎◌, ℕ, ◌+◌, ◌-◌, ◌*◌}
+use Rattle.std.proofs.Common.{◌≡◌, ◌∙◌, ap, refl, subst, sym, inl, inr, ◌⊎◌, ℕ, ◌+◌, ◌-◌}
 use Rattle.std.proofs.Common.{◌%◌, ◌<◌, ◌≤◌, Bool, true, false, cond, Option, Some, None, unwrap_or}
-use Rattle.std.proofs.Common.{List, [], ◌∷◌, ◌++◌, length, get_or, take, drop, map, arith}
+use Rattle.std.proofs.Common.{List, [], ◌∷◌, ◌++◌, length, get_or, take, drop, arith}
 use Rattle.std.proofs.Common.{append_assoc, length-append}
-use Rattle.std.specs.List.{AllByRecursion, AllZip, range_with_len}
+use Rattle.std.specs.List.{AllByRecursion, AllZip}
 use Rattle.std.specs.Option.{option_or}
 use Rattle.std.proofs.lemmas.Bool.{cases_Bool, cases_eq, cases_lt}
 use Rattle.std.proofs.lemmas.Bool.Decides.{nat_tests}
@@ -14,10 +14,10 @@ use Rattle.std.proofs.lemmas.List.FromFn.{fill_by_all, get_or-map-range_with_len
 use Rattle.std.proofs.lemmas.List.FromFn.{length-map-range_with_len}
 use Rattle.etherparse.specs.base.Bytes.{IsBytes}
 use Rattle.etherparse.specs.base.Sum.{total}
-use Rattle.etherparse.specs.defrag.Fragments.{Fragment, end_of, holds, named_end, start_of}
+use Rattle.etherparse.specs.defrag.Fragments.{Fragment, holds, named_end, start_of}
 use Rattle.etherparse.specs.defrag.Picture.{byte_at, byte_of, text_of}
 use Rattle.netlines.specs.ChangedWord.{DifferAt, DifferInOneWord}
-use Rattle.netlines.proofs.ShapeLemmas.{AllSameShape, SameShape, own_shape, same_holds, same_named}
+use Rattle.netlines.proofs.ShapeLemmas.{SameShape, own_shape, same_holds, same_named}
 use Rattle.netlines.proofs.ShapeLemmas.{same_start}
 
 -- ---- texts that agree but at one word

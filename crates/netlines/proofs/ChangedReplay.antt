@@ -2,17 +2,13 @@
 use Rattle.std.proofs.Common.{◌≡◌, ◌∙◌, ap, refl, subst, sym, ◌↔◌, ℕ, ◌+◌, ◌*◌, List, [], ◌∷◌, ◌++◌}
 use Rattle.std.proofs.Common.{length, map, arith, length-append}
 use Rattle.std.specs.Prelude.{IsTrue, codes}
-use Rattle.std.specs.List.{AllByRecursion}
 use Rattle.etherparse.specs.base.Bytes.{IsBytes}
-use Rattle.etherparse.specs.defrag.Fragments.{Fragment, start_of}
+use Rattle.etherparse.specs.defrag.Fragments.{Fragment}
 use Rattle.etherparse.specs.defrag.IpFragId.{same_name}
-use Rattle.etherparse.specs.defrag.Outcome.{outcome}
-use Rattle.etherparse.specs.defrag.Outcome.Outcome.{Completed}
 use Rattle.etherparse.specs.defrag.PoolCalls.{outcome_at}
 use Rattle.etherparse.specs.defrag.Picture.{text_of}
-use Rattle.etherparse.specs.packet.Class.{Class, FragmentName, class_of}
+use Rattle.etherparse.specs.packet.Class.{FragmentName, class_of}
 use Rattle.etherparse.specs.packet.Class.Class.{Cut}
-use Rattle.commands.specs.Commands.{Command}
 use Rattle.commands.specs.Commands.Command.{Frame}
 use Rattle.netlines.specs.Alone.{answers_behind}
 use Rattle.netlines.specs.Answers.{answer_after, outcome_answer}

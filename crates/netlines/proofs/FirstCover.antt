@@ -1,13 +1,13 @@
 -- The frames of one cut of a message, in any order and with repeats: each waits until the last of
 -- them that is new has come.
-use Rattle.std.proofs.Common.{◌≡◌, ◌∙◌, ap, refl, subst, sym, inl, inr, ◌⊎◌, ◌↔◌, ℕ, ◌+◌, true, List}
-use Rattle.std.proofs.Common.{suc, [], ◌∷◌, ◌++◌, length, map, None, arith}
-use Rattle.std.specs.Prelude.{IsTrue, All, Contains}
+use Rattle.std.proofs.Common.{◌≡◌, ◌∙◌, ap, refl, subst, sym, inl, inr, ◌↔◌, ℕ, true, List}
+use Rattle.std.proofs.Common.{suc, [], ◌∷◌, ◌++◌, map, None, arith}
+use Rattle.std.specs.Prelude.{IsTrue, Contains}
 use Rattle.std.specs.List.{AllByRecursion}
 use Rattle.std.proofs.lemmas.List.Elements.{All-contains, recursion_from_All}
 use Rattle.etherparse.specs.defrag.Fragments.{Fragment}
 use Rattle.etherparse.specs.defrag.IpFragId.{same_name}
-use Rattle.etherparse.specs.packet.Class.{Class, FragmentName, class_of}
+use Rattle.etherparse.specs.packet.Class.{FragmentName, class_of}
 use Rattle.etherparse.proofs.Members.{AllByRecursion-push}
 use Rattle.commands.specs.Commands.{command_of}
 use Rattle.commands.specs.Commands.Command.{Frame}

@@ -1,17 +1,16 @@
 -- Fragments of the same places, flags and lengths become the same, whatever their bytes are.
-use Rattle.std.proofs.Common.{◌≡◌, ◌∙◌, ap, refl, subst, sym, ℕ, ◌%◌, ◌==◌, ◌&&◌, ◌||◌, not, Bool}
-use Rattle.std.proofs.Common.{true, false, if◌then◌else◌, cond, Option, Some, None, is_some, List, []}
+use Rattle.std.proofs.Common.{◌≡◌, ◌∙◌, ap, refl, sym, ℕ, ◌%◌, ◌==◌, ◌&&◌, ◌||◌, not}
+use Rattle.std.proofs.Common.{true, false, if◌then◌else◌, Option, Some, None, is_some, List, []}
 use Rattle.std.proofs.Common.{◌∷◌, ◌++◌, length, max, arith}
 use Rattle.std.specs.Prelude.{nat_le, nat_lt}
 use Rattle.std.specs.List.{AllZip, list_any}
-use Rattle.etherparse.specs.defrag.declared.defrag.ip_defrag_error.IpDefragError.{IpDefragError}
 use Rattle.etherparse.specs.defrag.declared.defrag.ip_defrag_error.IpDefragError.TheVariants.{ConflictingEnd}
 use Rattle.etherparse.specs.defrag.declared.defrag.ip_defrag_error.IpDefragError.TheVariants.{SegmentTooBig}
 use Rattle.etherparse.specs.defrag.declared.defrag.ip_defrag_error.IpDefragError.TheVariants.{UnalignedFragmentPayloadLen}
 use Rattle.etherparse.specs.defrag.Fragments.{Fragment, all_below, end_conflict, end_of, greatest_end}
 use Rattle.etherparse.specs.defrag.Fragments.{holds, is_complete, named_end, refusal_of, start_of}
 use Rattle.etherparse.specs.defrag.Outcome.{Outcome, outcome}
-use Rattle.etherparse.specs.defrag.Outcome.Outcome.{Completed, Refusal, Waiting}
+use Rattle.etherparse.specs.defrag.Outcome.Outcome.{Completed, Waiting}
 use Rattle.etherparse.specs.defrag.Picture.{text_of}
 use Rattle.etherparse.proofs.OutcomeLemmas.{by_outcome, is_completed, is_waiting}
 use Rattle.netlines.proofs.WaitingLemmas.{AllWait}
