@@ -1,9 +1,11 @@
 -- The lines of a message that came, one of them with a changed word.
 use Rattle.std.proofs.Common.{◌≡◌, ◌∙◌, ap, refl, subst, sym, ◌↔◌, ℕ, ◌+◌, ◌*◌, List, [], ◌∷◌, ◌++◌}
-use Rattle.std.proofs.Common.{length, map, arith, length-append}
-use Rattle.std.specs.Prelude.{IsTrue, codes}
-use Rattle.etherparse.specs.base.Bytes.{IsBytes}
-use Rattle.etherparse.specs.defrag.Fragments.{Fragment}
+use Rattle.std.proofs.Common.{length, map, arith, length-append, append-nil, append_assoc, Option}
+use Rattle.std.proofs.Common.{None, is_some, if◌then◌else◌}
+use Rattle.std.specs.Prelude.{All, IsTrue, codes}
+use Rattle.etherparse.specs.defrag.declared.defrag.ip_defrag_error.IpDefragError.{IpDefragError}
+use Rattle.etherparse.specs.defrag.Fragments.{AgreesWith, Fragment, IsAccepted, MembersAgree}
+use Rattle.etherparse.specs.defrag.Fragments.{refusal_of, with_accepted, with_all_accepted}
 use Rattle.etherparse.specs.defrag.IpFragId.{same_name}
 use Rattle.etherparse.specs.defrag.PoolCalls.{outcome_at}
 use Rattle.etherparse.specs.defrag.Picture.{text_of}
@@ -17,10 +19,10 @@ use Rattle.netlines.specs.ChangedWord.{DifferAt, IsChangedFragment}
 use Rattle.netlines.specs.Waiting.{HandsOut, HandsOutChanged, line_of_message, lines_for, texts_for}
 use Rattle.netlines.specs.Waiting.{waiting_lines}
 use Rattle.netlines.proofs.ArrivalLemmas.{fragment_answered}
-use Rattle.netlines.proofs.ChangedFragment.{AllBytes, one_changed, texts_differ}
+use Rattle.netlines.proofs.ChangedFragment.{one_changed, texts_differ}
 use Rattle.netlines.proofs.ReplayLemmas.{answered_among, handed_out}
 use Rattle.netlines.proofs.ShapeLemmas.{AllSameShape, SameShape, completes_if, own_shape, same_completed}
-use Rattle.netlines.proofs.ShapeLemmas.{same_wait}
+use Rattle.netlines.proofs.ShapeLemmas.{same_wait, waits_if}
 use Rattle.netlines.proofs.WaitingLemmas.{AllWait, HandIn, HandIn-push, are_waiting, none_held}
 
 waits_alike : (xs ys : List (List ℕ)) → length xs ≡ length ys
@@ -55,6 +57,28 @@ shaped_last (f ∷ fs) h (k ∷ ks) all =
       fronts = (all.0, rest.fronts);
       lasts = rest.lasts;
     }
+
+-- fragments that wait behind one another are accepted
+accepted_waiting : (before fs : List Fragment) → AllWait before fs
+    → with_all_accepted before fs ≡ before ++ fs
+accepted_waiting before [] wait = sym (append-nil before)
+accepted_waiting before (f ∷ fs) wait =
+    let taken = (waits_if before f (before ++ f ∷ []) wait.0).0 in
+    ap (λ (o : Option IpDefragError). with_all_accepted
+    (if is_some o then before else before ++ f ∷ []) fs) taken
+    ∙ accepted_waiting (before ++ f ∷ []) fs wait.1 ∙ append_assoc before (f ∷ []) fs
+
+accepted-append : (before fs gs : List Fragment) → with_all_accepted before (fs ++ gs)
+    ≡ with_all_accepted (with_all_accepted before fs) gs
+accepted-append before [] gs = refl
+accepted-append before (f ∷ fs) gs = accepted-append (with_accepted before f) fs gs
+
+all_accepted : (fs : List Fragment) (h : Fragment) → AllWait [] fs → refusal_of fs h ≡ None
+    → IsAccepted (fs ++ h ∷ [])
+all_accepted fs h wait taken =
+    accepted-append [] fs (h ∷ [])
+    ∙ ap (λ (gs : List Fragment). with_all_accepted gs (h ∷ [])) (accepted_waiting [] fs wait)
+    ∙ ap (λ (o : Option IpDefragError). if is_some o then fs else fs ++ h ∷ []) taken
 
 module _ (same : (a b : FragmentName) → IsTrue (same_name a b) ↔ (a ≡ b)) (name : FragmentName)
     (channel : ℕ) where
@@ -145,17 +169,7 @@ module _ (same : (a b : FragmentName) → IsTrue (same_name a b) ↔ (a ≡ b)) 
         here = r.here;
       }
 
-  abbrev pub AreBytes : Type 0
-  AreBytes = (line : List ℕ) (f : Fragment) → HandsInFragment line name channel f
-      → IsBytes f.bytes
-
-  all_bytes : AreBytes → (lines : List (List ℕ)) (fs : List Fragment) → In lines fs → AllBytes fs
-  all_bytes are [] [] all = tt
-  all_bytes are [] (f ∷ fs) all = absurd all
-  all_bytes are (l ∷ lines) [] all = absurd all
-  all_bytes are (l ∷ lines) (f ∷ fs) all = (are l f all.0, all_bytes are lines fs all.1)
-
-  pub replayed_with_change : AreBytes → (earlier others between front rest : List (List ℕ))
+  pub replayed_with_change : MembersAgree → (earlier others between front rest : List (List ℕ))
       (last line changed : List ℕ) (f g h : Fragment) → HandsInFragment last name channel h
       → HandsOut (answer_after earlier last)
       → waiting_lines name channel earlier ++ last ∷ [] ≡ front ++ line ∷ rest
@@ -165,7 +179,7 @@ module _ (same : (a b : FragmentName) → IsTrue (same_name a b) ↔ (a ≡ b)) 
       → HandsOutChanged name (8 * f.offset + length change.words.front) (answer_after earlier last)
       (waiting_lines name channel earlier) (texts_for name channel between
       (answers_behind others between))
-  replayed_with_change are earlier others between front rest last line changed f g h hands out
+  replayed_with_change agree earlier others between front rest last line changed f g h hands out
       lines_are line_hands changed_hands change none is =
       let waiting = waiting_lines name channel earlier in
       let held = are_waiting same name channel earlier in
@@ -210,13 +224,12 @@ module _ (same : (a b : FragmentName) → IsTrue (same_name a b) ↔ (a ≡ b)) 
       let made = answered_among same name channel others between l.front n.gs l.line n.last
       (text_of (n.gs ++ n.last ∷ [])) (none_held same name channel others none) l.fronts l.here wait
       completes (is ∙ l.is) in
-      let old_bytes : AllBytes (a.before ++ f ∷ a.behind) =
-      subst AllBytes old_are (all_bytes are (front ++ line ∷ rest) (fs ++ h ∷ []) all_in) in
-      let new_bytes : AllBytes new =
-      all_bytes are (front ++ changed ∷ rest) new new_in in
+      let agrees : All (AgreesWith (a.before ++ f ∷ a.behind)) (a.before ++ f ∷ a.behind) =
+      subst (λ (ks : List Fragment). All (AgreesWith ks) ks) old_are
+      (agree (fs ++ h ∷ []) (all_accepted fs h held.1 was.0)) in
       let differ : DifferAt (8 * f.offset + length change.words.front)
       (text_of (a.before ++ f ∷ a.behind)) (text_of new) =
-      texts_differ a.before a.behind f g shape change.words old_bytes new_bytes in
+      texts_differ a.before a.behind f g shape change.words agrees in
       record {
         old = told.0;
         new = text_of (n.gs ++ n.last ∷ []);

@@ -6,7 +6,6 @@ ghost use Rattle.netlines.specs.Answers.{answer_after, message_answer};
 ghost use Rattle.netlines.specs.Alone.{answers_behind};
 ghost use Rattle.netlines.specs.Arrivals.{HandsInFragment};
 ghost use Rattle.netlines.specs.ChangedWord.{DifferInOneWord, IsChangedFragment, verdict_after};
-ghost use Rattle.etherparse.specs.base.Bytes.{IsBytes};
 ghost use Rattle.etherparse.specs.defrag.Fragments.{Fragment};
 ghost use Rattle.etherparse.specs.packet.Class.{FragmentName};
 ghost use Rattle.etherparse.specs.packet.Readable.{ReadMessage, message_at, udp as udp_number};
@@ -26,6 +25,7 @@ ghost use Rattle.netlines.specs.declared.messages.seal_error.SealError.TheVarian
 ghost use Rattle.netlines.specs.declared.messages.seal_error.SealError.TheVariants.{TooLong};
 
 use crate::Verdict;
+use etherparse::laws::defrag::members_agree;
 use etherparse::laws::defrag::names::equal_names;
 use etherparse::laws::icmp::{icmpv4, icmpv6};
 use etherparse::laws::tcpudp::{tcp, udp};
@@ -107,12 +107,12 @@ pub fn one_changed_word()
         (verdict_after words.old_word words.new_word (summed_text name.addresses changed))
         (new ++ behind) }
     // The lines of a message that came, one of them with a fragment in which one word is changed,
-    // make a message that differs from it in this word, unless a later fragment covers the word.
+    // make a message that differs from it in this word at most: a later fragment may cover the word,
+    // or the message end before it.
     ensures fragment { (name : FragmentName) (channel : ℕ)
         (earlier others between front rest : List (List ℕ)) (last line changed : List ℕ)
-        (f g h : Fragment)
-        → ((some : List ℕ) (k : Fragment) → HandsInFragment some name channel k → IsBytes k.bytes)
-        → HandsInFragment last name channel h → HandsOut (answer_after earlier last)
+        (f g h : Fragment) → HandsInFragment last name channel h
+        → HandsOut (answer_after earlier last)
         → waiting_lines name channel earlier ++ last ∷ [] ≡ front ++ line ∷ rest
         → HandsInFragment line name channel f → HandsInFragment changed name channel g
         → (change : IsChangedFragment f g) → waiting_lines name channel others ≡ []
@@ -122,4 +122,5 @@ pub fn one_changed_word()
         (texts_for name channel between (answers_behind others between)) }
 {
     equal_names::<u32>();
+    members_agree();
 }
