@@ -97,7 +97,7 @@ pub fn one_changed_word()
         (earlier others : List (List ℕ)) (line changed_line text behind new : List ℕ)
         (message changed : ReadMessage) → AddressesFit name.addresses
         → Completes earlier line name channel text → message_at name.number text ≡ Ok message
-        → answer_after earlier line ≡ message_answer name.number Verdict::Good text
+        → answer_after earlier line ≡ message_answer name.number Verdict.Good text
         → text ≡ summed_bytes message ++ behind → (words : DifferInOneWord (summed_bytes message)
         new)
         → (name.number ≡ udp_number → (length words.front ≢ 4) × (length words.front ≢ 6))
