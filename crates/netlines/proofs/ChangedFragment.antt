@@ -1,6 +1,6 @@
 -- Fragments of which one has a changed word show texts that differ in this word at most.
 use Rattle.std.proofs.Common.{◌≡◌, ◌∙◌, ap, refl, subst, sym, inl, inr, ◌⊎◌, ℕ, ◌+◌, ◌-◌, ◌%◌, ◌<◌, ◌≤◌}
-use Rattle.std.proofs.Common.{Bool, true, false, cond, Option, Some, None, unwrap_or, List, [], ◌∷◌}
+use Rattle.std.proofs.Common.{true, false, Option, Some, None, unwrap_or, List, [], ◌∷◌}
 use Rattle.std.proofs.Common.{◌++◌, length, get_or, take, drop, arith, append_assoc, length-append}
 use Rattle.std.specs.Prelude.{All}
 use Rattle.std.specs.List.{AllZip, list_any}
