@@ -1,9 +1,8 @@
 //! Laws of checksums. What they want of addresses and headers every value has (`super::values`).
 ghost use Rattle.std.specs.Prelude.{◌≡◌, ◌≢◌, ◌↔◌, ◌+◌, ◌*◌, ◌≤◌, ◌<◌, ℕ, true, false, List};
-ghost use Rattle.std.specs.Prelude.{[], ◌∷◌, ◌++◌};
-ghost use Rattle.std.specs.Prelude.{length, None, Some, Ok};
-ghost use Rattle.netlines.specs.Answers.{answer_after, message_answer};
+ghost use Rattle.std.specs.Prelude.{[], ◌∷◌, ◌++◌, length, None, Some, Ok};
 ghost use Rattle.netlines.specs.Alone.{answers_behind};
+ghost use Rattle.netlines.specs.Answers.{answer_after, message_answer};
 ghost use Rattle.netlines.specs.Arrivals.{HandsInFragment};
 ghost use Rattle.netlines.specs.ChangedWord.{DifferInOneWord, IsChangedFragment, verdict_after};
 ghost use Rattle.etherparse.specs.defrag.Fragments.{Fragment};
