@@ -1,40 +1,38 @@
 -- What is held of a message, and what its lines are answered, where all frames were posted.
 use Rattle.std.proofs.Common.{◌≡◌, ◌∙◌, ap, refl, subst, sym, inl, inr, ◌⊎◌, ◌↔◌, ℕ, zero, suc, ◌+◌}
 use Rattle.std.proofs.Common.{◌<◌, ◌≤◌, Bool, true, false, cond, List, [], ◌∷◌, ◌++◌, length, map}
-use Rattle.std.proofs.Common.{get_or, None, Some, Result, Ok, Err, arith}
-use Rattle.std.specs.Prelude.{IsTrue, codes, nat_lt, All, Contains}
+use Rattle.std.proofs.Common.{None, Result, Ok, Err, arith}
+use Rattle.std.specs.Prelude.{IsTrue, codes, nat_lt, Contains}
 use Rattle.std.specs.List.{AllByRecursion}
 use Rattle.std.proofs.lemmas.Bool.{cases_Bool}
-use Rattle.std.proofs.lemmas.List.Elements.{All-head, All-tail, recursion_from_All}
-use Rattle.etherparse.specs.defrag.Fragments.{Fragment, fragment, is_complete}
+use Rattle.std.proofs.lemmas.List.Elements.{recursion_from_All}
+use Rattle.etherparse.specs.defrag.Fragments.{Fragment, is_complete}
 use Rattle.etherparse.specs.defrag.IpFragId.{same_name}
 use Rattle.etherparse.specs.defrag.Outcome.{Held, Outcome, held_after, outcome}
-use Rattle.etherparse.specs.defrag.Outcome.Outcome.{Completed, Refusal, Waiting}
-use Rattle.etherparse.specs.defrag.PoolCalls.{no_lists, outcome_at, retained_from}
+use Rattle.etherparse.specs.defrag.Outcome.Outcome.{Completed, Waiting}
+use Rattle.etherparse.specs.defrag.PoolCalls.{no_lists}
 use Rattle.etherparse.specs.packet.Class.{Class, FragmentName, class_of}
-use Rattle.etherparse.specs.packet.Class.Class.{Whole, Cut, Other, Refused}
+use Rattle.etherparse.specs.packet.Class.Class.{Whole, Cut, Refused}
 use Rattle.etherparse.specs.packet.Readable.{ReadMessage, message_at}
 use Rattle.etherparse.specs.packet.declared.err.packet.slice_error.SliceError.{SliceError}
 use Rattle.etherparse.proofs.Members.{AllByRecursion-push}
 use Rattle.etherparse.proofs.OutcomeLemmas.{by_outcome, is_completed, is_waiting}
 use Rattle.commands.specs.Commands.{Command, command_of}
-use Rattle.commands.specs.Commands.Command.{Frame, Forget, Bad}
-use Rattle.netlines.specs.Answers.{answer_after, class_answer, command_answer, completed_answer}
-use Rattle.netlines.specs.Answers.{message_answer, outcome_answer}
+use Rattle.commands.specs.Commands.Command.{Frame}
+use Rattle.netlines.specs.Answers.{answer_after, completed_answer}
+use Rattle.netlines.specs.Answers.{outcome_answer}
 use Rattle.netlines.specs.Arrivals.{HandsInFragment, held_behind, held_with_line, lists_after_lines}
 use Rattle.netlines.specs.Letter.{LetterFits, name_of, piece_class}
 use Rattle.netlines.specs.Posted.{Piece, frame, is_cut, pieces_from, posted_frames}
-use Rattle.netlines.specs.PostedInput.{AnswersAgree, AreAllPosted, HandsOutPosted, IsPostedFrame}
-use Rattle.netlines.specs.PostedInput.{IsPostedOn, line_of_message}
+use Rattle.netlines.specs.PostedInput.{AnswersAgree, AreAllPosted, IsPostedFrame}
+use Rattle.netlines.specs.PostedInput.{IsPostedOn}
 use Rattle.netlines.specs.PostRefusal.{post_refusal}
 use Rattle.netlines.specs.Sealed.{addresses_of}
-use Rattle.netlines.specs.Verdict.{verdict_of}
-use Rattle.netlines.specs.Waiting.{HandsOut}
+use Rattle.netlines.specs.Waiting.{HandsOut, line_of_message}
 use Rattle.netlines.specs.declared.messages.letter.Letter.{Letter}
 use Rattle.netlines.proofs.ArrivalLemmas.{class_answered, fragment_answered, held_with_fragment}
 use Rattle.netlines.proofs.ArrivalLemmas.{line_is}
 use Rattle.netlines.proofs.CoverLemmas.{IsCutOf, IsIn, all-in}
-use Rattle.netlines.proofs.InertLemmas.{first_byte}
 use Rattle.netlines.proofs.PieceLemmas.{ArePiecesOf, IsPieceOf, piece_taken, text_is}
 use Rattle.netlines.proofs.PostedCut.{cut_is, part_of}
 use Rattle.netlines.proofs.PostedFrames.{PartIsRead, RefusedIsRead, WholeIsRead, frame_is_refused}

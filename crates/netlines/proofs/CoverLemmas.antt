@@ -1,16 +1,16 @@
 -- When the pieces of one cut of a message cover it: with the last of them, in any order and with
 -- repeats.
-use Rattle.std.proofs.Common.{◌≡◌, ◌∙◌, sym, ap, refl, subst, inl, inr, ◌⊎◌, ℕ, ◌<◌, ◌≤◌, Bool, true}
-use Rattle.std.proofs.Common.{false, cond, Option, Some, IsSome, List, [], ◌∷◌, ◌++◌, length, max}
-use Rattle.std.proofs.Common.{arith, append_assoc, append-nil}
+use Rattle.std.proofs.Common.{◌≡◌, ◌∙◌, sym, ap, refl, subst, inl, inr, ℕ, ◌<◌, ◌≤◌, true}
+use Rattle.std.proofs.Common.{false, IsSome, List, [], ◌∷◌, ◌++◌, length}
+use Rattle.std.proofs.Common.{arith}
 use Rattle.std.specs.List.{AllByRecursion}
 use Rattle.std.proofs.lemmas.Bool.{cases_Bool, false_from_ne_true}
-use Rattle.etherparse.specs.defrag.Fragments.{Fragment, Holds, end_of, greatest_end, is_complete, named_end}
+use Rattle.etherparse.specs.defrag.Fragments.{Fragment, Holds, end_of, is_complete, named_end}
 use Rattle.etherparse.specs.defrag.Fragments.{start_of}
-use Rattle.etherparse.specs.defrag.Outcome.{Outcome, outcome}
-use Rattle.etherparse.specs.defrag.Outcome.Outcome.{Completed, Waiting}
+use Rattle.etherparse.specs.defrag.Outcome.{outcome}
+use Rattle.etherparse.specs.defrag.Outcome.Outcome.{Completed}
 use Rattle.etherparse.proofs.Complete.{complete_Decides}
-use Rattle.etherparse.proofs.Members.{AllByRecursion-push, Any-from_AnyOf, AnyOf, AnyOf-left, AnyOf-push}
+use Rattle.etherparse.proofs.Members.{AllByRecursion-push, Any-from_AnyOf, AnyOf, AnyOf-push}
 use Rattle.etherparse.proofs.OutcomeLemmas.{is_completed, is_waiting}
 use Rattle.netlines.proofs.PieceLemmas.{ArePiecesOf, IsPieceOf, complete_to_end, greatest_within}
 use Rattle.netlines.proofs.PieceLemmas.{piece_taken, text_is}

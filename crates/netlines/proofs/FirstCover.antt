@@ -1,13 +1,13 @@
 -- The frames of one cut of a message, in any order and with repeats: each waits until the last of
 -- them that is new has come.
-use Rattle.std.proofs.Common.{◌≡◌, ◌∙◌, ap, refl, subst, sym, inl, inr, ◌⊎◌, ◌↔◌, ℕ, ◌+◌, true, List}
-use Rattle.std.proofs.Common.{suc, [], ◌∷◌, ◌++◌, length, map, None, arith}
-use Rattle.std.specs.Prelude.{IsTrue, All, Contains}
+use Rattle.std.proofs.Common.{◌≡◌, ◌∙◌, ap, refl, subst, sym, inl, inr, ◌↔◌, ℕ, true, List}
+use Rattle.std.proofs.Common.{suc, [], ◌∷◌, ◌++◌, map, None, arith}
+use Rattle.std.specs.Prelude.{IsTrue, Contains}
 use Rattle.std.specs.List.{AllByRecursion}
 use Rattle.std.proofs.lemmas.List.Elements.{All-contains, recursion_from_All}
 use Rattle.etherparse.specs.defrag.Fragments.{Fragment}
 use Rattle.etherparse.specs.defrag.IpFragId.{same_name}
-use Rattle.etherparse.specs.packet.Class.{Class, FragmentName, class_of}
+use Rattle.etherparse.specs.packet.Class.{FragmentName, class_of}
 use Rattle.etherparse.proofs.Members.{AllByRecursion-push}
 use Rattle.commands.specs.Commands.{command_of}
 use Rattle.commands.specs.Commands.Command.{Frame}
@@ -15,9 +15,9 @@ use Rattle.netlines.specs.Alone.{answers_behind}
 use Rattle.netlines.specs.Arrivals.{HandsInFragment}
 use Rattle.netlines.specs.Letter.{LetterFits, name_of, piece_class}
 use Rattle.netlines.specs.Posted.{Piece, frame, is_cut, pieces_from, posted_frames}
-use Rattle.netlines.specs.PostedInput.{HandInFrames, IsFirstCover, line_of_message}
+use Rattle.netlines.specs.PostedInput.{HandInFrames, IsFirstCover}
 use Rattle.netlines.specs.PostRefusal.{post_refusal}
-use Rattle.netlines.specs.Waiting.{lines_for, texts_for, waiting_lines}
+use Rattle.netlines.specs.Waiting.{line_of_message, lines_for, texts_for, waiting_lines}
 use Rattle.netlines.specs.declared.messages.letter.Letter.{Letter}
 use Rattle.netlines.proofs.AllPosted.{are_cut, class_is, from_map, in_map, is_in, is_short, parts}
 use Rattle.netlines.proofs.AllPosted.{by_parts, piece_in}

@@ -2,7 +2,9 @@ mod AllPosted
 mod AloneLemmas
 mod AnswerLemmas
 mod ArrivalLemmas
+mod ChangedFragment
 mod ChangedMessage
+mod ChangedReplay
 mod ChangedWordLemmas
 mod ChannelLemmas
 mod CoverLemmas
@@ -23,6 +25,7 @@ mod ReadLemmas
 mod Reassembled
 mod ReplayLemmas
 mod SealedLemmas
+mod ShapeLemmas
 mod UnrefusedLemmas
 mod WaitingLemmas
 mod WrittenLines

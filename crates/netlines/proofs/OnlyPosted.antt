@@ -1,6 +1,6 @@
 -- Where all frames were posted, no message is handed out but those.
-use Rattle.std.proofs.Common.{◌≡◌, ◌∙◌, ap, refl, subst, sym, inl, inr, ◌⊎◌, ◌↔◌, ℕ, ◌+◌, true, List}
-use Rattle.std.proofs.Common.{[], ◌∷◌, ◌++◌, length, map, get_or, None, Some, Result, Ok, Err, arith}
+use Rattle.std.proofs.Common.{◌≡◌, ◌∙◌, ap, refl, subst, sym, inl, ◌↔◌, ℕ, true, List}
+use Rattle.std.proofs.Common.{[], ◌∷◌, ◌++◌, get_or, Result, Ok, Err, arith}
 use Rattle.std.specs.Prelude.{IsTrue, codes}
 use Rattle.etherparse.specs.defrag.Fragments.{Fragment, fragment}
 use Rattle.etherparse.specs.defrag.IpFragId.{same_name}
@@ -15,11 +15,10 @@ use Rattle.netlines.specs.Arrivals.{HandsInFragment, lists_after_lines}
 use Rattle.netlines.specs.Letter.{name_of}
 use Rattle.netlines.specs.Posted.{is_cut}
 use Rattle.netlines.specs.PostedInput.{AreAllPosted, HandsOutPosted, IsPostedFrame, IsPostedOn}
-use Rattle.netlines.specs.PostedInput.{line_of_message}
 use Rattle.netlines.specs.Sealed.{addresses_of}
 use Rattle.netlines.specs.Verdict.{verdict_of}
+use Rattle.netlines.specs.Waiting.{line_of_message}
 use Rattle.netlines.specs.declared.frames.verdict.Verdict.{Verdict}
-use Rattle.netlines.specs.declared.messages.letter.Letter.{Letter}
 use Rattle.netlines.proofs.AllPosted.{class_is, part_handed_out, piece_in, posted_parts}
 use Rattle.netlines.proofs.AllPosted.{uncut_is_refused, uncut_is_whole}
 use Rattle.netlines.proofs.AloneLemmas.{answer_is}

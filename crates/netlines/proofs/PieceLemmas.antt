@@ -1,23 +1,18 @@
 -- Pieces of one message, in any order, overlapping or repeated.
 use Rattle.std.proofs.Common.{◌≡◌, ◌∙◌, sym, ap, refl, subst, inl, inr, ◌⊎◌, ℕ, ◌-◌, ◌%◌, ◌<◌, ◌≤◌}
-use Rattle.std.proofs.Common.{◌==◌, ◌&&◌, ◌||◌, Bool, true, false, not, cond, if◌then◌else◌}
-use Rattle.std.proofs.Common.{Option, Some, None, IsSome, List, [], ◌∷◌, ◌++◌, length, get_or, map}
+use Rattle.std.proofs.Common.{◌==◌, ◌&&◌, Bool, true, false, not, cond, if◌then◌else◌}
+use Rattle.std.proofs.Common.{Option, Some, None, IsSome, List, [], ◌∷◌, length, get_or, map}
 use Rattle.std.proofs.Common.{unwrap_or, max, arith}
-use Rattle.std.specs.Prelude.{nat_lt}
 use Rattle.std.specs.List.{AllByRecursion, range_with_len}
-use Rattle.std.specs.Option.{option_or}
-use Rattle.std.proofs.lemmas.Bool.{cases_Bool, cases_lt, eq-eqb, le-ltb, false≢true}
+use Rattle.std.proofs.lemmas.Bool.{cases_Bool, eq-eqb, le-ltb, false≢true}
 use Rattle.std.proofs.lemmas.Bool.Decides.{nat_tests}
 use Rattle.std.proofs.lemmas.List.FromFn.{fill_by_all}
 use Rattle.etherparse.specs.defrag.Fragments.{Fragment, Holds, end_of, end_conflict, greatest_end, holds}
-use Rattle.etherparse.specs.defrag.Fragments.{is_complete, named_end, refusal_at, refusal_of, start_of}
+use Rattle.etherparse.specs.defrag.Fragments.{is_complete, named_end, refusal_of, start_of}
 use Rattle.etherparse.specs.defrag.declared.defrag.ip_defrag_error.IpDefragError.{IpDefragError}
-use Rattle.etherparse.specs.defrag.Outcome.{Outcome, outcome}
-use Rattle.etherparse.specs.defrag.Outcome.Outcome.{Completed, Waiting}
-use Rattle.etherparse.specs.defrag.Picture.{byte_at, byte_of, text_of}
+use Rattle.etherparse.specs.defrag.Picture.{byte_at, text_of}
 use Rattle.etherparse.proofs.Complete.{complete_Decides}
 use Rattle.etherparse.proofs.Members.{AnyOf, AnyOf-from_Any}
-use Rattle.etherparse.proofs.OutcomeLemmas.{is_completed, is_waiting}
 use Rattle.etherparse.proofs.Push.{byte_of-here}
 
 -- a fragment is a piece of a message: its bytes stand there at its place, in whole units of 8 bytes

@@ -1,6 +1,6 @@
 -- The pieces that a message is posted in are one cut of it.
-use Rattle.std.proofs.Common.{◌≡◌, ◌∙◌, sym, ap, refl, subst, inl, inr, ◌⊎◌, ℕ, ◌+◌, ◌-◌, ◌*◌, ◌/◌}
-use Rattle.std.proofs.Common.{◌%◌, ◌<◌, ◌≤◌, Bool, true, false, List, [], ◌∷◌, length, take, drop, map}
+use Rattle.std.proofs.Common.{◌≡◌, ◌∙◌, sym, ap, refl, subst, inl, inr, ℕ, ◌+◌, ◌-◌, ◌/◌}
+use Rattle.std.proofs.Common.{◌<◌, ◌≤◌, true, false, List, [], ◌∷◌, length, take, drop, map}
 use Rattle.std.proofs.Common.{get_or, arith}
 use Rattle.std.specs.List.{AllByRecursion}
 use Rattle.std.proofs.lemmas.Bool.{cases_lt}
@@ -8,7 +8,7 @@ use Rattle.std.proofs.lemmas.List.{get_or-drop, get_or-take}
 use Rattle.etherparse.specs.defrag.Fragments.{Fragment, Holds, end_of, fragment, start_of}
 use Rattle.netlines.specs.Posted.{Piece, pieces_from}
 use Rattle.etherparse.proofs.Members.{AnyOf}
-use Rattle.netlines.proofs.CoverLemmas.{AnyOf-is, IsCutOf, IsIn, all-in}
+use Rattle.netlines.proofs.CoverLemmas.{IsCutOf, IsIn, all-in}
 use Rattle.netlines.proofs.PieceLemmas.{ArePiecesOf, IsPieceOf}
 use Rattle.netlines.proofs.PostedPieces.{Goes, goes_behind, is_good, text_len}
 

@@ -1,12 +1,10 @@
 -- What two messages are answered that came in fragments and differ in one word.
-use Rattle.std.proofs.Common.{◌≡◌, ◌∙◌, ap, refl, sym, ℕ, ◌-◌, List, [], ◌∷◌, ◌++◌, length, get_or}
-use Rattle.std.proofs.Common.{append_assoc, Result, Ok, arith}
+use Rattle.std.proofs.Common.{◌≡◌, ◌∙◌, ap, refl, sym, ℕ, ◌-◌, List, ◌++◌, length, get_or}
+use Rattle.std.proofs.Common.{append_assoc, Ok, arith}
 use Rattle.std.specs.Prelude.{codes, decimal}
 use Rattle.std.proofs.lemmas.List.{get_or-append_right}
-use Rattle.etherparse.specs.defrag.Outcome.Outcome.{Completed}
 use Rattle.etherparse.specs.packet.Class.{FragmentName}
 use Rattle.etherparse.specs.packet.Readable.{ReadMessage, message_at}
-use Rattle.etherparse.specs.packet.declared.err.packet.slice_error.SliceError.{SliceError}
 use Rattle.netlines.specs.Answers.{answer_after, completed_answer, hex_word, message_answer}
 use Rattle.netlines.specs.Answers.{outcome_answer, verdict_word}
 use Rattle.netlines.specs.Verdict.{verdict_of}

@@ -8,7 +8,7 @@ use Rattle.std.proofs.lemmas.Bool.{and_parts, cases_Bool, eqb-true}
 use Rattle.etherparse.specs.defrag.Fragments.{Fragment, fragment}
 use Rattle.etherparse.specs.defrag.IpFragId.{fragment_in, same_name}
 use Rattle.etherparse.specs.defrag.Outcome.{Held, Outcome, held_after, outcome}
-use Rattle.etherparse.specs.defrag.Outcome.Outcome.{Completed, Refusal, Waiting}
+use Rattle.etherparse.specs.defrag.Outcome.Outcome.{Waiting}
 use Rattle.etherparse.specs.defrag.PoolCalls.{after_frame, no_lists}
 use Rattle.etherparse.specs.packet.Class.{Class, FragmentName, class_of}
 use Rattle.etherparse.specs.packet.Class.Class.{Whole, Cut, Other, Refused}
@@ -44,7 +44,7 @@ module _ (same : (a b : FragmentName) → IsTrue (same_name a b) ↔ (a ≡ b)) 
   abbrev pub HandIn : List (List ℕ) → List Fragment → Type 0
   HandIn lines fs = AllZip (λ line f. HandsInFragment line name channel f) lines fs
 
-  HandIn-push : (lines : List (List ℕ)) (fs : List Fragment) (line : List ℕ) (f : Fragment)
+  pub HandIn-push : (lines : List (List ℕ)) (fs : List Fragment) (line : List ℕ) (f : Fragment)
       → HandIn lines fs → HandsInFragment line name channel f
       → HandIn (lines ++ line ∷ []) (fs ++ f ∷ [])
   HandIn-push [] [] line f all hands = (hands, tt)

@@ -4,6 +4,7 @@ use Rattle.std.specs.Prelude.{◌≡◌, ◌≢◌, ◌⊎◌, ℕ, ◌%◌, ◌
 use Rattle.std.specs.Prelude.{List, [], ◌++◌, length}
 use Rattle.etherparse.specs.base.Bytes.{IsBytes}
 use Rattle.etherparse.specs.base.Sum.{total}
+use Rattle.etherparse.specs.defrag.Fragments.{Fragment}
 use Rattle.netlines.specs.declared.frames.verdict.Verdict.{Verdict}
 use Rattle.netlines.specs.declared.frames.verdict.Verdict.TheVariants as verdict
 
@@ -22,6 +23,17 @@ pub record DifferInOneWord (old new : List ℕ) : Type 0 where
   pub old_bytes : IsBytes old_word
   pub new_bytes : IsBytes new_word
   pub differ : total old_word ≢ total new_word
+
+-- a fragment with one changed word, at the place of another
+pub record IsChangedFragment (f g : Fragment) : Type 0 where
+  pub offset : f.offset ≡ g.offset
+  pub more : f.more ≡ g.more
+  pub words : DifferInOneWord f.bytes g.bytes
+
+-- two texts are the same, or differ in one word, which begins at this place
+abbrev pub DifferAt : (place : ℕ) → (old new : List ℕ) → Type 0
+DifferAt place old new =
+    (old ≡ new) ⊎ ((words : DifferInOneWord old new) × (length words.front ≡ place))
 
 -- one of the two words is 0000 and the other ffff
 abbrev pub is_exchange : (old new : ℕ) → Bool

@@ -1,12 +1,12 @@
 -- Inputs whose frames are those that messages were posted as.
-use Rattle.std.specs.Prelude.{◌≡◌, ◌⊎◌, ℕ, true, None, Ok, List, All, AllPairs, Contains, codes}
-use Rattle.std.specs.Prelude.{◌∷◌, [], ◌++◌, ◌≢◌}
+use Rattle.std.specs.Prelude.{◌≡◌, ◌⊎◌, ℕ, true, None, Ok, List, All, Contains, codes}
+use Rattle.std.specs.Prelude.{[], ◌∷◌, ◌++◌}
 use Rattle.std.specs.List.{AllZip}
 use Rattle.etherparse.specs.packet.Class.{FragmentName}
 use Rattle.etherparse.specs.packet.Readable.{ReadMessage, message_at}
 use Rattle.commands.specs.Commands.{command_of}
 use Rattle.commands.specs.Commands.Command.{Frame}
-use Rattle.netlines.specs.Answers.{completed_answer, message_answer}
+use Rattle.netlines.specs.Answers.{message_answer}
 use Rattle.netlines.specs.Letter.{LetterFits, name_of}
 use Rattle.netlines.specs.Posted.{is_cut, posted_frames}
 use Rattle.netlines.specs.PostRefusal.{post_refusal}
@@ -35,11 +35,6 @@ abbrev pub AreAllPosted : (sent : FragmentName → (channel : ℕ) → List ℕ)
     → (lines : List (List ℕ)) → Type 0
 AreAllPosted sent lines = All (λ line. (channel : ℕ) (frame : List ℕ)
     → command_of line ≡ Frame channel frame → IsPostedOn sent channel frame) lines
-
--- what is answered where the fragments of this message, which came under this name, are complete
-abbrev pub line_of_message : FragmentName → (message : List ℕ) → List ℕ
-line_of_message name message =
-    completed_answer name.addresses name.number message (message_at name.number message)
 
 -- the line hands in a posted frame, whose message is what is handed out: with its number, its
 -- verdict and all its bytes

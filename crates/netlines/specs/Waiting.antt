@@ -7,10 +7,12 @@ use Rattle.etherparse.specs.defrag.Outcome.{Held, Outcome, outcome}
 use Rattle.etherparse.specs.defrag.Outcome.Outcome.{Completed, Refusal, Waiting}
 use Rattle.etherparse.specs.defrag.PoolCalls.{no_lists, outcome_at}
 use Rattle.etherparse.specs.packet.Class.{FragmentName, class_of}
+use Rattle.etherparse.specs.packet.Readable.{message_at}
 use Rattle.commands.specs.Commands.{Command, command_of}
 use Rattle.commands.specs.Commands.Command.{Frame, Forget, Bad}
 use Rattle.netlines.specs.Alone.{texts_that_matter}
-use Rattle.netlines.specs.Answers.{message_answer}
+use Rattle.netlines.specs.Answers.{completed_answer, message_answer}
+use Rattle.netlines.specs.ChangedWord.{DifferAt}
 use Rattle.netlines.specs.Arrivals.{HandsInFragment, held_with_line, lists_after_lines}
 use Rattle.netlines.specs.declared.frames.verdict.Verdict.{Verdict}
 
@@ -24,6 +26,11 @@ texts_for name channel lines texts =
 -- those lines themselves
 abbrev pub lines_for : FragmentName → (channel : ℕ) → (lines : List (List ℕ)) → List (List ℕ)
 lines_for name channel lines = texts_for name channel lines lines
+
+-- what is answered where the fragments of this message, which came under this name, are complete
+abbrev pub line_of_message : FragmentName → (message : List ℕ) → List ℕ
+line_of_message name message =
+    completed_answer name.addresses name.number message (message_at name.number message)
 
 -- the answer with a message, or the one to a message that can't be read
 abbrev pub HandsOut : (answer : List ℕ) → Type 0
@@ -78,3 +85,13 @@ abbrev pub waiting_lines : FragmentName → (channel : ℕ) → (lines : List (L
     → List (List ℕ)
 waiting_lines name channel lines =
     waiting_behind name channel 0 (no_lists name channel) [] lines
+
+-- an answer handed out a message, and these answers to lines that wait and one more hand out one
+-- that is the same, or differs from it in one word at this place
+pub record HandsOutChanged (name : FragmentName) (place : ℕ) (answer : List ℕ)
+    (waiting answers : List (List ℕ)) : Type 0 where
+  pub old : List ℕ
+  pub new : List ℕ
+  pub was : answer ≡ line_of_message name old
+  pub is : answers ≡ map (λ _. codes "wait") waiting ++ line_of_message name new ∷ []
+  pub differ : DifferAt place old new

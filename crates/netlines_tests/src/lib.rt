@@ -3,6 +3,8 @@
 #![tactic(auto)]
 
 #[cfg(test)]
+mod deliveries;
+#[cfg(test)]
 mod edges;
 #[cfg(test)]
 mod faults;

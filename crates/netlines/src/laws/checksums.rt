@@ -1,8 +1,11 @@
 //! Laws of checksums. What they want of addresses and headers every value has (`super::values`).
-ghost use Rattle.std.specs.Prelude.{◌≡◌, ◌≢◌, ◌↔◌, ◌+◌, ◌≤◌, ◌<◌, ℕ, true, false, List, ◌++◌};
-ghost use Rattle.std.specs.Prelude.{length, None, Some, Ok};
+ghost use Rattle.std.specs.Prelude.{◌≡◌, ◌≢◌, ◌↔◌, ◌+◌, ◌*◌, ◌≤◌, ◌<◌, ℕ, true, false, List};
+ghost use Rattle.std.specs.Prelude.{[], ◌∷◌, ◌++◌, length, None, Some, Ok};
+ghost use Rattle.netlines.specs.Alone.{answers_behind};
 ghost use Rattle.netlines.specs.Answers.{answer_after, message_answer};
-ghost use Rattle.netlines.specs.ChangedWord.{DifferInOneWord, verdict_after};
+ghost use Rattle.netlines.specs.Arrivals.{HandsInFragment};
+ghost use Rattle.netlines.specs.ChangedWord.{DifferInOneWord, IsChangedFragment, verdict_after};
+ghost use Rattle.etherparse.specs.defrag.Fragments.{Fragment};
 ghost use Rattle.etherparse.specs.packet.Class.{FragmentName};
 ghost use Rattle.etherparse.specs.packet.Readable.{ReadMessage, message_at, udp as udp_number};
 ghost use Rattle.etherparse.specs.build.Built.{with_message_checksum as built_header};
@@ -15,11 +18,14 @@ ghost use Rattle.netlines.specs.Sealed.{HeaderFits, IsSealable, addresses_of, is
 ghost use Rattle.netlines.specs.Sealed.{number_of, seal_refusal, sealed_message_bytes};
 ghost use Rattle.netlines.specs.Sealed.{stream_between};
 ghost use Rattle.netlines.specs.Verdict.{AddressesFit, summed_bytes, summed_text, verdict_of};
-ghost use Rattle.netlines.specs.Waiting.{Completes};
+ghost use Rattle.netlines.specs.Waiting.{Completes, HandsOut, HandsOutChanged, lines_for};
+ghost use Rattle.netlines.specs.Waiting.{texts_for, waiting_lines};
 ghost use Rattle.netlines.specs.declared.messages.seal_error.SealError.TheVariants.{IcmpOfOtherVersion};
 ghost use Rattle.netlines.specs.declared.messages.seal_error.SealError.TheVariants.{TooLong};
 
 use crate::Verdict;
+use etherparse::laws::defrag::members_agree;
+use etherparse::laws::defrag::names::equal_names;
 use etherparse::laws::icmp::{icmpv4, icmpv6};
 use etherparse::laws::tcpudp::{tcp, udp};
 
@@ -90,7 +96,7 @@ pub fn one_changed_word()
         (earlier others : List (List ℕ)) (line changed_line text behind new : List ℕ)
         (message changed : ReadMessage) → AddressesFit name.addresses
         → Completes earlier line name channel text → message_at name.number text ≡ Ok message
-        → answer_after earlier line ≡ message_answer name.number Verdict::Good text
+        → answer_after earlier line ≡ message_answer name.number Verdict.Good text
         → text ≡ summed_bytes message ++ behind → (words : DifferInOneWord (summed_bytes message)
         new)
         → (name.number ≡ udp_number → (length words.front ≢ 4) × (length words.front ≢ 6))
@@ -99,4 +105,21 @@ pub fn one_changed_word()
         → answer_after others changed_line ≡ message_answer name.number
         (verdict_after words.old_word words.new_word (summed_text name.addresses changed))
         (new ++ behind) }
-{}
+    // The lines of a message that came, one of them with a fragment in which one word is changed,
+    // make a message that differs from it in this word at most: a later fragment may cover the word,
+    // or the message end before it.
+    ensures fragment { (name : FragmentName) (channel : ℕ)
+        (earlier others between front rest : List (List ℕ)) (last line changed : List ℕ)
+        (f g h : Fragment) → HandsInFragment last name channel h
+        → HandsOut (answer_after earlier last)
+        → waiting_lines name channel earlier ++ last ∷ [] ≡ front ++ line ∷ rest
+        → HandsInFragment line name channel f → HandsInFragment changed name channel g
+        → (change : IsChangedFragment f g) → waiting_lines name channel others ≡ []
+        → lines_for name channel between ≡ front ++ changed ∷ rest
+        → HandsOutChanged name (8 * f.offset + length change.words.front)
+        (answer_after earlier last) (waiting_lines name channel earlier)
+        (texts_for name channel between (answers_behind others between)) }
+{
+    equal_names::<u32>();
+    members_agree();
+}

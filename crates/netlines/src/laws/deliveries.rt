@@ -11,9 +11,9 @@ ghost use Rattle.netlines.specs.Letter.{LetterFits, name_of};
 ghost use Rattle.netlines.specs.Posted.{is_cut, posted_frames};
 ghost use Rattle.netlines.specs.PostedInput.{AnswersAgree, AreAllPosted, HandInFrames};
 ghost use Rattle.netlines.specs.PostedInput.{HandsOutPosted, IsFirstCover, IsPostedFrame};
-ghost use Rattle.netlines.specs.PostedInput.{line_of_message};
 ghost use Rattle.netlines.specs.PostRefusal.{post_refusal};
-ghost use Rattle.netlines.specs.Waiting.{HandsOut, lines_for, texts_for, waiting_lines};
+ghost use Rattle.netlines.specs.Waiting.{HandsOut, line_of_message, lines_for, texts_for};
+ghost use Rattle.netlines.specs.Waiting.{waiting_lines};
 ghost use Rattle.netlines.specs.declared.frames.verdict.Verdict.{Verdict};
 ghost use Rattle.netlines.specs.declared.messages.letter.Letter.{Letter};
 
