@@ -119,8 +119,8 @@ fn read_chain(reader: &mut FaultReader<'_>) -> Result<IpNumber, Option<ErrorKind
     }
 }
 
-// Destination options of each length (number 60) and behind them an authentication header (51) of 20
-// bytes, both in two reads but for options of 8 bytes.
+// Destination options of each length (number 60) and behind them an authentication header (51) of
+// 20 bytes, both in two reads but for options of 8 bytes.
 #[test]
 fn each_read_of_chains_fails(rt: HostRuntime) -> Result<(), Fail> {
     let mut tally = Tally::new("Ipv6Extensions::read", "a read fails");

@@ -123,8 +123,8 @@ impl Write for FaultWriter {
     }
 }
 
-/// Whether a call that appends put exactly these bytes behind a byte, and left that byte alone where
-/// it found no memory: then it is called once more.
+/// Whether a call that appends put exactly these bytes behind a byte, and left that byte alone
+/// where it found no memory: then it is called once more.
 pub fn is_appended<E: Drop, F: Fn(&mut Vec<u8>) -> Result<(), E> + Drop>(
     alloc: Global,
     append: F,
@@ -144,8 +144,8 @@ pub fn is_appended<E: Drop, F: Fn(&mut Vec<u8>) -> Result<(), E> + Drop>(
         && buffer.len() - 1 == bytes.len()
 }
 
-/// At how many places a call can fail so, and at how many of them a test let it. `tools/faults_tried`
-/// reads what it prints.
+/// At how many places a call can fail so, and at how many of them a test let it.
+/// `tools/faults_tried` reads what it prints.
 #[derive(Drop)]
 pub struct Tally {
     call: &'static str,

@@ -1,13 +1,13 @@
-//! A reader and a writer as one device: each of its calls is one call of theirs and tells what that
-//! one tells, whatever the size of the buffer. `Read` and `Write` give a failing call no meaning, so
-//! no clause says it.
+//! A reader and a writer as one device: each of its calls is one call of theirs and tells what
+//! that one tells, whatever the size of the buffer. `Read` and `Write` give a failing call no
+//! meaning, so no clause says it.
 use fault_devices::{Fault, FaultReader, FaultWriter, Tally};
 use runs::{Device, ReaderWriter};
 use std::io::ErrorKind;
 use std::test::Fail;
 
-// The sizes of buffers that runs read and write by, and their neighbours; those up to 200 are tried,
-// too.
+// The sizes of buffers that runs read and write by, and their neighbours; those up to 200 are
+// tried, too.
 const SIZES: [usize; 6] = [4096, 65_535, 65_536, 65_537, 262_144, 265_568];
 
 const GREATEST: usize = 265_568;

@@ -5,8 +5,8 @@ use netlines::{answers, laws, run};
 use std::alloc::{AllocError, Global};
 use std::test::Fail;
 
-/// The halves of a UDP message (the row `two_fragments`), and then the three pieces of a TCP segment
-/// in the order third, first, second (the row `posted_tcp`).
+/// The halves of a UDP message (the row `two_fragments`), and then the three pieces of a TCP
+/// segment in the order third, first, second (the row `posted_tcp`).
 pub const ROUND: &[u8; 457] =
     b"frame 0 02000000000202000000000108004500001c00072000401146c80a0000010a000002\
     000100020010dbb4\nframe 0 02000000000202000000000108004500001c00070001401166c70a0000010a000002\
