@@ -59,3 +59,21 @@ completed_is name channel earlier line text message completes is =
     fragment_answered line name channel completes.fragment completes.hands_in earlier
     ∙ ap (outcome_answer name) completes.becomes
     ∙ ap (completed_answer name.addresses name.number text) is
+
+pub was_good : (name : FragmentName) (channel : ℕ) (earlier : List (List ℕ))
+    (line text : List ℕ) (message : ReadMessage) → Completes earlier line name channel text
+    → message_at name.number text ≡ Ok message
+    → answer_after earlier line ≡ message_answer name.number Good text
+    → verdict_of name.addresses message ≡ Good
+was_good name channel earlier line text message completes is good =
+    is_good name.number text (verdict_of name.addresses message)
+    (sym (completed_is name channel earlier line text message completes is) ∙ good)
+
+pub answered_by_verdict : (name : FragmentName) (channel : ℕ) (earlier : List (List ℕ))
+    (line text : List ℕ) (message : ReadMessage) (verdict : Verdict)
+    → Completes earlier line name channel text → message_at name.number text ≡ Ok message
+    → verdict_of name.addresses message ≡ verdict
+    → answer_after earlier line ≡ message_answer name.number verdict text
+answered_by_verdict name channel earlier line text message verdict completes is same =
+    completed_is name channel earlier line text message completes is
+    ∙ ap (λ (v : Verdict). message_answer name.number v text) same
