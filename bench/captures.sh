@@ -36,10 +36,14 @@ measure() {
 
 build_plain make_captures
 build_plain "$plain"
-"$work/make_captures" 2000000 64 >"$work/short.pcap"
-"$work/make_captures" 200000 1500 >"$work/long.pcap"
+for kind in pcap pcapng sll; do
+    "$work/make_captures" 2000000 64 "$kind" >"$work/short.$kind"
+    "$work/make_captures" 200000 1500 "$kind" >"$work/long.$kind"
+done
 build_proved "$ours" lines - <"$work/long.pcap"
 
 printf '%-32s %12s %12s %7s\n' capture captures_cli plain ratio
-measure "$work/short.pcap" "2,000,000 packets of 64 bytes"
-measure "$work/long.pcap" "200,000 packets of 1,500 bytes"
+for kind in pcap pcapng sll; do
+    measure "$work/short.$kind" "$kind, 2,000,000 of 64 bytes"
+    measure "$work/long.$kind" "$kind, 200,000 of 1,500 bytes"
+done

@@ -1,22 +1,24 @@
 -- The packets of a capture are known by its bytes.
 use Rattle.std.proofs.Common.{◌≡◌, ◌∙◌, sym, ap, ap₂, refl, subst, ℕ, ◌+◌, ◌*◌, ◌/◌, ◌%◌, ◌<◌, ◌≤◌}
 use Rattle.std.proofs.Common.{◌==◌, arith, List, [], ◌++◌, length, take, drop, append_assoc}
-use Rattle.std.proofs.Common.{inl, inr, eqb-true}
+use Rattle.std.proofs.Common.{inl, inr, eqb-true, Some}
 use Rattle.std.specs.Prelude.{◌⊎◌, IsTrue, slice_index, if◌then◌else◌}
 use Rattle.std.proofs.Math.Seq.{take-append_seam, drop-append_seam}
 use Rattle.std.proofs.lemmas.Bool.{ne_eqb, or_cases}
 use Rattle.std.proofs.lemmas.List.{get_or-append-add}
 use Rattle.hex.specs.Hex.{IsBytes}
+use Rattle.captures.specs.Framed.{framed, link_of}
 use Rattle.captures.specs.Lines.{packets_of}
 use Rattle.captures.specs.Numbers.{half, word}
-use Rattle.captures.specs.Pcap.{is_magic, IsPacketRecord}
+use Rattle.captures.specs.Pcap.{is_magic, IsPacketRecord, link_type}
 use Rattle.captures.specs.Pcapng.{Content, HasOrder, Says, Becomes, captured_len, section_header}
 use Rattle.captures.specs.Pcapng.{byte_order_magic, enhanced_packet, interface_description}
-use Rattle.captures.specs.Pcapng.{obsolete_packet, simple_packet}
+use Rattle.captures.specs.Pcapng.{obsolete_packet, simple_packet, link_at, links_with}
 use Rattle.captures.specs.Pcapng.Content.{Opens, Describes, Holds, Nothing}
-use Rattle.captures.specs.Units.{IsUnit, IsBlockUnit, OpensFile, no_section}
+use Rattle.captures.specs.Units.{IsUnit, IsBlockUnit, IsRecordUnit, OpensFile, no_section}
 use Rattle.captures.specs.declared.byte_order.ByteOrder.{ByteOrder}
 use Rattle.captures.specs.declared.byte_order.ByteOrder.TheVariants.{Big, Little}
+use Rattle.captures.specs.declared.link.kind.Link.{Link}
 use Rattle.captures.specs.declared.pcapng.section.Section.{Section}
 use Rattle.captures.specs.declared.translation.state.State.{State}
 use Rattle.captures.specs.declared.translation.state.State.TheVariants.{Start, Classic, Pcapng}
@@ -139,11 +141,15 @@ content_at section order block kind =
     if kind == section_header then Opens (section.first + section.interfaces)
     else (if kind == interface_description then Describes (half order block 8) (word order block 12)
     else (if kind == enhanced_packet then Holds (section.first + word order block 8)
-    (take (word order block 20) (drop 28 block))
+    (link_at section (word order block 8)) (take (word order block 20) (drop 28 block))
     else (if kind == obsolete_packet then Holds (section.first + half order block 8)
-    (take (word order block 20) (drop 28 block))
-    else (if kind == simple_packet then Holds section.first
+    (link_at section (half order block 8)) (take (word order block 20) (drop 28 block))
+    else (if kind == simple_packet then Holds section.first (link_at section 0)
     (take (captured_len section.snap_len (word order block 8)) (drop 12 block)) else Nothing))))
+
+holds_same : {n n' : ℕ} {link link' : Link} {packet packet' : List ℕ} → n ≡ n' → link ≡ link'
+    → packet ≡ packet' → Holds n link packet ≡ Holds n' link' packet'
+holds_same number over bytes = λ i. Holds (number i) (over i) (bytes i)
 
 pub content_is : (section : Section) (order : ByteOrder) (block : List ℕ) (content : Content)
     → Says section order block content
@@ -152,15 +158,18 @@ content_is section order block (Opens first) says =
     ap (content_at section order block) says.0 ∙ ap Opens says.3
 content_is section order block (Describes link snap) says =
     ap (content_at section order block) says.0 ∙ ap₂ Describes says.2 says.3
-content_is section order block (Holds number bytes) (inl says) =
+content_is section order block (Holds number link bytes) (inl says) =
     ap (content_at section order block) says.0
-    ∙ ap₂ Holds says.1.number (ap (λ n. take n (drop 28 block)) says.1.captured ∙ sym says.1.bytes)
-content_is section order block (Holds number bytes) (inr (inl says)) =
+    ∙ holds_same says.1.number says.1.over
+    (ap (λ n. take n (drop 28 block)) says.1.captured ∙ sym says.1.bytes)
+content_is section order block (Holds number link bytes) (inr (inl says)) =
     ap (content_at section order block) says.0
-    ∙ ap₂ Holds says.1.number (ap (λ n. take n (drop 28 block)) says.1.captured ∙ sym says.1.bytes)
-content_is section order block (Holds number bytes) (inr (inr says)) =
+    ∙ holds_same says.1.number says.1.over
+    (ap (λ n. take n (drop 28 block)) says.1.captured ∙ sym says.1.bytes)
+content_is section order block (Holds number link bytes) (inr (inr says)) =
     ap (content_at section order block) says.kind
-    ∙ ap₂ Holds says.number (ap (λ n. take n (drop 12 block)) says.captured ∙ sym says.bytes)
+    ∙ holds_same says.number says.over
+    (ap (λ n. take n (drop 12 block)) says.captured ∙ sym says.bytes)
 content_is section order block Nothing says =
     rw (
       ne_eqb (word order block 0) section_header says.0,
@@ -180,6 +189,16 @@ becomes_as section order block content content' says says' after channel frame =
     (sym (content_is section order block content says) ∙ content_is section order block content'
     says')
 
+some_same : {A : Type 0} {x y : A} → Some x ≡ Some y → x ≡ y
+some_same same = cc
+
+abbrev with_interface : Section → ℕ → List Link → Section
+with_interface section snap links = record section {
+  interfaces = section.interfaces + 1;
+  snap_len = (if section.interfaces == 0 then snap else section.snap_len);
+  links = links;
+}
+
 -- the section and the packet after a block are known by what it says
 becomes_once : (section : Section) (order : ByteOrder) (content : Content)
     (after after' : Section) (channel channel' : ℕ) (frame frame' : List ℕ)
@@ -189,9 +208,15 @@ becomes_once : (section : Section) (order : ByteOrder) (content : Content)
 becomes_once section order (Opens first) after after' channel channel' frame frame' b b' =
     (b.0 ∙ sym b'.0, no_packets channel channel' frame frame' b.1 b'.1)
 becomes_once section order (Describes link snap) after after' channel channel' frame frame' b b' =
-    (b.1 ∙ sym b'.1, no_packets channel channel' frame frame' b.2 b'.2)
-becomes_once section order (Holds number bytes) after after' channel channel' frame frame' b b' =
-    (b.0 ∙ sym b'.0, ap₂ packets_of (b.1 ∙ sym b'.1) (b.2 ∙ sym b'.2))
+    let links : b.0 ≡ b'.0 = some_same (sym b.1 ∙ b'.1) in (
+      b.2
+          ∙ ap (λ (l : List Link). with_interface section snap l) links
+          ∙ sym b'.2,
+      no_packets channel channel' frame frame' b.3 b'.3,
+    )
+becomes_once section order (Holds number link bytes) after after' channel channel' frame frame'
+    b b' =
+    (b.0 ∙ sym b'.0, ap₂ packets_of (b.1 ∙ sym b'.1) (some_same (sym b.2 ∙ b'.2)))
 becomes_once section order Nothing after after' channel channel' frame frame' b b' =
     (b.0 ∙ sym b'.0, no_packets channel channel' frame frame' b.1 b'.1)
 
@@ -235,27 +260,38 @@ module _ (bytes u r u' r' : List ℕ) (all : IsBytes bytes) (parts : bytes ≡ u
       let magic = subst (λ (n : ℕ). IsTrue (is_magic n))
       (sym (word_of o.order bytes u r 0 parts (omega arith))) o.header.magic in
       let magic' = subst (λ (n : ℕ). IsTrue (is_magic n))
-      (sym (word_of o'.order bytes u' r' 0 parts' (omega arith))) o'.header.magic in (
-        front_same bytes u r u' r' parts parts' (size ∙ sym size'),
-        o.next ∙ ap Classic (file_order o.order o'.order bytes all magic magic') ∙ sym o'.next,
+      (sym (word_of o'.order bytes u' r' 0 parts' (omega arith))) o'.header.magic in
+      let unit = front_same bytes u r u' r' parts parts' (size ∙ sym size') in
+      let order = file_order o.order o'.order bytes all magic magic' in
+      let link = some_same (sym o.known
+      ∙ ap₂ (λ (p : ByteOrder) (l : List ℕ). link_of (link_type p l)) order unit ∙ o'.known) in (
+        unit,
+        o.next
+            ∙ ap₂ Classic order link
+            ∙ sym o'.next,
         no_packets channel channel' frame frame' none none',
       )
 
-  record_alone : (order : ByteOrder) → IsPacketRecord order u frame → IsPacketRecord order u' frame'
-      → channel ≡ channel' → after ≡ after' → One
-  record_alone order p p' same_channel same_after =
+  record_alone : (order : ByteOrder) (link : Link) → IsRecordUnit order link u frame
+      → IsRecordUnit order link u' frame' → channel ≡ channel' → after ≡ after' → One
+  record_alone order link i i' same_channel same_after =
+      let p = i.is_record in
+      let p' = i'.is_record in
+      let packet = i.packet in
+      let packet' = i'.packet in
       let size = p.size in
       let size' = p'.size in
-      let front = parts ∙ ap (λ l. l ++ r) p.parts ∙ append_assoc p.head frame r in
-      let front' = parts' ∙ ap (λ l. l ++ r') p'.parts ∙ append_assoc p'.head frame' r' in
-      let head = front_same bytes p.head (frame ++ r) p'.head
-      (frame' ++ r') front front' (size ∙ sym size') in
-      let behind = rest_same bytes p.head (frame ++ r) p'.head
-      (frame' ++ r') front front' (size ∙ sym size') in
-      let count : length frame ≡ length frame' =
+      let front = parts ∙ ap (λ l. l ++ r) p.parts ∙ append_assoc p.head packet r in
+      let front' = parts' ∙ ap (λ l. l ++ r') p'.parts ∙ append_assoc p'.head packet' r' in
+      let head = front_same bytes p.head (packet ++ r) p'.head
+      (packet' ++ r') front front' (size ∙ sym size') in
+      let behind = rest_same bytes p.head (packet ++ r) p'.head
+      (packet' ++ r') front front' (size ∙ sym size') in
+      let count : length packet ≡ length packet' =
       sym p.captured ∙ ap (λ (l : List ℕ). word order l 8) head ∙ p'.captured in
-      let frames = front_same (frame ++ r) frame r frame' r' refl behind count in (
-        p.parts ∙ ap₂ (λ (a b : List ℕ). a ++ b) head frames
+      let packets = front_same (packet ++ r) packet r packet' r' refl behind count in
+      let frames = some_same (sym i.is_framed ∙ ap (framed link) packets ∙ i'.is_framed) in (
+        p.parts ∙ ap₂ (λ (a b : List ℕ). a ++ b) head packets
             ∙ sym p'.parts,
         same_after,
         ap₂ packets_of same_channel frames,
@@ -291,10 +327,10 @@ unit_alone Start bytes u r u' r' all parts parts' after after' channel channel' 
     (inr i) (inr i') =
     block_alone bytes u r u' r' all parts parts' after after' channel channel' frame
     frame' no_section i.1 i'.1
-unit_alone (Classic order) bytes u r u' r' all parts parts' after after' channel
+unit_alone (Classic order link) bytes u r u' r' all parts parts' after after' channel
     channel' frame frame' i i' =
     record_alone bytes u r u' r' all parts parts' after after' channel channel' frame frame' order
-    i.0 i'.0 (i.3 ∙ sym i'.3) (i.2 ∙ sym i'.2)
+    link i.0 i'.0 (i.2 ∙ sym i'.2) (i.1 ∙ sym i'.1)
 unit_alone (Pcapng section) bytes u r u' r' all parts parts' after after' channel
     channel' frame frame' i i' =
     block_alone bytes u r u' r' all parts parts' after after' channel channel'

@@ -13,6 +13,8 @@ use Rattle.captures.specs.declared.capture_error.CaptureError.{CaptureError}
 use Rattle.captures.specs.declared.capture_error.CaptureError.TheVariants.{NotCapture, LinkType}
 use Rattle.captures.specs.declared.capture_error.CaptureError.TheVariants.{FrameTooLong, CutOff}
 use Rattle.captures.specs.declared.capture_error.CaptureError.TheVariants.{BlockTooLong, BadBlock}
+use Rattle.captures.specs.declared.capture_error.CaptureError.TheVariants.{NoFrame}
+use Rattle.captures.specs.declared.link.kind.Link.{Link}
 use Rattle.captures.specs.Pcapng.Content.{Opens, Describes, Holds, Nothing}
 use Rattle.captures.specs.declared.byte_order.ByteOrder.{ByteOrder}
 use Rattle.captures.specs.declared.pcapng.section.Section.{Section}
@@ -25,52 +27,53 @@ match_as (Some x) P P' Q Q' none some m = some x m
 -- where it is of a kind that holds packets, and holds none
 pub no_enhanced : (section : Section) (order : ByteOrder) (block : List ℕ)
     → word order block 0 ≡ enhanced_packet
-    → ((channel : ℕ) (frame : List ℕ)
-    → IsTimedPacket (word order block 8) section order block channel frame → ⊥)
+    → ((channel : ℕ) (link : Link) (packet : List ℕ)
+    → IsTimedPacket (word order block 8) section order block channel link packet → ⊥)
     → (content : Content) → Says section order block content → ⊥
 no_enhanced section order block kind none (Opens first) says = let other =
     says.0 in absurd (omega arith)
 no_enhanced section order block kind none (Describes link_type snap_len) says = let other =
     says.0 in absurd (omega arith)
-no_enhanced section order block kind none (Holds channel frame) (inl says) =
-    none channel frame says.1
-no_enhanced section order block kind none (Holds channel frame) (inr (inl says)) = let other =
+no_enhanced section order block kind none (Holds channel link packet) (inl says) =
+    none channel link packet says.1
+no_enhanced section order block kind none (Holds channel link packet) (inr (inl says)) = let other =
     says.0 in absurd (omega arith)
-no_enhanced section order block kind none (Holds channel frame) (inr (inr says)) = let other =
+no_enhanced section order block kind none (Holds channel link packet) (inr (inr says)) = let other =
     says.kind in absurd (omega arith)
 no_enhanced section order block kind none Nothing says = says.2 kind
 
 pub no_obsolete : (section : Section) (order : ByteOrder) (block : List ℕ)
     → word order block 0 ≡ obsolete_packet
-    → ((channel : ℕ) (frame : List ℕ)
-    → IsTimedPacket (half order block 8) section order block channel frame → ⊥)
+    → ((channel : ℕ) (link : Link) (packet : List ℕ)
+    → IsTimedPacket (half order block 8) section order block channel link packet → ⊥)
     → (content : Content) → Says section order block content → ⊥
 no_obsolete section order block kind none (Opens first) says = let other =
     says.0 in absurd (omega arith)
 no_obsolete section order block kind none (Describes link_type snap_len) says = let other =
     says.0 in absurd (omega arith)
-no_obsolete section order block kind none (Holds channel frame) (inl says) = let other =
+no_obsolete section order block kind none (Holds channel link packet) (inl says) = let other =
     says.0 in absurd (omega arith)
-no_obsolete section order block kind none (Holds channel frame) (inr (inl says)) =
-    none channel frame says.1
-no_obsolete section order block kind none (Holds channel frame) (inr (inr says)) = let other =
+no_obsolete section order block kind none (Holds channel link packet) (inr (inl says)) =
+    none channel link packet says.1
+no_obsolete section order block kind none (Holds channel link packet) (inr (inr says)) = let other =
     says.kind in absurd (omega arith)
 no_obsolete section order block kind none Nothing says = says.3 kind
 
 pub no_simple : (section : Section) (order : ByteOrder) (block : List ℕ)
     → word order block 0 ≡ simple_packet
-    → ((channel : ℕ) (frame : List ℕ) → IsSimplePacket section order block channel frame → ⊥)
+    → ((channel : ℕ) (link : Link) (packet : List ℕ)
+    → IsSimplePacket section order block channel link packet → ⊥)
     → (content : Content) → Says section order block content → ⊥
 no_simple section order block kind none (Opens first) says = let other =
     says.0 in absurd (omega arith)
 no_simple section order block kind none (Describes link_type snap_len) says = let other =
     says.0 in absurd (omega arith)
-no_simple section order block kind none (Holds channel frame) (inl says) = let other =
+no_simple section order block kind none (Holds channel link packet) (inl says) = let other =
     says.0 in absurd (omega arith)
-no_simple section order block kind none (Holds channel frame) (inr (inl says)) = let other =
+no_simple section order block kind none (Holds channel link packet) (inr (inl says)) = let other =
     says.0 in absurd (omega arith)
-no_simple section order block kind none (Holds channel frame) (inr (inr says)) =
-    none channel frame says
+no_simple section order block kind none (Holds channel link packet) (inr (inr says)) =
+    none channel link packet says
 no_simple section order block kind none Nothing says = says.4 kind
 
 -- a number of the front
@@ -179,6 +182,7 @@ by_error : (section : Section) (order : ByteOrder) (bytes block : List ℕ) (err
 by_error section order bytes block NotCapture has size refused = refused
 by_error section order bytes block (LinkType number) has size refused = has
 by_error section order bytes block (FrameTooLong captured) has size refused = has
+by_error section order bytes block NoFrame has size refused = has
 by_error section order bytes block CutOff has size refused = refused
 by_error section order bytes block (BlockTooLong len) has size refused = absurd refused
 by_error section order bytes block BadBlock has size refused = (size, inr (inr has))

@@ -3,6 +3,9 @@ use Rattle.std.proofs.Common.{◌≡◌, sym, ap, subst, ℕ, zero, suc, ◌^◌
 use Rattle.std.proofs.Common.{◌∷◌, ◌++◌, length, take, drop, inl, inr}
 use Rattle.std.specs.List.{AllByRecursion}
 use Rattle.hex.specs.Hex.{IsBytes}
+use Rattle.captures.proofs.ByteLemmas.{Bytes, bytes_by, bytes_at, bytes_drop, bytes_take, bytes_front}
+use Rattle.captures.proofs.ByteLemmas.{bytes_back}
+use Rattle.captures.proofs.FramedLemmas.{framed_bytes, framed_fits}
 use Rattle.captures.specs.ComeBack.{HasLine, CapturedPacketsHaveLines}
 use Rattle.captures.specs.Lines.{Packet, packets_of}
 use Rattle.captures.specs.Numbers.{half, word}
@@ -11,42 +14,11 @@ use Rattle.captures.specs.Pcapng.Content.{Opens, Describes, Holds, Nothing}
 use Rattle.captures.specs.Units.{IsUnit, IsBlockUnit, Row, in_a_row, no_section}
 use Rattle.captures.specs.declared.byte_order.ByteOrder.{ByteOrder}
 use Rattle.captures.specs.declared.limits.TheConstants.{FRAME_LIMIT}
+use Rattle.captures.specs.declared.link.kind.Link.{Link}
 use Rattle.captures.specs.declared.pcapng.section.Section.{Section}
 use Rattle.captures.specs.declared.translation.state.State.{State}
 use Rattle.captures.specs.declared.translation.state.State.TheVariants.{Start, Classic, Pcapng}
 use Rattle.runs.proofs.CallLemmas.{AllByRecursion-append}
-
--- ---- parts of bytes are bytes
-
-abbrev Bytes : List ℕ → Type 0
-Bytes xs = AllByRecursion (λ b. b < 256) xs
-
-bytes_by : (xs : List ℕ) → IsBytes xs → Bytes xs
-bytes_by [] all = tt
-bytes_by (x ∷ xs) all = (all 0, bytes_by xs (λ i. all (suc i)))
-
-bytes_at : (xs : List ℕ) → Bytes xs → IsBytes xs
-bytes_at [] all i = omega arith
-bytes_at (x ∷ xs) all zero = all.0
-bytes_at (x ∷ xs) all (suc i) = bytes_at xs all.1 i
-
-bytes_drop : (n : ℕ) (xs : List ℕ) → Bytes xs → Bytes (drop n xs)
-bytes_drop zero xs all = all
-bytes_drop (suc n) [] all = tt
-bytes_drop (suc n) (x ∷ xs) all = bytes_drop n xs all.1
-
-bytes_take : (n : ℕ) (xs : List ℕ) → Bytes xs → Bytes (take n xs)
-bytes_take zero xs all = tt
-bytes_take (suc n) [] all = tt
-bytes_take (suc n) (x ∷ xs) all = (all.0, bytes_take n xs all.1)
-
-bytes_front : (xs ys : List ℕ) → Bytes (xs ++ ys) → Bytes xs
-bytes_front [] ys all = tt
-bytes_front (x ∷ xs) ys all = (all.0, bytes_front xs ys all.1)
-
-bytes_back : (xs ys : List ℕ) → Bytes (xs ++ ys) → Bytes ys
-bytes_back [] ys all = all
-bytes_back (x ∷ xs) ys all = bytes_back xs ys all.1
 
 -- ---- a unit's packet
 
@@ -72,23 +44,24 @@ none_fits channel frame none = subst (λ (f : List ℕ). Fit channel f) (sym non
 -- the numbers of a section's interfaces begin with one of 32 bits
 abbrev InRange : State → Type 0
 InRange Start = Unit {0}
-InRange (Classic order) = Unit {0}
+InRange (Classic order link) = Unit {0}
 InRange (Pcapng section) = section.first < 2 ^ 32
 
 timed_fits : (interface : ℕ) (section : Section) (order : ByteOrder) (block : List ℕ)
     (after : Section) (channel : ℕ) (frame : List ℕ) → section.first < 2 ^ 32 → Bytes block
-    → (number : ℕ) (held : List ℕ) → IsTimedPacket interface section order block number held
-    → Becomes section order (Holds number held) after channel frame
+    → (number : ℕ) (link : Link) (held : List ℕ)
+    → IsTimedPacket interface section order block number link held
+    → Becomes section order (Holds number link held) after channel frame
     → (after.first < 2 ^ 32) × Fit channel frame
-timed_fits interface section order block after channel frame range bytes number held says becomes =
+timed_fits interface section order block after channel frame range bytes number link held says
+    becomes =
     let number' = becomes.1 in
-    let size = ap length becomes.2 in
-    let most = becomes.3 in
     let in' = says.fits in
     let held' : Bytes held = subst Bytes (sym says.bytes)
     (bytes_take (length held) (drop 28 block) (bytes_drop 28 block bytes)) in (
       subst (λ (s : Section). s.first < 2 ^ 32) (sym becomes.0) range,
-      fits_line channel frame (omega arith) (subst Bytes (sym becomes.2) held') (omega arith),
+      fits_line channel frame (framed_fits link held frame becomes.3 becomes.2)
+          (framed_bytes link held frame held' becomes.2) (omega arith),
     )
 
 block_fits : (section : Section) (order : ByteOrder) (block : List ℕ) (after : Section)
@@ -103,27 +76,26 @@ block_fits section order block after channel frame range bytes (Opens first) say
 block_fits section order block after channel frame range bytes
     (Describes link_type snap_len) says becomes = (
       subst (λ (s : Section). s.first < 2 ^ 32)
-          (sym becomes.1) range,
-      none_fits channel frame becomes.2,
+          (sym becomes.2) range,
+      none_fits channel frame becomes.3,
     )
 block_fits section order block after channel frame range bytes
-    (Holds number held) (inl says) becomes =
-    timed_fits (word order block 8) section order block after channel frame range bytes number held
+    (Holds number link held) (inl says) becomes =
+    timed_fits (word order block 8) section order block after channel frame range bytes number link held
     says.1 becomes
 block_fits section order block after channel frame range bytes
-    (Holds number held) (inr (inl says)) becomes =
-    timed_fits (half order block 8) section order block after channel frame range bytes number held
+    (Holds number link held) (inr (inl says)) becomes =
+    timed_fits (half order block 8) section order block after channel frame range bytes number link held
     says.1 becomes
 block_fits section order block after channel frame range bytes
-    (Holds number held) (inr (inr says)) becomes =
+    (Holds number link held) (inr (inr says)) becomes =
     let number' = becomes.1 in
-    let size = ap length becomes.2 in
-    let most = becomes.3 in
     let first = says.number in
     let held' : Bytes held = subst Bytes (sym says.bytes)
     (bytes_take (length held) (drop 12 block) (bytes_drop 12 block bytes)) in (
       subst (λ (s : Section). s.first < 2 ^ 32) (sym becomes.0) range,
-      fits_line channel frame (omega arith) (subst Bytes (sym becomes.2) held') (omega arith),
+      fits_line channel frame (framed_fits link held frame becomes.3 becomes.2)
+          (framed_bytes link held frame held' becomes.2) (omega arith),
     )
 block_fits section order block after channel frame range bytes Nothing says becomes = (
   subst (λ (s : Section). s.first < 2 ^ 32)
@@ -146,11 +118,14 @@ unit_fits Start unit after channel frame range bytes (inl is) =
     (subst InRange (sym is.0.next) tt, none_fits channel frame is.1)
 unit_fits Start unit after channel frame range bytes (inr is) =
     block_unit_fits no_section unit after channel frame (omega arith) bytes is.1
-unit_fits (Classic order) unit after channel frame range bytes is =
-    let zero' = is.3 in (
-      subst InRange (sym is.2) tt,
-      fits_line channel frame is.1
-          (bytes_back is.0.head frame (subst Bytes is.0.parts bytes)) (omega arith),
+unit_fits (Classic order link) unit after channel frame range bytes is =
+    let zero' = is.2 in
+    let i = is.0 in
+    let p = i.is_record in (
+      subst InRange (sym is.1) tt,
+      fits_line channel frame (framed_fits link i.packet frame i.fits i.is_framed)
+          (framed_bytes link i.packet frame
+          (bytes_back p.head i.packet (subst Bytes p.parts bytes)) i.is_framed) (omega arith),
     )
 unit_fits (Pcapng section) unit after channel frame range bytes is =
     block_unit_fits section unit after channel frame range bytes is

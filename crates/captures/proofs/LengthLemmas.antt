@@ -16,11 +16,11 @@ module _ (section : Section) (order : ByteOrder) (block : List ℕ) where
   short_header (Opens first) kind short says = let long = says.1 in absurd (omega arith)
   short_header (Describes link_type snap_len) kind short says =
       let other = says.0 in absurd (omega arith)
-  short_header (Holds channel frame) kind short (inl says) =
+  short_header (Holds channel link packet) kind short (inl says) =
       let other = says.0 in absurd (omega arith)
-  short_header (Holds channel frame) kind short (inr (inl says)) =
+  short_header (Holds channel link packet) kind short (inr (inl says)) =
       let other = says.0 in absurd (omega arith)
-  short_header (Holds channel frame) kind short (inr (inr says)) =
+  short_header (Holds channel link packet) kind short (inr (inr says)) =
       let other = says.kind in absurd (omega arith)
   short_header Nothing kind short says = says.0 kind
 
@@ -29,11 +29,11 @@ module _ (section : Section) (order : ByteOrder) (block : List ℕ) where
   short_description (Opens first) kind short says = let other = says.0 in absurd (omega arith)
   short_description (Describes link_type snap_len) kind short says =
       let long = says.1 in absurd (omega arith)
-  short_description (Holds channel frame) kind short (inl says) =
+  short_description (Holds channel link packet) kind short (inl says) =
       let other = says.0 in absurd (omega arith)
-  short_description (Holds channel frame) kind short (inr (inl says)) =
+  short_description (Holds channel link packet) kind short (inr (inl says)) =
       let other = says.0 in absurd (omega arith)
-  short_description (Holds channel frame) kind short (inr (inr says)) =
+  short_description (Holds channel link packet) kind short (inr (inr says)) =
       let other = says.kind in absurd (omega arith)
   short_description Nothing kind short says = says.1 kind
 
@@ -54,17 +54,17 @@ module _ (section : Section) (order : ByteOrder) (block : List ℕ) where
       let other = says.0 in absurd (omega arith)
   short_packet (Describes link_type snap_len) (inr kind) short says =
       let other = says.0 in absurd (omega arith)
-  short_packet (Holds channel frame) kind short (inl says) =
+  short_packet (Holds channel link packet) kind short (inl says) =
       let size = says.1.size in
       let captured = says.1.captured in
       absurd (omega arith)
-  short_packet (Holds channel frame) kind short (inr (inl says)) =
+  short_packet (Holds channel link packet) kind short (inr (inl says)) =
       let size = says.1.size in
       let captured = says.1.captured in
       absurd (omega arith)
-  short_packet (Holds channel frame) (inl kind) short (inr (inr says)) =
+  short_packet (Holds channel link packet) (inl kind) short (inr (inr says)) =
       let other = says.kind in absurd (omega arith)
-  short_packet (Holds channel frame) (inr kind) short (inr (inr says)) =
+  short_packet (Holds channel link packet) (inr kind) short (inr (inr says)) =
       let other = says.kind in absurd (omega arith)
   short_packet Nothing (inl kind) short says = says.2 kind
   short_packet Nothing (inr kind) short says = says.3 kind
@@ -76,5 +76,5 @@ module _ (section : Section) (order : ByteOrder) (block : List ℕ) where
       × ((captured : ℕ) → RefusesBlock section order block (FrameTooLong captured) → ⊥)
   packet_is_short kind short = (
     λ content says. short_packet content kind short says,
-    λ captured refused. short_packet (Holds refused.0 refused.1) kind short refused.2,
+    λ captured refused. short_packet (Holds refused.0 refused.1 refused.2) kind short refused.3,
   )

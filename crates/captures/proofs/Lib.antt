@@ -1,8 +1,10 @@
 mod AloneLemmas
 mod BlockLemmas
 mod BufferLemmas
+mod ByteLemmas
 mod CapturedLemmas
 mod ComeBackLemmas
+mod FramedLemmas
 mod KnownLemmas
 mod LengthLemmas
 mod NumberLemmas

@@ -1,14 +1,17 @@
 -- What is written is read again.
-use Rattle.std.proofs.Common.{◌≡◌, ◌∙◌, sym, ap, refl, ℕ, ◌+◌, ◌*◌, ◌/◌, ◌%◌, ◌^◌, ◌<◌, ◌≤◌, arith}
-use Rattle.std.proofs.Common.{List, [], ◌∷◌, ◌++◌, length, inl, append-nil}
+use Rattle.std.proofs.Common.{◌≡◌, ◌∙◌, sym, ap, refl, ℕ, ◌+◌, ◌*◌, ◌/◌, ◌%◌, ◌^◌, ◌<◌, ◌≤◌, arith, ◌==◌, Bool, true, false}
+use Rattle.std.proofs.Common.{List, [], ◌∷◌, ◌++◌, length, inl, append-nil, Some}
+use Rattle.std.specs.Prelude.{if◌then◌else◌}
 use Rattle.std.specs.List.{AllByRecursion, flat_map}
+use Rattle.captures.specs.Framed.{framed}
 use Rattle.captures.specs.Pcap.{IsPacketRecord}
 use Rattle.captures.specs.Runs.{IsCapture}
 use Rattle.captures.specs.Spelling.{TimedFrame, file_header, record_head, record_of, capture_of}
 use Rattle.captures.specs.Spelling.{packets_in}
-use Rattle.captures.specs.Units.{Row, in_a_row, OpensFile}
+use Rattle.captures.specs.Units.{Row, in_a_row, IsRecordUnit, OpensFile}
 use Rattle.captures.specs.declared.byte_order.ByteOrder.TheVariants.{Little}
 use Rattle.captures.specs.declared.limits.TheConstants.{FRAME_LIMIT}
+use Rattle.captures.specs.declared.link.kind.Link.TheVariants.{Ethernet}
 use Rattle.captures.specs.declared.translation.state.State.TheVariants.{Classic}
 
 -- the bytes of a number spell it
@@ -25,6 +28,24 @@ record_is timed fits = record {
   captured = spelled (length timed.frame) (omega arith);
 }
 
+-- an Ethernet packet is its frame, if it has bytes or none
+either_way : (none : Bool) (frame : List ℕ)
+    → (if none then Some frame else Some frame) ≡ Some frame
+either_way true frame = refl
+either_way false frame = refl
+
+own_frame : (frame : List ℕ) → framed Ethernet frame ≡ Some frame
+own_frame frame = either_way (length frame == 0) frame
+
+is_unit : (timed : TimedFrame) → length timed.frame ≤ FRAME_LIMIT
+    → IsRecordUnit Little Ethernet (record_of timed) timed.frame
+is_unit timed fits = record {
+  packet = timed.frame;
+  is_record = record_is timed fits;
+  fits = omega arith;
+  is_framed = own_frame timed.frame;
+}
+
 units_of : List TimedFrame → List (List ℕ)
 units_of [] = []
 units_of (timed ∷ frames) = record_of timed ∷ units_of frames
@@ -37,25 +58,26 @@ in_a_row-units_of (timed ∷ frames) = ap (λ l. record_of timed ++ l) (in_a_row
 
 row_of : (frames : List TimedFrame)
     → AllByRecursion (λ timed. length timed.frame ≤ FRAME_LIMIT) frames
-    → Row (Classic Little) (units_of frames) (packets_in frames) (Classic Little)
+    → Row (Classic Little Ethernet) (units_of frames) (packets_in frames) (Classic Little Ethernet)
 unfolding units_of
 row_of [] all = (refl, refl)
 row_of (timed ∷ frames) all = (
-  Classic Little,
+  Classic Little Ethernet,
   0,
   timed.frame,
   packets_in
       frames,
-  (record_is timed all.0, all.0, refl, refl),
+  (is_unit timed all.0, refl, refl),
   row_of frames all.1,
   refl,
 )
 
-header_is : OpensFile file_header (Classic Little)
+header_is : OpensFile file_header (Classic Little Ethernet)
 header_is = record {
   order = Little;
+  link = Ethernet;
   header = record { size = refl; magic = refl; major = refl; minor = refl };
-  ethernet = refl;
+  known = refl;
   next = refl;
 }
 
@@ -63,11 +85,11 @@ pub capture_is : (frames : List TimedFrame)
     → AllByRecursion (λ timed. length timed.frame ≤ FRAME_LIMIT) frames
     → IsCapture (capture_of frames) (packets_in frames)
 capture_is frames all = record {
-  state = Classic Little;
+  state = Classic Little Ethernet;
   passes = record {
     units = file_header ∷ units_of frames;
     row = (
-      Classic Little,
+      Classic Little Ethernet,
       0,
       [],
       packets_in frames,

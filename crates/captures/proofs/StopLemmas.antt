@@ -4,15 +4,16 @@ use Rattle.std.proofs.Common.{arith, List, [], ◌∷◌, ◌++◌, length, appe
 use Rattle.std.proofs.Common.{inr, Option, Some, None}
 use Rattle.std.specs.Prelude.{IsTrue, slice_index}
 use Rattle.hex.specs.Hex.{IsBytes}
+use Rattle.captures.specs.Framed.{captured_limit, framed, link_of}
 use Rattle.captures.specs.Lines.{Packet, lines_of}
 use Rattle.captures.specs.Numbers.{word}
 use Rattle.captures.specs.Pcap.{is_magic, IsPacketRecord, link_type}
 use Rattle.captures.specs.Pcapng.{Content, HasOrder, Says, Reads, IsSkipped, RefusesBlock}
-use Rattle.captures.specs.Pcapng.{section_header}
+use Rattle.captures.specs.Pcapng.{section_header, links_with}
 use Rattle.captures.specs.Pcapng.Content.{Opens, Describes, Holds}
 use Rattle.captures.specs.Runs.{IsCapture}
-use Rattle.captures.specs.Units.{IsUnit, IsBlockUnit, OpensFile, Row, in_a_row, no_section}
-use Rattle.captures.specs.Units.{IsShortBlock, IsShortRecord, HasLongFrame, HasLinkType}
+use Rattle.captures.specs.Units.{IsUnit, IsBlockUnit, IsRecordUnit, OpensFile, Row, in_a_row, no_section}
+use Rattle.captures.specs.Units.{HasNoFrame, IsShortBlock, IsShortRecord, HasLongFrame, HasLinkType}
 use Rattle.captures.specs.Units.{HasBadLength, HasRefusedBlock, RefusesAt, RefusesFirst}
 use Rattle.captures.specs.Units.{BeginsSection, IsLeft, Takes}
 use Rattle.captures.specs.declared.byte_order.ByteOrder.{ByteOrder}
@@ -21,7 +22,8 @@ use Rattle.captures.specs.declared.capture_error.CaptureError.{CaptureError}
 use Rattle.captures.specs.declared.capture_error.CaptureError.TheVariants.{NotCapture, LinkType}
 use Rattle.captures.specs.declared.capture_error.CaptureError.TheVariants.{FrameTooLong, CutOff}
 use Rattle.captures.specs.declared.capture_error.CaptureError.TheVariants.{BlockTooLong, BadBlock}
-use Rattle.captures.specs.declared.limits.TheConstants.{FRAME_LIMIT}
+use Rattle.captures.specs.declared.capture_error.CaptureError.TheVariants.{NoFrame}
+use Rattle.captures.specs.declared.link.kind.Link.{Link}
 use Rattle.captures.specs.declared.pcapng.section.Section.{Section}
 use Rattle.captures.specs.declared.translation.state.State.{State}
 use Rattle.captures.specs.declared.translation.state.State.TheVariants.{Start, Classic, Pcapng}
@@ -53,6 +55,9 @@ opens section order block content says kind =
     ∙ ap (content_at section order block) kind in
     (subst (λ (k : Content). Says section order block k) is says).1
 
+some_and_none : {A : Type 0} (found : Option A) (x : A) → found ≡ Some x → found ≡ None → ⊥
+some_and_none found x some none = let same : Some x ≡ None = sym some ∙ none in cc
+
 -- ---- a block that is refused says nothing that is read
 
 refused_says : (section : Section) (order : ByteOrder) (block : List ℕ) (error : CaptureError)
@@ -60,14 +65,19 @@ refused_says : (section : Section) (order : ByteOrder) (block : List ℕ) (error
     → Reads section order block after channel frame → ⊥
 refused_says section order block NotCapture refused after channel frame reads = refused
 refused_says section order block (LinkType number) refused after channel frame reads =
-    refused.2 (becomes_as section order block reads.content (Describes number refused.0) reads.says
-    refused.1 after channel frame reads.becomes).0
+    some_and_none _ _ (becomes_as section order block reads.content (Describes number refused.0)
+    reads.says refused.1 after channel frame reads.becomes).1 refused.2
 refused_says section order block (FrameTooLong captured) refused after channel frame reads =
-    let most = (becomes_as section order block reads.content (Holds refused.0 refused.1) reads.says
-    refused.2 after channel frame reads.becomes).3 in
-    let size = refused.3 in
-    let long = refused.4 in
+    let most = (becomes_as section order block reads.content
+    (Holds refused.0 refused.1 refused.2) reads.says
+    refused.3 after channel frame reads.becomes).3 in
+    let size = refused.4 in
+    let long = refused.5 in
     absurd (omega arith)
+refused_says section order block NoFrame refused after channel frame reads =
+    some_and_none _ _ (becomes_as section order block reads.content
+    (Holds refused.0 refused.1 refused.2) reads.says
+    refused.3 after channel frame reads.becomes).2 refused.5
 refused_says section order block CutOff refused after channel frame reads = refused
 refused_says section order block (BlockTooLong len) refused after channel frame reads = refused
 refused_says section order block BadBlock refused after channel frame reads =
@@ -141,6 +151,7 @@ module _ (bytes u r : List ℕ) (all : IsBytes bytes) (parts : bytes ≡ u ++ r)
     not_at NotCapture refuses = refuses
     not_at (LinkType number) refuses = not_refused (LinkType number) refuses
     not_at (FrameTooLong captured) refuses = not_refused (FrameTooLong captured) refuses
+    not_at NoFrame refuses = not_refused NoFrame refuses
     not_at CutOff refuses = refuses
     not_at (BlockTooLong len) refuses =
         let h = refuses.1 in
@@ -178,14 +189,16 @@ module _ (bytes u r : List ℕ) (all : IsBytes bytes) (parts : bytes ≡ u ++ r)
         (sym (word_of h.order bytes h.header h.rest 0 h.parts (omega arith)))
         h.is_header.magic in
         let order = file_order o.order h.order bytes all magic magic' in
-        h.other (sym h.told ∙ ap₂ (λ (p : ByteOrder) (l : List ℕ). link_type p l) (sym order)
-        (sym same) ∙ o.ethernet)
+        some_and_none _ o.link (ap link_of (sym h.told
+        ∙ ap₂ (λ (p : ByteOrder) (l : List ℕ). link_type p l) (sym order) (sym same))
+        ∙ o.known) h.other
 
     not_first : (error : CaptureError) → RefusesFirst bytes error → ⊥
     not_first NotCapture refuses = refuses.0 o.order u r parts o.header
     not_first (LinkType number) (inl h) = not_link_type number h
     not_first (LinkType number) (inr h) = no_kind h.0.0
     not_first (FrameTooLong captured) refuses = no_kind refuses.0.0
+    not_first NoFrame refuses = no_kind refuses.0.0
     not_first CutOff refuses = refuses
     not_first (BlockTooLong len) refuses = no_kind refuses.0.0
     not_first BadBlock refuses = no_kind refuses.0.0
@@ -224,26 +237,32 @@ module _ (bytes u r : List ℕ) (all : IsBytes bytes) (parts : bytes ≡ u ++ r)
     not_section (LinkType number) (inr h) = not_at no_section b (LinkType number) h.1
     not_section (FrameTooLong captured) refuses =
         not_at no_section b (FrameTooLong captured) refuses.1
+    not_section NoFrame refuses = not_at no_section b NoFrame refuses.1
     not_section CutOff refuses = refuses
     not_section (BlockTooLong len) refuses = not_at no_section b (BlockTooLong len) refuses.1
     not_section BadBlock refuses = not_at no_section b BadBlock refuses.1
 
   -- a packet record
-  module _ (order : ByteOrder) (p : IsPacketRecord order u frame) where
+  module _ (order : ByteOrder) (link : Link) (i : IsRecordUnit order link u frame) where
     long_record : 16 ≤ length u
-    long_record = let size = p.size in let sizes = ap length p.parts in
-        omega (arith, length-append p.head frame)
+    long_record =
+        let p = i.is_record in
+        let size = p.size in
+        let sizes = ap length p.parts in
+        omega (arith, length-append p.head i.packet)
 
     head_is : (head rest : List ℕ) → bytes ≡ head ++ rest → length head ≡ 16
-        → word order head 8 ≡ length frame
+        → word order head 8 ≡ length i.packet
     head_is head rest parts' size =
-        let front = parts ∙ ap (λ l. l ++ r) p.parts ∙ append_assoc p.head frame r in
+        let p = i.is_record in
+        let front = parts ∙ ap (λ l. l ++ r) p.parts ∙ append_assoc p.head i.packet r in
         ap (λ (l : List ℕ). word order l 8)
-        (front_same bytes head rest p.head (frame ++ r) parts' front (size ∙ sym p.size))
+        (front_same bytes head rest p.head (i.packet ++ r) parts' front (size ∙ sym p.size))
         ∙ p.captured
 
-    not_cut : IsShortRecord order bytes → ⊥
+    not_cut : IsShortRecord order link bytes → ⊥
     not_cut h =
+        let p = i.is_record in
         let told = head_is h.head h.body h.parts h.size in
         let short = h.short in
         let size = h.size in
@@ -251,14 +270,32 @@ module _ (bytes u r : List ℕ) (all : IsBytes bytes) (parts : bytes ≡ u ++ r)
         let sizes = ap length h.parts in
         let sizes' = ap length p.parts in
         let f = fits in
-        absurd (omega (arith, length-append h.head h.body, length-append p.head frame))
+        absurd (omega (arith, length-append h.head h.body, length-append p.head i.packet))
 
-    not_long : (captured : ℕ) → length frame ≤ FRAME_LIMIT → HasLongFrame order bytes captured → ⊥
-    not_long captured most h =
+    not_long : (captured : ℕ) → HasLongFrame order link bytes captured → ⊥
+    not_long captured h =
         let told = head_is h.head h.rest h.parts h.size in
         let same = h.told in
         let above = h.long in
+        let most = i.fits in
         absurd (omega arith)
+
+    -- the packet without a frame would be this one
+    not_unframed : HasNoFrame order link bytes → ⊥
+    not_unframed h =
+        let p = i.is_record in
+        let p' = h.is_record in
+        let parts' = h.parts ∙ ap (λ l. l ++ h.rest) p'.parts
+        ∙ append_assoc p'.head h.packet h.rest in
+        let front = parts ∙ ap (λ l. l ++ r) p.parts ∙ append_assoc p.head i.packet r in
+        let size = p'.size ∙ sym p.size in
+        let told = head_is p'.head (h.packet ++ h.rest) parts' p'.size in
+        let behind = rest_same bytes p'.head (h.packet ++ h.rest) p.head
+        (i.packet ++ r) parts' front size in
+        let same : h.packet ≡ i.packet =
+        front_same (h.packet ++ h.rest) h.packet h.rest i.packet r refl behind
+        (sym p'.captured ∙ told) in
+        some_and_none _ frame (ap (framed link) same ∙ i.is_framed) h.none
 
 -- ---- so none is the front of what is left
 
@@ -280,24 +317,26 @@ left_no_unit Start bytes u r all parts after channel frame (inl i) (Some error) 
     not_first bytes u r all parts after channel frame i.0 error refuses.1
 left_no_unit Start bytes u r all parts after channel frame (inr i) (Some error) refuses =
     not_section bytes u r all parts after channel frame i.0 i.1 error refuses.1
-left_no_unit (Classic order) bytes u r all parts after channel frame i None (inl few) =
-    let l = long_record bytes u r all parts after channel frame order i.0 in
+left_no_unit (Classic order link) bytes u r all parts after channel frame i None (inl few) =
+    let l = long_record bytes u r all parts after channel frame order link i.0 in
     let f = fits bytes u r all parts after channel frame in
     absurd (omega arith)
-left_no_unit (Classic order) bytes u r all parts after channel frame i None (inr h) =
-    not_cut bytes u r all parts after channel frame order i.0 h
-left_no_unit (Classic order) bytes u r all parts after channel frame i (Some NotCapture) refuses =
+left_no_unit (Classic order link) bytes u r all parts after channel frame i None (inr h) =
+    not_cut bytes u r all parts after channel frame order link i.0 h
+left_no_unit (Classic order link) bytes u r all parts after channel frame i (Some NotCapture) refuses =
     refuses
-left_no_unit (Classic order) bytes u r all parts after channel frame i
+left_no_unit (Classic order link) bytes u r all parts after channel frame i
     (Some (LinkType number)) refuses = refuses
-left_no_unit (Classic order) bytes u r all parts after channel frame i
+left_no_unit (Classic order link) bytes u r all parts after channel frame i
     (Some (FrameTooLong captured)) refuses =
-    not_long bytes u r all parts after channel frame order i.0 captured i.1 refuses
-left_no_unit (Classic order) bytes u r all parts after channel frame i (Some CutOff) refuses =
+    not_long bytes u r all parts after channel frame order link i.0 captured refuses
+left_no_unit (Classic order link) bytes u r all parts after channel frame i (Some NoFrame) refuses =
+    not_unframed bytes u r all parts after channel frame order link i.0 refuses
+left_no_unit (Classic order link) bytes u r all parts after channel frame i (Some CutOff) refuses =
     refuses
-left_no_unit (Classic order) bytes u r all parts after channel frame i
+left_no_unit (Classic order link) bytes u r all parts after channel frame i
     (Some (BlockTooLong len)) refuses = refuses
-left_no_unit (Classic order) bytes u r all parts after channel frame i (Some BadBlock) refuses =
+left_no_unit (Classic order link) bytes u r all parts after channel frame i (Some BadBlock) refuses =
     refuses
 left_no_unit (Pcapng section) bytes u r all parts after channel frame i None (inl few) = let size =
     i.block.size in let f = fits bytes u r all parts after channel frame in absurd (omega arith)
@@ -353,7 +392,7 @@ told_alone bytes rest rest' text text' count count' state state' refusal refusal
 
 nothing_left : (state : State) → IsLeft state [] None
 nothing_left Start = inl (omega arith)
-nothing_left (Classic order) = inl (omega arith)
+nothing_left (Classic order link) = inl (omega arith)
 nothing_left (Pcapng section) = inl (omega arith)
 
 pub capture_alone : (bytes : List ℕ) (packets packets' : List Packet) → IsBytes bytes

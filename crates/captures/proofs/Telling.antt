@@ -7,6 +7,7 @@ use Rattle.captures.specs.declared.capture_error.CaptureError.{CaptureError}
 use Rattle.captures.specs.declared.capture_error.CaptureError.TheVariants.{NotCapture, LinkType}
 use Rattle.captures.specs.declared.capture_error.CaptureError.TheVariants.{FrameTooLong, CutOff}
 use Rattle.captures.specs.declared.capture_error.CaptureError.TheVariants.{BlockTooLong, BadBlock}
+use Rattle.captures.specs.declared.capture_error.CaptureError.TheVariants.{NoFrame}
 use Rattle.captures.specs.declared.limits.TheConstants.{FIRST_UNIT_LEN}
 use Rattle.captures.specs.declared.pcapng.long_block.LongBlock.{LongBlock}
 use Rattle.captures.specs.declared.place.Place.{Place}
@@ -47,11 +48,13 @@ refused_outcome told read written Start rest count NotCapture place takes at =
           ∙ ap lines_of same.1,
       place_first read rest count place same.0 (sym takes.number ∙ ap length same.1) at,
     )
-refused_outcome told read written (Classic order) rest count NotCapture place takes at =
+refused_outcome told read written (Classic order link) rest count NotCapture place takes at =
     absurd takes.left
 refused_outcome told read written (Pcapng section) rest count NotCapture place takes at =
     absurd takes.left
 refused_outcome told read written state rest count (BlockTooLong len) place takes at =
+    (state, rest, count, takes, at)
+refused_outcome told read written state rest count NoFrame place takes at =
     (state, rest, count, takes, at)
 refused_outcome told read written state rest count BadBlock place takes at =
     (state, rest, count, takes, at)
@@ -60,7 +63,7 @@ refused_outcome told read written state rest count (LinkType number) place takes
 refused_outcome told read written state rest count (FrameTooLong captured) place takes at =
     (state, rest, count, takes, at)
 refused_outcome told read written Start rest count CutOff place takes at = absurd takes.left.1
-refused_outcome told read written (Classic order) rest count CutOff place takes at =
+refused_outcome told read written (Classic order link) rest count CutOff place takes at =
     absurd takes.left
 refused_outcome told read written (Pcapng section) rest count CutOff place takes at =
     absurd takes.left
@@ -218,13 +221,13 @@ module _ (read written : List ℕ) (place : Place) where
       → IsWhole capture_to_lines read written (result_at_end state (length rest) place)
   at_end Start rest count takes at =
       at_start rest count takes at (nat_lt (length rest) FIRST_UNIT_LEN) refl
-  at_end (Classic order) [] count takes at = (
+  at_end (Classic order link) [] count takes at = (
     takes.packets,
-    record { state = Classic order; passes = takes.passes; known = λ e. cc e },
+    record { state = Classic order link; passes = takes.passes; known = λ e. cc e },
     takes.told,
   )
-  at_end (Classic order) (b ∷ bytes) count takes at =
-      ends_cut (Classic order) (b ∷ bytes) count takes at (omega arith) (inl (λ e. cc e))
+  at_end (Classic order link) (b ∷ bytes) count takes at =
+      ends_cut (Classic order link) (b ∷ bytes) count takes at (omega arith) (inl (λ e. cc e))
   at_end (Pcapng section) [] count takes at = (
     takes.packets,
     record { state = Pcapng section; passes = takes.passes; known = λ e. cc e },

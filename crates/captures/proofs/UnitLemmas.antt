@@ -139,7 +139,7 @@ known_after : (state : State) (unit : List ℕ) (after : State) (channel : ℕ) 
     → IsUnit state unit after channel frame → after ≡ Start → ⊥
 known_after Start unit after channel frame (inl h) is = let next = h.0.next in cc
 known_after Start unit after channel frame (inr h) is = let next = h.1.becomes in cc
-known_after (Classic order) unit after channel frame h is = let next = h.2 in cc
+known_after (Classic order link) unit after channel frame h is = let next = h.1 in cc
 known_after (Pcapng section) unit after channel frame h is = let next = h.becomes in cc
 
 row_known : (state after : State) (units : List (List ℕ)) (packets : List Packet)

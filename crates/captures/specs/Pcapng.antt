@@ -2,7 +2,9 @@
 -- length, ends with its length, and has whole words of 4 bytes. Numbers are in the byte order of
 -- the section, which its header tells.
 use Rattle.std.specs.Prelude.{◌≡◌, ◌≢◌, ◌⊎◌, ℕ, ◌+◌, ◌-◌, ◌%◌, ◌^◌, ◌<◌, ◌≤◌, ◌==◌, min}
-use Rattle.std.specs.Prelude.{if◌then◌else◌, List, [], length, take, drop}
+use Rattle.std.specs.Prelude.{if◌then◌else◌, nat_lt, List, [], length, take, drop, slice_index_or}
+use Rattle.std.specs.Prelude.{slice_set, Option, Some, None}
+use Rattle.captures.specs.Framed.{link_of, captured_limit, framed}
 use Rattle.captures.specs.Numbers.{half, word}
 use Rattle.captures.specs.declared.byte_order.ByteOrder.{ByteOrder}
 use Rattle.captures.specs.declared.byte_order.ByteOrder.TheVariants.{Big}
@@ -10,9 +12,12 @@ use Rattle.captures.specs.declared.capture_error.CaptureError.{CaptureError}
 use Rattle.captures.specs.declared.capture_error.CaptureError.TheVariants.{NotCapture, LinkType}
 use Rattle.captures.specs.declared.capture_error.CaptureError.TheVariants.{FrameTooLong, CutOff}
 use Rattle.captures.specs.declared.capture_error.CaptureError.TheVariants.{BlockTooLong, BadBlock}
-use Rattle.captures.specs.declared.limits.TheConstants.{FRAME_LIMIT, BLOCK_LIMIT}
+use Rattle.captures.specs.declared.capture_error.CaptureError.TheVariants.{NoFrame}
+use Rattle.captures.specs.declared.limits.TheConstants.{BLOCK_LIMIT}
+use Rattle.captures.specs.declared.link.kind.Link.{Link}
+use Rattle.captures.specs.declared.link.kind.Link.TheVariants.{Ethernet}
 use Rattle.captures.specs.declared.pcapng.section.Section.{Section}
-use Rattle.captures.specs.declared.pcapng.section.TheConstants.{ETHERNET}
+use Rattle.captures.specs.declared.pcapng.section.TheConstants.{ETHERNET, LINKED_INTERFACES}
 
 -- the kind of a section header is the same in both byte orders
 abbrev pub section_header : ℕ
@@ -49,12 +54,12 @@ pub record IsBlock (order : ByteOrder) (block : List ℕ) : Type 0 where
   pub back : word order block (length block - 4) ≡ length block
 
 -- what a block says in a section: a section begins, its first interface having this number; an
--- interface is described, with its link type and snap length; a frame was captured on an interface;
--- or nothing that is read here
+-- interface is described, with its link type and snap length; a packet was captured on an interface
+-- of such a link; or nothing that is read here
 pub data Content : Type 0 where
   Opens : ℕ → Content
   Describes : (link_type : ℕ) → (snap_len : ℕ) → Content
-  Holds : (channel : ℕ) → (frame : List ℕ) → Content
+  Holds : (channel : ℕ) → (link : Link) → (packet : List ℕ) → Content
   Nothing : Content
 
 -- the bytes of a packet that a simple packet block holds, where this is the snap length of the
@@ -62,34 +67,55 @@ pub data Content : Type 0 where
 abbrev pub captured_len : ℕ → ℕ → ℕ
 captured_len snap_len original = if snap_len == 0 then original else min snap_len original
 
+-- the link of an interface that is described: Ethernet behind the first ones
+abbrev pub link_at : Section → ℕ → Link
+link_at section interface = slice_index_or section.links interface Ethernet
+
+-- the links of the first interfaces, after one more is described, if its link is known
+abbrev pub with_link : Section → Option Link → Option (List Link)
+with_link section None = None
+with_link section (Some link) = Some (slice_set section.links section.interfaces link)
+
+-- an interface behind the first ones
+abbrev pub later_links : Section → (link_type : ℕ) → Option (List Link)
+later_links section link_type = if link_type == ETHERNET then Some section.links else None
+
+-- the links of the first interfaces, after one more of this link type is described, if this is read
+abbrev pub links_with : Section → (link_type : ℕ) → Option (List Link)
+links_with section link_type =
+    if nat_lt section.interfaces LINKED_INTERFACES then with_link section (link_of link_type)
+    else later_links section link_type
+
 -- a packet of this interface of the section, in a block of one of the two kinds that tell its time
 pub record IsTimedPacket (interface : ℕ) (section : Section) (order : ByteOrder) (block : List ℕ)
-    (channel : ℕ) (frame : List ℕ) : Type 0 where
-  pub size : 32 + length frame ≤ length block
+    (channel : ℕ) (link : Link) (packet : List ℕ) : Type 0 where
+  pub size : 32 + length packet ≤ length block
   pub described : interface < section.interfaces
   pub number : section.first + interface ≡ channel
   pub fits : channel < 2 ^ 32
-  pub captured : word order block 20 ≡ length frame
-  pub bytes : frame ≡ take (length frame) (drop 28 block)
+  pub over : link_at section interface ≡ link
+  pub captured : word order block 20 ≡ length packet
+  pub bytes : packet ≡ take (length packet) (drop 28 block)
 
 -- the number of its interface has 32 bits
-abbrev pub IsEnhancedPacket : Section → ByteOrder → List ℕ → ℕ → List ℕ → Type 0
-IsEnhancedPacket section order block channel frame = (word order block 0 ≡ enhanced_packet)
-    × IsTimedPacket (word order block 8) section order block channel frame
+abbrev pub IsEnhancedPacket : Section → ByteOrder → List ℕ → ℕ → Link → List ℕ → Type 0
+IsEnhancedPacket section order block channel link packet = (word order block 0 ≡ enhanced_packet)
+    × IsTimedPacket (word order block 8) section order block channel link packet
 
 -- it has 16, and a number of dropped packets follows, which is not read
-abbrev pub IsObsoletePacket : Section → ByteOrder → List ℕ → ℕ → List ℕ → Type 0
-IsObsoletePacket section order block channel frame = (word order block 0 ≡ obsolete_packet)
-    × IsTimedPacket (half order block 8) section order block channel frame
+abbrev pub IsObsoletePacket : Section → ByteOrder → List ℕ → ℕ → Link → List ℕ → Type 0
+IsObsoletePacket section order block channel link packet = (word order block 0 ≡ obsolete_packet)
+    × IsTimedPacket (half order block 8) section order block channel link packet
 
 pub record IsSimplePacket (section : Section) (order : ByteOrder) (block : List ℕ) (channel : ℕ)
-    (frame : List ℕ) : Type 0 where
+    (link : Link) (packet : List ℕ) : Type 0 where
   pub kind : word order block 0 ≡ simple_packet
-  pub size : 16 + length frame ≤ length block
+  pub size : 16 + length packet ≤ length block
   pub interface : 0 < section.interfaces
   pub number : section.first ≡ channel
-  pub captured : captured_len section.snap_len (word order block 8) ≡ length frame
-  pub bytes : frame ≡ take (length frame) (drop 12 block)
+  pub over : link_at section 0 ≡ link
+  pub captured : captured_len section.snap_len (word order block 8) ≡ length packet
+  pub bytes : packet ≡ take (length packet) (drop 12 block)
 
 -- a block of a kind that holds a packet
 abbrev pub HoldsPacket : ByteOrder → List ℕ → Type 0
@@ -121,25 +147,35 @@ Says section order block (Describes link_type snap_len) =
     (word order block 0 ≡ interface_description) × (20 ≤ length block)
     × (half order block 8 ≡ link_type)
     × (word order block 12 ≡ snap_len) × (section.interfaces + 1 < 2 ^ 32)
-Says section order block (Holds channel frame) = IsEnhancedPacket section order block channel frame
-    ⊎ (IsObsoletePacket section order block channel frame
-    ⊎ IsSimplePacket section order block channel frame)
+Says section order block (Holds channel link packet) =
+    IsEnhancedPacket section order block channel link packet
+    ⊎ (IsObsoletePacket section order block channel link packet
+    ⊎ IsSimplePacket section order block channel link packet)
 Says section order block Nothing = IsOther order block
 
--- the section, and the packet, after a block that says this: links are Ethernet, and a line can
--- hold the frame
+-- the section, and the frame, after a block that says this: links are read, and a line can hold
+-- the packet's frame
 abbrev pub Becomes : Section → ByteOrder → Content → Section → ℕ → List ℕ → Type 0
 Becomes section order (Opens first) after channel frame =
-    (after ≡ record { order = order; first = first; interfaces = 0; snap_len = 0 }) × (frame ≡ [])
+    (after ≡ record {
+      order = order;
+      first = first;
+      interfaces = 0;
+      snap_len = 0;
+      links = section.links;
+    })
+    × (frame ≡ [])
 Becomes section order (Describes link_type snap_len) after channel frame =
-    (link_type ≡ ETHERNET)
+    (links : List Link) × (links_with section link_type ≡ Some links)
     × (after ≡ record section {
       interfaces = section.interfaces + 1;
       snap_len = (if section.interfaces == 0 then snap_len else section.snap_len);
+      links = links;
     })
     × (frame ≡ [])
-Becomes section order (Holds number bytes) after channel frame = (after ≡ section)
-    × (channel ≡ number) × (frame ≡ bytes) × (length bytes ≤ FRAME_LIMIT)
+Becomes section order (Holds number link packet) after channel frame = (after ≡ section)
+    × (channel ≡ number) × (framed link packet ≡ Some frame)
+    × (length packet ≤ captured_limit link)
 Becomes section order Nothing after channel frame = (after ≡ section) × (frame ≡ [])
 
 -- a block that says something, and what comes of it
@@ -153,10 +189,15 @@ pub record Reads (section : Section) (order : ByteOrder) (block : List ℕ) (aft
 abbrev pub RefusesBlock : Section → ByteOrder → List ℕ → CaptureError → Type 0
 RefusesBlock section order block NotCapture = ⊥
 RefusesBlock section order block (LinkType number) = (snap_len : ℕ)
-    × Says section order block (Describes number snap_len) × (number ≢ ETHERNET)
+    × Says section order block (Describes number snap_len) × (links_with section number ≡ None)
 RefusesBlock section order block (FrameTooLong captured) =
-    (channel : ℕ) × (frame : List ℕ) × Says section order block (Holds channel frame)
-    × (captured ≡ length frame) × (FRAME_LIMIT < captured)
+    (channel : ℕ) × (link : Link) × (packet : List ℕ)
+    × Says section order block (Holds channel link packet)
+    × (captured ≡ length packet) × (captured_limit link < captured)
+RefusesBlock section order block NoFrame =
+    (channel : ℕ) × (link : Link) × (packet : List ℕ)
+    × Says section order block (Holds channel link packet)
+    × (length packet ≤ captured_limit link) × (framed link packet ≡ None)
 RefusesBlock section order block CutOff = ⊥
 RefusesBlock section order block (BlockTooLong len) = ⊥
 RefusesBlock section order block BadBlock = (content : Content)

@@ -7,6 +7,7 @@ use Rattle.runs.specs.Runs.{Task, Goes}
 use Rattle.captures.specs.declared.capture_error.CaptureError.TheVariants.{NotCapture, LinkType}
 use Rattle.captures.specs.declared.capture_error.CaptureError.TheVariants.{FrameTooLong, CutOff}
 use Rattle.captures.specs.declared.capture_error.CaptureError.TheVariants.{BlockTooLong, BadBlock}
+use Rattle.captures.specs.declared.capture_error.CaptureError.TheVariants.{NoFrame}
 use Rattle.captures.specs.declared.capture_error.CaptureError.{CaptureError}
 use Rattle.captures.specs.declared.translation.run_error.RunError.{RunError}
 use Rattle.captures.specs.declared.translation.refusal.Refusal.{Refusal}
@@ -60,6 +61,7 @@ IsRefused (InCapture (LinkType number) place) told read written =
     AreToldBefore (LinkType number) place read written
 IsRefused (InCapture (FrameTooLong captured) place) told read written =
     AreToldBefore (FrameTooLong captured) place read written
+IsRefused (InCapture NoFrame place) told read written = AreToldBefore NoFrame place read written
 IsRefused (InCapture (BlockTooLong len) place) told read written =
     AreToldBefore (BlockTooLong len) place read written
 IsRefused (InCapture BadBlock place) told read written = AreToldBefore BadBlock place read written
@@ -83,8 +85,8 @@ capture_to_lines = record {
 abbrev pub result_at_end : State → ℕ → Place → Result Unit Refusal
 result_at_end Start left place = if nat_lt left FIRST_UNIT_LEN then Err (InCapture NotCapture place)
     else Err (InCapture CutOff place)
-result_at_end (Classic order) zero place = Ok tt
-result_at_end (Classic order) (suc left) place = Err (InCapture CutOff place)
+result_at_end (Classic order link) zero place = Ok tt
+result_at_end (Classic order link) (suc left) place = Err (InCapture CutOff place)
 result_at_end (Pcapng section) zero place = Ok tt
 result_at_end (Pcapng section) (suc left) place = Err (InCapture CutOff place)
 

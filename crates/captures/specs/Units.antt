@@ -1,6 +1,7 @@
 -- A capture as units in a row: a file header and packet records, or blocks.
 use Rattle.std.specs.Prelude.{◌≡◌, ◌≢◌, ◌⊎◌, ℕ, ◌-◌, ◌%◌, ◌<◌, ◌≤◌, List, [], ◌∷◌, ◌++◌, length}
-use Rattle.std.specs.Prelude.{Option, Some, None}
+use Rattle.std.specs.Prelude.{Option, Some, None, replicate}
+use Rattle.captures.specs.Framed.{link_of, captured_limit, framed}
 use Rattle.captures.specs.Numbers.{word}
 use Rattle.captures.specs.Lines.{Packet, packets_of, lines_of}
 use Rattle.captures.specs.Pcap.{IsFileHeader, IsPacketRecord, link_type}
@@ -10,24 +11,35 @@ use Rattle.captures.specs.declared.capture_error.CaptureError.{CaptureError}
 use Rattle.captures.specs.declared.capture_error.CaptureError.TheVariants.{NotCapture, LinkType}
 use Rattle.captures.specs.declared.capture_error.CaptureError.TheVariants.{FrameTooLong, CutOff}
 use Rattle.captures.specs.declared.capture_error.CaptureError.TheVariants.{BlockTooLong, BadBlock}
-use Rattle.captures.specs.declared.limits.TheConstants.{FRAME_LIMIT, FIRST_UNIT_LEN}
+use Rattle.captures.specs.declared.capture_error.CaptureError.TheVariants.{NoFrame}
+use Rattle.captures.specs.declared.limits.TheConstants.{FIRST_UNIT_LEN}
+use Rattle.captures.specs.declared.link.kind.Link.{Link}
+use Rattle.captures.specs.declared.link.kind.Link.TheVariants.{Ethernet}
 use Rattle.captures.specs.declared.translation.state.State.{State}
 use Rattle.captures.specs.declared.pcapng.section.Section.{Section}
-use Rattle.captures.specs.declared.pcapng.section.TheConstants.{ETHERNET}
+use Rattle.captures.specs.declared.pcapng.section.TheConstants.{LINKED_INTERFACES}
 use Rattle.captures.specs.declared.translation.state.State.TheVariants.{Start, Classic, Pcapng}
 use Rattle.captures.specs.Pcapng.{HasOrder, IsBlock, IsTaken, Reads, RefusesBlock, section_header}
 use Rattle.captures.specs.Pcapng.{byte_order_magic}
 
--- a file header of Ethernet frames, after which packet records follow
+-- a file header of a link that is read, after which packet records follow
 pub record OpensFile (unit : List ℕ) (after : State) : Type 0 where
   pub order : ByteOrder
+  pub link : Link
   pub header : IsFileHeader order unit
-  pub ethernet : link_type order unit ≡ ETHERNET
-  pub next : after ≡ Classic order
+  pub known : link_of (link_type order unit) ≡ Some link
+  pub next : after ≡ Classic order link
 
 -- before the first block of a pcapng file no interface is described, and any byte order serves
 abbrev pub no_section : Section
-no_section = record { order = Big; first = 0; interfaces = 0; snap_len = 0 }
+no_section =
+    record {
+      order = Big;
+      first = 0;
+      interfaces = 0;
+      snap_len = 0;
+      links = replicate LINKED_INTERFACES Ethernet;
+    }
 
 -- a block of a section, whole and of a length that is taken, after which the section has come to
 -- this
@@ -41,15 +53,21 @@ pub record IsBlockUnit (section : Section) (unit : List ℕ) (after : State) (ch
   pub reads : Reads section order unit next channel frame
   pub becomes : after ≡ Pcapng next
 
+-- a packet record of such a link, of a packet whose frame a line can hold
+pub record IsRecordUnit (order : ByteOrder) (link : Link) (unit frame : List ℕ) : Type 0 where
+  pub packet : List ℕ
+  pub is_record : IsPacketRecord order unit packet
+  pub fits : length packet ≤ captured_limit link
+  pub is_framed : framed link packet ≡ Some frame
+
 -- bytes that are one unit of a capture, where it has come to this state: the state after it,
--- and the packet in it, whose frame is empty where there is none
+-- and the frame of the packet in it, which is empty where there is none
 abbrev pub IsUnit : State → List ℕ → State → ℕ → List ℕ → Type 0
 IsUnit Start unit after channel frame =
     (OpensFile unit after × (frame ≡ []))
     ⊎ ((word Big unit 0 ≡ section_header) × IsBlockUnit no_section unit after channel frame)
-IsUnit (Classic order) unit after channel frame =
-    IsPacketRecord order unit frame × (length frame ≤ FRAME_LIMIT)
-    × (after ≡ Classic order) × (channel ≡ 0)
+IsUnit (Classic order link) unit after channel frame =
+    IsRecordUnit order link unit frame × (after ≡ Classic order link) × (channel ≡ 0)
 IsUnit (Pcapng section) unit after channel frame = IsBlockUnit section unit after channel frame
 
 -- units in a row, and all packets in them
@@ -73,13 +91,13 @@ pub record Passes (state : State) (bytes : List ℕ) (packets : List Packet) (af
   pub parts : bytes ≡ in_a_row units ++ rest
 
 -- the head of a packet record that a line can hold, with fewer bytes after it than it tells
-pub record IsShortRecord (order : ByteOrder) (bytes : List ℕ) : Type 0 where
+pub record IsShortRecord (order : ByteOrder) (link : Link) (bytes : List ℕ) : Type 0 where
   pub head : List ℕ
   pub body : List ℕ
   pub parts : bytes ≡ head ++ body
   pub size : length head ≡ 16
   pub short : length body < word order head 8
-  pub fits : word order head 8 ≤ FRAME_LIMIT
+  pub fits : word order head 8 ≤ captured_limit link
 
 -- the front of a block of a length that is taken, with fewer bytes than it tells
 pub record IsShortBlock (section : Section) (bytes : List ℕ) : Type 0 where
@@ -103,7 +121,7 @@ pub record HasOtherBack (order : ByteOrder) (bytes : List ℕ) : Type 0 where
 abbrev pub IsBegun : State → List ℕ → Type 0
 IsBegun Start bytes = (length bytes < FIRST_UNIT_LEN)
     ⊎ ((word Big bytes 0 ≡ section_header) × IsShortBlock no_section bytes)
-IsBegun (Classic order) bytes = (length bytes < 16) ⊎ IsShortRecord order bytes
+IsBegun (Classic order link) bytes = (length bytes < 16) ⊎ IsShortRecord order link bytes
 IsBegun (Pcapng section) bytes = (length bytes < 12) ⊎ IsShortBlock section bytes
 
 -- the bytes begin with the kind and the byte order magic of a section header
@@ -152,6 +170,7 @@ RefusesAt section bytes NotCapture = ⊥
 RefusesAt section bytes (LinkType number) = HasRefusedBlock section bytes (LinkType number)
 RefusesAt section bytes (FrameTooLong captured) =
     HasRefusedBlock section bytes (FrameTooLong captured)
+RefusesAt section bytes NoFrame = HasRefusedBlock section bytes NoFrame
 RefusesAt section bytes CutOff = ⊥
 RefusesAt section bytes (BlockTooLong len) = (12 ≤ length bytes) × HasLongBlock section bytes len
 RefusesAt section bytes BadBlock =
@@ -159,7 +178,7 @@ RefusesAt section bytes BadBlock =
     × (((order : ByteOrder) → HasOrder section.order bytes order → ⊥)
     ⊎ (HasBadLength section bytes ⊎ HasRefusedBlock section bytes BadBlock))
 
--- the bytes begin with a file header of another link type
+-- the bytes begin with a file header of a link type that is not read
 pub record HasLinkType (bytes : List ℕ) (number : ℕ) : Type 0 where
   pub order : ByteOrder
   pub header : List ℕ
@@ -167,16 +186,27 @@ pub record HasLinkType (bytes : List ℕ) (number : ℕ) : Type 0 where
   pub parts : bytes ≡ header ++ rest
   pub is_header : IsFileHeader order header
   pub told : link_type order header ≡ number
-  pub other : number ≢ ETHERNET
+  pub other : link_of number ≡ None
 
 -- the bytes begin with the head of a packet record that tells more bytes than a line can hold
-pub record HasLongFrame (order : ByteOrder) (bytes : List ℕ) (captured : ℕ) : Type 0 where
+pub record HasLongFrame (order : ByteOrder) (link : Link) (bytes : List ℕ)
+    (captured : ℕ) : Type 0 where
   pub head : List ℕ
   pub rest : List ℕ
   pub parts : bytes ≡ head ++ rest
   pub size : length head ≡ 16
   pub told : word order head 8 ≡ captured
-  pub long : FRAME_LIMIT < captured
+  pub long : captured_limit link < captured
+
+-- the bytes begin with a packet record that a line could hold, of a packet without a frame
+pub record HasNoFrame (order : ByteOrder) (link : Link) (bytes : List ℕ) : Type 0 where
+  pub unit : List ℕ
+  pub packet : List ℕ
+  pub rest : List ℕ
+  pub parts : bytes ≡ unit ++ rest
+  pub is_record : IsPacketRecord order unit packet
+  pub fits : length packet ≤ captured_limit link
+  pub none : framed link packet ≡ None
 
 -- why no unit is the first, where there are as many bytes as a file header has
 abbrev pub RefusesFirst : List ℕ → CaptureError → Type 0
@@ -185,6 +215,7 @@ RefusesFirst bytes (LinkType number) = HasLinkType bytes number
     ⊎ (BeginsSection bytes × RefusesAt no_section bytes (LinkType number))
 RefusesFirst bytes (FrameTooLong captured) = BeginsSection bytes
     × RefusesAt no_section bytes (FrameTooLong captured)
+RefusesFirst bytes NoFrame = BeginsSection bytes × RefusesAt no_section bytes NoFrame
 RefusesFirst bytes CutOff = ⊥
 RefusesFirst bytes (BlockTooLong len) = BeginsSection bytes
     × RefusesAt no_section bytes (BlockTooLong len)
@@ -193,12 +224,13 @@ RefusesFirst bytes BadBlock = BeginsSection bytes × RefusesAt no_section bytes 
 -- why no unit can follow, whatever comes after these bytes
 abbrev pub Refuses : State → List ℕ → CaptureError → Type 0
 Refuses Start bytes error = (FIRST_UNIT_LEN ≤ length bytes) × RefusesFirst bytes error
-Refuses (Classic order) bytes NotCapture = ⊥
-Refuses (Classic order) bytes (LinkType number) = ⊥
-Refuses (Classic order) bytes (FrameTooLong captured) = HasLongFrame order bytes captured
-Refuses (Classic order) bytes CutOff = ⊥
-Refuses (Classic order) bytes (BlockTooLong len) = ⊥
-Refuses (Classic order) bytes BadBlock = ⊥
+Refuses (Classic order link) bytes NotCapture = ⊥
+Refuses (Classic order link) bytes (LinkType number) = ⊥
+Refuses (Classic order link) bytes (FrameTooLong captured) = HasLongFrame order link bytes captured
+Refuses (Classic order link) bytes NoFrame = HasNoFrame order link bytes
+Refuses (Classic order link) bytes CutOff = ⊥
+Refuses (Classic order link) bytes (BlockTooLong len) = ⊥
+Refuses (Classic order link) bytes BadBlock = ⊥
 Refuses (Pcapng section) bytes error = RefusesAt section bytes error
 
 -- a unit with this packet is the front of the bytes

@@ -7,13 +7,18 @@ pub enum CaptureError {
     /// The bytes don't begin with the header of a capture, or end before it is whole.
     #[error("no capture file")]
     NotCapture,
-    /// The frames have this link type, which isn't that of Ethernet, 1.
-    #[error("link type {0} is not Ethernet")]
+    /// The packets have this link type, which isn't read. Of a section of a pcapng file, interfaces
+    /// behind the 32nd may have that of Ethernet alone, 1.
+    #[error("link type {0} is not read")]
     LinkType(u16),
-    /// So many bytes of a packet were captured, which is more than
+    /// So many bytes of a packet were captured, whose Ethernet frame would have more than
     /// [`FRAME_LIMIT`](crate::FRAME_LIMIT).
     #[error("a packet of {0} bytes is too long for a line")]
     FrameTooLong(u32),
+    /// A packet has no Ethernet frame: it is shorter than the header of its link, or names no ether
+    /// type, IP version or address family of IP.
+    #[error("a packet has no ether type")]
+    NoFrame,
     /// The capture ends within a packet, or within another block.
     #[error("the capture ends within a packet")]
     CutOff,

@@ -6,6 +6,7 @@ mod byte_order;
 mod capture_error;
 pub mod laws;
 mod limits;
+mod link;
 mod pcap;
 mod pcapng;
 mod place;

@@ -77,7 +77,7 @@ fn block_type(state: State, bytes: &[u8]) -> Option<u32>
                 None
             }
         }
-        State::Classic(_) => None,
+        State::Classic(_, _) => None,
         State::Pcapng(section) => Some(section.order.word(bytes, 0)),
     }
 }

@@ -47,10 +47,10 @@ fn main(rt: HostRuntime) -> anyhow::Result<ExitCode> {
 
 fn command<'a>(alloc: Global) -> Result<Command<'a>, clap::Error> {
     let lines = Command::new(alloc, "lines")
-        .about("Writes a line for each packet of a capture of Ethernet frames")
+        .about("Writes a line for each packet of a capture")
         .arg(file(alloc))?;
     let capture = Command::new(alloc, "capture")
-        .about("Writes a capture of the Ethernet frames of such lines")
+        .about("Writes a capture of the frames of such lines")
         .arg(file(alloc))?;
     Ok(
         Command::new(alloc, "captures_cli")

@@ -67,17 +67,13 @@ fn directory_note(look: Look) -> &'static str {
 // The names of the registry of link types, without their prefix.
 fn link_note(number: u16) -> &'static str {
     match number {
-        0 => ": it is NULL, of BSD loopback",
         9 => ": it is PPP",
-        12 | 14 | 101 => ": it is RAW, of IP packets",
         105 => ": it is IEEE802_11, of wireless networks",
-        108 => ": it is LOOP, of OpenBSD loopback",
-        113 => ": it is LINUX_SLL, of cooked captures",
         127 => ": it is IEEE802_11_RADIOTAP, of wireless networks",
         189 | 220 => ": it is USB_LINUX",
-        228 => ": it is IPV4",
-        229 => ": it is IPV6",
-        276 => ": it is LINUX_SLL2, of cooked captures",
+        251 => ": it is BLUETOOTH_LE_LL",
+        252 => ": it is WIRESHARK_UPPER_PDU, of exported packets",
+        253 => ": it is NETLINK",
         _ => "",
     }
 }

@@ -137,8 +137,13 @@ fn errors_have_messages_and_a_status(rt: HostRuntime) -> Result<(), Fail> {
             3,
         ),
         (
-            refusal(CaptureError::LinkType(113), None),
-            "packet 3, byte 112: link type 113 is not Ethernet: it is LINUX_SLL, of cooked captures",
+            refusal(CaptureError::LinkType(105), None),
+            "packet 3, byte 112: link type 105 is not read: it is IEEE802_11, of wireless networks",
+            3,
+        ),
+        (
+            refusal(CaptureError::NoFrame, Some(6)),
+            "packet 3, byte 112, block type 0x6 (enhanced packet): a packet has no ether type",
             3,
         ),
         (

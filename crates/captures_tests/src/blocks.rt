@@ -151,11 +151,11 @@ fn each_refusal(rt: HostRuntime) -> Result<(), Fail> {
         (4, b"\x08".as_slice(), bad, 0, (1, 0, Some(SECTION))),
         // no whole words
         (32, b"\x15".as_slice(), bad, 0, (1, 28, Some(1))),
-        // link type of Linux cooked captures
+        // link type of PPP
         (
             36,
-            b"\x71".as_slice(),
-            CaptureError::LinkType(113),
+            b"\x09".as_slice(),
+            CaptureError::LinkType(9),
             0,
             (1, 28, Some(1)),
         ),

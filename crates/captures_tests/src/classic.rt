@@ -107,8 +107,8 @@ fn each_refusal(rt: HostRuntime) -> Result<(), Fail> {
         (7, b"\x03".as_slice(), CaptureError::NotCapture, 0, 1, 0),
         // Version 1.4.
         (5, b"\x01".as_slice(), CaptureError::NotCapture, 0, 1, 0),
-        // The link type of Linux cooked captures.
-        (23, b"\x71".as_slice(), CaptureError::LinkType(113), 0, 1, 0),
+        // The link type of PPP.
+        (23, b"\x09".as_slice(), CaptureError::LinkType(9), 0, 1, 0),
         // 99,992 bytes of the second packet.
         (
             98,

@@ -11,6 +11,8 @@ mod limits;
 #[cfg(test)]
 mod lines;
 #[cfg(test)]
+mod links;
+#[cfg(test)]
 mod long_blocks;
 #[cfg(test)]
 mod pieces;

@@ -64,9 +64,9 @@ fn writer_without_room(rt: HostRuntime) -> Result<(), Fail> {
 fn texts_of_errors(rt: HostRuntime) -> Result<(), Fail> {
     for (error, block, text) in [
         (
-            CaptureError::LinkType(113),
+            CaptureError::LinkType(9),
             None,
-            "packet 1, byte 48: link type 113 is not Ethernet",
+            "packet 1, byte 48: link type 9 is not read",
         ),
         (
             CaptureError::BlockTooLong(262_148),

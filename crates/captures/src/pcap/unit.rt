@@ -1,5 +1,5 @@
 //! The unit at the front of some bytes of a capture: a file header, or a packet record.
-ghost use Rattle.std.specs.Prelude.{◌≡◌, ◌≤◌, ◌+◌, ℕ, List, length, IfOk, IfErr, IfSome};
+ghost use Rattle.std.specs.Prelude.{◌≡◌, ◌≤◌, ◌+◌, ◌*◌, ℕ, List, length, IfOk, IfErr, IfSome};
 ghost use Rattle.std.specs.Prelude.{MatchOption, ◌↔◌, IsTrue};
 ghost use Rattle.captures.specs.Pcap.{IsFileHeader, is_magic};
 ghost use Rattle.captures.specs.Units.{IsBegun, Refuses, HasUnit, BeginsSection};
@@ -8,9 +8,11 @@ ghost use Rattle.captures.specs.declared.translation.state.State.TheVariants.{St
 
 use crate::CaptureError;
 use crate::byte_order::ByteOrder;
-use crate::limits::{FIRST_UNIT_LEN, FRAME_LIMIT};
+use crate::limits::FIRST_UNIT_LEN;
+use crate::link::frame::{Frame, framed};
+use crate::link::kind::Link;
 use crate::pcapng::block::{BYTE_ORDER_MAGIC, SECTION_HEADER};
-use crate::pcapng::section::{ETHERNET, NO_SECTION};
+use crate::pcapng::section::NO_SECTION;
 use crate::pcapng::section_unit::section_unit;
 use crate::translation::state::State;
 
@@ -23,33 +25,33 @@ pub(crate) struct Unit<'a> {
     pub after: State,
     /// The interface of the packet in it.
     pub channel: u32,
-    /// The packet's bytes: none where the unit has no packet, or where none were captured.
-    pub frame: &'a [u8],
+    /// The packet's frame: no bytes where the unit has no packet, or where none were captured.
+    pub frame: Frame<'a>,
     pub rest: &'a [u8],
 }
 
 /// The unit at the front of the bytes. There is none where more bytes are wanted.
 pub(crate) fn front_unit(state: State, bytes: &[u8]) -> Result<Option<Unit<'_>>, CaptureError>
     ensures found { IfOk result (λ found. MatchOption found (IsBegun state bytes.now)
-        (λ u. HasUnit state bytes.now u.after u.channel u.frame.now u.rest.now)) }
-    ensures size { IfOk result
-        (λ found. IfSome found (λ u. length u.frame.now + 12 + length u.rest.now
-        ≤ length bytes.now)) }
+        (λ u. HasUnit state bytes.now u.after u.channel u.frame u.rest.now)) }
+    ensures room { IfOk result
+        (λ found. IfSome found (λ u. 18 + 2 * length u.frame + 4 * length u.rest.now
+        ≤ 4 * length bytes.now)) }
     ensures refused { IfErr result (λ e. Refuses state bytes.now e) }
 {
     match state {
         State::Start => first_unit(bytes),
-        State::Classic(order) => packet_record(order, bytes),
+        State::Classic(order, link) => packet_record(order, link, bytes),
         State::Pcapng(section) => section_unit(section, bytes),
     }
 }
 
 fn first_unit(bytes: &[u8]) -> Result<Option<Unit<'_>>, CaptureError>
     ensures found { IfOk result (λ found. MatchOption found (IsBegun Start bytes.now)
-        (λ u. HasUnit Start bytes.now u.after u.channel u.frame.now u.rest.now)) }
-    ensures size { IfOk result
-        (λ found. IfSome found (λ u. length u.frame.now + 12 + length u.rest.now
-        ≤ length bytes.now)) }
+        (λ u. HasUnit Start bytes.now u.after u.channel u.frame u.rest.now)) }
+    ensures room { IfOk result
+        (λ found. IfSome found (λ u. 18 + 2 * length u.frame + 4 * length u.rest.now
+        ≤ 4 * length bytes.now)) }
     ensures refused { IfErr result (λ e. Refuses Start bytes.now e) }
 {
     if bytes.len() < FIRST_UNIT_LEN {
@@ -65,10 +67,10 @@ fn file_header(bytes: &[u8]) -> Result<Option<Unit<'_>>, CaptureError>
     requires size { FIRST_UNIT_LEN ≤ length bytes.now }
     requires other { BeginsSection bytes.now → ⊥ }
     ensures found { IfOk result (λ found. MatchOption found (IsBegun Start bytes.now)
-        (λ u. HasUnit Start bytes.now u.after u.channel u.frame.now u.rest.now)) }
-    ensures size { IfOk result
-        (λ found. IfSome found (λ u. length u.frame.now + 12 + length u.rest.now
-        ≤ length bytes.now)) }
+        (λ u. HasUnit Start bytes.now u.after u.channel u.frame u.rest.now)) }
+    ensures room { IfOk result
+        (λ found. IfSome found (λ u. 18 + 2 * length u.frame + 4 * length u.rest.now
+        ≤ 4 * length bytes.now)) }
     ensures refused { IfErr result (λ e. Refuses Start bytes.now e) }
 {
     let (header, rest) = bytes.split_at(FIRST_UNIT_LEN);
@@ -76,13 +78,13 @@ fn file_header(bytes: &[u8]) -> Result<Option<Unit<'_>>, CaptureError>
         return Err(CaptureError::NotCapture);
     };
     let link_type = (order.word(header, 20) % 65_536) as u16;
-    if link_type != ETHERNET {
+    let Some(link) = Link::of(link_type) else {
         return Err(CaptureError::LinkType(link_type));
-    }
+    };
     Ok(Some(Unit {
-        after: State::Classic(order),
+        after: State::Classic(order, link),
         channel: 0,
-        frame: &[],
+        frame: Frame::of(&[]),
         rest,
     }))
 }
@@ -125,28 +127,35 @@ fn is_magic(number: u32) -> bool
     number == 0xa1b2_c3d4 || number == 0xa1b2_3c4d
 }
 
-fn packet_record(order: ByteOrder, bytes: &[u8]) -> Result<Option<Unit<'_>>, CaptureError>
-    ensures found { IfOk result (λ found. MatchOption found (IsBegun (Classic order) bytes.now)
-        (λ u. HasUnit (Classic order) bytes.now u.after u.channel u.frame.now u.rest.now)) }
-    ensures size { IfOk result
-        (λ found. IfSome found (λ u. length u.frame.now + 12 + length u.rest.now
-        ≤ length bytes.now)) }
-    ensures refused { IfErr result (λ e. Refuses (Classic order) bytes.now e) }
+fn packet_record(
+    order: ByteOrder,
+    link: Link,
+    bytes: &[u8],
+) -> Result<Option<Unit<'_>>, CaptureError>
+    ensures found { IfOk result (λ found. MatchOption found (IsBegun (Classic order link) bytes.now)
+        (λ u. HasUnit (Classic order link) bytes.now u.after u.channel u.frame u.rest.now)) }
+    ensures room { IfOk result
+        (λ found. IfSome found (λ u. 18 + 2 * length u.frame + 4 * length u.rest.now
+        ≤ 4 * length bytes.now)) }
+    ensures refused { IfErr result (λ e. Refuses (Classic order link) bytes.now e) }
 {
     if bytes.len() < RECORD_HEAD_LEN {
         return Ok(None);
     }
     let (head, body) = bytes.split_at(RECORD_HEAD_LEN);
     let captured = order.word(head, 8);
-    if captured as usize > FRAME_LIMIT {
+    if captured as usize > link.captured_limit() {
         return Err(CaptureError::FrameTooLong(captured));
     }
     if body.len() < captured as usize {
         return Ok(None);
     }
-    let (frame, rest) = body.split_at(captured as usize);
+    let (packet, rest) = body.split_at(captured as usize);
+    let Some(frame) = framed(link, packet) else {
+        return Err(CaptureError::NoFrame);
+    };
     Ok(Some(Unit {
-        after: State::Classic(order),
+        after: State::Classic(order, link),
         channel: 0,
         frame,
         rest,

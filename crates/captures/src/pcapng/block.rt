@@ -1,16 +1,19 @@
 //! What a whole block of a pcapng file says.
-ghost use Rattle.std.specs.Prelude.{◌≡◌, ◌≤◌, ◌+◌, ◌==◌, if◌then◌else◌, ◌↔◌, IsTrue, ℕ, List};
+ghost use Rattle.std.specs.Prelude.{◌≡◌, ◌≤◌, ◌+◌, ◌*◌, ◌==◌, if◌then◌else◌, ◌↔◌, IsTrue, ℕ, List};
 ghost use Rattle.std.specs.Prelude.{length, IfOk, IfErr, IfSome, MatchOption};
 ghost use Rattle.captures.specs.Numbers.{word};
 ghost use Rattle.captures.specs.Pcapng.{section_header, interface_description, simple_packet};
 ghost use Rattle.captures.specs.Pcapng.{captured_len, IsOther, IsSkipped, HoldsPacket, Content, Says};
 ghost use Rattle.captures.specs.Pcapng.{IsTimedPacket, IsSimplePacket, Reads, RefusesBlock};
 ghost use Rattle.captures.specs.Pcapng.Content.{Holds};
+ghost use Rattle.captures.specs.Pcapng.{link_at, links_with, later_links};
+ghost use Rattle.captures.specs.declared.link.kind.Link.{Link};
 
 use crate::CaptureError;
 use crate::byte_order::ByteOrder;
-use crate::limits::FRAME_LIMIT;
-use crate::pcapng::section::{ETHERNET, Section};
+use crate::link::frame::{Frame, framed};
+use crate::link::kind::Link;
+use crate::pcapng::section::{ETHERNET, LINKED_INTERFACES, Section};
 
 pub(crate) const SECTION_HEADER: u32 = 0x0a0d_0d0a;
 
@@ -49,7 +52,7 @@ fn is_other(order: ByteOrder, front: &[u8]) -> bool
 pub(crate) struct Reading<'a> {
     pub after: Section,
     pub channel: u32,
-    pub frame: &'a [u8],
+    pub frame: Frame<'a>,
 }
 
 /// Reads a block.
@@ -59,8 +62,8 @@ pub(crate) fn read_block(
     block: &[u8],
 ) -> Result<Reading<'_>, CaptureError>
     requires { 12 ≤ length block.now }
-    ensures reads { IfOk result (λ r. Reads section order block.now r.after r.channel r.frame.now) }
-    ensures size { IfOk result (λ r. length r.frame.now + 12 ≤ length block.now) }
+    ensures reads { IfOk result (λ r. Reads section order block.now r.after r.channel r.frame) }
+    ensures room { IfOk result (λ r. 18 + 2 * length r.frame ≤ 4 * length block.now) }
     ensures refused { IfErr result (λ e. RefusesBlock section order block.now e) }
 {
     match order.word(block, 0) {
@@ -72,7 +75,7 @@ pub(crate) fn read_block(
         _ => Ok(Reading {
             after: section,
             channel: 0,
-            frame: &[],
+            frame: Frame::of(&[]),
         }),
     }
 }
@@ -84,8 +87,8 @@ fn begin_section(
 ) -> Result<Reading<'_>, CaptureError>
     requires size { 12 ≤ length block.now }
     requires kind { word order block.now 0 ≡ section_header }
-    ensures reads { IfOk result (λ r. Reads section order block.now r.after r.channel r.frame.now) }
-    ensures size { IfOk result (λ r. length r.frame.now + 12 ≤ length block.now) }
+    ensures reads { IfOk result (λ r. Reads section order block.now r.after r.channel r.frame) }
+    ensures room { IfOk result (λ r. 18 + 2 * length r.frame ≤ 4 * length block.now) }
     ensures refused { IfErr result (λ e. RefusesBlock section order block.now e) }
 {
     if block.len() < 28 || order.half(block, 12) != 1 {
@@ -94,15 +97,17 @@ fn begin_section(
     let Some(first) = section.first.checked_add(section.interfaces) else {
         return Err(CaptureError::BadBlock);
     };
+    let links = section.links;
     Ok(Reading {
         after: Section {
             order,
             first,
             interfaces: 0,
             snap_len: 0,
+            links,
         },
         channel: 0,
-        frame: &[],
+        frame: Frame::of(&[]),
     })
 }
 
@@ -113,8 +118,8 @@ fn describe_interface(
 ) -> Result<Reading<'_>, CaptureError>
     requires size { 12 ≤ length block.now }
     requires kind { word order block.now 0 ≡ interface_description }
-    ensures reads { IfOk result (λ r. Reads section order block.now r.after r.channel r.frame.now) }
-    ensures size { IfOk result (λ r. length r.frame.now + 12 ≤ length block.now) }
+    ensures reads { IfOk result (λ r. Reads section order block.now r.after r.channel r.frame) }
+    ensures room { IfOk result (λ r. 18 + 2 * length r.frame ≤ 4 * length block.now) }
     ensures refused { IfErr result (λ e. RefusesBlock section order block.now e) }
 {
     if block.len() < 20 {
@@ -124,9 +129,9 @@ fn describe_interface(
         return Err(CaptureError::BadBlock);
     };
     let link_type = order.half(block, 8);
-    if link_type != ETHERNET {
+    let Some(links) = links_with(section, link_type) else {
         return Err(CaptureError::LinkType(link_type));
-    }
+    };
     let snap_len = first_snap_len(section, order.word(block, 12));
     Ok(Reading {
         after: Section {
@@ -134,10 +139,46 @@ fn describe_interface(
             first: section.first,
             interfaces,
             snap_len,
+            links,
         },
         channel: 0,
-        frame: &[],
+        frame: Frame::of(&[]),
     })
+}
+
+// The links of the first interfaces, after one more of this link type was described.
+fn links_with(section: Section, link_type: u16) -> Option<[Link; LINKED_INTERFACES]>
+    ensures { result ≡ links_with section link_type }
+{
+    let interface = section.interfaces as usize;
+    if interface >= LINKED_INTERFACES {
+        return later_links(section, link_type);
+    }
+    let link = Link::of(link_type)?;
+    let mut links = section.links;
+    links[interface] = link;
+    Some(links)
+}
+
+fn later_links(section: Section, link_type: u16) -> Option<[Link; LINKED_INTERFACES]>
+    ensures { result ≡ later_links section link_type }
+{
+    if link_type == ETHERNET {
+        Some(section.links)
+    } else {
+        None
+    }
+}
+
+// The link of an interface that is described.
+fn link_at(section: Section, interface: u32) -> Link
+    ensures { result ≡ link_at section interface }
+{
+    if (interface as usize) < LINKED_INTERFACES {
+        section.links[interface as usize]
+    } else {
+        Link::Ethernet
+    }
 }
 
 // The snap length of the first interface, after one more was described.
@@ -151,12 +192,13 @@ fn first_snap_len(section: Section, described: u32) -> u32
     }
 }
 
-// A packet's bytes, how many they are, and the number of its interface.
+// A packet's bytes, how many they are, and the number and link of its interface.
 #[derive(Drop)]
 struct Held<'a> {
     channel: u32,
+    link: Link,
     captured: u32,
-    frame: &'a [u8],
+    packet: &'a [u8],
 }
 
 fn read_packet(
@@ -166,20 +208,23 @@ fn read_packet(
 ) -> Result<Reading<'_>, CaptureError>
     requires size { 12 ≤ length block.now }
     requires kind { HoldsPacket order block.now }
-    ensures reads { IfOk result (λ r. Reads section order block.now r.after r.channel r.frame.now) }
-    ensures size { IfOk result (λ r. length r.frame.now + 12 ≤ length block.now) }
+    ensures reads { IfOk result (λ r. Reads section order block.now r.after r.channel r.frame) }
+    ensures room { IfOk result (λ r. 18 + 2 * length r.frame ≤ 4 * length block.now) }
     ensures refused { IfErr result (λ e. RefusesBlock section order block.now e) }
 {
     let Some(held) = held_packet(section, order, block) else {
         return Err(CaptureError::BadBlock);
     };
-    if held.captured as usize > FRAME_LIMIT {
+    if held.captured as usize > held.link.captured_limit() {
         return Err(CaptureError::FrameTooLong(held.captured));
     }
+    let Some(frame) = framed(held.link, held.packet) else {
+        return Err(CaptureError::NoFrame);
+    };
     Ok(Reading {
         after: section,
         channel: held.channel,
-        frame: held.frame,
+        frame,
     })
 }
 
@@ -187,9 +232,9 @@ fn held_packet(section: Section, order: ByteOrder, block: &[u8]) -> Option<Held<
     requires size { 12 ≤ length block.now }
     requires kind { HoldsPacket order block.now }
     ensures found { MatchOption result ((content : Content) → Says section order block.now content → ⊥)
-        (λ h. Says section order block.now (Holds h.channel h.frame.now)) }
-    ensures captured { IfSome result (λ h. h.captured ≡ length h.frame.now) }
-    ensures size { IfSome result (λ h. length h.frame.now + 12 ≤ length block.now) }
+        (λ h. Says section order block.now (Holds h.channel h.link h.packet.now)) }
+    ensures captured { IfSome result (λ h. h.captured ≡ length h.packet.now) }
+    ensures size { IfSome result (λ h. length h.packet.now + 16 ≤ length block.now) }
 {
     match order.word(block, 0) {
         ENHANCED_PACKET => timed_packet(section, order, block, order.word(block, 8)),
@@ -205,11 +250,11 @@ fn timed_packet(
     interface: u32,
 ) -> Option<Held<'_>>
     ensures found { MatchOption result
-        ((channel : ℕ) (frame : List ℕ)
-        → IsTimedPacket interface section order block.now channel frame → ⊥)
-        (λ h. IsTimedPacket interface section order block.now h.channel h.frame.now) }
-    ensures captured { IfSome result (λ h. h.captured ≡ length h.frame.now) }
-    ensures size { IfSome result (λ h. length h.frame.now + 12 ≤ length block.now) }
+        ((channel : ℕ) (link : Link) (packet : List ℕ)
+        → IsTimedPacket interface section order block.now channel link packet → ⊥)
+        (λ h. IsTimedPacket interface section order block.now h.channel h.link h.packet.now) }
+    ensures captured { IfSome result (λ h. h.captured ≡ length h.packet.now) }
+    ensures size { IfSome result (λ h. length h.packet.now + 16 ≤ length block.now) }
 {
     if block.len() < 32 || interface >= section.interfaces {
         return None;
@@ -221,8 +266,9 @@ fn timed_packet(
     }
     Some(Held {
         channel,
+        link: link_at(section, interface),
         captured,
-        frame: &block[28..28 + captured as usize],
+        packet: &block[28..28 + captured as usize],
     })
 }
 
@@ -230,10 +276,11 @@ fn simple_packet(section: Section, order: ByteOrder, block: &[u8]) -> Option<Hel
     requires size { 12 ≤ length block.now }
     requires kind { word order block.now 0 ≡ simple_packet }
     ensures found { MatchOption result
-        ((channel : ℕ) (frame : List ℕ) → IsSimplePacket section order block.now channel frame → ⊥)
-        (λ h. IsSimplePacket section order block.now h.channel h.frame.now) }
-    ensures captured { IfSome result (λ h. h.captured ≡ length h.frame.now) }
-    ensures size { IfSome result (λ h. length h.frame.now + 12 ≤ length block.now) }
+        ((channel : ℕ) (link : Link) (packet : List ℕ)
+        → IsSimplePacket section order block.now channel link packet → ⊥)
+        (λ h. IsSimplePacket section order block.now h.channel h.link h.packet.now) }
+    ensures captured { IfSome result (λ h. h.captured ≡ length h.packet.now) }
+    ensures size { IfSome result (λ h. length h.packet.now + 16 ≤ length block.now) }
 {
     if block.len() < 16 || section.interfaces == 0 {
         return None;
@@ -244,8 +291,9 @@ fn simple_packet(section: Section, order: ByteOrder, block: &[u8]) -> Option<Hel
     }
     Some(Held {
         channel: section.first,
+        link: link_at(section, 0),
         captured,
-        frame: &block[12..12 + captured as usize],
+        packet: &block[12..12 + captured as usize],
     })
 }
 

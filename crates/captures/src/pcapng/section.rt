@@ -1,8 +1,12 @@
 //! A section of a pcapng file.
 use crate::byte_order::ByteOrder;
+use crate::link::kind::Link;
 
 /// The link type of Ethernet frames.
 pub(crate) const ETHERNET: u16 = 1;
+
+/// So many interfaces of a section may have any link that is read, and those behind them Ethernet.
+pub(crate) const LINKED_INTERFACES: usize = 32;
 
 /// What is known of a section after some of its blocks.
 #[derive(Clone, Copy, Debug, PartialEq, Eq)]
@@ -14,6 +18,8 @@ pub(crate) struct Section {
     pub interfaces: u32,
     /// The snap length of its first interface, 0 for no limit.
     pub snap_len: u32,
+    /// The links of its first interfaces. Of those that aren't described yet nothing is told.
+    pub links: [Link; LINKED_INTERFACES],
 }
 
 /// Before the first block of a file: no interface is described, and any byte order serves.
@@ -22,4 +28,5 @@ pub(crate) const NO_SECTION: Section = Section {
     first: 0,
     interfaces: 0,
     snap_len: 0,
+    links: [Link::Ethernet; LINKED_INTERFACES],
 };

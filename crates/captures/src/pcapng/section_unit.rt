@@ -1,5 +1,5 @@
 //! The block at the front of some bytes of a section.
-ghost use Rattle.std.specs.Prelude.{◌≡◌, ◌≤◌, ◌+◌, ◌↔◌, IsTrue, length, IfOk, IfErr, IfSome};
+ghost use Rattle.std.specs.Prelude.{◌≡◌, ◌≤◌, ◌+◌, ◌*◌, ◌↔◌, IsTrue, length, IfOk, IfErr, IfSome};
 ghost use Rattle.std.specs.Prelude.{MatchOption};
 ghost use Rattle.captures.specs.Pcapng.{HasOrder, IsTaken};
 ghost use Rattle.captures.specs.Units.{IsBegun, RefusesAt, HasUnit};
@@ -20,10 +20,10 @@ pub(crate) const BLOCK_MIN_LEN: usize = 12;
 /// The block at the front of the bytes. There is none where more bytes are wanted.
 pub(crate) fn section_unit(section: Section, bytes: &[u8]) -> Result<Option<Unit<'_>>, CaptureError>
     ensures found { IfOk result (λ found. MatchOption found (IsBegun (Pcapng section) bytes.now)
-        (λ u. HasUnit (Pcapng section) bytes.now u.after u.channel u.frame.now u.rest.now)) }
-    ensures size { IfOk result
-        (λ found. IfSome found (λ u. length u.frame.now + 12 + length u.rest.now
-        ≤ length bytes.now)) }
+        (λ u. HasUnit (Pcapng section) bytes.now u.after u.channel u.frame u.rest.now)) }
+    ensures room { IfOk result
+        (λ found. IfSome found (λ u. 18 + 2 * length u.frame + 4 * length u.rest.now
+        ≤ 4 * length bytes.now)) }
     ensures refused { IfErr result (λ e. RefusesAt section bytes.now e) }
 {
     if bytes.len() < BLOCK_MIN_LEN {

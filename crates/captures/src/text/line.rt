@@ -3,11 +3,12 @@ ghost use Rattle.std.specs.Prelude.{◌≡◌, ◌+◌, ◌*◌, ◌≤◌, ◌+
 ghost use Rattle.hex.specs.Hex.{encode_lower};
 ghost use Rattle.captures.specs.Lines.{line_of};
 
+use crate::link::frame::Frame;
 use itoa::Buffer;
 
 /// Puts the line that hands a frame in behind the first `used` bytes, and tells how many are used
 /// then.
-pub(crate) fn append_line(out: &mut [u8], used: usize, channel: u32, frame: &[u8]) -> usize
+pub(crate) fn append_line(out: &mut [u8], used: usize, channel: u32, frame: &Frame<'_>) -> usize
     requires { used + 18 + 2 * length frame.now ≤ length out.old }
     ensures end { result ≤ used + 18 + 2 * length frame.now }
     ensures text { take result out.new ≡ take used out.old
@@ -16,7 +17,7 @@ pub(crate) fn append_line(out: &mut [u8], used: usize, channel: u32, frame: &[u8
     let command = append(out, used, b"frame ");
     let number = append(out, command, Buffer::new().format(channel).as_bytes());
     let space = append(out, number, b" ");
-    let digits = append_hex(out, space, frame);
+    let digits = frame.append_hex(out, space);
     append(out, digits, b"\n")
 }
 
@@ -31,7 +32,8 @@ pub(crate) fn append(out: &mut [u8], used: usize, text: &[u8]) -> usize
     end
 }
 
-fn append_hex(out: &mut [u8], used: usize, bytes: &[u8]) -> usize
+/// The same of the hex digits of some bytes.
+pub(crate) fn append_hex(out: &mut [u8], used: usize, bytes: &[u8]) -> usize
     requires { used + 2 * length bytes.now ≤ length out.old }
     ensures end { result ≡ used + 2 * length bytes.now }
     ensures text { take result out.new ≡ take used out.old ++ encode_lower bytes.now }

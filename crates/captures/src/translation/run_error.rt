@@ -28,8 +28,8 @@ pub enum RunError {
     /// As many reads as a run may make gave bytes.
     #[error("too many reads")]
     TooManyReads,
-    /// The input of [`run`](crate::run) is no capture of Ethernet frames, or is cut off, at this
-    /// place.
+    /// The input of [`run`](crate::run) is no capture whose packets can be told, or is cut off, at
+    /// this place.
     #[error("{1}: {0}")]
     Capture(CaptureError, Place),
     /// The line with this number, counted from 1, of the input of

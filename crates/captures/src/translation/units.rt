@@ -39,7 +39,7 @@ pub(crate) fn take_units<'a>(state: State, bytes: &'a [u8], out: &mut [u8]) -> T
         match front_unit(after, rest) {
             Ok(Some(unit)) => {
                 if !unit.frame.is_empty() {
-                    used = append_line(out, used, unit.channel, unit.frame);
+                    used = append_line(out, used, unit.channel, &unit.frame);
                     count += 1;
                 }
                 after = unit.after;

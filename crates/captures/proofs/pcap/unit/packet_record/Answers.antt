@@ -4,22 +4,48 @@ use Rattle.captures.proofs.pcap.unit.packet_record.Goals as goal
 pub returns-clause-found : goal.returns-clause-found
 returns-clause-found c =
     let head = c.split_at.result.0.now in
-    let frame = c.split_at-2.result.0.now in
+    let packet = c.split_at-2.result.0.now in
     record {
-      unit = head ++ frame;
+      unit = head ++ packet;
       parts =
           c.split_at.ensures.by_index.0
           ∙ ap (λ (l : List ℕ). head ++ l) c.split_at-2.ensures.by_index.0
-          ∙ sym (append_assoc head frame c.split_at-2.result.1.now);
+          ∙ sym (append_assoc head packet c.split_at-2.result.1.now);
       is_unit = (
         record {
-          head = head;
-          parts = refl;
-          size = c.split_at.ensures.front_len;
-          captured = omega arith;
+          packet = packet;
+          is_record = record {
+            head = head;
+            parts = refl;
+            size = c.split_at.ensures.front_len;
+            captured = omega arith;
+          };
+          fits = omega arith;
+          is_framed = sym c.framed.ensures.frame ∙ c.in-Some.is;
         },
-        omega arith,
         refl,
         refl,
       );
+    }
+
+pub returns-in_default-clause-refused : goal.returns-in_default-clause-refused
+returns-in_default-clause-refused c =
+    let head = c.split_at.result.0.now in
+    let packet = c.split_at-2.result.0.now in
+    record {
+      unit = head ++ packet;
+      packet = packet;
+      rest = c.split_at-2.result.1.now;
+      parts =
+          c.split_at.ensures.by_index.0
+          ∙ ap (λ (l : List ℕ). head ++ l) c.split_at-2.ensures.by_index.0
+          ∙ sym (append_assoc head packet c.split_at-2.result.1.now);
+      is_record = record {
+        head = head;
+        parts = refl;
+        size = c.split_at.ensures.front_len;
+        captured = omega arith;
+      };
+      fits = omega arith;
+      none = sym c.framed.ensures.frame ∙ c.in_default.is;
     }

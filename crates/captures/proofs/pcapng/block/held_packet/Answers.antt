@@ -13,11 +13,11 @@ returns-in-6-clause-found c =
     let number : c.word-in-6.result ≡ word order block 8 = c.word-in-6.ensures in
     match_as c.timed_packet.result _ _ _ _
     (λ none. no_enhanced section order block kind
-    (λ channel frame timed. none channel frame
-    (subst (λ (n : ℕ). IsTimedPacket n section order block channel frame) (sym number) timed)))
+    (λ channel link packet timed. none channel link packet
+    (subst (λ (n : ℕ). IsTimedPacket n section order block channel link packet) (sym number) timed)))
     (λ h timed. inl (
       kind,
-      subst (λ (n : ℕ). IsTimedPacket n section order block h.channel h.frame.now) number timed,
+      subst (λ (n : ℕ). IsTimedPacket n section order block h.channel h.link h.packet.now) number timed,
     ))
     c.timed_packet.ensures.found
 
@@ -30,11 +30,11 @@ returns-in-2-clause-found c =
     let number : c.from.result ≡ half order block 8 = c.from.ensures ∙ c.half.ensures in
     match_as c.timed_packet-in-2.result _ _ _ _
     (λ none. no_obsolete section order block kind
-    (λ channel frame timed. none channel frame
-    (subst (λ (n : ℕ). IsTimedPacket n section order block channel frame) (sym number) timed)))
+    (λ channel link packet timed. none channel link packet
+    (subst (λ (n : ℕ). IsTimedPacket n section order block channel link packet) (sym number) timed)))
     (λ h timed. inr (inl (
       kind,
-      subst (λ (n : ℕ). IsTimedPacket n section order block h.channel h.frame.now) number timed,
+      subst (λ (n : ℕ). IsTimedPacket n section order block h.channel h.link h.packet.now) number timed,
     )))
     c.timed_packet-in-2.ensures.found
 

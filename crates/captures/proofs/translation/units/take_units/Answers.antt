@@ -1,4 +1,4 @@
-use Rattle.std.proofs.Common.{◌∙◌, sym, arith, ◌+◌, ◌≤◌, [], append-nil, take, length}
+use Rattle.std.proofs.Common.{◌∙◌, sym, arith, ◌+◌, ◌*◌, ◌≤◌, [], append-nil, take, length}
 use Rattle.captures.specs.Lines.{line_of}
 use Rattle.captures.proofs.UnitLemmas.{told_unit, some_frame, no_frame, one_packet, no_packet}
 use Rattle.captures.proofs.translation.units.take_units.Goals as goal
@@ -7,9 +7,9 @@ use Rattle.captures.proofs.translation.units.take_units.Goals.{then-not-is_empty
 pub units-preserved : goal.units-preserved
 units-preserved c =
     let unit = c.in-Ok-Some.unit in
-    let frame = unit.frame.now in
-    let size : length frame + 12 + length unit.rest.now ≤ length c.units.rest.now =
-    rw c.in-Ok-Some.field-0-is at c.in-Ok-Some.ensures.size in
+    let frame = unit.frame in
+    let room : 18 + 2 * length frame + 4 * length unit.rest.now ≤ 4 * length c.units.rest.now =
+    rw c.in-Ok-Some.field-0-is at c.in-Ok-Some.ensures.room in
     let found = rw c.in-Ok-Some.field-0-is at c.in-Ok-Some.ensures.found in
     let before = c.units.invariant in
     elim c.if-not-is_empty.branch [

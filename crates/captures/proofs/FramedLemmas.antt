@@ -1,0 +1,211 @@
+-- The frame of a packet is bytes, and a line can hold it.
+use Rattle.std.proofs.Common.{◌≡◌, ◌∙◌, sym, ap, subst, refl, ℕ, ◌+◌, ◌-◌, ◌*◌, ◌/◌, ◌%◌, ◌<◌, ◌≤◌, arith}
+use Rattle.std.proofs.Common.{◌==◌, Bool, true, false, List, [], ◌∷◌, ◌++◌, length, drop, Option}
+use Rattle.std.proofs.Common.{Some, None, inl, inr, eqb-true, ltb-false, ne_eqb, length-append}
+use Rattle.std.proofs.Common.{length-drop, IfSome}
+use Rattle.std.specs.Int.{to_be_bytes, w16}
+use Rattle.std.specs.Prelude.{◌⊎◌, nat_lt, slice_index, if◌then◌else◌}
+use Rattle.std.specs.List.{AllByRecursion}
+use Rattle.hex.specs.Hex.{IsBytes, encode_lower, encode_with, lower_digits}
+use Rattle.runs.proofs.CallLemmas.{AllByRecursion-append}
+use Rattle.captures.specs.Framed.{address_at, captured_limit, cooked_type, ethernet_header}
+use Rattle.captures.specs.Framed.{family_type, framed, framed_behind, framed_packet, head_len}
+use Rattle.captures.specs.Framed.{ip_type, made_header, no_address, null_family}
+use Rattle.captures.specs.declared.link.frame.Header.{Header}
+use Rattle.captures.specs.Numbers.{half, word}
+use Rattle.captures.specs.declared.byte_order.ByteOrder.TheVariants.{Big}
+use Rattle.captures.specs.declared.limits.TheConstants.{FRAME_LIMIT}
+use Rattle.captures.specs.declared.link.kind.Link.{Link}
+use Rattle.captures.specs.declared.link.kind.Link.TheVariants.{Ethernet, Ip, Null, Loop, Sll, Sll2}
+use Rattle.captures.proofs.ByteLemmas.{Bytes, bytes_at, bytes_drop}
+
+-- a header that was made, before what follows the packet's own
+record IsMade (link : Link) (packet frame : List ℕ) : Type 0 where
+  source : List ℕ
+  ether_type : ℕ
+  size : length source ≡ 6
+  bytes : IsBytes packet → Bytes source
+  fits : head_len link ≤ length packet
+  parts : frame ≡ ethernet_header source ether_type ++ drop (head_len link) packet
+
+behind_is : (link : Link) (packet source frame : List ℕ) (found : Option ℕ) → length source ≡ 6
+    → (IsBytes packet → Bytes source) → head_len link ≤ length packet
+    → framed_behind source found (drop (head_len link) packet) ≡ Some frame
+    → IsMade link packet frame
+behind_is link packet source frame (Some t) size bytes fits is = record {
+  source = source;
+  ether_type = t;
+  size = size;
+  bytes = bytes;
+  fits = fits;
+  parts = cc;
+}
+behind_is link packet source frame None size bytes fits is = absurd (cc)
+
+no_bytes : Bytes no_address
+no_bytes = (omega arith, (omega arith, (omega arith, (omega arith, (omega arith, (omega arith, tt))))))
+
+-- six bytes at a place, or none
+address_six : (six : Bool) (bytes : List ℕ) (p : ℕ)
+    → length (if six
+    then slice_index bytes p ∷ slice_index bytes (p + 1) ∷ slice_index bytes (p + 2)
+    ∷ slice_index bytes (p + 3) ∷ slice_index bytes (p + 4) ∷ slice_index bytes (p + 5) ∷ []
+    else no_address) ≡ 6
+address_six true bytes p = refl
+address_six false bytes p = refl
+
+address_bytes : (six : Bool) (bytes : List ℕ) (p : ℕ) → IsBytes bytes
+    → Bytes (if six
+    then slice_index bytes p ∷ slice_index bytes (p + 1) ∷ slice_index bytes (p + 2)
+    ∷ slice_index bytes (p + 3) ∷ slice_index bytes (p + 4) ∷ slice_index bytes (p + 5) ∷ []
+    else no_address)
+address_bytes true bytes p all =
+    (all p, (all (p + 1), (all (p + 2), (all (p + 3), (all (p + 4), (all (p + 5), tt))))))
+address_bytes false bytes p all = no_bytes
+
+-- long enough for the header of its link
+not_short : (short : Bool) (made : Option (List ℕ)) (frame : List ℕ)
+    → (if short then None else made) ≡ Some frame → (short ≡ false) × (made ≡ Some frame)
+not_short true made frame is = absurd (cc)
+not_short false made frame is = (refl, is)
+
+is_made : (link : Link) (packet frame : List ℕ) → framed_packet link packet ≡ Some frame
+    → (link ≡ Ethernet → ⊥) → IsMade link packet frame
+is_made Ethernet packet frame is other = absurd (other refl)
+is_made Ip packet frame is other =
+    behind_is Ip packet no_address frame (ip_type packet) refl (λ all. no_bytes) (omega arith) is
+is_made Null packet frame is other =
+    let n = not_short (nat_lt (length packet) 4) _ frame is in
+    let long = ltb-false (length packet) 4 n.0 in
+    behind_is Null packet no_address frame (family_type (null_family packet)) refl
+    (λ all. no_bytes) (omega arith) n.1
+is_made Loop packet frame is other =
+    let n = not_short (nat_lt (length packet) 4) _ frame is in
+    let long = ltb-false (length packet) 4 n.0 in
+    behind_is Loop packet no_address frame (family_type (word Big packet 0)) refl
+    (λ all. no_bytes) (omega arith) n.1
+is_made Sll packet frame is other =
+    let n = not_short (nat_lt (length packet) 16) _ frame is in
+    let long = ltb-false (length packet) 16 n.0 in
+    let six = half Big packet 4 == 6 in
+    behind_is Sll packet (address_at (half Big packet 4) packet 6) frame
+    (cooked_type (half Big packet 2) (half Big packet 14)) (address_six six packet 6)
+    (address_bytes six packet 6) (omega arith) n.1
+is_made Sll2 packet frame is other =
+    let n = not_short (nat_lt (length packet) 20) _ frame is in
+    let long = ltb-false (length packet) 20 n.0 in
+    let six = slice_index packet 11 == 6 in
+    behind_is Sll2 packet (address_at (slice_index packet 11) packet 12) frame
+    (cooked_type (half Big packet 8) (half Big packet 0)) (address_six six packet 12)
+    (address_bytes six packet 12) (omega arith) n.1
+
+made_bytes : (link : Link) (packet frame : List ℕ) → Bytes packet → IsMade link packet frame
+    → Bytes frame
+made_bytes link packet frame bytes m =
+    subst Bytes (sym m.parts)
+    (AllByRecursion-append (λ b. b < 256) (ethernet_header m.source m.ether_type)
+    (drop (head_len link) packet)
+    (AllByRecursion-append (λ b. b < 256) no_address
+    (m.source ++ to_be_bytes w16 m.ether_type) no_bytes
+    (AllByRecursion-append (λ b. b < 256) m.source (to_be_bytes w16 m.ether_type)
+    (m.bytes (bytes_at packet bytes)) (omega arith, (omega arith, tt))))
+    (bytes_drop (head_len link) packet bytes))
+
+made_len : (link : Link) (packet frame : List ℕ) → IsMade link packet frame
+    → length frame + head_len link ≡ length packet + 14
+made_len link packet frame m =
+    let own = m.fits in
+    let six = m.size in
+    let source = length-append m.source (to_be_bytes w16 m.ether_type) in
+    let header = length-append (ethernet_header m.source m.ether_type)
+    (drop (head_len link) packet) in
+    let rest = length-drop (head_len link) packet in
+    let whole = ap length m.parts in
+    omega arith
+
+by_link : (link : Link) (packet frame : List ℕ) → framed_packet link packet ≡ Some frame
+    → (frame ≡ packet) × (link ≡ Ethernet) ⊎ IsMade link packet frame
+by_link Ethernet packet frame is = inl (cc, refl)
+by_link Ip packet frame is = inr (is_made Ip packet frame is (λ e. cc e))
+by_link Null packet frame is = inr (is_made Null packet frame is (λ e. cc e))
+by_link Loop packet frame is = inr (is_made Loop packet frame is (λ e. cc e))
+by_link Sll packet frame is = inr (is_made Sll packet frame is (λ e. cc e))
+by_link Sll2 packet frame is = inr (is_made Sll2 packet frame is (λ e. cc e))
+
+by_length : (link : Link) (packet frame : List ℕ) (none : Bool) → (length packet == 0) ≡ none
+    → (if none then Some packet else framed_packet link packet) ≡ Some frame
+    → (frame ≡ packet) × ((link ≡ Ethernet) ⊎ (length packet ≡ 0)) ⊎ IsMade link packet frame
+by_length link packet frame true none is = inl (cc, inr (eqb-true (length packet) 0 none))
+by_length link packet frame false none is = elim (by_link link packet frame is) [
+  | inl own ↦ inl (own.0, inl own.1)
+  | inr made ↦ inr made
+]
+
+pub framed_bytes : (link : Link) (packet frame : List ℕ) → Bytes packet
+    → framed link packet ≡ Some frame → Bytes frame
+framed_bytes link packet frame bytes is =
+    elim (by_length link packet frame (length packet == 0) refl is) [
+      | inl own ↦ subst Bytes (sym own.0) bytes
+      | inr made ↦ made_bytes link packet frame bytes made
+    ]
+
+own_fits : (link : Link) (packet frame : List ℕ) → length packet ≤ captured_limit link
+    → frame ≡ packet → (link ≡ Ethernet) ⊎ (length packet ≡ 0) → length frame ≤ FRAME_LIMIT
+own_fits link packet frame short same (inl ethernet) =
+    let size = ap length same in
+    let limit = ap captured_limit ethernet in
+    omega arith
+own_fits link packet frame short same (inr none) = let size = ap length same in omega arith
+
+pub framed_fits : (link : Link) (packet frame : List ℕ) → length packet ≤ captured_limit link
+    → framed link packet ≡ Some frame → length frame ≤ FRAME_LIMIT
+framed_fits link packet frame short is =
+    elim (by_length link packet frame (length packet == 0) refl is) [
+      | inl own ↦ own_fits link packet frame short own.0 own.1
+      | inr made ↦ (let size = made_len link packet frame made in omega arith)
+    ]
+
+pub framed_len : (link : Link) (packet frame : List ℕ) → framed link packet ≡ Some frame
+    → length frame ≤ length packet + 14
+framed_len link packet frame is =
+    elim (by_length link packet frame (length packet == 0) refl is) [
+      | inl own ↦ (let size = ap length own.0 in omega arith)
+      | inr made ↦ (let size = made_len link packet frame made in omega arith)
+    ]
+
+pub frame_len : (link : Link) (packet : List ℕ) (found : Option (List ℕ))
+    → found ≡ framed link packet → IfSome found (λ frame. length frame ≤ length packet + 14)
+frame_len link packet (Some frame) is = framed_len link packet frame (sym is)
+frame_len link packet None is = tt
+
+-- ---- hex digits of a header and of what follows it
+
+encode_with-append : (digits xs ys : List ℕ)
+    → encode_with digits (xs ++ ys) ≡ encode_with digits xs ++ encode_with digits ys
+unfolding encode_with
+encode_with-append digits [] ys = refl
+encode_with-append digits (x ∷ xs) ys =
+    ap (λ l. slice_index digits (x / 16) ∷ slice_index digits (x % 16) ∷ l)
+    (encode_with-append digits xs ys)
+
+pub encode_lower-append : (xs ys : List ℕ)
+    → encode_lower (xs ++ ys) ≡ encode_lower xs ++ encode_lower ys
+encode_lower-append xs ys = encode_with-append lower_digits xs ys
+
+-- ---- a header has bytes
+
+pub header_some : (header : Header) (rest : List ℕ)
+    → (length (made_header (Some header) ++ rest) == 0) ≡ false
+header_some header rest = ne_eqb (length (made_header (Some header) ++ rest)) 0 (λ e. omega arith)
+
+pub six_bytes : (xs rest : List ℕ) → length xs ≡ 6
+    → slice_index xs 0 ∷ slice_index xs 1 ∷ slice_index xs 2 ∷ slice_index xs 3 ∷ slice_index xs 4
+    ∷ slice_index xs 5 ∷ rest ≡ xs ++ rest
+six_bytes (a ∷ b ∷ c ∷ d ∷ e ∷ f ∷ []) rest size = refl
+six_bytes [] rest size = absurd (omega arith)
+six_bytes (a ∷ []) rest size = absurd (omega arith)
+six_bytes (a ∷ b ∷ []) rest size = absurd (omega arith)
+six_bytes (a ∷ b ∷ c ∷ []) rest size = absurd (omega arith)
+six_bytes (a ∷ b ∷ c ∷ d ∷ []) rest size = absurd (omega arith)
+six_bytes (a ∷ b ∷ c ∷ d ∷ e ∷ []) rest size = absurd (omega arith)
+six_bytes (a ∷ b ∷ c ∷ d ∷ e ∷ f ∷ g ∷ xs) rest size = absurd (omega arith)

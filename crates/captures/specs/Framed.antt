@@ -1,0 +1,123 @@
+-- Captured packets as Ethernet II frames, by the link that they were captured on (the registry of
+-- link types, tcpdump.org/linktypes.html, and the layouts that it gives).
+use Rattle.std.specs.Prelude.{ℕ, ◌+◌, ◌-◌, ◌/◌, ◌==◌, ◌||◌, nat_lt}
+use Rattle.std.specs.Prelude.{if◌then◌else◌, List, [], ◌∷◌, ◌++◌, length, drop, slice_index}
+use Rattle.std.specs.Prelude.{Option, Some, None}
+use Rattle.std.specs.Int.{to_be_bytes, w16}
+use Rattle.captures.specs.Numbers.{half, word}
+use Rattle.captures.specs.declared.byte_order.ByteOrder.TheVariants.{Big, Little}
+use Rattle.captures.specs.declared.limits.TheConstants.{FRAME_LIMIT}
+use Rattle.captures.specs.declared.link.frame.Header.{Header}
+use Rattle.captures.specs.declared.link.kind.Link.{Link}
+use Rattle.captures.specs.declared.link.kind.Link.TheVariants.{Ethernet, Ip, Null, Loop, Sll, Sll2}
+
+-- the kinds of links whose packets are read, by their numbers: Ethernet; IP packets of either
+-- version or of one; BSD loopback, OpenBSD loopback; Linux cooked captures of both versions
+abbrev pub link_of : ℕ → Option Link
+link_of number =
+    if number == 1 then Some Ethernet
+    else if (number == 12) || (number == 14) || (number == 101) || (number == 228)
+    || (number == 229) then Some Ip
+    else if number == 0 then Some Null
+    else if number == 108 then Some Loop
+    else if number == 113 then Some Sll
+    else if number == 276 then Some Sll2
+    else None
+
+-- the bytes of a packet's own header, in place of which an Ethernet II header of 14 bytes stands in
+-- its frame
+abbrev pub head_len : Link → ℕ
+head_len Ethernet = 14
+head_len Ip = 0
+head_len Null = 4
+head_len Loop = 4
+head_len Sll = 16
+head_len Sll2 = 20
+
+-- the captured bytes of a packet at most, so that a line can hold its frame
+abbrev pub captured_limit : Link → ℕ
+captured_limit link = FRAME_LIMIT - 14 + head_len link
+
+abbrev pub ipv4 : ℕ
+ipv4 = 0x0800
+
+abbrev pub ipv6 : ℕ
+ipv6 = 0x86dd
+
+-- the ether type of an IP packet, by the version in its first four bits
+abbrev pub ip_type : List ℕ → Option ℕ
+ip_type packet =
+    if slice_index packet 0 / 16 == 4 then Some ipv4
+    else if slice_index packet 0 / 16 == 6 then Some ipv6
+    else None
+
+-- the ether type of an address family: 2 is IPv4, and IPv6 has other numbers on NetBSD and OpenBSD,
+-- FreeBSD, macOS and Linux
+abbrev pub family_type : ℕ → Option ℕ
+family_type family =
+    if family == 2 then Some ipv4
+    else if (family == 24) || (family == 28) || (family == 30) || (family == 10) then Some ipv6
+    else None
+
+-- an address family in the byte order of the host that captured it, which the file may not have:
+-- each has less than 16 bits, so only one order makes one of it
+abbrev pub null_family : List ℕ → ℕ
+null_family packet =
+    if nat_lt (word Little packet 0) 65536 then word Little packet 0 else word Big packet 0
+
+-- the ether type that a cooked capture names: numbers below 1536 are lengths or other protocols of
+-- Linux, and frame relay (770), radiotap (803) and netlink (824) name none
+abbrev pub cooked_type : (hardware : ℕ) → (protocol : ℕ) → Option ℕ
+cooked_type hardware protocol =
+    if nat_lt protocol 1536 || (hardware == 770) || (hardware == 803) || (hardware == 824)
+    then None else Some protocol
+
+abbrev pub no_address : List ℕ
+no_address = 0 ∷ 0 ∷ 0 ∷ 0 ∷ 0 ∷ 0 ∷ []
+
+-- the address at a place of so many bytes, if these are six
+abbrev pub address_at : (len : ℕ) → List ℕ → ℕ → List ℕ
+address_at len bytes p =
+    if len == 6
+    then slice_index bytes p ∷ slice_index bytes (p + 1) ∷ slice_index bytes (p + 2)
+    ∷ slice_index bytes (p + 3) ∷ slice_index bytes (p + 4) ∷ slice_index bytes (p + 5) ∷ []
+    else no_address
+
+-- to no address, from this one
+abbrev pub ethernet_header : List ℕ → ℕ → List ℕ
+ethernet_header source ether_type = no_address ++ (source ++ to_be_bytes w16 ether_type)
+
+-- the header that is put before a packet, if one is
+abbrev pub made_header : Option Header → List ℕ
+made_header None = []
+made_header (Some header) = ethernet_header header.source header.ether_type
+
+-- such a header before these bytes, if there is an ether type
+abbrev pub framed_behind : List ℕ → Option ℕ → List ℕ → Option (List ℕ)
+framed_behind source None rest = None
+framed_behind source (Some ether_type) rest = Some (ethernet_header source ether_type ++ rest)
+
+-- a packet of some bytes
+abbrev pub framed_packet : Link → List ℕ → Option (List ℕ)
+framed_packet Ethernet packet = Some packet
+framed_packet Ip packet = framed_behind no_address (ip_type packet) packet
+framed_packet Null packet =
+    if nat_lt (length packet) 4 then None
+    else framed_behind no_address (family_type (null_family packet)) (drop 4 packet)
+framed_packet Loop packet =
+    if nat_lt (length packet) 4 then None
+    else framed_behind no_address (family_type (word Big packet 0)) (drop 4 packet)
+framed_packet Sll packet =
+    if nat_lt (length packet) 16 then None
+    else framed_behind (address_at (half Big packet 4) packet 6)
+    (cooked_type (half Big packet 2) (half Big packet 14)) (drop 16 packet)
+framed_packet Sll2 packet =
+    if nat_lt (length packet) 20 then None
+    else framed_behind (address_at (slice_index packet 11) packet 12)
+    (cooked_type (half Big packet 8) (half Big packet 0)) (drop 20 packet)
+
+-- the Ethernet II frame of a packet, if it has one: its own where it was captured as one, else the
+-- destination is zeros, and so is the source, where its link tells no sender's address of six
+-- bytes. Of a packet without captured bytes nothing is told
+abbrev pub framed : Link → List ℕ → Option (List ℕ)
+framed link packet = if length packet == 0 then Some packet else framed_packet link packet

@@ -1,0 +1,4 @@
+//! The links that packets are captured on, and their packets as Ethernet II frames.
+
+pub(crate) mod frame;
+pub(crate) mod kind;
