@@ -1,7 +1,7 @@
 //! Runs with random keys for the names of messages: the bytes, the calls and the ends that the state
 //! of a fixed seed has.
-use crate::faults::{reader_of, writer_of};
 use crate::reuse::{ROUND, ROUND_ANSWERS, repeated};
+use fault_devices::{FaultReader, FaultWriter};
 use netlines::device::ReaderWriter;
 use netlines::{
     FrameAnswerer, READ_COUNT_LIMIT, RunError, run_over_with_hasher, run_with, run_with_hasher,
@@ -13,11 +13,11 @@ use std::test::Fail;
 fn puts_messages_together(rt: HostRuntime) -> Result<(), Fail> {
     let text = repeated(rt.alloc(), ROUND, 3)?;
     let want = repeated(rt.alloc(), ROUND_ANSWERS, 3)?;
-    let mut writer = writer_of(rt.alloc(), None);
+    let mut writer = FaultWriter::new(rt.alloc(), 1);
     run_with_hasher(
         rt.alloc(),
         RandomState::new(&rt)?,
-        &mut reader_of(text.as_slice(), None),
+        &mut FaultReader::new(text.as_slice(), 1),
         &mut writer,
         READ_COUNT_LIMIT,
     )?;
@@ -34,8 +34,8 @@ fn makes_no_more_reads_than_it_may(rt: HostRuntime) -> Result<(), Fail> {
         ("a\nb", 3, Err(RunError::TooManyReads), "bad line\n"),
         ("a\nb", 4, Ok(()), "bad line\nbad line\n"),
     ] {
-        let mut reader = reader_of(text.as_bytes(), None);
-        let mut writer = writer_of(rt.alloc(), None);
+        let mut reader = FaultReader::new(text.as_bytes(), 1);
+        let mut writer = FaultWriter::new(rt.alloc(), 1);
         let result = run_with_hasher(
             rt.alloc(),
             RandomState::new(&rt)?,
@@ -55,8 +55,8 @@ fn makes_no_more_reads_than_it_may(rt: HostRuntime) -> Result<(), Fail> {
 fn runs_over_a_device(rt: HostRuntime) -> Result<(), Fail> {
     let state = RandomState::new(&rt)?;
     for by_answerer in [false, true] {
-        let mut reader = reader_of(b"a\nb", None);
-        let mut writer = writer_of(rt.alloc(), None);
+        let mut reader = FaultReader::new(b"a\nb", 1);
+        let mut writer = FaultWriter::new(rt.alloc(), 1);
         let mut device = ReaderWriter {
             reader: &mut reader,
             writer: &mut writer,
