@@ -53,7 +53,8 @@ fn halves_around(alloc: Global, between: &[u8]) -> Result<Vec<u8>, AllocError> {
 // lines 1 and 3.
 #[test]
 fn two_runs_over_the_same_halves(rt: HostRuntime) -> Result<(), Fail> {
-    let one = halves_around(rt.alloc(), &ROUND[186..270])?;
+    let round = ROUND.as_slice();
+    let one = halves_around(rt.alloc(), &round[186..270])?;
     let other = halves_around(rt.alloc(), b"forgets")?;
     let mut told = Vec::new(rt.alloc());
     let mut other_told = Vec::new(rt.alloc());
