@@ -1,14 +1,19 @@
-// A box as its pointer and its allocator.
+//! A box as its pointer and its allocator.
 ghost use Rattle.std.specs.Prelude.{◌≡◌};
 ghost use Rattle.std_alloc.specs.Box.Ownership.{box_owns};
 
 use std::alloc::Allocator;
 use std::marker::Model;
 
+/// A box as its pointer and its allocator. It owns the value and the block, as the box does. No
+/// drop frees them: it has to become a box again.
 #[derive(Drop)]
 pub struct Loose<T, A: Allocator> {
+    /// The pointer of the box.
     pub at: *mut T,
+    /// Its allocator.
     pub alloc: A,
+    // The value there.
     pub ghost value: { T },
 }
 
@@ -17,6 +22,7 @@ impl<T, A: Allocator> Model for Loose<T, A> {
 }
 
 impl<T: Drop, A: Allocator> Loose<T, A> {
+    /// That of this box.
     pub fn of(value: Box<T, A>) -> Loose<T, A>
         ensures { result.value ≡ value.value }
     {
@@ -24,6 +30,7 @@ impl<T: Drop, A: Allocator> Loose<T, A> {
         Loose { at, alloc }
     }
 
+    /// The box again.
     pub fn into_box(self) -> Box<T, A>
         ensures { result.value ≡ self.value }
     {
