@@ -13,9 +13,9 @@ fn capture(alloc: Global, link_type: u8, packet: &[u8]) -> Result<Vec<u8>, Alloc
     // Link type 276 is written as 1 and 20.
     let high = if link_type == 20 { 1 } else { 0 };
     file.extend_from_slice(&[high, link_type, 0, 0, 0, 0, 0, 0, 0, 0])?;
-    for _ in 0..2 {
-        file.extend_from_slice(&(packet.len() as u32).to_be_bytes())?;
-    }
+    let len = ((packet.len() % 0x1_0000_0000) as u32).to_be_bytes();
+    file.extend_from_slice(&len)?;
+    file.extend_from_slice(&len)?;
     file.extend_from_slice(packet)?;
     Ok(file)
 }
@@ -115,7 +115,7 @@ fn frame_of_each_link(rt: HostRuntime) -> Result<(), Fail> {
 #[test]
 fn longest_packets(rt: HostRuntime) -> Result<(), Fail> {
     for (link_type, front, len, is_told) in [
-        (101, b"\x45".as_slice(), 99_977, true),
+        (101, b"\x45".as_slice(), 99_977u32, true),
         (101, b"\x45", 99_978, false),
         (
             113,
@@ -131,7 +131,7 @@ fn longest_packets(rt: HostRuntime) -> Result<(), Fail> {
         ),
     ] {
         let mut packet = Vec::from_slice(rt.alloc(), front)?;
-        while packet.len() < len {
+        for _ in front.len()..len as usize {
             packet.push(0)?;
         }
         let file = capture(rt.alloc(), link_type, packet.as_slice())?;
@@ -140,7 +140,7 @@ fn longest_packets(rt: HostRuntime) -> Result<(), Fail> {
             assert!(rt; result == Ok(()));
             assert!(rt; lines.len() == 199_991);
         } else {
-            let error = CaptureError::FrameTooLong(len as u32);
+            let error = CaptureError::FrameTooLong(len);
             assert!(rt; result == refused(error, 1, 24, None));
             assert!(rt; lines.is_empty());
         }
