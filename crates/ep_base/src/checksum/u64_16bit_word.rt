@@ -55,6 +55,18 @@ fn add_words(start: u64, slice: &[u8]) -> u64
     }
 }
 
+// The same by four bytes at once, for the few behind blocks of eight.
+fn add_rest(start: u64, slice: &[u8]) -> u64
+    ensures { accumulator_sum result ≡ fold (accumulator_sum start + total slice.now) }
+{
+    let (blocks, rest) = slice.as_chunks::<4>();
+    let mut sum = start;
+    for block in blocks {
+        sum = add_4bytes(sum, *block);
+    }
+    add_words(sum, rest)
+}
+
 // The same by eight bytes at once.
 fn add_short(start: u64, slice: &[u8]) -> u64
     ensures { accumulator_sum result ≡ fold (accumulator_sum start + total slice.now) }
@@ -64,7 +76,7 @@ fn add_short(start: u64, slice: &[u8]) -> u64
     for block in blocks {
         sum = add_8bytes(sum, *block);
     }
-    add_words(sum, rest)
+    add_rest(sum, rest)
 }
 
 /// The number with the words of a slice added. An odd last byte is followed by a zero byte.

@@ -14,7 +14,7 @@ loop-block-preserved c = block_more _ _ _ _ _ c.loop-block-test.true c.loop-bloc
 pub returns : goal.returns
 returns c =
     let cut = c.as_chunks.ensures in
-    c.add_words.ensures
+    c.add_rest.ensures
     ∙ blocks_all 8 (accumulator_sum c.args.start)
     (accumulator_sum c.loop-block.sum) c.args.slice.now c.as_chunks.result.0.now
     c.as_chunks.result.1.now c.loop-block.block-index
