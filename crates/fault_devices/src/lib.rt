@@ -33,6 +33,7 @@ fn moved(call: usize, piece: usize, fault: Option<(usize, Fault)>, len: usize) -
 pub struct FaultReader<'a> {
     /// The bytes that aren't read.
     pub rest: &'a [u8],
+    /// How often it was called.
     pub calls: usize,
     /// The room that the last call was given.
     pub room: usize,
@@ -81,7 +82,9 @@ impl<'a> Read for FaultReader<'a> {
 /// A writer that keeps the bytes.
 #[derive(Drop)]
 pub struct FaultWriter {
+    /// The bytes that it was given and took.
     pub taken: Vec<u8>,
+    /// How often `write` was called.
     pub calls: usize,
     piece: usize,
     fault: Option<(usize, Fault)>,
@@ -155,6 +158,7 @@ pub struct Tally {
 }
 
 impl Tally {
+    /// No place yet, of a call that fails so: both in words.
     pub fn new(call: &'static str, fault: &'static str) -> Tally {
         Tally {
             call,

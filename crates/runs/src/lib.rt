@@ -9,6 +9,3 @@ mod writes;
 pub use device::{Device, ReaderWriter};
 pub use fault::Fault;
 pub use writes::write_whole;
-
-#[cfg(test)]
-mod tests;
