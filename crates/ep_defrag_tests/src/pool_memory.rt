@@ -41,7 +41,10 @@ fn a_list_of_calls_wants_memory(rt: HostRuntime) {
             assert!(rt; waiting.count() >= 1);
             assert!(rt; delivers_at_last(&rt, &mut pool, &SECOND, 0, 16));
         }
-        Err(_) => assert!(rt; !delivers(&rt, &mut pool, &SECOND, 2, 0)),
+        Err(_) => {
+            assert!(rt; !delivers(&rt, &mut pool, &SECOND, 2, 0));
+            assert!(rt; run_calls(rt.alloc(), &mut pool, &calls).is_ok());
+        }
     }
 }
 
