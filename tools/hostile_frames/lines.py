@@ -119,7 +119,10 @@ def message_of(draw, sender, size=None):
     if draw.random() < 0.05:
         payload = bytes(len(payload))
     make = {UDP: udp, TCP: tcp, ICMP: icmp, ICMPV6: icmp}.get(sender.protocol)
-    return sealed(draw, sender, make(draw, payload) if make else payload)
+    message = make(draw, payload) if make else payload
+    if draw.random() < 0.03:
+        message = message[: draw.randrange(24)]
+    return sealed(draw, sender, message)
 
 
 # Packets and frames
@@ -153,7 +156,7 @@ def ipv6(draw, sender, part, units, more):
     headers = draw.choices((0, 1, 2, 3, 6), (55, 20, 12, 8, 5))[0] if not is_part else draw.random() < 0.03
     chain = b""
     for _ in range(headers):
-        kind = draw.choices((ROUTING, DESTINATION, AUTHENTICATION, FRAGMENT), (35, 40, 15, 10))[0]
+        kind = draw.choices((ROUTING, DESTINATION, AUTHENTICATION, FRAGMENT, HOP_BY_HOP), (35, 40, 15, 10, 4))[0]
         if kind == FRAGMENT:
             place = 0 if draw.random() < 0.6 else draw.getrandbits(16)
             chain = bytes([following, draw.randrange(256)]) + spelled(place, 2) + draw.randbytes(4) + chain
@@ -190,8 +193,8 @@ def macsec(draw, ether_type, rest):
         flags |= draw.choice((0x04, 0x08, 0x0C, 0x80))
     secured = (b"" if flags & 0x0C and draw.random() < 0.5 else spelled(ether_type, 2)) + rest
     short = draw.told(len(secured), 63) if len(secured) < 64 and draw.random() < 0.7 else 0
-    if draw.random() < 0.03:
-        short = draw.randrange(64)
+    if draw.random() < 0.1:
+        short = draw.choice((1, 2, 3, draw.randrange(64)))
     return bytes([flags, short | draw.choice((0, 0, 0x40, 0xC0))]) + draw.randbytes(4) + draw.randbytes(8 if flags & 0x20 else 0) + secured
 
 
@@ -266,12 +269,14 @@ def every_front(draw):
         yield "front", frame_line(draw, sender.channel, frame[:end])
 
 
+def cut(message, cuts):
+    """The pieces of a message: where each begins, in units of eight bytes, whether more come, and its bytes."""
+    return [(start, end is not None, message[8 * start : end and 8 * end]) for start, end in zip([0, *cuts], [*cuts, None])]
+
+
 def pieces_of(draw, message):
-    """The message in parts: where each begins, in units of eight bytes, whether more come, and its bytes."""
     units = (len(message) + 7) // 8
-    cuts = sorted(set(draw.randrange(units) for _ in range(draw.choice((1, 1, 2, 3, 5, 9)))) - {0}) if units else []
-    starts = [0, *cuts]
-    return [(start, end is not None, message[8 * start : 8 * end if end else None]) for start, end in zip(starts, [*cuts, None])]
+    return cut(message, sorted({draw.randrange(units) for _ in range(draw.choice((1, 1, 2, 3, 5, 9)))} - {0}) if units else [])
 
 
 def disturbance(draw, piece, message):
@@ -298,12 +303,13 @@ def disturbance(draw, piece, message):
         start, size = max(0, start - 2), 16
     elif name == "behind it":
         start, size = end, 16
-    elif name in ("lower end", "higher end", "same end"):
-        ending = max(0, length + {"l": -1, "h": 1, "s": 0}[name[0]] * draw.choice((1, 1, 7, 8, 9, 24)) if name != "same end" else length)
-        start = draw.choice((0, ending // 8, max(0, ending // 8 - 2), draw.randrange(ending // 8 + 1)))
-        more, size = False, ending - 8 * start
     elif name == "beyond the end":
         start, more, size = (length + 7) // 8 + draw.randrange(3), draw.random() < 0.7, 8 * draw.randrange(3)
+    elif name.endswith(" end"):
+        far = draw.choice((1, 1, 7, 8, 9, 24))
+        ending = max(0, length + {"lower end": -far, "higher end": far, "same end": 0}[name])
+        start = draw.choice((0, ending // 8, max(0, ending // 8 - 2), draw.randrange(ending // 8 + 1)))
+        more, size = False, ending - 8 * start
     elif name == "unaligned":
         more, size = True, draw.choice((1, 7, 9, len(part) + 1, len(part) + 7))
     elif name == "empty":
@@ -322,10 +328,10 @@ def disturbance(draw, piece, message):
     return name, (min(start, 8191), more, part)
 
 
-def parts(draw, size=None):
+def parts(draw):
     """The fragments of a message in some order, some of them again, and others among them."""
     sender = Sender(draw)
-    message = message_of(draw, sender, size if size is not None else draw.choice((8, 20, 40, draw.randrange(1, 100), draw.randrange(300))))
+    message = message_of(draw, sender, draw.choice((8, 20, 40, draw.randrange(1, 100), draw.randrange(300))))
     pieces = pieces_of(draw, message)
     plan = [("fragment", it) for it in pieces]
     order = draw.choice(("ascending", "descending", "any"))
@@ -349,8 +355,7 @@ def great_message(draw):
     """A message near the greatest length, in a few fragments."""
     sender, length = Sender(draw), LONGEST_MESSAGE + draw.choice((-8, -7, -1, 0, 0, 0, 1))
     message = (message_of(draw, sender, 65000) + draw.randbytes(900))[:length]
-    cuts = sorted(draw.sample(range(1, 8192), draw.choice((1, 2, 5))))
-    plan = [(start, end is not None, message[8 * start : 8 * end if end else None]) for start, end in zip([0, *cuts], [*cuts, None])]
+    plan = cut(message, sorted(draw.sample(range(1, 8191), draw.choice((1, 2, 5)))))
     draw.shuffle(plan)
     for start, more, part in plan:
         if len(part) < 65400:
@@ -397,7 +402,8 @@ def bad_line(draw):
         channel = draw.choice((b"4294967296", b"00000000000", b"0000000000", b"9999999999", b"", b"1a", b"4294967295"))
         line = b"frame " + channel + b" " + draw.choice((b"0", b"00", b"000", b"0g", b"fF", b"0x00"))
     else:
-        line = b"forget " + draw.choice((b"18446744073709551616", b"000000000000000000000", b"00000000000000000000", b"99999999999999999999", b"1 ", b" 1"))
+        numbers = (b"18446744073709551615", b"18446744073709551616", b"99999999999999999999", b"00000000000000000000", b"000000000000000000000")
+        line = b"forget " + draw.choice((*numbers, b"9223372036854775808", b"1 ", b" 1"))
     yield "bad line", line.replace(b"\n", b"")
 
 
