@@ -24,13 +24,17 @@ fn count_up_to(sections: &[IpFragRange], end: u16) -> usize
     sections.partition_point(|section| section.start <= end)
 }
 
-// Takes out the sections from one place on, up to another.
+// Takes out the sections from one place on, up to another: most often none or one.
 fn remove_between(sections: &mut Vec<IpFragRange>, from: usize, to: usize)
     requires ordered { from ≤ to }
     requires within { to ≤ vec_len sections.old }
     ensures { sections.new.items ≡ remove_range sections.old.items from to }
 {
-    sections.drain(from..to);
+    if to - from == 1 {
+        sections.remove(from);
+    } else if from < to {
+        sections.drain(from..to);
+    }
 }
 
 // Adds a range to sections that are in order: it and those that it touches are one. There is memory
