@@ -1,6 +1,6 @@
-use Rattle.std.proofs.Common.{◌≡◌, ◌+◌, ◌-◌, ◌^◌, arith, refl}
+use Rattle.std.proofs.Common.{◌≡◌, ◌-◌, ◌^◌, arith, refl}
 use Rattle.std.proofs.lemmas.Nat.{pow_below, pow_pos}
-use Rattle.ep_defrag.proofs.Halving.{Found, first_above, first_below, half_found, last_found}
+use Rattle.ep_defrag.proofs.Halving.{first_above, first_below, half_found, last_found}
 use Rattle.ep_defrag.proofs.defrag.sections.count_before.Goals as goal
 use Rattle.ep_defrag.proofs.defrag.sections.count_before.Goals.{then-sections-half, else-sections-half}
 
@@ -11,16 +11,16 @@ loop-bits-init c =
     let few = pow_below c.ilog2-bits.result 64 c.ilog2-bits.ensures.bound in
     let some = pow_pos c.ilog2-bits.result in
     elim c.if-sections-half.branch [
-      then-sections-half w ↦
-        let found = first_above c.args.sections.now c.args.start (2 ^ c.ilog2-bits.result) _
-        c.if-sections-half.count _ c.requires w.if-sections-half.true (omega (arith, few, some))
-        power next (omega (arith, few, power, w.count-is)) in
-        (c.ilog2-bits.ensures.bound, found.within, found.front, found.back)
+      | then-sections-half w ↦
+          let found = first_above c.args.sections.now c.args.start (2 ^ c.ilog2-bits.result) _
+          c.if-sections-half.count _ c.requires w.if-sections-half.true (omega (arith, few, some))
+          power next (omega (arith, few, power, w.count-is)) in
+          (c.ilog2-bits.ensures.bound, found.within, found.front, found.back)
       | else-sections-half w ↦
-        let found = first_below c.args.sections.now c.args.start (2 ^ c.ilog2-bits.result) _
-        c.if-sections-half.count _ c.requires w.if-sections-half.false
-        (omega (arith, few, some)) power w.count-is in
-        (c.ilog2-bits.ensures.bound, found.within, found.front, found.back)
+          let found = first_below c.args.sections.now c.args.start (2 ^ c.ilog2-bits.result) _
+          c.if-sections-half.count _ c.requires w.if-sections-half.false
+          (omega (arith, few, some)) power w.count-is in
+          (c.ilog2-bits.ensures.bound, found.within, found.front, found.back)
     ]
 
 pub loop-bits-preserved : goal.loop-bits-preserved

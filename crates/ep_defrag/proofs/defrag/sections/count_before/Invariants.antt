@@ -1,4 +1,4 @@
-use Rattle.std.proofs.Common.{◌≡◌, ◌<◌, ◌≤◌, length, ℕ, ◌+◌, ◌^◌}
+use Rattle.std.proofs.Common.{◌<◌, ◌≤◌, length, ◌+◌, ◌^◌}
 use Rattle.std.specs.List.{AllWithin}
 use Rattle.ep_defrag.specs.declared.defrag.ip_frag_range.IpFragRange.{IpFragRange}
 use Rattle.ep_defrag.proofs.defrag.sections.count_before.Given as goal

@@ -1,4 +1,4 @@
-use Rattle.std.proofs.Common.{◌<◌, ◌≤◌, arith, length}
+use Rattle.std.proofs.Common.{◌<◌, ◌≤◌, arith}
 use Rattle.ep_defrag.specs.declared.defrag.ip_frag_range.IpFragRange.{IpFragRange}
 use Rattle.ep_defrag.proofs.Ordered.{starts_before, starts_from, front_all, back_all}
 use Rattle.ep_defrag.proofs.defrag.sections.count_up_to.Goals as goal
