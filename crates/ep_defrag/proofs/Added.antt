@@ -6,7 +6,7 @@ use Rattle.std.proofs.lemmas.List.{take-append-drop, drop-take, drop-drop, drop-
 use Rattle.std.proofs.lemmas.List.{get_or-drop, length-drop, take_more_set}
 use Rattle.std.specs.List.{AllByRecursion, remove_range}
 use Rattle.ep_defrag.specs.declared.defrag.ip_frag_range.IpFragRange.{IpFragRange}
-use Rattle.ep_defrag.specs.IpFragRange.{AddsRange, AreOrdered, EndBefore, StartBy, hull}
+use Rattle.ep_defrag.specs.IpFragRange.{AreOrdered, EndBefore, StartBy, hull}
 use Rattle.ep_defrag.proofs.Ordered.{IsAdded, added_alone, added_joined, last_of, all_split}
 
 -- those that end before the range are no more than those that start by its end

@@ -7,6 +7,7 @@ mod Accepted
 mod AcceptedLists
 mod Added
 mod CallLemmas
+mod Halving
 mod Lengths
 mod OpenCount
 mod Ordered

@@ -1,7 +1,8 @@
 -- Sections in order, as a range is added to them.
-use Rattle.std.proofs.Common.{◌≡◌, ℕ, zero, suc, ◌+◌, ◌-◌, ◌<◌, ◌≤◌, ◌⊎◌, ◌↔◌, inl, inr, List, []}
-use Rattle.std.proofs.Common.{◌∷◌, ◌++◌, length, take, drop, get_or, arith, ap, refl, sym, ◌∙◌, subst}
+use Rattle.std.proofs.Common.{◌≡◌, ℕ, zero, suc, ◌+◌, ◌<◌, ◌≤◌, ◌⊎◌, ◌↔◌, inl, inr, List, []}
+use Rattle.std.proofs.Common.{◌∷◌, ◌++◌, length, take, drop, get_or, arith, ap, refl}
 use Rattle.std.proofs.lemmas.Bool.{cases_lt}
+use Rattle.std.proofs.lemmas.List.{get_or_default}
 use Rattle.std.specs.List.{Any, AllByRecursion, AllWithin}
 use Rattle.std.specs.List.Sorted.{IsNonDecreasingBy}
 use Rattle.ep_defrag.specs.declared.defrag.ip_frag_range.IpFragRange.{IpFragRange}
@@ -306,3 +307,39 @@ added_joined front a rest back r o h low from to high =
     (λ s k m. omega (arith, k, m.0, at_end.0)) front low outer.between)
     (all_with (λ t. r.end < t.start) (λ t. (last_of a rest).end < t.start) (λ t. j.end < t.start)
     (λ t k m. omega (arith, k, m, inside.0.1)) back high behind_last))
+
+-- ---- by places
+
+-- up to a section that ends before a number all do, and from one on that doesn't none does
+pub up_to_place : (rs : List IpFragRange) (i n : ℕ) (d : IpFragRange) → AreOrdered rs
+    → i < length rs → (get_or rs i d).end < n → AllWithin (λ s. s.end < n) rs 0 (i + 1)
+up_to_place rs i n d h within below k e low high =
+    let rise = ends_rise rs h k i e (omega arith) within in
+    let same = ap (λ (s : IpFragRange). s.end) (get_or_default rs i e d within) in
+    omega (arith, rise, below, same)
+
+pub from_place : (rs : List IpFragRange) (i n : ℕ) (d : IpFragRange) → AreOrdered rs
+    → i < length rs → n ≤ (get_or rs i d).end → AllWithin (λ s. n ≤ s.end) rs i (length rs)
+from_place rs i n d h within above k e low high =
+    let rise = ends_rise rs h i k e low high in
+    let same = ap (λ (s : IpFragRange). s.end) (get_or_default rs i e d within) in
+    omega (arith, rise, above, same)
+
+-- from a section on that starts after a number all do
+pub starts_from : (rs : List IpFragRange) (i n : ℕ) (d : IpFragRange) → AreOrdered rs
+    → i < length rs → n < (get_or rs i d).start → AllWithin (λ s. n < s.start) rs i (length rs)
+starts_from rs i n d h within above k e low high =
+    let rise = starts_rise rs h i k e low high in
+    let same = ap (λ (s : IpFragRange). s.start) (get_or_default rs i e d within) in
+    omega (arith, rise, above, same)
+
+-- those that end before a range start by its end
+pub starts_before : (rs : List IpFragRange) (low high first : ℕ) → AreOrdered rs → low ≤ high
+    → first ≤ length rs → AllByRecursion (λ s. s.end < low) (take first rs)
+    → AllWithin (λ s. s.start ≤ high) rs 0 first
+starts_before rs low high zero h o within front k d from to = absurd (omega arith)
+starts_before [] low high (suc first) h o within front k d from to = absurd (omega arith)
+starts_before (r ∷ rs) low high (suc first) h o within front zero d from to =
+    omega (arith, h.0, o, front.0)
+starts_before (r ∷ rs) low high (suc first) h o within front (suc k) d from to =
+    starts_before rs low high first h.2 o (omega arith) front.1 k d (omega arith) (omega arith)

@@ -16,6 +16,7 @@ use super::append::{append_link, append_vlan};
 use super::chosen_ip::ChosenIp;
 use super::front::Front;
 use super::ip_part::IpPart;
+use super::last_step::LastStep;
 use super::over::{transport_len, write_over};
 use crate::err::packet::BuildWriteError;
 use ep_base::{EtherType, IpNumber};
@@ -86,8 +87,11 @@ impl PacketState {
 
     // Appends the packet, whose headers of the network layer name this number last. Where it is
     // refused, or no memory is left, the buffer keeps its bytes.
+    //
+    // Each last step has a function of its own: one that several steps share isn't inlined, and all
+    // of the room for extension headers is then cleared and moved for each packet.
     #[inline(always)]
-    pub(super) fn write(
+    pub(super) fn write<L: LastStep>(
         self,
         buffer: &mut Vec<u8>,
         number: IpNumber,

@@ -38,7 +38,7 @@ impl PacketBuilderStep<IpHeaders> {
             ≤ vec_capacity buffer.old → result ≢ Err Memory }
     {
         let state = self.state;
-        state.write(buffer, last_next_header_ip_number, payload)
+        state.write::<IpHeaders>(buffer, last_next_header_ip_number, payload)
     }
 
     /// The length of the packet with a payload of so many bytes.
@@ -71,7 +71,7 @@ impl<L: TransportStep> PacketBuilderStep<L> {
     {
         let state = self.state;
         let number = state.number();
-        state.write(buffer, number, payload)
+        state.write::<L>(buffer, number, payload)
     }
 
     /// The length of the packet with a payload of so many bytes.

@@ -6,31 +6,59 @@ ghost use Rattle.ep_defrag.specs.IpFragRange.{AddsRange, AreOrdered, EndBefore, 
 
 use super::IpFragRange;
 
-// How many sections end before a number.
+// How many sections end before a number. What a test finds is added and not branched on, since it
+// can't be foreseen.
 fn count_before(sections: &[IpFragRange], start: u16) -> usize
     requires { AreOrdered sections.now }
     ensures bound { result ≤ length sections.now }
     ensures before { EndBefore sections.now start result }
 {
-    sections.partition_point(|section| section.end < start)
+    if sections.is_empty() {
+        return 0;
+    }
+    let mut bits = sections.len().ilog2();
+    let half = 1 << bits;
+    let mut count = if sections[half - 1].end < start {
+        sections.len() - half
+    } else {
+        0
+    };
+    while bits > 0 {
+        bits -= 1;
+        let half = 1 << bits;
+        count += usize::from(sections[count + half - 1].end < start) << bits;
+    }
+    count + usize::from(sections[count].end < start)
 }
 
-// How many sections start at a number at most.
-fn count_up_to(sections: &[IpFragRange], end: u16) -> usize
-    requires { AreOrdered sections.now }
+// How many sections start by the end of a range. Of those from `first` on, which don't end before
+// it, few do.
+fn count_up_to(sections: &[IpFragRange], range: IpFragRange, first: usize) -> usize
+    requires ordered { AreOrdered sections.now }
+    requires range { range.start ≤ range.end }
+    requires within { first ≤ length sections.now }
+    requires first { EndBefore sections.now range.start first }
     ensures bound { result ≤ length sections.now }
-    ensures up_to { StartBy sections.now end result }
+    ensures up_to { StartBy sections.now range.end result }
 {
-    sections.partition_point(|section| section.start <= end)
+    let mut count = first;
+    while count < sections.len() && sections[count].start <= range.end {
+        count += 1;
+    }
+    count
 }
 
-// Takes out the sections from one place on, up to another.
+// Takes out the sections from one place on, up to another. One or none are taken out most often.
 fn remove_between(sections: &mut Vec<IpFragRange>, from: usize, to: usize)
     requires ordered { from ≤ to }
     requires within { to ≤ vec_len sections.old }
     ensures { sections.new.items ≡ remove_range sections.old.items from to }
 {
-    sections.drain(from..to);
+    if to - from == 1 {
+        sections.remove(from);
+    } else if from < to {
+        sections.drain(from..to);
+    }
 }
 
 // Adds a range to sections that are in order: it and those that it touches are one. There is memory
@@ -43,7 +71,7 @@ pub(crate) fn add_range(sections: &mut Vec<IpFragRange>, range: IpFragRange)
     ensures ordered { AreOrdered sections.new.items }
 {
     let first = count_before(sections, range.start);
-    let behind = count_up_to(sections, range.end);
+    let behind = count_up_to(sections, range, first);
     if first == behind {
         sections.insert(first, range).unwrap();
     } else {

@@ -1,6 +1,5 @@
-use Rattle.std.proofs.Common.{◌≡◌, ◌+◌, ◌-◌, ◌<◌, ◌≤◌, ℕ, arith, ap, sym, subst, ◌∙◌, refl, List, take, drop}
-use Rattle.std.proofs.lemmas.List.{take_more_set, drop-set-lt}
-use Rattle.ep_defrag.specs.IpFragRange.{EndBefore, StartBy}
+use Rattle.std.proofs.Common.{◌≡◌, ℕ, arith, subst}
+use Rattle.ep_defrag.specs.IpFragRange.{StartBy}
 use Rattle.ep_defrag.proofs.Added.{added_behind, added_set, in_front}
 use Rattle.ep_defrag.proofs.defrag.sections.add_range.Goals as goal
 

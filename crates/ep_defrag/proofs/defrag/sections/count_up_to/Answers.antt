@@ -1,18 +1,29 @@
-use Rattle.std.proofs.Common.{rules, ◌<◌, ◌≤◌, leb}
-use Rattle.std.proofs.lemmas.Bool.{leb-true, leb-false}
-use Rattle.std.proofs.lemmas.List.Sorted.{IsPartitionPoint-from_clause, IsPartitionedBy-leb}
+use Rattle.std.proofs.Common.{◌<◌, ◌≤◌, arith}
 use Rattle.ep_defrag.specs.declared.defrag.ip_frag_range.IpFragRange.{IpFragRange}
-use Rattle.ep_defrag.proofs.Ordered.{starts_rise, front_all, back_all}
+use Rattle.ep_defrag.proofs.Ordered.{starts_before, starts_from, front_all, back_all}
 use Rattle.ep_defrag.proofs.defrag.sections.count_up_to.Goals as goal
 
-pub returns-clause-up_to : goal.returns-clause-up_to
-returns-clause-up_to c =
-    let start_of = λ (s : IpFragRange). s.start in
-    let parted = IsPartitionedBy-leb start_of _ c.args.end (starts_rise _ c.requires) in
-    let point = IsPartitionPoint-from_clause (λ (s : IpFragRange). leb s.start c.args.end) _ _
-    c.partition_point.ensures.partitioned parted (λ a r q k. search rules) in (
-      front_all (λ s. s.start ≤ c.args.end) _ _ c.partition_point.ensures.bound
-          (λ k d low high. leb-true _ _ (point.0 k d low high)),
-      back_all (λ s. c.args.end < s.start) _ _
-          (λ k d low high. leb-false _ _ (point.1 k d low high)),
+pub loop-count-init : goal.loop-count-init
+loop-count-init c = (
+  c.requires.within,
+  starts_before c.args.sections.now c.args.range.start c.args.range.end c.args.first
+      c.requires.ordered c.requires.range c.requires.within c.requires.first.0,
+)
+
+pub returns-else-sections-count-clause-up_to : goal.returns-else-sections-count-clause-up_to
+returns-else-sections-count-clause-up_to c =
+    let inv = c.loop-count.invariant in (
+      front_all (λ (s : IpFragRange). s.start ≤ c.args.range.end) _ _ inv.0 inv.1,
+      back_all (λ (s : IpFragRange). c.args.range.end < s.start) _ _
+          (starts_from c.args.sections.now c.loop-count.count c.args.range.end _
+          c.requires.ordered c.loop-count-test.true c.if-sections-count.false),
+    )
+
+pub returns-after-loop-count-clause-up_to : goal.returns-after-loop-count-clause-up_to
+returns-after-loop-count-clause-up_to c =
+    let inv = c.loop-count.invariant in (
+      front_all (λ (s : IpFragRange). s.start ≤ c.args.range.end) _ _ inv.0 inv.1,
+      back_all (λ (s : IpFragRange). c.args.range.end < s.start) c.args.sections.now
+          c.loop-count.count
+          (λ k d low high. absurd (omega (arith, low, high, c.loop-count-test.false))),
     )
