@@ -1,7 +1,7 @@
 -- A pool's messages, counted by the lists that it shows.
-use Rattle.std.proofs.Common.{◌≡◌, ◌≢◌, ◌∙◌, ap, refl, subst, sym, inl, inr, ◌⊎◌, ◌↔◌, ℕ, ◌+◌, ◌<◌}
-use Rattle.std.proofs.Common.{◌≤◌, ◌&&◌, ◌||◌, Bool, true, false, Option, Some, None, List, [], ◌∷◌, ◌++◌}
-use Rattle.std.proofs.Common.{length, map, take, get_or, arith, IsTrue}
+use Rattle.std.proofs.Common.{◌≡◌, ◌≢◌, ◌∙◌, ap, refl, subst, sym, inl, inr, ◌↔◌, ℕ, ◌<◌}
+use Rattle.std.proofs.Common.{◌≤◌, ◌&&◌, ◌||◌, Bool, true, Option, Some, None, List, [], ◌∷◌}
+use Rattle.std.proofs.Common.{length, map, get_or, arith, IsTrue}
 use Rattle.std.proofs.lemmas.Bool.{and_parts, cases_Bool, eq-eqb, eqb-true, true≢false}
 use Rattle.std.proofs.lemmas.Bool.Decides.{same_from_decides}
 use Rattle.std.proofs.lemmas.List.{get_or-map, length-map}
@@ -30,7 +30,7 @@ use Rattle.ep_defrag.specs.IpFragId.{id_named, same_name, spec_id}
 use Rattle.ep_defrag.specs.OpenMessages.{AreOpen, IsOpenCount}
 use Rattle.ep_defrag.specs.Outcome.{Held}
 use Rattle.ep_defrag.specs.PoolCalls.{Lists, ShowsHeld, ShowsLists}
-use Rattle.ep_defrag.specs.Streams.{Pool, ShowsStream, stream_at}
+use Rattle.ep_defrag.specs.Streams.{Pool}
 
 abbrev same_id : IpFragId ℕ → IpFragId ℕ → Bool
 same_id = same_by nat_eq

@@ -1,5 +1,5 @@
 -- Places for buffers, as messages begin and end.
-use Rattle.std.proofs.Common.{◌≡◌, ℕ, ◌+◌, ◌-◌, ◌≤◌, ◌<◌, arith, inl, inr}
+use Rattle.std.proofs.Common.{◌≡◌, ℕ, ◌+◌, ◌-◌, ◌≤◌, arith, inl, inr}
 use Rattle.std.proofs.lemmas.Bool.{cases_lt}
 use Rattle.ep_defrag.specs.declared.defrag.spare_buffers.SpareBuffers.{SpareBuffers}
 use Rattle.ep_defrag.specs.SpareBuffers.{HasPlaces}

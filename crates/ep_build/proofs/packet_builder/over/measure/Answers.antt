@@ -1,7 +1,6 @@
-use Rattle.std.proofs.Common.{◌≡◌, ap, sym, subst, ◌∙◌, ℕ, true, false, Result, Ok, Err, IfOk, IfErr}
+use Rattle.std.proofs.Common.{◌≡◌, ap, sym, ℕ, true, false, Result, Ok, Err, IfOk, IfErr}
 use Rattle.std.proofs.Common.{MatchOption}
 use Rattle.ep_base.specs.declared.err.value_too_big_error.ValueTooBigError.{ValueTooBigError}
-use Rattle.ep_packet.specs.IpHeaders.{with_payload_len}
 use Rattle.ep_packet.specs.declared.net.ip_headers.IpHeaders.{IpHeaders}
 use Rattle.ep_build.specs.Built.{too_long}
 use Rattle.ep_build.specs.declared.err.packet.build_write_error.BuildWriteError.{BuildWriteError}
