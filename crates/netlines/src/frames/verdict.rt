@@ -24,6 +24,7 @@ pub enum Verdict {
 /// Judges a message by its checksum (RFC 1071) and the addresses that it came with. Of a UDP
 /// datagram the bytes that its length field counts are summed, of other messages all. The length in
 /// the pseudo header is that of what is summed; ICMPv4 has no pseudo header.
+#[inline(always)]
 pub fn judge(addresses: &Addresses, message: &Message<'_>) -> Verdict
     ensures { result ≡ verdict_of addresses.now (as_read message.now) }
 {
@@ -42,6 +43,7 @@ pub fn judge(addresses: &Addresses, message: &Message<'_>) -> Verdict
     }
 }
 
+#[inline(always)]
 fn judge_with_pseudo(addresses: &Addresses, number: IpNumber, summed: &[u8]) -> Verdict
     ensures { result ≡ verdict_by_sum (pseudo addresses.now number.0 (length summed.now)
         ++ summed.now) }
@@ -50,6 +52,7 @@ fn judge_with_pseudo(addresses: &Addresses, number: IpNumber, summed: &[u8]) -> 
 }
 
 // Judges what is summed behind a pseudo header with this sum.
+#[inline(always)]
 fn judge_sum(pseudo: Sum16BitWords, summed: &[u8]) -> Verdict
     ensures { (front : List ℕ) → SumsWords pseudo front → result ≡ verdict_by_sum (front
         ++ summed.now) }
@@ -62,6 +65,7 @@ fn judge_sum(pseudo: Sum16BitWords, summed: &[u8]) -> Verdict
 }
 
 // The sum of the pseudo header of so many bytes.
+#[inline(always)]
 fn pseudo_sum(addresses: &Addresses, number: IpNumber, len: usize) -> Sum16BitWords
     ensures { SumsWords result (pseudo addresses.now number.0 len) }
 {
