@@ -7,20 +7,23 @@ use Rattle.std.proofs.Math.Seq.{take-append_seam, drop-append_seam}
 use Rattle.std.proofs.lemmas.Bool.{ne_eqb, or_cases}
 use Rattle.std.proofs.lemmas.List.{get_or-append-add}
 use Rattle.hex.specs.Hex.{IsBytes}
-use Rattle.captures.specs.Framed.{framed, link_of}
+use Rattle.captures.specs.Framed.{link_for, told_frame}
 use Rattle.captures.specs.Lines.{packets_of}
 use Rattle.captures.specs.Numbers.{half, word}
-use Rattle.captures.specs.Pcap.{is_magic, IsPacketRecord, link_type}
+use Rattle.captures.specs.Pcap.{is_magic, link_type}
 use Rattle.captures.specs.Pcapng.{Content, HasOrder, Says, Becomes, captured_len, section_header}
 use Rattle.captures.specs.Pcapng.{byte_order_magic, enhanced_packet, interface_description}
-use Rattle.captures.specs.Pcapng.{obsolete_packet, simple_packet, link_at, links_with}
+use Rattle.captures.specs.Pcapng.{obsolete_packet, simple_packet, link_at}
 use Rattle.captures.specs.Pcapng.Content.{Opens, Describes, Holds, Nothing}
+use Rattle.captures.specs.Skipping.{counted, passing_from}
 use Rattle.captures.specs.Units.{IsUnit, IsBlockUnit, IsRecordUnit, OpensFile, no_section}
 use Rattle.captures.specs.declared.byte_order.ByteOrder.{ByteOrder}
 use Rattle.captures.specs.declared.byte_order.ByteOrder.TheVariants.{Big, Little}
 use Rattle.captures.specs.declared.link.kind.Link.{Link}
 use Rattle.captures.specs.declared.pcapng.section.Section.{Section}
+use Rattle.captures.specs.declared.translation.skipped.Passing.{Passing}
 use Rattle.captures.specs.declared.translation.state.State.{State}
+use Rattle.captures.specs.declared.unfit.Unfit.{Unfit}
 use Rattle.captures.specs.declared.translation.state.State.TheVariants.{Start, Classic, Pcapng}
 use Rattle.captures.proofs.BlockLemmas.{word_of}
 
@@ -222,6 +225,10 @@ becomes_once section order Nothing after after' channel channel' frame frame' b 
 
 -- ---- units
 
+classic_same : (passing : Passing) {order order' : ByteOrder} {link link' : Link} → order ≡ order'
+    → link ≡ link' → Classic order link passing ≡ Classic order' link' passing
+classic_same passing order link = λ i. Classic (order i) (link i) passing
+
 -- two readings of bytes as a unit and what follows it are one
 module _ (bytes u r u' r' : List ℕ) (all : IsBytes bytes) (parts : bytes ≡ u ++ r)
     (parts' : bytes ≡ u' ++ r') (after after' : State) (channel channel' : ℕ)
@@ -253,8 +260,9 @@ module _ (bytes u r u' r' : List ℕ) (all : IsBytes bytes) (parts : bytes ≡ u
       says' b.reads.says b'.next channel' frame' becomes') in
       (same, b.becomes ∙ ap Pcapng once.0 ∙ sym b'.becomes, once.1)
 
-  file_alone : OpensFile u after → frame ≡ [] → OpensFile u' after' → frame' ≡ [] → One
-  file_alone o none o' none' =
+  file_alone : (unfit : Unfit) → OpensFile unfit u after → frame ≡ [] → OpensFile unfit u' after'
+      → frame' ≡ [] → One
+  file_alone unfit o none o' none' =
       let size = o.header.size in
       let size' = o'.header.size in
       let magic = subst (λ (n : ℕ). IsTrue (is_magic n))
@@ -264,17 +272,19 @@ module _ (bytes u r u' r' : List ℕ) (all : IsBytes bytes) (parts : bytes ≡ u
       let unit = front_same bytes u r u' r' parts parts' (size ∙ sym size') in
       let order = file_order o.order o'.order bytes all magic magic' in
       let link = some_same (sym o.known
-      ∙ ap₂ (λ (p : ByteOrder) (l : List ℕ). link_of (link_type p l)) order unit ∙ o'.known) in (
+      ∙ ap₂ (λ (p : ByteOrder) (l : List ℕ). link_for unfit (link_type p l)) order unit
+      ∙ o'.known) in (
         unit,
         o.next
-            ∙ ap₂ Classic order link
+            ∙ classic_same (passing_from unfit) order link
             ∙ sym o'.next,
         no_packets channel channel' frame frame' none none',
       )
 
-  record_alone : (order : ByteOrder) (link : Link) → IsRecordUnit order link u frame
-      → IsRecordUnit order link u' frame' → channel ≡ channel' → after ≡ after' → One
-  record_alone order link i i' same_channel same_after =
+  record_alone : (order : ByteOrder) (link : Link) (passing : Passing)
+      → IsRecordUnit order link passing u after frame
+      → IsRecordUnit order link passing u' after' frame' → channel ≡ channel' → One
+  record_alone order link passing i i' same_channel =
       let p = i.is_record in
       let p' = i'.is_record in
       let packet = i.packet in
@@ -290,16 +300,20 @@ module _ (bytes u r u' r' : List ℕ) (all : IsBytes bytes) (parts : bytes ≡ u
       let count : length packet ≡ length packet' =
       sym p.captured ∙ ap (λ (l : List ℕ). word order l 8) head ∙ p'.captured in
       let packets = front_same (packet ++ r) packet r packet' r' refl behind count in
-      let frames = some_same (sym i.is_framed ∙ ap (framed link) packets ∙ i'.is_framed) in (
+      let frames = some_same (sym i.is_told ∙ ap (told_frame passing.unfit link) packets
+      ∙ i'.is_told) in (
         p.parts ∙ ap₂ (λ (a b : List ℕ). a ++ b) head packets
             ∙ sym p'.parts,
-        same_after,
+        i.next
+            ∙ ap (λ (held : List ℕ). Classic order link (counted passing link held)) packets
+            ∙ sym i'.next,
         ap₂ packets_of same_channel frames,
       )
 
   -- a file header doesn't begin a section
-  file_no_section : OpensFile u after → 12 ≤ length u' → word Big u' 0 ≡ section_header → ⊥
-  file_no_section o long kind =
+  file_no_section : (unfit : Unfit) → OpensFile unfit u after → 12 ≤ length u'
+      → word Big u' 0 ≡ section_header → ⊥
+  file_no_section unfit o long kind =
       let size = o.header.size in
       no_section_in o.order bytes all
       (subst (λ (n : ℕ). IsTrue (is_magic n))
@@ -311,26 +325,26 @@ pub unit_alone : (state : State) (bytes u r u' r' : List ℕ) (all : IsBytes byt
     (channel channel' : ℕ) (frame frame' : List ℕ)
     → IsUnit state u after channel frame → IsUnit state u' after' channel' frame'
     → (u ≡ u') × (after ≡ after') × (packets_of channel frame ≡ packets_of channel' frame')
-unit_alone Start bytes u r u' r' all parts parts' after after' channel channel' frame frame'
+unit_alone (Start unfit) bytes u r u' r' all parts parts' after after' channel channel' frame frame'
     (inl i) (inl i') =
     file_alone bytes u r u' r' all parts parts' after after' channel channel' frame
-    frame' i.0 i.1 i'.0 i'.1
-unit_alone Start bytes u r u' r' all parts parts' after after' channel channel' frame frame'
+    frame' unfit i.0 i.1 i'.0 i'.1
+unit_alone (Start unfit) bytes u r u' r' all parts parts' after after' channel channel' frame frame'
     (inl i) (inr i') =
     absurd (file_no_section bytes u r u' r' all parts parts' after after' channel channel' frame
-    frame' i.0 i'.1.block.size i'.0)
-unit_alone Start bytes u r u' r' all parts parts' after after' channel channel' frame frame'
+    frame' unfit i.0 i'.1.block.size i'.0)
+unit_alone (Start unfit) bytes u r u' r' all parts parts' after after' channel channel' frame frame'
     (inr i) (inl i') =
     absurd (file_no_section bytes u' r' u r all parts' parts after' after channel' channel frame'
-    frame i'.0 i.1.block.size i.0)
-unit_alone Start bytes u r u' r' all parts parts' after after' channel channel' frame frame'
+    frame unfit i'.0 i.1.block.size i.0)
+unit_alone (Start unfit) bytes u r u' r' all parts parts' after after' channel channel' frame frame'
     (inr i) (inr i') =
     block_alone bytes u r u' r' all parts parts' after after' channel channel' frame
-    frame' no_section i.1 i'.1
-unit_alone (Classic order link) bytes u r u' r' all parts parts' after after' channel
+    frame' (no_section unfit) i.1 i'.1
+unit_alone (Classic order link passing) bytes u r u' r' all parts parts' after after' channel
     channel' frame frame' i i' =
     record_alone bytes u r u' r' all parts parts' after after' channel channel' frame frame' order
-    link i.0 i'.0 (i.2 ∙ sym i'.2) (i.1 ∙ sym i'.1)
+    link passing i.0 i'.0 (i.1 ∙ sym i'.1)
 unit_alone (Pcapng section) bytes u r u' r' all parts parts' after after' channel
     channel' frame frame' i i' =
     block_alone bytes u r u' r' all parts parts' after after' channel channel'

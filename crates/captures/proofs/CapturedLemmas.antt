@@ -1,11 +1,10 @@
 -- Each packet of a capture has a line.
-use Rattle.std.proofs.Common.{◌≡◌, sym, ap, subst, ℕ, zero, suc, ◌^◌, ◌<◌, ◌≤◌, arith, List, []}
-use Rattle.std.proofs.Common.{◌∷◌, ◌++◌, length, take, drop, inl, inr}
+use Rattle.std.proofs.Common.{◌≡◌, sym, subst, ℕ, ◌^◌, ◌<◌, ◌≤◌, arith, List, []}
+use Rattle.std.proofs.Common.{◌∷◌, length, drop, inl, inr}
 use Rattle.std.specs.List.{AllByRecursion}
-use Rattle.hex.specs.Hex.{IsBytes}
 use Rattle.captures.proofs.ByteLemmas.{Bytes, bytes_by, bytes_at, bytes_drop, bytes_take, bytes_front}
 use Rattle.captures.proofs.ByteLemmas.{bytes_back}
-use Rattle.captures.proofs.FramedLemmas.{framed_bytes, framed_fits}
+use Rattle.captures.proofs.FramedLemmas.{told_bytes, told_fits}
 use Rattle.captures.specs.ComeBack.{HasLine, CapturedPacketsHaveLines}
 use Rattle.captures.specs.Lines.{Packet, packets_of}
 use Rattle.captures.specs.Numbers.{half, word}
@@ -43,8 +42,8 @@ none_fits channel frame none = subst (λ (f : List ℕ). Fit channel f) (sym non
 
 -- the numbers of a section's interfaces begin with one of 32 bits
 abbrev InRange : State → Type 0
-InRange Start = Unit {0}
-InRange (Classic order link) = Unit {0}
+InRange (Start unfit) = Unit {0}
+InRange (Classic order link passing) = Unit {0}
 InRange (Pcapng section) = section.first < 2 ^ 32
 
 timed_fits : (interface : ℕ) (section : Section) (order : ByteOrder) (block : List ℕ)
@@ -60,8 +59,8 @@ timed_fits interface section order block after channel frame range bytes number 
     let held' : Bytes held = subst Bytes (sym says.bytes)
     (bytes_take (length held) (drop 28 block) (bytes_drop 28 block bytes)) in (
       subst (λ (s : Section). s.first < 2 ^ 32) (sym becomes.0) range,
-      fits_line channel frame (framed_fits link held frame becomes.3 becomes.2)
-          (framed_bytes link held frame held' becomes.2) (omega arith),
+      fits_line channel frame (told_fits section.passing.unfit link held frame becomes.2)
+          (told_bytes section.passing.unfit link held frame held' becomes.2) (omega arith),
     )
 
 block_fits : (section : Section) (order : ByteOrder) (block : List ℕ) (after : Section)
@@ -81,12 +80,12 @@ block_fits section order block after channel frame range bytes
     )
 block_fits section order block after channel frame range bytes
     (Holds number link held) (inl says) becomes =
-    timed_fits (word order block 8) section order block after channel frame range bytes number link held
-    says.1 becomes
+    timed_fits (word order block 8) section order block after channel frame range bytes number
+    link held says.1 becomes
 block_fits section order block after channel frame range bytes
     (Holds number link held) (inr (inl says)) becomes =
-    timed_fits (half order block 8) section order block after channel frame range bytes number link held
-    says.1 becomes
+    timed_fits (half order block 8) section order block after channel frame range bytes number
+    link held says.1 becomes
 block_fits section order block after channel frame range bytes
     (Holds number link held) (inr (inr says)) becomes =
     let number' = becomes.1 in
@@ -94,8 +93,8 @@ block_fits section order block after channel frame range bytes
     let held' : Bytes held = subst Bytes (sym says.bytes)
     (bytes_take (length held) (drop 12 block) (bytes_drop 12 block bytes)) in (
       subst (λ (s : Section). s.first < 2 ^ 32) (sym becomes.0) range,
-      fits_line channel frame (framed_fits link held frame becomes.3 becomes.2)
-          (framed_bytes link held frame held' becomes.2) (omega arith),
+      fits_line channel frame (told_fits section.passing.unfit link held frame becomes.2)
+          (told_bytes section.passing.unfit link held frame held' becomes.2) (omega arith),
     )
 block_fits section order block after channel frame range bytes Nothing says becomes = (
   subst (λ (s : Section). s.first < 2 ^ 32)
@@ -114,18 +113,18 @@ block_unit_fits section unit after channel frame range bytes b =
 unit_fits : (state : State) (unit : List ℕ) (after : State) (channel : ℕ) (frame : List ℕ)
     → InRange state → Bytes unit → IsUnit state unit after channel frame
     → InRange after × Fit channel frame
-unit_fits Start unit after channel frame range bytes (inl is) =
+unit_fits (Start unfit) unit after channel frame range bytes (inl is) =
     (subst InRange (sym is.0.next) tt, none_fits channel frame is.1)
-unit_fits Start unit after channel frame range bytes (inr is) =
-    block_unit_fits no_section unit after channel frame (omega arith) bytes is.1
-unit_fits (Classic order link) unit after channel frame range bytes is =
-    let zero' = is.2 in
+unit_fits (Start unfit) unit after channel frame range bytes (inr is) =
+    block_unit_fits (no_section unfit) unit after channel frame (omega arith) bytes is.1
+unit_fits (Classic order link passing) unit after channel frame range bytes is =
+    let zero' = is.1 in
     let i = is.0 in
     let p = i.is_record in (
-      subst InRange (sym is.1) tt,
-      fits_line channel frame (framed_fits link i.packet frame i.fits i.is_framed)
-          (framed_bytes link i.packet frame
-          (bytes_back p.head i.packet (subst Bytes p.parts bytes)) i.is_framed) (omega arith),
+      subst InRange (sym i.next) tt,
+      fits_line channel frame (told_fits passing.unfit link i.packet frame i.is_told)
+          (told_bytes passing.unfit link i.packet frame
+          (bytes_back p.head i.packet (subst Bytes p.parts bytes)) i.is_told) (omega arith),
     )
 unit_fits (Pcapng section) unit after channel frame range bytes is =
     block_unit_fits section unit after channel frame range bytes is
@@ -143,7 +142,7 @@ row_fits state (unit ∷ units) packets after range bytes row =
     (AllByRecursion-append HasLine (packets_of row.1 row.2) row.3 first.1 later)
 
 pub captured_packets_have_lines : CapturedPacketsHaveLines
-captured_packets_have_lines bytes packets all capture =
+captured_packets_have_lines unfit bytes packets skipped all capture =
     let p = capture.passes in
-    row_fits Start p.units packets capture.state tt
+    row_fits (Start unfit) p.units packets capture.state tt
     (bytes_front (in_a_row p.units) [] (subst Bytes p.parts (bytes_by bytes all))) p.row

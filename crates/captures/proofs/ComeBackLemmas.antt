@@ -16,6 +16,7 @@ use Rattle.captures.specs.FrameLines.{is_space, number_of, no_time, frame_at, fr
 use Rattle.captures.specs.FrameLines.{frame_behind, frame_with, frame_on, frame_in, frame_of}
 use Rattle.captures.specs.Lines.{Packet, packets_of, line_of, lines_of}
 use Rattle.captures.specs.Runs.{IsCapture}
+use Rattle.captures.specs.Skipping.{none_skipped}
 use Rattle.captures.specs.Spelling.{capture_of, packets_in}
 use Rattle.captures.specs.Texts.{is_newline, HasNoNewline, with_line_ends, HandIn, IsText}
 use Rattle.captures.specs.Texts.{with_last_line_end}
@@ -235,6 +236,7 @@ same_packets (packet ∷ packets) all =
 pub lines_come_back : LinesComeBack
 lines_come_back packets all = (
   is_text packets all,
-  subst (IsCapture (capture_of (map at_no_time packets))) (same_packets packets all)
-      (capture_is (map at_no_time packets) (all_short packets all)),
+  λ unfit. subst (λ (ps : List Packet). IsCapture unfit (capture_of (map at_no_time packets))
+      ps none_skipped) (same_packets packets all)
+      (capture_is unfit (map at_no_time packets) (all_short packets all)),
 )

@@ -1,15 +1,16 @@
 -- The frame of a packet is bytes, and a line can hold it.
-use Rattle.std.proofs.Common.{◌≡◌, ◌∙◌, sym, ap, subst, refl, ℕ, ◌+◌, ◌-◌, ◌*◌, ◌/◌, ◌%◌, ◌<◌, ◌≤◌, arith}
+use Rattle.std.proofs.Common.{◌≡◌, sym, ap, subst, refl, ℕ, ◌+◌, ◌/◌, ◌%◌}
+use Rattle.std.proofs.Common.{◌<◌, ◌≤◌, arith}
 use Rattle.std.proofs.Common.{◌==◌, Bool, true, false, List, [], ◌∷◌, ◌++◌, length, drop, Option}
 use Rattle.std.proofs.Common.{Some, None, inl, inr, eqb-true, ltb-false, ne_eqb, length-append}
-use Rattle.std.proofs.Common.{length-drop, IfSome}
+use Rattle.std.proofs.Common.{length-drop, IfSome, Result, Ok, Err}
 use Rattle.std.specs.Int.{to_be_bytes, w16}
 use Rattle.std.specs.Prelude.{◌⊎◌, nat_lt, slice_index, if◌then◌else◌}
-use Rattle.std.specs.List.{AllByRecursion}
 use Rattle.hex.specs.Hex.{IsBytes, encode_lower, encode_with, lower_digits}
 use Rattle.runs.proofs.CallLemmas.{AllByRecursion-append}
 use Rattle.captures.specs.Framed.{address_at, captured_limit, cooked_type, ethernet_header}
 use Rattle.captures.specs.Framed.{family_type, framed, framed_behind, framed_packet, head_len}
+use Rattle.captures.specs.Framed.{frame_by, reason_on, told_by, told_frame, told_of}
 use Rattle.captures.specs.Framed.{ip_type, made_header, no_address, null_family}
 use Rattle.captures.specs.declared.link.frame.Header.{Header}
 use Rattle.captures.specs.Numbers.{half, word}
@@ -17,6 +18,11 @@ use Rattle.captures.specs.declared.byte_order.ByteOrder.TheVariants.{Big}
 use Rattle.captures.specs.declared.limits.TheConstants.{FRAME_LIMIT}
 use Rattle.captures.specs.declared.link.kind.Link.{Link}
 use Rattle.captures.specs.declared.link.kind.Link.TheVariants.{Ethernet, Ip, Null, Loop, Sll, Sll2}
+use Rattle.captures.specs.declared.link.kind.Link.TheVariants.{Other}
+use Rattle.captures.specs.declared.translation.skipped.Reason.{Reason}
+use Rattle.captures.specs.declared.translation.skipped.Reason.TheVariants.{NoFrame, TooLong}
+use Rattle.captures.specs.declared.unfit.Unfit.TheVariants.{Refuse, Skip}
+use Rattle.captures.specs.declared.unfit.Unfit.{Unfit}
 use Rattle.captures.proofs.ByteLemmas.{Bytes, bytes_at, bytes_drop}
 
 -- a header that was made, before what follows the packet's own
@@ -84,6 +90,7 @@ is_made Loop packet frame is other =
     let long = ltb-false (length packet) 4 n.0 in
     behind_is Loop packet no_address frame (family_type (word Big packet 0)) refl
     (λ all. no_bytes) (omega arith) n.1
+is_made Other packet frame is other = absurd (let e : None ≡ Some frame = is in cc)
 is_made Sll packet frame is other =
     let n = not_short (nat_lt (length packet) 16) _ frame is in
     let long = ltb-false (length packet) 16 n.0 in
@@ -129,6 +136,7 @@ by_link Ethernet packet frame is = inl (cc, refl)
 by_link Ip packet frame is = inr (is_made Ip packet frame is (λ e. cc e))
 by_link Null packet frame is = inr (is_made Null packet frame is (λ e. cc e))
 by_link Loop packet frame is = inr (is_made Loop packet frame is (λ e. cc e))
+by_link Other packet frame is = inr (is_made Other packet frame is (λ e. cc e))
 by_link Sll packet frame is = inr (is_made Sll packet frame is (λ e. cc e))
 by_link Sll2 packet frame is = inr (is_made Sll2 packet frame is (λ e. cc e))
 
@@ -177,6 +185,48 @@ pub frame_len : (link : Link) (packet : List ℕ) (found : Option (List ℕ))
     → found ≡ framed link packet → IfSome found (λ frame. length frame ≤ length packet + 14)
 frame_len link packet (Some frame) is = framed_len link packet frame (sym is)
 frame_len link packet None is = tt
+
+-- ---- what is told of a packet
+
+found_told : (reason : Reason) (found : Option (List ℕ)) (frame : List ℕ)
+    → told_by reason found ≡ Ok frame → found ≡ Some frame
+found_told reason (Some f) frame is = cc
+found_told reason None frame is = absurd (cc)
+
+told_is : (link : Link) (long : Bool) (found : Option (List ℕ)) (frame : List ℕ)
+    → (if long then Err (reason_on link TooLong) else told_by (reason_on link NoFrame) found)
+    ≡ Ok frame → (long ≡ false) × (found ≡ Some frame)
+told_is link true found frame is = absurd (cc)
+told_is link false found frame is = (refl, found_told (reason_on link NoFrame) found frame is)
+
+by_told : (unfit : Unfit) (told : Result (List ℕ) Reason) (frame : List ℕ)
+    → frame_by unfit told ≡ Some frame → (told ≡ Ok frame) ⊎ (frame ≡ [])
+by_told unfit (Ok f) frame is = inl (cc)
+by_told Refuse (Err reason) frame is = absurd (cc)
+by_told Skip (Err reason) frame is = inr (cc)
+
+pub told_fits : (unfit : Unfit) (link : Link) (packet frame : List ℕ)
+    → told_frame unfit link packet ≡ Some frame → length frame ≤ FRAME_LIMIT
+told_fits unfit link packet frame is =
+    elim (by_told unfit (told_of link packet) frame is) [
+      | inl told ↦
+          (let long = nat_lt (captured_limit link) (length packet) in
+          let found = told_is link long (framed link packet) frame told in
+          framed_fits link packet frame (ltb-false (captured_limit link) (length packet) found.0)
+          found.1)
+      | inr none ↦ (let size = ap length none in omega arith)
+    ]
+
+pub told_bytes : (unfit : Unfit) (link : Link) (packet frame : List ℕ) → Bytes packet
+    → told_frame unfit link packet ≡ Some frame → Bytes frame
+told_bytes unfit link packet frame bytes is =
+    elim (by_told unfit (told_of link packet) frame is) [
+      | inl told ↦
+          (let long = nat_lt (captured_limit link) (length packet) in
+          framed_bytes link packet frame bytes
+          (told_is link long (framed link packet) frame told).1)
+      | inr none ↦ subst Bytes (sym none) tt
+    ]
 
 -- ---- hex digits of a header and of what follows it
 

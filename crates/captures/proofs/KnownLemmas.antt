@@ -5,20 +5,21 @@ use Rattle.std.specs.Io.KnownBytes.{Appends}
 use Rattle.runs.specs.Known.{Known, KnownCall}
 use Rattle.runs.proofs.KnownLemmas.{goes_ok}
 use Rattle.captures.specs.declared.translation.run_error.RunError.{RunError}
+use Rattle.captures.specs.declared.translation.skipped.Skipped.{Skipped}
+use Rattle.captures.specs.declared.unfit.Unfit.{Unfit}
 use Rattle.captures.specs.Endings.{cause}
 use Rattle.captures.specs.Lines.{Packet, lines_of}
 use Rattle.captures.specs.Runs.{IsCapture, Runs, capture_to_lines}
 use Rattle.captures.specs.Spelling.{TimedFrame, capture_of}
 use Rattle.captures.specs.Texts.{IsText, WritesCapture, lines_to_capture}
 
-pub runs_ok : (limit : ℕ) (a b : Known) (result : Result Unit RunError)
-    → Runs KnownCall limit a b result
-    → OnOk result (IfSome a.input (λ bytes. (packets : List Packet) × IsCapture bytes packets
-    × Appends a.output b.output (lines_of packets)))
-runs_ok limit a b result runs =
-    goes_ok capture_to_lines cause limit a b (λ bytes. (packets : List Packet) × IsCapture bytes
-    packets
-    × Appends a.output b.output (lines_of packets))
+pub runs_ok : (unfit : Unfit) (skipped : Skipped) (limit : ℕ) (a b : Known)
+    (result : Result Unit RunError) → Runs unfit skipped KnownCall limit a b result
+    → OnOk result (IfSome a.input (λ bytes. (packets : List Packet)
+    × IsCapture unfit bytes packets skipped × Appends a.output b.output (lines_of packets)))
+runs_ok unfit skipped limit a b result runs =
+    goes_ok (capture_to_lines unfit skipped) cause limit a b (λ bytes. (packets : List Packet)
+    × IsCapture unfit bytes packets skipped × Appends a.output b.output (lines_of packets))
     (λ read written whole appended.
     (whole.0, whole.1, subst (Appends a.output b.output) whole.2 appended)) result runs
 

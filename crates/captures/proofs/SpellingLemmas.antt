@@ -1,9 +1,18 @@
 -- What is written is read again.
-use Rattle.std.proofs.Common.{◌≡◌, ◌∙◌, sym, ap, refl, ℕ, ◌+◌, ◌*◌, ◌/◌, ◌%◌, ◌^◌, ◌<◌, ◌≤◌, arith, ◌==◌, Bool, true, false}
-use Rattle.std.proofs.Common.{List, [], ◌∷◌, ◌++◌, length, inl, append-nil, Some}
+use Rattle.std.proofs.Common.{◌≡◌, ◌∙◌, sym, ap, refl, ℕ, ◌+◌, ◌*◌, ◌/◌, ◌%◌, ◌^◌, ◌<◌, ◌≤◌}
+use Rattle.std.proofs.Common.{arith, ◌==◌, Bool, true, false}
+use Rattle.std.proofs.Common.{List, [], ◌∷◌, ◌++◌, length, inl, append-nil, Some, le-ltb}
+use Rattle.std.proofs.Common.{Result, Ok}
 use Rattle.std.specs.Prelude.{if◌then◌else◌}
 use Rattle.std.specs.List.{AllByRecursion, flat_map}
-use Rattle.captures.specs.Framed.{framed}
+use Rattle.captures.specs.Framed.{captured_limit, frame_by, link_for, taken_limit, told_by, told_of}
+use Rattle.captures.specs.Skipping.{counted_by, none_skipped, passing_from}
+use Rattle.captures.specs.declared.translation.skipped.Passing.{Passing}
+use Rattle.captures.specs.declared.translation.skipped.Reason.{Reason}
+use Rattle.captures.specs.declared.translation.skipped.Reason.TheVariants.{NoFrame}
+use Rattle.captures.specs.declared.translation.state.State.{State}
+use Rattle.captures.specs.declared.unfit.Unfit.TheVariants.{Refuse, Skip}
+use Rattle.captures.specs.declared.unfit.Unfit.{Unfit}
 use Rattle.captures.specs.Pcap.{IsPacketRecord}
 use Rattle.captures.specs.Runs.{IsCapture}
 use Rattle.captures.specs.Spelling.{TimedFrame, file_header, record_head, record_of, capture_of}
@@ -30,20 +39,32 @@ record_is timed fits = record {
 
 -- an Ethernet packet is its frame, if it has bytes or none
 either_way : (none : Bool) (frame : List ℕ)
-    → (if none then Some frame else Some frame) ≡ Some frame
+    → told_by NoFrame (if none then Some frame else Some frame) ≡ Ok frame
 either_way true frame = refl
 either_way false frame = refl
 
-own_frame : (frame : List ℕ) → framed Ethernet frame ≡ Some frame
-own_frame frame = either_way (length frame == 0) frame
+own_told : (frame : List ℕ) → length frame ≤ FRAME_LIMIT → told_of Ethernet frame ≡ Ok frame
+own_told frame short =
+    rw (le-ltb (captured_limit Ethernet) (length frame) (omega arith))
+    (either_way (length frame == 0) frame)
 
-is_unit : (timed : TimedFrame) → length timed.frame ≤ FRAME_LIMIT
-    → IsRecordUnit Little Ethernet (record_of timed) timed.frame
-is_unit timed fits = record {
+own_fits : (unfit : Unfit) (frame : List ℕ) → length frame ≤ FRAME_LIMIT
+    → length frame ≤ taken_limit unfit Ethernet
+own_fits Refuse frame short = omega arith
+own_fits Skip frame short = omega arith
+
+abbrev at_frames : Passing → State
+at_frames passing = Classic Little Ethernet passing
+
+is_unit : (passing : Passing) (timed : TimedFrame) → length timed.frame ≤ FRAME_LIMIT
+    → IsRecordUnit Little Ethernet passing (record_of timed) (at_frames passing) timed.frame
+is_unit passing timed fits = record {
   packet = timed.frame;
   is_record = record_is timed fits;
-  fits = omega arith;
-  is_framed = own_frame timed.frame;
+  fits = own_fits passing.unfit timed.frame fits;
+  is_told = ap (frame_by passing.unfit) (own_told timed.frame fits);
+  next = ap (λ (told : Result (List ℕ) Reason). at_frames (counted_by passing told))
+      (sym (own_told timed.frame fits));
 }
 
 units_of : List TimedFrame → List (List ℕ)
@@ -56,50 +77,53 @@ unfolding units_of
 in_a_row-units_of [] = refl
 in_a_row-units_of (timed ∷ frames) = ap (λ l. record_of timed ++ l) (in_a_row-units_of frames)
 
-row_of : (frames : List TimedFrame)
+row_of : (passing : Passing) (frames : List TimedFrame)
     → AllByRecursion (λ timed. length timed.frame ≤ FRAME_LIMIT) frames
-    → Row (Classic Little Ethernet) (units_of frames) (packets_in frames) (Classic Little Ethernet)
+    → Row (at_frames passing) (units_of frames) (packets_in frames) (at_frames passing)
 unfolding units_of
-row_of [] all = (refl, refl)
-row_of (timed ∷ frames) all = (
-  Classic Little Ethernet,
+row_of passing [] all = (refl, refl)
+row_of passing (timed ∷ frames) all = (
+  at_frames passing,
   0,
   timed.frame,
-  packets_in
-      frames,
-  (is_unit timed all.0, refl, refl),
-  row_of frames all.1,
+  packets_in frames,
+  (is_unit passing timed all.0, refl),
+  row_of passing frames all.1,
   refl,
 )
 
-header_is : OpensFile file_header (Classic Little Ethernet)
-header_is = record {
+known_link : (unfit : Unfit) → link_for unfit 1 ≡ Some Ethernet
+known_link Refuse = refl
+known_link Skip = refl
+
+header_is : (unfit : Unfit) → OpensFile unfit file_header (at_frames (passing_from unfit))
+header_is unfit = record {
   order = Little;
   link = Ethernet;
   header = record { size = refl; magic = refl; major = refl; minor = refl };
-  known = refl;
+  known = known_link unfit;
   next = refl;
 }
 
-pub capture_is : (frames : List TimedFrame)
+pub capture_is : (unfit : Unfit) (frames : List TimedFrame)
     → AllByRecursion (λ timed. length timed.frame ≤ FRAME_LIMIT) frames
-    → IsCapture (capture_of frames) (packets_in frames)
-capture_is frames all = record {
-  state = Classic Little Ethernet;
+    → IsCapture unfit (capture_of frames) (packets_in frames) none_skipped
+capture_is unfit frames all = record {
+  state = at_frames (passing_from unfit);
   passes = record {
     units = file_header ∷ units_of frames;
     row = (
-      Classic Little Ethernet,
+      at_frames (passing_from unfit),
       0,
       [],
       packets_in frames,
-      inl
-          (header_is, refl),
-      row_of frames all,
+      inl (header_is unfit, refl),
+      row_of (passing_from unfit) frames all,
       refl,
     );
     parts = ap (λ l. file_header ++ l) (sym (in_a_row-units_of frames))
         ∙ sym (append-nil (file_header ++ in_a_row (units_of frames)));
   };
   known = λ e. cc e;
+  counts = refl;
 }

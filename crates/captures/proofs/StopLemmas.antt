@@ -4,18 +4,19 @@ use Rattle.std.proofs.Common.{arith, List, [], ◌∷◌, ◌++◌, length, appe
 use Rattle.std.proofs.Common.{inr, Option, Some, None}
 use Rattle.std.specs.Prelude.{IsTrue, slice_index}
 use Rattle.hex.specs.Hex.{IsBytes}
-use Rattle.captures.specs.Framed.{captured_limit, framed, link_of}
+use Rattle.captures.specs.Framed.{told_frame, link_for}
 use Rattle.captures.specs.Lines.{Packet, lines_of}
 use Rattle.captures.specs.Numbers.{word}
-use Rattle.captures.specs.Pcap.{is_magic, IsPacketRecord, link_type}
+use Rattle.captures.specs.Pcap.{is_magic, link_type}
 use Rattle.captures.specs.Pcapng.{Content, HasOrder, Says, Reads, IsSkipped, RefusesBlock}
-use Rattle.captures.specs.Pcapng.{section_header, links_with}
+use Rattle.captures.specs.Pcapng.{section_header}
 use Rattle.captures.specs.Pcapng.Content.{Opens, Describes, Holds}
 use Rattle.captures.specs.Runs.{IsCapture}
-use Rattle.captures.specs.Units.{IsUnit, IsBlockUnit, IsRecordUnit, OpensFile, Row, in_a_row, no_section}
+use Rattle.captures.specs.Units.{IsUnit, IsBlockUnit, IsRecordUnit, OpensFile, Row, in_a_row}
+use Rattle.captures.specs.Units.{no_section}
 use Rattle.captures.specs.Units.{HasNoFrame, IsShortBlock, IsShortRecord, HasLongFrame, HasLinkType}
 use Rattle.captures.specs.Units.{HasBadLength, HasRefusedBlock, RefusesAt, RefusesFirst}
-use Rattle.captures.specs.Units.{BeginsSection, IsLeft, Takes}
+use Rattle.captures.specs.Units.{BeginsSection, IsLeft, Takes, skipped_in}
 use Rattle.captures.specs.declared.byte_order.ByteOrder.{ByteOrder}
 use Rattle.captures.specs.declared.byte_order.ByteOrder.TheVariants.{Big, Little}
 use Rattle.captures.specs.declared.capture_error.CaptureError.{CaptureError}
@@ -25,7 +26,10 @@ use Rattle.captures.specs.declared.capture_error.CaptureError.TheVariants.{Block
 use Rattle.captures.specs.declared.capture_error.CaptureError.TheVariants.{NoFrame}
 use Rattle.captures.specs.declared.link.kind.Link.{Link}
 use Rattle.captures.specs.declared.pcapng.section.Section.{Section}
+use Rattle.captures.specs.declared.translation.skipped.Passing.{Passing}
+use Rattle.captures.specs.declared.translation.skipped.Skipped.{Skipped}
 use Rattle.captures.specs.declared.translation.state.State.{State}
+use Rattle.captures.specs.declared.unfit.Unfit.{Unfit}
 use Rattle.captures.specs.declared.translation.state.State.TheVariants.{Start, Classic, Pcapng}
 use Rattle.captures.proofs.AloneLemmas.{becomes_as, content_at, content_is, front_same, rest_same}
 use Rattle.captures.proofs.AloneLemmas.{bytes_behind, order_alone}
@@ -170,7 +174,7 @@ module _ (bytes u r : List ℕ) (all : IsBytes bytes) (parts : bytes ≡ u ++ r)
     not_at BadBlock (size, inr (inr refused)) = not_refused BadBlock refused
 
   -- a file header
-  module _ (o : OpensFile u after) where
+  module _ (unfit : Unfit) (o : OpensFile unfit u after) where
     no_kind : word Big bytes 0 ≡ section_header → ⊥
     no_kind kind =
         let size = o.header.size in
@@ -178,7 +182,7 @@ module _ (bytes u r : List ℕ) (all : IsBytes bytes) (parts : bytes ≡ u ++ r)
         (subst (λ (n : ℕ). IsTrue (is_magic n))
         (sym (word_of o.order bytes u r 0 parts (omega arith))) o.header.magic) kind
 
-    not_link_type : (number : ℕ) → HasLinkType bytes number → ⊥
+    not_link_type : (number : ℕ) → HasLinkType unfit bytes number → ⊥
     not_link_type number h =
         let size = o.header.size in
         let size' = h.is_header.size in
@@ -189,11 +193,11 @@ module _ (bytes u r : List ℕ) (all : IsBytes bytes) (parts : bytes ≡ u ++ r)
         (sym (word_of h.order bytes h.header h.rest 0 h.parts (omega arith)))
         h.is_header.magic in
         let order = file_order o.order h.order bytes all magic magic' in
-        some_and_none _ o.link (ap link_of (sym h.told
+        some_and_none _ o.link (ap (link_for unfit) (sym h.told
         ∙ ap₂ (λ (p : ByteOrder) (l : List ℕ). link_type p l) (sym order) (sym same))
         ∙ o.known) h.other
 
-    not_first : (error : CaptureError) → RefusesFirst bytes error → ⊥
+    not_first : (error : CaptureError) → RefusesFirst unfit bytes error → ⊥
     not_first NotCapture refuses = refuses.0 o.order u r parts o.header
     not_first (LinkType number) (inl h) = not_link_type number h
     not_first (LinkType number) (inr h) = no_kind h.0.0
@@ -205,27 +209,27 @@ module _ (bytes u r : List ℕ) (all : IsBytes bytes) (parts : bytes ≡ u ++ r)
 
   -- a section header
   module _ (kind : word Big u 0 ≡ section_header)
-      (b : IsBlockUnit no_section u after channel frame) where
+      (unfit : Unfit) (b : IsBlockUnit (no_section unfit) u after channel frame) where
     kind_in : word Big bytes 0 ≡ section_header
     kind_in = let l = b.block.size in word_of Big bytes u r 0 parts (omega arith) ∙ kind
 
     begins : BeginsSection bytes
     begins = (
       kind_in,
-      elim (order_more no_section.order b.order bytes u r parts b.block.size b.has_order) [
+      elim (order_more (no_section unfit).order b.order bytes u r parts b.block.size b.has_order) [
         | inl h ↦ absurd (h.0 kind_in)
         | inr h ↦ (b.order, h.1)
       ],
     )
 
-    long_enough : (content : Content) → Says no_section b.order u content → 28 ≤ length u
+    long_enough : (content : Content) → Says (no_section unfit) b.order u content → 28 ≤ length u
     long_enough content says =
         let l = b.block.size in
         let own = sym (word_of b.order bytes u r 0 parts (omega arith))
         ∙ section_kind b.order bytes all kind_in in
-        opens no_section b.order u content says own
+        opens (no_section unfit) b.order u content says own
 
-    not_section : (error : CaptureError) → RefusesFirst bytes error → ⊥
+    not_section : (error : CaptureError) → RefusesFirst unfit bytes error → ⊥
     not_section NotCapture refuses = let l = long_enough b.reads.content b.reads.says in
         let f = fits in refuses.1 (omega arith) begins
     not_section (LinkType number) (inl h) =
@@ -234,16 +238,18 @@ module _ (bytes u r : List ℕ) (all : IsBytes bytes) (parts : bytes ≡ u ++ r)
         (subst (λ (n : ℕ). IsTrue (is_magic n))
         (sym (word_of h.order bytes h.header h.rest 0 h.parts (omega arith)))
         h.is_header.magic) kind_in
-    not_section (LinkType number) (inr h) = not_at no_section b (LinkType number) h.1
+    not_section (LinkType number) (inr h) = not_at (no_section unfit) b (LinkType number) h.1
     not_section (FrameTooLong captured) refuses =
-        not_at no_section b (FrameTooLong captured) refuses.1
-    not_section NoFrame refuses = not_at no_section b NoFrame refuses.1
+        not_at (no_section unfit) b (FrameTooLong captured) refuses.1
+    not_section NoFrame refuses = not_at (no_section unfit) b NoFrame refuses.1
     not_section CutOff refuses = refuses
-    not_section (BlockTooLong len) refuses = not_at no_section b (BlockTooLong len) refuses.1
-    not_section BadBlock refuses = not_at no_section b BadBlock refuses.1
+    not_section (BlockTooLong len) refuses =
+        not_at (no_section unfit) b (BlockTooLong len) refuses.1
+    not_section BadBlock refuses = not_at (no_section unfit) b BadBlock refuses.1
 
   -- a packet record
-  module _ (order : ByteOrder) (link : Link) (i : IsRecordUnit order link u frame) where
+  module _ (order : ByteOrder) (link : Link) (passing : Passing)
+      (i : IsRecordUnit order link passing u after frame) where
     long_record : 16 ≤ length u
     long_record =
         let p = i.is_record in
@@ -260,7 +266,7 @@ module _ (bytes u r : List ℕ) (all : IsBytes bytes) (parts : bytes ≡ u ++ r)
         (front_same bytes head rest p.head (i.packet ++ r) parts' front (size ∙ sym p.size))
         ∙ p.captured
 
-    not_cut : IsShortRecord order link bytes → ⊥
+    not_cut : IsShortRecord order link passing.unfit bytes → ⊥
     not_cut h =
         let p = i.is_record in
         let told = head_is h.head h.body h.parts h.size in
@@ -272,7 +278,7 @@ module _ (bytes u r : List ℕ) (all : IsBytes bytes) (parts : bytes ≡ u ++ r)
         let f = fits in
         absurd (omega (arith, length-append h.head h.body, length-append p.head i.packet))
 
-    not_long : (captured : ℕ) → HasLongFrame order link bytes captured → ⊥
+    not_long : (captured : ℕ) → HasLongFrame order link passing.unfit bytes captured → ⊥
     not_long captured h =
         let told = head_is h.head h.rest h.parts h.size in
         let same = h.told in
@@ -281,7 +287,7 @@ module _ (bytes u r : List ℕ) (all : IsBytes bytes) (parts : bytes ≡ u ++ r)
         absurd (omega arith)
 
     -- the packet without a frame would be this one
-    not_unframed : HasNoFrame order link bytes → ⊥
+    not_unframed : HasNoFrame order link passing.unfit bytes → ⊥
     not_unframed h =
         let p = i.is_record in
         let p' = h.is_record in
@@ -295,49 +301,52 @@ module _ (bytes u r : List ℕ) (all : IsBytes bytes) (parts : bytes ≡ u ++ r)
         let same : h.packet ≡ i.packet =
         front_same (h.packet ++ h.rest) h.packet h.rest i.packet r refl behind
         (sym p'.captured ∙ told) in
-        some_and_none _ frame (ap (framed link) same ∙ i.is_framed) h.none
+        some_and_none _ frame (ap (told_frame passing.unfit link) same ∙ i.is_told) h.none
 
 -- ---- so none is the front of what is left
 
 left_no_unit : (state : State) (bytes u r : List ℕ) → IsBytes bytes → bytes ≡ u ++ r
     → (after : State) (channel : ℕ) (frame : List ℕ) → IsUnit state u after channel frame
     → (refusal : Option CaptureError) → IsLeft state bytes refusal → ⊥
-left_no_unit Start bytes u r all parts after channel frame (inl i) None (inl few) = let size =
-    i.0.header.size in let f = fits bytes u r all parts after channel frame in absurd (omega arith)
-left_no_unit Start bytes u r all parts after channel frame (inl i) None (inr h) =
-    no_kind bytes u r all parts after channel frame i.0 h.0
-left_no_unit Start bytes u r all parts after channel frame (inr i) None (inl few) =
-    let l = long_enough bytes u r all parts after channel frame i.0 i.1
+left_no_unit (Start unfit) bytes u r all parts after channel frame (inl i) None (inl few) =
+    let size = i.0.header.size in
+    let f = fits bytes u r all parts after channel frame in
+    absurd (omega arith)
+left_no_unit (Start unfit) bytes u r all parts after channel frame (inl i) None (inr h) =
+    no_kind bytes u r all parts after channel frame unfit i.0 h.0
+left_no_unit (Start unfit) bytes u r all parts after channel frame (inr i) None (inl few) =
+    let l = long_enough bytes u r all parts after channel frame i.0 unfit i.1
     i.1.reads.content i.1.reads.says in
     let f = fits bytes u r all parts after channel frame in
     absurd (omega arith)
-left_no_unit Start bytes u r all parts after channel frame (inr i) None (inr h) =
-    not_short bytes u r all parts after channel frame no_section i.1 h.1
-left_no_unit Start bytes u r all parts after channel frame (inl i) (Some error) refuses =
-    not_first bytes u r all parts after channel frame i.0 error refuses.1
-left_no_unit Start bytes u r all parts after channel frame (inr i) (Some error) refuses =
-    not_section bytes u r all parts after channel frame i.0 i.1 error refuses.1
-left_no_unit (Classic order link) bytes u r all parts after channel frame i None (inl few) =
-    let l = long_record bytes u r all parts after channel frame order link i.0 in
+left_no_unit (Start unfit) bytes u r all parts after channel frame (inr i) None (inr h) =
+    not_short bytes u r all parts after channel frame (no_section unfit) i.1 h.1
+left_no_unit (Start unfit) bytes u r all parts after channel frame (inl i) (Some error) refuses =
+    not_first bytes u r all parts after channel frame unfit i.0 error refuses.1
+left_no_unit (Start unfit) bytes u r all parts after channel frame (inr i) (Some error) refuses =
+    not_section bytes u r all parts after channel frame i.0 unfit i.1 error refuses.1
+left_no_unit (Classic order link passing) bytes u r all parts after channel frame i None (inl few) =
+    let l = long_record bytes u r all parts after channel frame order link passing i.0 in
     let f = fits bytes u r all parts after channel frame in
     absurd (omega arith)
-left_no_unit (Classic order link) bytes u r all parts after channel frame i None (inr h) =
-    not_cut bytes u r all parts after channel frame order link i.0 h
-left_no_unit (Classic order link) bytes u r all parts after channel frame i (Some NotCapture) refuses =
-    refuses
-left_no_unit (Classic order link) bytes u r all parts after channel frame i
+left_no_unit (Classic order link passing) bytes u r all parts after channel frame i None (inr h) =
+    not_cut bytes u r all parts after channel frame order link passing i.0 h
+left_no_unit (Classic order link passing) bytes u r all parts after channel frame i
+    (Some NotCapture) refuses = refuses
+left_no_unit (Classic order link passing) bytes u r all parts after channel frame i
     (Some (LinkType number)) refuses = refuses
-left_no_unit (Classic order link) bytes u r all parts after channel frame i
+left_no_unit (Classic order link passing) bytes u r all parts after channel frame i
     (Some (FrameTooLong captured)) refuses =
-    not_long bytes u r all parts after channel frame order link i.0 captured refuses
-left_no_unit (Classic order link) bytes u r all parts after channel frame i (Some NoFrame) refuses =
-    not_unframed bytes u r all parts after channel frame order link i.0 refuses
-left_no_unit (Classic order link) bytes u r all parts after channel frame i (Some CutOff) refuses =
-    refuses
-left_no_unit (Classic order link) bytes u r all parts after channel frame i
+    not_long bytes u r all parts after channel frame order link passing i.0 captured refuses
+left_no_unit (Classic order link passing) bytes u r all parts after channel frame i
+    (Some NoFrame) refuses =
+    not_unframed bytes u r all parts after channel frame order link passing i.0 refuses
+left_no_unit (Classic order link passing) bytes u r all parts after channel frame i
+    (Some CutOff) refuses = refuses
+left_no_unit (Classic order link passing) bytes u r all parts after channel frame i
     (Some (BlockTooLong len)) refuses = refuses
-left_no_unit (Classic order link) bytes u r all parts after channel frame i (Some BadBlock) refuses =
-    refuses
+left_no_unit (Classic order link passing) bytes u r all parts after channel frame i
+    (Some BadBlock) refuses = refuses
 left_no_unit (Pcapng section) bytes u r all parts after channel frame i None (inl few) = let size =
     i.block.size in let f = fits bytes u r all parts after channel frame in absurd (omega arith)
 left_no_unit (Pcapng section) bytes u r all parts after channel frame i None (inr h) =
@@ -349,9 +358,10 @@ rows_alone : (state : State) (us vs : List (List ℕ)) (ps qs : List Packet) (af
     (rest rest' : List ℕ) (refusal refusal' : Option CaptureError)
     → IsBytes (in_a_row us ++ rest) → in_a_row us ++ rest ≡ in_a_row vs ++ rest' → Row state us ps
     after
-    → Row state vs qs after' → IsLeft after rest refusal → IsLeft after' rest' refusal' → ps ≡ qs
+    → Row state vs qs after' → IsLeft after rest refusal → IsLeft after' rest' refusal'
+    → (ps ≡ qs) × (after ≡ after')
 rows_alone state [] [] ps qs after after' rest rest' refusal refusal' all same row row' left left' =
-    row.0 ∙ sym row'.0
+    (row.0 ∙ sym row'.0, row.1 ∙ sym row'.1)
 rows_alone state [] (v ∷ vs) ps qs after after' rest rest' refusal refusal' all
     same row row' left left' =
     absurd (left_no_unit state rest v (in_a_row vs ++ rest') all
@@ -376,30 +386,32 @@ rows_alone state (u ∷ us) (v ∷ vs) ps qs after after' rest rest' refusal ref
     let later' = subst (λ (s : State). Row s vs row'.3 after') (sym one.1) row'.5 in
     let later = rows_alone row.0 us vs row.3 row'.3 after after' rest rest' refusal refusal'
     (bytes_behind u (in_a_row us ++ rest) bytes') behind row.5 later' left left' in
-    row.6 ∙ ap₂ (λ (a b : List Packet). a ++ b) one.2 later ∙ sym row'.6
+    (row.6 ∙ ap₂ (λ (a b : List Packet). a ++ b) one.2 later.0 ∙ sym row'.6, later.1)
 
-pub told_alone : (bytes rest rest' text text' : List ℕ) (count count' : ℕ) (state state' : State)
-    (refusal refusal' : Option CaptureError) → IsBytes bytes
-    → Takes Start bytes state rest count text refusal
-    → Takes Start bytes state' rest' count' text' refusal' → text ≡ text'
-told_alone bytes rest rest' text text' count count' state state' refusal refusal' all t t' =
+pub told_alone : (unfit : Unfit) (bytes rest rest' text text' : List ℕ) (count count' : ℕ)
+    (state state' : State) (refusal refusal' : Option CaptureError) → IsBytes bytes
+    → Takes (Start unfit) bytes state rest count text refusal
+    → Takes (Start unfit) bytes state' rest' count' text' refusal' → text ≡ text'
+told_alone unfit bytes rest rest' text text' count count' state state' refusal refusal' all t t' =
     let p = t.passes in
     let p' = t'.passes in
-    let same = rows_alone Start p.units p'.units t.packets t'.packets state state' rest rest'
-    refusal refusal' (subst IsBytes p.parts all)
+    let same = rows_alone (Start unfit) p.units p'.units t.packets t'.packets state state'
+    rest rest' refusal refusal' (subst IsBytes p.parts all)
     (sym p.parts ∙ p'.parts) p.row p'.row t.left t'.left in
-    t.told ∙ ap lines_of same ∙ sym t'.told
+    t.told ∙ ap lines_of same.0 ∙ sym t'.told
 
 nothing_left : (state : State) → IsLeft state [] None
-nothing_left Start = inl (omega arith)
-nothing_left (Classic order link) = inl (omega arith)
+nothing_left (Start unfit) = inl (omega arith)
+nothing_left (Classic order link passing) = inl (omega arith)
 nothing_left (Pcapng section) = inl (omega arith)
 
-pub capture_alone : (bytes : List ℕ) (packets packets' : List Packet) → IsBytes bytes
-    → IsCapture bytes packets → IsCapture bytes packets' → packets ≡ packets'
-capture_alone bytes packets packets' all capture capture' =
+pub capture_alone : (unfit : Unfit) (bytes : List ℕ) (packets packets' : List Packet)
+    (skipped skipped' : Skipped) → IsBytes bytes → IsCapture unfit bytes packets skipped
+    → IsCapture unfit bytes packets' skipped' → (packets ≡ packets') × (skipped ≡ skipped')
+capture_alone unfit bytes packets packets' skipped skipped' all capture capture' =
     let p = capture.passes in
     let p' = capture'.passes in
-    rows_alone Start p.units p'.units packets packets' capture.state capture'.state [] [] None None
-    (subst IsBytes p.parts all) (sym p.parts ∙ p'.parts) p.row p'.row
-    (nothing_left capture.state) (nothing_left capture'.state)
+    let same = rows_alone (Start unfit) p.units p'.units packets packets' capture.state
+    capture'.state [] [] None None (subst IsBytes p.parts all) (sym p.parts ∙ p'.parts)
+    p.row p'.row (nothing_left capture.state) (nothing_left capture'.state) in
+    (same.0, sym capture.counts ∙ ap skipped_in same.1 ∙ capture'.counts)

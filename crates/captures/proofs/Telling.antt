@@ -1,5 +1,6 @@
 -- What a run from captures to lines makes of its input.
-use Rattle.std.proofs.Common.{◌≡◌, ◌≢◌, ◌∙◌, sym, ap, subst, refl, ℕ, ◌+◌, ◌-◌, ◌^◌, ◌<◌, ◌≤◌, arith, Bool}
+use Rattle.std.proofs.Common.{◌≡◌, ◌≢◌, ◌∙◌, sym, ap, subst, refl, ℕ, ◌+◌, ◌-◌, ◌^◌, ◌<◌}
+use Rattle.std.proofs.Common.{◌≤◌, arith, append-nil, Bool}
 use Rattle.std.proofs.Common.{true, false, List, [], ◌∷◌, ◌++◌, length, length-append, Option, Some}
 use Rattle.std.proofs.Common.{None, Result, Err, inl, inr, ltb-true, ltb-false}
 use Rattle.std.specs.Prelude.{◌⊎◌, min, nat_lt, if◌then◌else◌}
@@ -14,98 +15,106 @@ use Rattle.captures.specs.declared.place.Place.{Place}
 use Rattle.captures.specs.declared.translation.refusal.Refusal.{Refusal}
 use Rattle.captures.specs.declared.translation.refusal.Refusal.TheVariants.{InCapture}
 use Rattle.captures.specs.declared.translation.state.State.{State}
+use Rattle.captures.specs.declared.unfit.Unfit.{Unfit}
 use Rattle.captures.specs.declared.translation.state.State.TheVariants.{Start, Classic, Pcapng}
 use Rattle.captures.specs.Dropped.{IsDropped, Leaves, dropped_len}
 use Rattle.captures.specs.Lines.{lines_of}
-use Rattle.captures.specs.Places.{IsPlace, capped, block_type}
-use Rattle.captures.specs.Units.{Takes, IsNoCapture, in_a_row}
+use Rattle.captures.specs.Numbers.{capped}
+use Rattle.captures.specs.Places.{IsPlace, block_type}
+use Rattle.captures.specs.Skipping.{none_skipped}
+use Rattle.captures.specs.Units.{Takes, IsNoCapture, in_a_row, skipped_in}
 use Rattle.captures.specs.Runs.{IsRefused, result_at_end, capture_to_lines}
 use Rattle.captures.specs.Translations.{Begins, Translates, Finishes, IsWhole}
 use Rattle.captures.proofs.SkipLemmas.{takes_piece, dropped_size}
 use Rattle.captures.proofs.UnitLemmas.{passes_start, takes_more, passes_to_start, no_capture_begun}
 
 -- the place of the first unit
-place_first : (read rest : List ℕ) (count : ℕ) (place : Place) → read ≡ rest → count ≡ 0
-    → IsPlace Start count read rest place → IsPlace Start 0 read read place
-place_first read rest count place same none at =
-    subst (λ n. IsPlace Start n read read place) none
-    (subst (λ (r : List ℕ). IsPlace Start count read r place) (sym same) at)
+place_first : (unfit u : Unfit) (read rest : List ℕ) (count : ℕ) (place : Place) → read ≡ rest
+    → count ≡ 0 → IsPlace (Start u) count read rest place → IsPlace (Start unfit) 0 read read place
+place_first unfit u read rest count place same none at =
+    let here = subst (λ n. IsPlace (Start u) n read read place) none
+    (subst (λ (r : List ℕ). IsPlace (Start u) count read r place) (sym same) at) in
+    record { packet = here.packet; offset = here.offset; block = here.block }
 
 capped_more : (limit m n : ℕ) → min (min m limit + n) limit ≡ min (m + n) limit
 capped_more limit m n = omega arith
 
 -- what is written where a capture is refused before its end
-refused_outcome : (told : Bool) (read written : List ℕ) (state : State)
+refused_outcome : (unfit : Unfit) (told : Bool) (read written : List ℕ) (state : State)
     (rest : List ℕ) (count : ℕ) (error : CaptureError) (place : Place)
-    → Takes Start read state rest count written (Some error)
-    → IsPlace state count read rest place → IsRefused (InCapture error place) told read written
-refused_outcome told read written Start rest count NotCapture place takes at =
-    let same = passes_to_start read rest takes.packets takes.passes in
+    → Takes (Start unfit) read state rest count written (Some error)
+    → IsPlace state count read rest place
+    → IsRefused unfit (skipped_in state) (InCapture error place) told read written
+refused_outcome unfit told read written (Start u) rest count NotCapture place takes at =
+    let same = passes_to_start unfit u read rest takes.packets takes.passes in
     let size = takes.left.0 in (
       inr (rw same.0 size),
       subst IsNoCapture (sym same.0) takes.left.1,
       takes.told
           ∙ ap lines_of same.1,
-      place_first read rest count place same.0 (sym takes.number ∙ ap length same.1) at,
+      place_first unfit u read rest count place same.0 (sym takes.number ∙ ap length same.1) at,
+      refl,
     )
-refused_outcome told read written (Classic order link) rest count NotCapture place takes at =
+refused_outcome unfit told read written (Classic order link passing) rest count NotCapture place
+    takes at = absurd takes.left
+refused_outcome unfit told read written (Pcapng section) rest count NotCapture place takes at =
     absurd takes.left
-refused_outcome told read written (Pcapng section) rest count NotCapture place takes at =
-    absurd takes.left
-refused_outcome told read written state rest count (BlockTooLong len) place takes at =
-    (state, rest, count, takes, at)
-refused_outcome told read written state rest count NoFrame place takes at =
-    (state, rest, count, takes, at)
-refused_outcome told read written state rest count BadBlock place takes at =
-    (state, rest, count, takes, at)
-refused_outcome told read written state rest count (LinkType number) place takes at =
-    (state, rest, count, takes, at)
-refused_outcome told read written state rest count (FrameTooLong captured) place takes at =
-    (state, rest, count, takes, at)
-refused_outcome told read written Start rest count CutOff place takes at = absurd takes.left.1
-refused_outcome told read written (Classic order link) rest count CutOff place takes at =
-    absurd takes.left
-refused_outcome told read written (Pcapng section) rest count CutOff place takes at =
+refused_outcome unfit told read written state rest count (BlockTooLong len) place takes at =
+    (state, rest, count, takes, at, refl)
+refused_outcome unfit told read written state rest count NoFrame place takes at =
+    (state, rest, count, takes, at, refl)
+refused_outcome unfit told read written state rest count BadBlock place takes at =
+    (state, rest, count, takes, at, refl)
+refused_outcome unfit told read written state rest count (LinkType number) place takes at =
+    (state, rest, count, takes, at, refl)
+refused_outcome unfit told read written state rest count (FrameTooLong captured) place takes at =
+    (state, rest, count, takes, at, refl)
+refused_outcome unfit told read written (Start u) rest count CutOff place takes at =
+    absurd takes.left.1
+refused_outcome unfit told read written (Classic order link passing) rest count CutOff place
+    takes at = absurd takes.left
+refused_outcome unfit told read written (Pcapng section) rest count CutOff place takes at =
     absurd takes.left
 
 -- these bytes are held of what was read, behind so many packets and bytes of whole units
-abbrev pub Tells : State → Option LongBlock → (told passed : ℕ) → (held read written : List ℕ)
-    → Type 0
-Tells state begun told passed held read written = (dropped : List ℕ)
+abbrev pub Tells : Unfit → State → Option LongBlock → (told passed : ℕ)
+    → (held read written : List ℕ) → Type 0
+Tells unfit state begun told passed held read written = (dropped : List ℕ)
     × IsDropped state begun dropped
-    × (count : ℕ) × Takes Start read state (dropped ++ held) count written None
+    × (count : ℕ) × Takes (Start unfit) read state (dropped ++ held) count written None
     × (told ≡ capped count) × (passed ≡ capped (length read - length (dropped ++ held)))
 
 -- nothing is read yet
-pub tells_start : Begins capture_to_lines (Tells Start None 0 0) []
-tells_start =
-    let takes : Takes Start [] Start [] 0 [] None =
+pub tells_start : (unfit : Unfit)
+    → Begins (capture_to_lines unfit none_skipped) (Tells unfit (Start unfit) None 0 0) []
+tells_start unfit =
+    let takes : Takes (Start unfit) [] (Start unfit) [] 0 [] None =
     record {
       packets = [];
       number = refl;
-      passes = passes_start Start [];
+      passes = passes_start (Start unfit) [];
       told = refl;
       left = inl (omega arith);
     } in
     record {
       room = refl;
       starved = (refl, refl);
-      full = (Start, [], 0, None, takes);
-      due = (Start, [], 0, takes);
+      full = (Start unfit, [], 0, None, takes);
+      due = (Start unfit, [], 0, takes);
       shows = ([], refl, 0, takes, refl, refl);
     }
 
-module _ (state after : State) (begun begun' : Option LongBlock) (told passed told' passed' : ℕ)
-    (held piece bytes rest read written text : List ℕ) (count n : ℕ)
-    (tells : Tells state begun told passed held read written) (parts : bytes ≡ held ++ piece)
+module _ (unfit : Unfit) (state after : State) (begun begun' : Option LongBlock)
+    (told passed told' passed' : ℕ) (held piece bytes rest read written text : List ℕ) (count n : ℕ)
+    (tells : Tells unfit state begun told passed held read written) (parts : bytes ≡ held ++ piece)
     (told_is : told' ≡ min (told + count) (2 ^ 64 - 1))
     (passed_is : passed' ≡ min (passed + n) (2 ^ 64 - 1))
     (size : n + dropped_len begun' + length rest ≡ length tells.0 + length bytes) where
   -- a piece is read
   all_told : (refusal : Option CaptureError)
       (l : Leaves state (tells.0 ++ bytes) after begun' rest count text refusal)
-      → Takes Start (read ++ piece) after (l.dropped ++ rest) (tells.2 + count) (written ++ text)
-      refusal
+      → Takes (Start unfit) (read ++ piece) after (l.dropped ++ rest) (tells.2 + count)
+      (written ++ text) refusal
   all_told refusal l =
       let whole : Leaves state (tells.0 ++ (held ++ piece)) after begun' rest count text refusal =
       record {
@@ -114,7 +123,7 @@ module _ (state after : State) (begun begun' : Option LongBlock) (told passed to
         takes = subst (λ b. Takes state (tells.0 ++ b) after (l.dropped ++ rest) count text refusal)
             parts l.takes;
       } in
-      takes_more Start state after read piece (tells.0 ++ held)
+      takes_more (Start unfit) state after read piece (tells.0 ++ held)
       (l.dropped ++ rest) written text tells.2 count refusal tells.3
       (takes_piece state after tells.0 held piece begun' rest count text refusal whole)
 
@@ -140,8 +149,8 @@ module _ (state after : State) (begun begun' : Option LongBlock) (told passed to
       ∙ ap capped same
 
   pub tells_more : Leaves state (tells.0 ++ bytes) after begun' rest count text None
-      → Translates capture_to_lines (Tells after begun' told' passed') rest (read ++ piece)
-      (written ++ text) None
+      → Translates (capture_to_lines unfit (skipped_in after))
+      (Tells unfit after begun' told' passed') rest (read ++ piece) (written ++ text) None
   tells_more l =
       let takes = all_told None l in
       record {
@@ -164,14 +173,14 @@ module _ (state after : State) (begun begun' : Option LongBlock) (told passed to
       → place.packet ≡ capped (told' + 1) → place.offset ≡ passed'
       → ((dropped : List ℕ) → IsDropped after begun' dropped
       → place.block ≡ block_type after (dropped ++ rest))
-      → Translates capture_to_lines shown rest (read ++ piece) (written ++ text) (Some (InCapture
-      error place))
+      → Translates (capture_to_lines unfit (skipped_in after)) shown rest (read ++ piece)
+      (written ++ text) (Some (InCapture error place))
   tells_refused shown error place l packet offset block =
       let takes = all_told (Some error) l in
       record {
         full = (after, l.dropped ++ rest, tells.2 + count, Some error, takes);
-        follows = refused_outcome false (read ++ piece) (written ++ text) after (l.dropped ++ rest)
-            (tells.2 + count) error place takes (record {
+        follows = refused_outcome unfit false (read ++ piece) (written ++ text) after
+            (l.dropped ++ rest) (tells.2 + count) error place takes (record {
               packet = packet ∙ ap (λ t. capped (t + 1)) count_told
                   ∙ capped_more (2 ^ 64 - 1) (tells.2 + count) 1;
               offset = offset ∙ all_passed l.dropped l.is_dropped;
@@ -180,11 +189,12 @@ module _ (state after : State) (begun begun' : Option LongBlock) (told passed to
       }
 
 -- the end is told
-module _ (read written : List ℕ) (place : Place) where
+module _ (unfit : Unfit) (read written : List ℕ) (place : Place) where
   ends_cut : (state : State) (rest : List ℕ) (count : ℕ)
-      → Takes Start read state rest count written None → IsPlace state count read rest place
-      → 0 < length rest → (state ≢ Start) ⊎ (FIRST_UNIT_LEN ≤ length rest)
-      → IsWhole capture_to_lines read written (Err (InCapture CutOff place))
+      → Takes (Start unfit) read state rest count written None → IsPlace state count read rest place
+      → 0 < length rest → (state ≢ Start unfit) ⊎ (FIRST_UNIT_LEN ≤ length rest)
+      → IsWhole (capture_to_lines unfit (skipped_in state)) read written
+      (Err (InCapture CutOff place))
   ends_cut state rest count takes at some known = (
     refl,
     record {
@@ -195,57 +205,74 @@ module _ (read written : List ℕ) (place : Place) where
       known = known;
       takes = takes;
       is_place = at;
+      counts = refl;
     },
   )
 
-  at_start : (rest : List ℕ) (count : ℕ) → Takes Start read Start rest count written None
-      → IsPlace Start count read rest place → (few : Bool)
+  at_start : (u : Unfit) (rest : List ℕ) (count : ℕ)
+      → Takes (Start unfit) read (Start u) rest count written None
+      → IsPlace (Start u) count read rest place → (few : Bool)
       → nat_lt (length rest) FIRST_UNIT_LEN ≡ few
-      → IsWhole capture_to_lines read written (if few then Err (InCapture NotCapture place)
-      else Err (InCapture CutOff place))
-  at_start rest count takes at true few =
-      let same = passes_to_start read rest takes.packets takes.passes in (
+      → IsWhole (capture_to_lines unfit none_skipped) read written
+      (if few then Err (InCapture NotCapture place) else Err (InCapture CutOff place))
+  at_start u rest count takes at true few =
+      let same = passes_to_start unfit u read rest takes.packets takes.passes in (
         inl refl,
         subst IsNoCapture (sym same.0)
             (no_capture_begun rest (ltb-true (length rest) FIRST_UNIT_LEN few)),
         takes.told
             ∙ ap lines_of same.1,
-        place_first read rest count place same.0 (sym takes.number ∙ ap length same.1) at,
+        place_first unfit u read rest count place same.0 (sym takes.number ∙ ap length same.1) at,
+        refl,
       )
-  at_start rest count takes at false few =
+  at_start u rest count takes at false few =
       let long = ltb-false (length rest) FIRST_UNIT_LEN few in
-      ends_cut Start rest count takes at (omega arith) (inr long)
+      ends_cut (Start u) rest count takes at (omega arith) (inr long)
 
   at_end : (state : State) (rest : List ℕ) (count : ℕ)
-      → Takes Start read state rest count written None → IsPlace state count read rest place
-      → IsWhole capture_to_lines read written (result_at_end state (length rest) place)
-  at_end Start rest count takes at =
-      at_start rest count takes at (nat_lt (length rest) FIRST_UNIT_LEN) refl
-  at_end (Classic order link) [] count takes at = (
+      → Takes (Start unfit) read state rest count written None → IsPlace state count read rest place
+      → IsWhole (capture_to_lines unfit (skipped_in state)) read written
+      (result_at_end state (length rest) place)
+  at_end (Start u) rest count takes at =
+      at_start u rest count takes at (nat_lt (length rest) FIRST_UNIT_LEN) refl
+  at_end (Classic order link passing) [] count takes at = (
     takes.packets,
-    record { state = Classic order link; passes = takes.passes; known = λ e. cc e },
+    record {
+      state = Classic order link passing;
+      passes = takes.passes;
+      known = λ e. cc e;
+      counts = refl;
+    },
     takes.told,
   )
-  at_end (Classic order link) (b ∷ bytes) count takes at =
-      ends_cut (Classic order link) (b ∷ bytes) count takes at (omega arith) (inl (λ e. cc e))
+  at_end (Classic order link passing) (b ∷ bytes) count takes at =
+      ends_cut (Classic order link passing) (b ∷ bytes) count takes at (omega arith)
+      (inl (λ e. cc e))
   at_end (Pcapng section) [] count takes at = (
     takes.packets,
-    record { state = Pcapng section; passes = takes.passes; known = λ e. cc e },
+    record {
+      state = Pcapng section;
+      passes = takes.passes;
+      known = λ e. cc e;
+      counts = refl;
+    },
     takes.told,
   )
   at_end (Pcapng section) (b ∷ bytes) count takes at =
       ends_cut (Pcapng section) (b ∷ bytes) count takes at (omega arith) (inl (λ e. cc e))
 
   pub tells_end : (state : State) (begun : Option LongBlock) (told passed : ℕ) (held : List ℕ)
-      (left : ℕ) (tells : Tells state begun told passed held read written) → left ≡ length held
+      (left : ℕ) (tells : Tells unfit state begun told passed held read written)
+      → left ≡ length held
       → place.packet ≡ capped (told + 1) → place.offset ≡ passed
       → place.block ≡ block_type state (tells.0 ++ held)
       → (result : Result Unit Refusal) → result ≡ result_at_end state (length tells.0 + left) place
-      → Finishes capture_to_lines read written result
+      → Finishes (capture_to_lines unfit (skipped_in state)) read (written ++ []) result
   tells_end state begun told passed held left tells size packet offset block result is =
       let whole : length (tells.0 ++ held) ≡ length tells.0 + left =
       omega (arith, length-append tells.0 held) in
-      record {
+      subst (λ (text : List ℕ). Finishes (capture_to_lines unfit (skipped_in state)) read text
+      result) (sym (append-nil written)) (record {
         full = (state, tells.0 ++ held, tells.2, None, tells.3);
         whole = rw (is, sym whole) (at_end state (tells.0 ++ held) tells.2 tells.3 (record {
           packet = packet ∙ ap (λ t. capped (t + 1)) tells.4
@@ -253,4 +280,4 @@ module _ (read written : List ℕ) (place : Place) where
           offset = offset ∙ tells.5;
           block = block;
         }));
-      }
+      })

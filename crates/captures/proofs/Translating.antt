@@ -1,17 +1,18 @@
 -- A run that makes some bytes of others, call by call.
-use Rattle.std.proofs.Common.{◌≡◌, sym, subst, ℕ, ◌+◌, ◌*◌, ◌<◌, ◌≤◌, arith, true, false, List, []}
-use Rattle.std.proofs.Common.{◌++◌, length, length-append, Option, Some, None, Result, Ok, Err}
+use Rattle.std.proofs.Common.{◌≡◌, sym, subst, ℕ, ◌+◌, ◌*◌, ◌<◌, ◌≤◌, arith, Bool, true, false}
+use Rattle.std.proofs.Common.{List, []}
+use Rattle.std.proofs.Common.{◌∷◌, ◌++◌, length, length-append, Option, Some, None, Result, Ok, Err}
 use Rattle.runs.specs.declared.fault.Fault.{Fault}
 use Rattle.runs.specs.declared.fault.Fault.TheVariants.{ReadFailed}
-use Rattle.runs.specs.Calls.{Call, Reads}
+use Rattle.runs.specs.Calls.{Call, Reads, Writes, bytes_given, bytes_read, bytes_written}
 use Rattle.runs.specs.Endings.{Done, Stopped, OutOfMemory, OutOfReads, Refused, ending_by}
-use Rattle.runs.specs.Runs.{Task, Goes}
+use Rattle.runs.specs.Runs.{Task, EachFollows, Follows, Goes}
 use Rattle.runs.specs.Writes.{Written, Stops}
 use Rattle.runs.proofs.Going.{Going, going_start, going_piece, going_end, going_write, going_ends}
 use Rattle.runs.proofs.Going.{going_stops, going_unread, going_all, goes_nothing}
 use Rattle.captures.specs.declared.limits.TheConstants.{INPUT_ROOM}
 use Rattle.captures.specs.declared.translation.refusal.Refusal.{Refusal}
-use Rattle.captures.specs.Translations.{Begins, Translates, Finishes, IsWhole}
+use Rattle.captures.specs.Translations.{Begins, IsDueBy, Translates, Finishes, IsWhole}
 
 module _ (task : Task Refusal) {D : Type 0} (transition : D → Call → D → Type 0) where
   -- a run ends by the result of all the input
@@ -146,6 +147,54 @@ module _ (task : Task Refusal) {D : Type 0} (transition : D → Call → D → T
       → Goes task transition limit old new OutOfReads
   translating_all shown limit old new held t =
       going_all task transition limit t.came t.text old new t.going t.due
+
+-- where the same is due by another task, calls by the one are calls by the other
+module _ {task task' : Task Refusal} (same : IsDueBy task task') where
+  follows_by : (before : List Call) (call : Call) → Follows task before call
+      → Follows task' before call
+  follows_by before (Reads given) follows = (
+    record {
+      no_fault = follows.0.no_fault;
+      no_end = follows.0.no_end;
+      written = same.due (bytes_read before) (bytes_written before) follows.0.written;
+    },
+    subst (λ n. length (bytes_given (Reads given)) ≤ n) (sym same.room) follows.1,
+  )
+  follows_by before (Writes bytes taken) follows = follows
+
+  each_by : (before calls : List Call) → EachFollows task before calls
+      → EachFollows task' before calls
+  each_by before [] each = tt
+  each_by before (call ∷ calls) each =
+      (follows_by before call each.0, each_by (before ++ call ∷ []) calls each.1)
+
+  going_by : {D : Type 0} (transition : D → Call → D → Type 0) (read written : List ℕ)
+      (told : Bool) (count : ℕ) (old new : D)
+      → Going task transition read written told count old new
+      → Going task' transition read written told count old new
+  going_by transition read written told count old new g = record {
+    calls = g.calls;
+    made = g.made;
+    each = each_by [] g.calls g.each;
+    faults = g.faults;
+    tells = g.tells;
+    reads = g.reads;
+    gave = g.gave;
+    took = g.took;
+  }
+
+  pub translating_by : {D : Type 0} {transition : D → Call → D → Type 0}
+      {shown : List ℕ → List ℕ → List ℕ → Type 0} {count : ℕ} {old new : D} {held : List ℕ}
+      → Translating task transition shown count old new held
+      → Translating task' transition shown count old new held
+  translating_by {D} {transition} {shown} {count} {old} {new} {held} t = record {
+    came = t.came;
+    text = t.text;
+    going = going_by transition t.came t.text false count old new t.going;
+    due = same.due t.came t.text t.due;
+    shows = t.shows;
+    few = t.few;
+  }
 
 -- nothing is called
 pub translates_nothing : (task : Task Refusal) {D : Type 0} (transition : D → Call → D → Type 0)

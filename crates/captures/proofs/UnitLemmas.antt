@@ -1,5 +1,6 @@
 -- Units in a row.
-use Rattle.std.proofs.Common.{◌≡◌, ◌∙◌, sym, ap, ap₂, refl, subst, ℕ, ◌+◌, ◌==◌, true, false, ◌<◌, arith}
+use Rattle.std.proofs.Common.{◌≡◌, ◌∙◌, sym, ap, ap₂, refl, subst, ℕ, ◌+◌, ◌==◌, true, false}
+use Rattle.std.proofs.Common.{◌<◌, arith}
 use Rattle.std.proofs.Common.{List, [], ◌∷◌, ◌++◌, length, take, append_assoc, append-nil, inl, inr}
 use Rattle.std.proofs.Common.{length-append, eqb-true, Option, None}
 use Rattle.std.proofs.Math.Seq.{take-append_seam}
@@ -8,6 +9,7 @@ use Rattle.captures.specs.Lines.{Packet, packets_of, line_of, lines_of}
 use Rattle.captures.specs.Units.{IsUnit, Row, in_a_row, Passes, HasUnit, IsNoCapture, Takes}
 use Rattle.captures.specs.declared.capture_error.CaptureError.{CaptureError}
 use Rattle.captures.specs.declared.translation.state.State.{State}
+use Rattle.captures.specs.declared.unfit.Unfit.{Unfit}
 use Rattle.captures.specs.declared.translation.state.State.TheVariants.{Start, Classic, Pcapng}
 use Rattle.captures.specs.declared.limits.TheConstants.{FIRST_UNIT_LEN}
 
@@ -136,30 +138,32 @@ no_packet channel (b ∷ bytes) none =
 
 -- after a unit something is known
 known_after : (state : State) (unit : List ℕ) (after : State) (channel : ℕ) (frame : List ℕ)
-    → IsUnit state unit after channel frame → after ≡ Start → ⊥
-known_after Start unit after channel frame (inl h) is = let next = h.0.next in cc
-known_after Start unit after channel frame (inr h) is = let next = h.1.becomes in cc
-known_after (Classic order link) unit after channel frame h is = let next = h.1 in cc
-known_after (Pcapng section) unit after channel frame h is = let next = h.becomes in cc
+    → IsUnit state unit after channel frame → (unfit : Unfit) → after ≡ Start unfit → ⊥
+known_after (Start u) unit after channel frame (inl h) unfit is = let next = h.0.next in cc
+known_after (Start u) unit after channel frame (inr h) unfit is = let next = h.1.becomes in cc
+known_after (Classic order link u) unit after channel frame h unfit is = let next = h.0.next in cc
+known_after (Pcapng section) unit after channel frame h unfit is = let next = h.becomes in cc
 
 row_known : (state after : State) (units : List (List ℕ)) (packets : List Packet)
-    → Row state units packets after → (state ≡ Start → ⊥) → after ≡ Start → ⊥
-row_known state after [] packets row known is = known (sym row.1 ∙ is)
-row_known state after (unit ∷ units) packets row known is =
-    row_known row.0 after units row.3 row.5 (known_after state unit row.0 row.1 row.2 row.4) is
+    → Row state units packets after → ((unfit : Unfit) → state ≡ Start unfit → ⊥)
+    → (unfit : Unfit) → after ≡ Start unfit → ⊥
+row_known state after [] packets row known unfit is = known unfit (sym row.1 ∙ is)
+row_known state after (unit ∷ units) packets row known unfit is =
+    row_known row.0 after units row.3 row.5
+    (known_after state unit row.0 row.1 row.2 row.4) unfit is
 
-row_start : (units : List (List ℕ)) (packets : List Packet) → Row Start units packets Start
-    → (units ≡ []) × (packets ≡ [])
-row_start [] packets row = (refl, row.0)
-row_start (unit ∷ units) packets row =
-    absurd (row_known row.0 Start units row.3 row.5
-    (known_after Start unit row.0 row.1 row.2 row.4) refl)
+row_start : (u unfit : Unfit) (units : List (List ℕ)) (packets : List Packet)
+    → Row (Start u) units packets (Start unfit) → (units ≡ []) × (packets ≡ [])
+row_start u unfit [] packets row = (refl, row.0)
+row_start u unfit (unit ∷ units) packets row =
+    absurd (row_known row.0 (Start unfit) units row.3 row.5
+    (known_after (Start u) unit row.0 row.1 row.2 row.4) unfit refl)
 
 -- where nothing is known yet, no unit is passed
-pub passes_to_start : (bytes rest : List ℕ) (packets : List Packet)
-    → Passes Start bytes packets Start rest → (bytes ≡ rest) × (packets ≡ [])
-passes_to_start bytes rest packets p =
-    let none = row_start p.units packets p.row in
+pub passes_to_start : (u unfit : Unfit) (bytes rest : List ℕ) (packets : List Packet)
+    → Passes (Start u) bytes packets (Start unfit) rest → (bytes ≡ rest) × (packets ≡ [])
+passes_to_start u unfit bytes rest packets p =
+    let none = row_start u unfit p.units packets p.row in
     (p.parts ∙ ap (λ (us : List (List ℕ)). in_a_row us ++ rest) none.0, none.1)
 
 -- fewer bytes than a header has begin with none

@@ -5,9 +5,12 @@ use Rattle.std.specs.List.{AllByRecursion}
 use Rattle.hex.specs.Hex.{IsBytes}
 use Rattle.captures.specs.Lines.{Packet, lines_of}
 use Rattle.captures.specs.Runs.{IsCapture}
+use Rattle.captures.specs.Skipping.{none_skipped}
 use Rattle.captures.specs.Spelling.{TimedFrame, capture_of}
 use Rattle.captures.specs.Texts.{IsText}
 use Rattle.captures.specs.declared.limits.TheConstants.{FRAME_LIMIT}
+use Rattle.captures.specs.declared.translation.skipped.Skipped.{Skipped}
+use Rattle.captures.specs.declared.unfit.Unfit.{Unfit}
 
 -- a packet that has a line: its frame is bytes, one at least and no more than a line can hold, and
 -- its channel a number of 32 bits
@@ -30,9 +33,11 @@ abbrev pub LinesComeBack : Type 0
 LinesComeBack =
     (packets : List Packet) → AllByRecursion HasLine packets
     → IsText (lines_of packets) (map at_no_time packets)
-    × IsCapture (capture_of (map at_no_time packets)) (map on_one_channel packets)
+    × ((unfit : Unfit) → IsCapture unfit (capture_of (map at_no_time packets))
+    (map on_one_channel packets) none_skipped)
 
 -- each packet of a capture has a line
 abbrev pub CapturedPacketsHaveLines : Type 0
-CapturedPacketsHaveLines = (bytes : List ℕ) (packets : List Packet) → IsBytes bytes
-    → IsCapture bytes packets → AllByRecursion HasLine packets
+CapturedPacketsHaveLines = (unfit : Unfit) (bytes : List ℕ) (packets : List Packet)
+    (skipped : Skipped) → IsBytes bytes → IsCapture unfit bytes packets skipped
+    → AllByRecursion HasLine packets

@@ -1,15 +1,21 @@
 -- Captured packets as Ethernet II frames, by the link that they were captured on (the registry of
 -- link types, tcpdump.org/linktypes.html, and the layouts that it gives).
-use Rattle.std.specs.Prelude.{ℕ, ◌+◌, ◌-◌, ◌/◌, ◌==◌, ◌||◌, nat_lt}
+use Rattle.std.specs.Prelude.{ℕ, ◌+◌, ◌-◌, ◌/◌, ◌==◌, ◌||◌, nat_lt, unwrap_or, Bool}
 use Rattle.std.specs.Prelude.{if◌then◌else◌, List, [], ◌∷◌, ◌++◌, length, drop, slice_index}
-use Rattle.std.specs.Prelude.{Option, Some, None}
+use Rattle.std.specs.Prelude.{Option, Some, None, Result, Ok, Err}
 use Rattle.std.specs.Int.{to_be_bytes, w16}
 use Rattle.captures.specs.Numbers.{half, word}
 use Rattle.captures.specs.declared.byte_order.ByteOrder.TheVariants.{Big, Little}
-use Rattle.captures.specs.declared.limits.TheConstants.{FRAME_LIMIT}
+use Rattle.captures.specs.declared.limits.TheConstants.{FRAME_LIMIT, SKIPPED_LIMIT}
 use Rattle.captures.specs.declared.link.frame.Header.{Header}
 use Rattle.captures.specs.declared.link.kind.Link.{Link}
 use Rattle.captures.specs.declared.link.kind.Link.TheVariants.{Ethernet, Ip, Null, Loop, Sll, Sll2}
+use Rattle.captures.specs.declared.link.kind.Link.TheVariants.{Other}
+use Rattle.captures.specs.declared.translation.skipped.Reason.{Reason}
+use Rattle.captures.specs.declared.translation.skipped.Reason.TheVariants.{OtherLink, TooLong}
+use Rattle.captures.specs.declared.translation.skipped.Reason.TheVariants.{NoFrame}
+use Rattle.captures.specs.declared.unfit.Unfit.{Unfit}
+use Rattle.captures.specs.declared.unfit.Unfit.TheVariants.{Refuse, Skip}
 
 -- the kinds of links whose packets are read, by their numbers: Ethernet; IP packets of either
 -- version or of one; BSD loopback, OpenBSD loopback; Linux cooked captures of both versions
@@ -33,6 +39,7 @@ head_len Null = 4
 head_len Loop = 4
 head_len Sll = 16
 head_len Sll2 = 20
+head_len Other = 0
 
 -- the captured bytes of a packet at most, so that a line can hold its frame
 abbrev pub captured_limit : Link → ℕ
@@ -115,9 +122,59 @@ framed_packet Sll2 packet =
     if nat_lt (length packet) 20 then None
     else framed_behind (address_at (slice_index packet 11) packet 12)
     (cooked_type (half Big packet 8) (half Big packet 0)) (drop 20 packet)
+framed_packet Other packet = None
 
 -- the Ethernet II frame of a packet, if it has one: its own where it was captured as one, else the
 -- destination is zeros, and so is the source, where its link tells no sender's address of six
 -- bytes. Of a packet without captured bytes nothing is told
 abbrev pub framed : Link → List ℕ → Option (List ℕ)
 framed link packet = if length packet == 0 then Some packet else framed_packet link packet
+
+-- why a packet on such a link can't be told, where this is the reason on a link that is read
+abbrev pub reason_on : Link → Reason → Reason
+reason_on Ethernet reason = reason
+reason_on Ip reason = reason
+reason_on Null reason = reason
+reason_on Loop reason = reason
+reason_on Sll reason = reason
+reason_on Sll2 reason = reason
+reason_on Other reason = OtherLink
+
+-- a frame, or why there is none
+abbrev pub told_by : Reason → Option (List ℕ) → Result (List ℕ) Reason
+told_by reason None = Err reason
+told_by reason (Some frame) = Ok frame
+
+-- what is told of a packet: its frame, or why it has none that a line can hold
+abbrev pub told_of : Link → List ℕ → Result (List ℕ) Reason
+told_of link packet =
+    if nat_lt (captured_limit link) (length packet) then Err (reason_on link TooLong)
+    else told_by (reason_on link NoFrame) (framed link packet)
+
+-- ---- packets that can't be told: they are refused, or passed over
+
+abbrev pub unfit_by : Bool → Unfit
+unfit_by skips = if skips then Skip else Refuse
+
+-- the kind of link that a number's packets are taken as, if they are
+abbrev pub link_for : Unfit → ℕ → Option Link
+link_for Refuse number = link_of number
+link_for Skip number = Some (unwrap_or (link_of number) Other)
+
+-- the captured bytes at most of a packet that is told or passed over
+abbrev pub taken_limit : Unfit → Link → ℕ
+taken_limit Refuse link = captured_limit link
+taken_limit Skip link = SKIPPED_LIMIT
+
+-- of a packet that is passed over no bytes are told
+abbrev pub unfit_frame : Unfit → Option (List ℕ)
+unfit_frame Refuse = None
+unfit_frame Skip = Some []
+
+abbrev pub frame_by : Unfit → Result (List ℕ) Reason → Option (List ℕ)
+frame_by unfit (Ok frame) = Some frame
+frame_by unfit (Err reason) = unfit_frame unfit
+
+-- the bytes that are told of a packet, if it isn't refused
+abbrev pub told_frame : Unfit → Link → List ℕ → Option (List ℕ)
+told_frame unfit link packet = frame_by unfit (told_of link packet)

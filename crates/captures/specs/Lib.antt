@@ -9,6 +9,7 @@ pub mod Pcap
 pub mod Pcapng
 pub mod Places
 pub mod Runs
+pub mod Skipping
 pub mod Spelling
 pub mod Texts
 pub mod Translations

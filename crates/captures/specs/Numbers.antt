@@ -1,5 +1,5 @@
--- Numbers in either byte order.
-use Rattle.std.specs.Prelude.{ℕ, ◌+◌, ◌*◌, List, slice_index}
+-- Numbers in either byte order, and counts.
+use Rattle.std.specs.Prelude.{ℕ, ◌+◌, ◌-◌, ◌*◌, ◌^◌, min, List, slice_index}
 use Rattle.ep_base.specs.Bytes.{num}
 use Rattle.captures.specs.declared.byte_order.ByteOrder.{ByteOrder}
 use Rattle.captures.specs.declared.byte_order.ByteOrder.TheVariants.{Big, Little}
@@ -15,3 +15,7 @@ word Big bytes p = num bytes p 4
 word Little bytes p = slice_index bytes p + 256 *
     (slice_index bytes (p + 1) + 256 *
     (slice_index bytes (p + 2) + 256 * slice_index bytes (p + 3)))
+
+-- a count of 64 bits, which stops at the greatest
+abbrev pub capped : ℕ → ℕ
+capped n = min n (2 ^ 64 - 1)

@@ -4,8 +4,9 @@
 use Rattle.std.specs.Prelude.{◌≡◌, ◌≢◌, ◌⊎◌, ℕ, ◌+◌, ◌-◌, ◌%◌, ◌^◌, ◌<◌, ◌≤◌, ◌==◌, min}
 use Rattle.std.specs.Prelude.{if◌then◌else◌, nat_lt, List, [], length, take, drop, slice_index_or}
 use Rattle.std.specs.Prelude.{slice_set, Option, Some, None}
-use Rattle.captures.specs.Framed.{link_of, captured_limit, framed}
+use Rattle.captures.specs.Framed.{link_for, taken_limit, told_frame}
 use Rattle.captures.specs.Numbers.{half, word}
+use Rattle.captures.specs.Skipping.{counted}
 use Rattle.captures.specs.declared.byte_order.ByteOrder.{ByteOrder}
 use Rattle.captures.specs.declared.byte_order.ByteOrder.TheVariants.{Big}
 use Rattle.captures.specs.declared.capture_error.CaptureError.{CaptureError}
@@ -83,7 +84,8 @@ later_links section link_type = if link_type == ETHERNET then Some section.links
 -- the links of the first interfaces, after one more of this link type is described, if this is read
 abbrev pub links_with : Section → (link_type : ℕ) → Option (List Link)
 links_with section link_type =
-    if nat_lt section.interfaces LINKED_INTERFACES then with_link section (link_of link_type)
+    if nat_lt section.interfaces LINKED_INTERFACES
+    then with_link section (link_for section.passing.unfit link_type)
     else later_links section link_type
 
 -- a packet of this interface of the section, in a block of one of the two kinds that tell its time
@@ -153,8 +155,8 @@ Says section order block (Holds channel link packet) =
     ⊎ IsSimplePacket section order block channel link packet)
 Says section order block Nothing = IsOther order block
 
--- the section, and the frame, after a block that says this: links are read, and a line can hold
--- the packet's frame
+-- the section, and the bytes that are told, after a block that says this: links are taken, and so
+-- is the packet
 abbrev pub Becomes : Section → ByteOrder → Content → Section → ℕ → List ℕ → Type 0
 Becomes section order (Opens first) after channel frame =
     (after ≡ record {
@@ -163,6 +165,7 @@ Becomes section order (Opens first) after channel frame =
       interfaces = 0;
       snap_len = 0;
       links = section.links;
+      passing = section.passing;
     })
     × (frame ≡ [])
 Becomes section order (Describes link_type snap_len) after channel frame =
@@ -173,9 +176,10 @@ Becomes section order (Describes link_type snap_len) after channel frame =
       links = links;
     })
     × (frame ≡ [])
-Becomes section order (Holds number link packet) after channel frame = (after ≡ section)
-    × (channel ≡ number) × (framed link packet ≡ Some frame)
-    × (length packet ≤ captured_limit link)
+Becomes section order (Holds number link packet) after channel frame =
+    (after ≡ record section { passing = counted section.passing link packet })
+    × (channel ≡ number) × (told_frame section.passing.unfit link packet ≡ Some frame)
+    × (length packet ≤ taken_limit section.passing.unfit link)
 Becomes section order Nothing after channel frame = (after ≡ section) × (frame ≡ [])
 
 -- a block that says something, and what comes of it
@@ -193,11 +197,12 @@ RefusesBlock section order block (LinkType number) = (snap_len : ℕ)
 RefusesBlock section order block (FrameTooLong captured) =
     (channel : ℕ) × (link : Link) × (packet : List ℕ)
     × Says section order block (Holds channel link packet)
-    × (captured ≡ length packet) × (captured_limit link < captured)
+    × (captured ≡ length packet) × (taken_limit section.passing.unfit link < captured)
 RefusesBlock section order block NoFrame =
     (channel : ℕ) × (link : Link) × (packet : List ℕ)
     × Says section order block (Holds channel link packet)
-    × (length packet ≤ captured_limit link) × (framed link packet ≡ None)
+    × (length packet ≤ taken_limit section.passing.unfit link)
+    × (told_frame section.passing.unfit link packet ≡ None)
 RefusesBlock section order block CutOff = ⊥
 RefusesBlock section order block (BlockTooLong len) = ⊥
 RefusesBlock section order block BadBlock = (content : Content)

@@ -1,24 +1,20 @@
 -- Where in a capture it is refused: at a unit that can't be taken, or that its end cuts off.
-use Rattle.std.specs.Prelude.{◌≡◌, ℕ, ◌+◌, ◌-◌, ◌^◌, ◌==◌, ◌&&◌, nat_le, min, if◌then◌else◌, List}
+use Rattle.std.specs.Prelude.{◌≡◌, ℕ, ◌+◌, ◌-◌, ◌==◌, ◌&&◌, nat_le, if◌then◌else◌, List}
 use Rattle.std.specs.Prelude.{length, Option, Some, None}
-use Rattle.captures.specs.Numbers.{word}
+use Rattle.captures.specs.Numbers.{capped, word}
 use Rattle.captures.specs.Pcapng.{section_header}
 use Rattle.captures.specs.declared.byte_order.ByteOrder.TheVariants.{Big}
 use Rattle.captures.specs.declared.place.Place.{Place}
 use Rattle.captures.specs.declared.translation.state.State.{State}
 use Rattle.captures.specs.declared.translation.state.State.TheVariants.{Start, Classic, Pcapng}
 
--- a count of 64 bits, which stops at the greatest
-abbrev pub capped : ℕ → ℕ
-capped n = min n (2 ^ 64 - 1)
-
 -- the type of the block that bytes begin, where it can be told: nothing has one in a classic
 -- capture, and a section header has the same in both byte orders
 abbrev pub block_type : State → List ℕ → Option ℕ
-block_type Start bytes =
+block_type (Start unfit) bytes =
     if nat_le 4 (length bytes) && (word Big bytes 0 == section_header)
     then Some section_header else None
-block_type (Classic order link) bytes = None
+block_type (Classic order link passing) bytes = None
 block_type (Pcapng section) bytes =
     if nat_le 4 (length bytes) then Some (word section.order bytes 0) else None
 

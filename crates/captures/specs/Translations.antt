@@ -14,6 +14,11 @@ pub record Begins (task : Task Refusal) (shown : List ℕ → List ℕ → List 
   pub due : task.due [] header
   pub shows : shown [] [] header
 
+-- before more may be read the same is due by both
+pub record IsDueBy (task task' : Task Refusal) : Type 0 where
+  pub room : task'.room ≡ task.room
+  pub due : (read written : List ℕ) → task.due read written → task'.due read written
+
 -- the input is refused, or what is due is written and this is held
 abbrev pub Follows : (task : Task Refusal) → (List ℕ → List ℕ → List ℕ → Type 0)
     → (held read written : List ℕ) → Option Refusal → Type 0

@@ -1,10 +1,12 @@
 -- A capture as units in a row: a file header and packet records, or blocks.
 use Rattle.std.specs.Prelude.{◌≡◌, ◌≢◌, ◌⊎◌, ℕ, ◌-◌, ◌%◌, ◌<◌, ◌≤◌, List, [], ◌∷◌, ◌++◌, length}
 use Rattle.std.specs.Prelude.{Option, Some, None, replicate}
-use Rattle.captures.specs.Framed.{link_of, captured_limit, framed}
+use Rattle.captures.specs.Framed.{link_for, taken_limit, told_frame}
+use Rattle.captures.specs.declared.unfit.Unfit.{Unfit}
 use Rattle.captures.specs.Numbers.{word}
 use Rattle.captures.specs.Lines.{Packet, packets_of, lines_of}
 use Rattle.captures.specs.Pcap.{IsFileHeader, IsPacketRecord, link_type}
+use Rattle.captures.specs.Skipping.{counted, none_skipped, passing_from}
 use Rattle.captures.specs.declared.byte_order.ByteOrder.{ByteOrder}
 use Rattle.captures.specs.declared.byte_order.ByteOrder.TheVariants.{Big}
 use Rattle.captures.specs.declared.capture_error.CaptureError.{CaptureError}
@@ -15,6 +17,8 @@ use Rattle.captures.specs.declared.capture_error.CaptureError.TheVariants.{NoFra
 use Rattle.captures.specs.declared.limits.TheConstants.{FIRST_UNIT_LEN}
 use Rattle.captures.specs.declared.link.kind.Link.{Link}
 use Rattle.captures.specs.declared.link.kind.Link.TheVariants.{Ethernet}
+use Rattle.captures.specs.declared.translation.skipped.Passing.{Passing}
+use Rattle.captures.specs.declared.translation.skipped.Skipped.{Skipped}
 use Rattle.captures.specs.declared.translation.state.State.{State}
 use Rattle.captures.specs.declared.pcapng.section.Section.{Section}
 use Rattle.captures.specs.declared.pcapng.section.TheConstants.{LINKED_INTERFACES}
@@ -22,23 +26,24 @@ use Rattle.captures.specs.declared.translation.state.State.TheVariants.{Start, C
 use Rattle.captures.specs.Pcapng.{HasOrder, IsBlock, IsTaken, Reads, RefusesBlock, section_header}
 use Rattle.captures.specs.Pcapng.{byte_order_magic}
 
--- a file header of a link that is read, after which packet records follow
-pub record OpensFile (unit : List ℕ) (after : State) : Type 0 where
+-- a file header of a link that is taken, after which packet records follow
+pub record OpensFile (unfit : Unfit) (unit : List ℕ) (after : State) : Type 0 where
   pub order : ByteOrder
   pub link : Link
   pub header : IsFileHeader order unit
-  pub known : link_of (link_type order unit) ≡ Some link
-  pub next : after ≡ Classic order link
+  pub known : link_for unfit (link_type order unit) ≡ Some link
+  pub next : after ≡ Classic order link (passing_from unfit)
 
 -- before the first block of a pcapng file no interface is described, and any byte order serves
-abbrev pub no_section : Section
-no_section =
+abbrev pub no_section : Unfit → Section
+no_section unfit =
     record {
       order = Big;
       first = 0;
       interfaces = 0;
       snap_len = 0;
       links = replicate LINKED_INTERFACES Ethernet;
+      passing = passing_from unfit;
     }
 
 -- a block of a section, whole and of a length that is taken, after which the section has come to
@@ -53,24 +58,32 @@ pub record IsBlockUnit (section : Section) (unit : List ℕ) (after : State) (ch
   pub reads : Reads section order unit next channel frame
   pub becomes : after ≡ Pcapng next
 
--- a packet record of such a link, of a packet whose frame a line can hold
-pub record IsRecordUnit (order : ByteOrder) (link : Link) (unit frame : List ℕ) : Type 0 where
+-- a packet record of such a link, of a packet that is told or passed over
+pub record IsRecordUnit (order : ByteOrder) (link : Link) (passing : Passing) (unit : List ℕ)
+    (after : State) (frame : List ℕ) : Type 0 where
   pub packet : List ℕ
   pub is_record : IsPacketRecord order unit packet
-  pub fits : length packet ≤ captured_limit link
-  pub is_framed : framed link packet ≡ Some frame
+  pub fits : length packet ≤ taken_limit passing.unfit link
+  pub is_told : told_frame passing.unfit link packet ≡ Some frame
+  pub next : after ≡ Classic order link (counted passing link packet)
 
 -- bytes that are one unit of a capture, where it has come to this state: the state after it,
--- and the frame of the packet in it, which is empty where there is none
+-- and the frame of the packet in it, which is empty where none is told
 abbrev pub IsUnit : State → List ℕ → State → ℕ → List ℕ → Type 0
-IsUnit Start unit after channel frame =
-    (OpensFile unit after × (frame ≡ []))
-    ⊎ ((word Big unit 0 ≡ section_header) × IsBlockUnit no_section unit after channel frame)
-IsUnit (Classic order link) unit after channel frame =
-    IsRecordUnit order link unit frame × (after ≡ Classic order link) × (channel ≡ 0)
+IsUnit (Start unfit) unit after channel frame =
+    (OpensFile unfit unit after × (frame ≡ []))
+    ⊎ ((word Big unit 0 ≡ section_header) × IsBlockUnit (no_section unfit) unit after channel frame)
+IsUnit (Classic order link passing) unit after channel frame =
+    IsRecordUnit order link passing unit after frame × (channel ≡ 0)
 IsUnit (Pcapng section) unit after channel frame = IsBlockUnit section unit after channel frame
 
--- units in a row, and all packets in them
+-- the packets that were passed over by then
+abbrev pub skipped_in : State → Skipped
+skipped_in (Start unfit) = none_skipped
+skipped_in (Classic order link passing) = passing.skipped
+skipped_in (Pcapng section) = section.passing.skipped
+
+-- units in a row, and all packets that are told of them
 abbrev pub Row : State → List (List ℕ) → List Packet → State → Type 0
 Row state [] packets after = (packets ≡ []) × (after ≡ state)
 Row state (unit ∷ units) packets after =
@@ -90,14 +103,15 @@ pub record Passes (state : State) (bytes : List ℕ) (packets : List Packet) (af
   pub row : Row state units packets after
   pub parts : bytes ≡ in_a_row units ++ rest
 
--- the head of a packet record that a line can hold, with fewer bytes after it than it tells
-pub record IsShortRecord (order : ByteOrder) (link : Link) (bytes : List ℕ) : Type 0 where
+-- the head of a packet record that is taken, with fewer bytes after it than it tells
+pub record IsShortRecord (order : ByteOrder) (link : Link) (unfit : Unfit)
+    (bytes : List ℕ) : Type 0 where
   pub head : List ℕ
   pub body : List ℕ
   pub parts : bytes ≡ head ++ body
   pub size : length head ≡ 16
   pub short : length body < word order head 8
-  pub fits : word order head 8 ≤ captured_limit link
+  pub fits : word order head 8 ≤ taken_limit unfit link
 
 -- the front of a block of a length that is taken, with fewer bytes than it tells
 pub record IsShortBlock (section : Section) (bytes : List ℕ) : Type 0 where
@@ -119,9 +133,10 @@ pub record HasOtherBack (order : ByteOrder) (bytes : List ℕ) : Type 0 where
 
 -- bytes that may become a unit and are too few for one
 abbrev pub IsBegun : State → List ℕ → Type 0
-IsBegun Start bytes = (length bytes < FIRST_UNIT_LEN)
-    ⊎ ((word Big bytes 0 ≡ section_header) × IsShortBlock no_section bytes)
-IsBegun (Classic order link) bytes = (length bytes < 16) ⊎ IsShortRecord order link bytes
+IsBegun (Start unfit) bytes = (length bytes < FIRST_UNIT_LEN)
+    ⊎ ((word Big bytes 0 ≡ section_header) × IsShortBlock (no_section unfit) bytes)
+IsBegun (Classic order link passing) bytes =
+    (length bytes < 16) ⊎ IsShortRecord order link passing.unfit bytes
 IsBegun (Pcapng section) bytes = (length bytes < 12) ⊎ IsShortBlock section bytes
 
 -- the bytes begin with the kind and the byte order magic of a section header
@@ -178,59 +193,62 @@ RefusesAt section bytes BadBlock =
     × (((order : ByteOrder) → HasOrder section.order bytes order → ⊥)
     ⊎ (HasBadLength section bytes ⊎ HasRefusedBlock section bytes BadBlock))
 
--- the bytes begin with a file header of a link type that is not read
-pub record HasLinkType (bytes : List ℕ) (number : ℕ) : Type 0 where
+-- the bytes begin with a file header of a link type that is not taken
+pub record HasLinkType (unfit : Unfit) (bytes : List ℕ) (number : ℕ) : Type 0 where
   pub order : ByteOrder
   pub header : List ℕ
   pub rest : List ℕ
   pub parts : bytes ≡ header ++ rest
   pub is_header : IsFileHeader order header
   pub told : link_type order header ≡ number
-  pub other : link_of number ≡ None
+  pub other : link_for unfit number ≡ None
 
--- the bytes begin with the head of a packet record that tells more bytes than a line can hold
-pub record HasLongFrame (order : ByteOrder) (link : Link) (bytes : List ℕ)
+-- the bytes begin with the head of a packet record that tells more bytes than are taken
+pub record HasLongFrame (order : ByteOrder) (link : Link) (unfit : Unfit) (bytes : List ℕ)
     (captured : ℕ) : Type 0 where
   pub head : List ℕ
   pub rest : List ℕ
   pub parts : bytes ≡ head ++ rest
   pub size : length head ≡ 16
   pub told : word order head 8 ≡ captured
-  pub long : captured_limit link < captured
+  pub long : taken_limit unfit link < captured
 
--- the bytes begin with a packet record that a line could hold, of a packet without a frame
-pub record HasNoFrame (order : ByteOrder) (link : Link) (bytes : List ℕ) : Type 0 where
+-- the bytes begin with a packet record that could be taken, of a packet that has no frame
+pub record HasNoFrame (order : ByteOrder) (link : Link) (unfit : Unfit)
+    (bytes : List ℕ) : Type 0 where
   pub unit : List ℕ
   pub packet : List ℕ
   pub rest : List ℕ
   pub parts : bytes ≡ unit ++ rest
   pub is_record : IsPacketRecord order unit packet
-  pub fits : length packet ≤ captured_limit link
-  pub none : framed link packet ≡ None
+  pub fits : length packet ≤ taken_limit unfit link
+  pub none : told_frame unfit link packet ≡ None
 
 -- why no unit is the first, where there are as many bytes as a file header has
-abbrev pub RefusesFirst : List ℕ → CaptureError → Type 0
-RefusesFirst bytes NotCapture = IsNoCapture bytes
-RefusesFirst bytes (LinkType number) = HasLinkType bytes number
-    ⊎ (BeginsSection bytes × RefusesAt no_section bytes (LinkType number))
-RefusesFirst bytes (FrameTooLong captured) = BeginsSection bytes
-    × RefusesAt no_section bytes (FrameTooLong captured)
-RefusesFirst bytes NoFrame = BeginsSection bytes × RefusesAt no_section bytes NoFrame
-RefusesFirst bytes CutOff = ⊥
-RefusesFirst bytes (BlockTooLong len) = BeginsSection bytes
-    × RefusesAt no_section bytes (BlockTooLong len)
-RefusesFirst bytes BadBlock = BeginsSection bytes × RefusesAt no_section bytes BadBlock
+abbrev pub RefusesFirst : Unfit → List ℕ → CaptureError → Type 0
+RefusesFirst unfit bytes NotCapture = IsNoCapture bytes
+RefusesFirst unfit bytes (LinkType number) = HasLinkType unfit bytes number
+    ⊎ (BeginsSection bytes × RefusesAt (no_section unfit) bytes (LinkType number))
+RefusesFirst unfit bytes (FrameTooLong captured) = BeginsSection bytes
+    × RefusesAt (no_section unfit) bytes (FrameTooLong captured)
+RefusesFirst unfit bytes NoFrame = BeginsSection bytes × RefusesAt (no_section unfit) bytes NoFrame
+RefusesFirst unfit bytes CutOff = ⊥
+RefusesFirst unfit bytes (BlockTooLong len) = BeginsSection bytes
+    × RefusesAt (no_section unfit) bytes (BlockTooLong len)
+RefusesFirst unfit bytes BadBlock = BeginsSection bytes
+    × RefusesAt (no_section unfit) bytes BadBlock
 
 -- why no unit can follow, whatever comes after these bytes
 abbrev pub Refuses : State → List ℕ → CaptureError → Type 0
-Refuses Start bytes error = (FIRST_UNIT_LEN ≤ length bytes) × RefusesFirst bytes error
-Refuses (Classic order link) bytes NotCapture = ⊥
-Refuses (Classic order link) bytes (LinkType number) = ⊥
-Refuses (Classic order link) bytes (FrameTooLong captured) = HasLongFrame order link bytes captured
-Refuses (Classic order link) bytes NoFrame = HasNoFrame order link bytes
-Refuses (Classic order link) bytes CutOff = ⊥
-Refuses (Classic order link) bytes (BlockTooLong len) = ⊥
-Refuses (Classic order link) bytes BadBlock = ⊥
+Refuses (Start unfit) bytes error = (FIRST_UNIT_LEN ≤ length bytes) × RefusesFirst unfit bytes error
+Refuses (Classic order link passing) bytes NotCapture = ⊥
+Refuses (Classic order link passing) bytes (LinkType number) = ⊥
+Refuses (Classic order link passing) bytes (FrameTooLong captured) =
+    HasLongFrame order link passing.unfit bytes captured
+Refuses (Classic order link passing) bytes NoFrame = HasNoFrame order link passing.unfit bytes
+Refuses (Classic order link passing) bytes CutOff = ⊥
+Refuses (Classic order link passing) bytes (BlockTooLong len) = ⊥
+Refuses (Classic order link passing) bytes BadBlock = ⊥
 Refuses (Pcapng section) bytes error = RefusesAt section bytes error
 
 -- a unit with this packet is the front of the bytes
@@ -245,7 +263,8 @@ abbrev pub IsLeft : State → List ℕ → Option CaptureError → Type 0
 IsLeft state rest None = IsBegun state rest
 IsLeft state rest (Some error) = Refuses state rest error
 
--- all whole units of the bytes are taken, they hold so many packets, and their lines are this text
+-- all whole units of the bytes are taken, so many packets of them are told, and their lines are
+-- this text
 pub record Takes (state : State) (bytes : List ℕ) (after : State) (rest : List ℕ) (count : ℕ)
     (text : List ℕ) (refusal : Option CaptureError) : Type 0 where
   pub packets : List Packet

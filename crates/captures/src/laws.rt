@@ -11,6 +11,7 @@ ghost use Rattle.captures.specs.Numbers.{half, word};
 ghost use Rattle.captures.specs.Pcapng.{Content, HasOrder, RefusesBlock, Says};
 ghost use Rattle.captures.specs.Pcapng.Content.{Opens};
 ghost use Rattle.captures.specs.Runs.{IsCapture};
+ghost use Rattle.captures.specs.Skipping.{none_skipped};
 ghost use Rattle.captures.specs.Texts.{IsText};
 ghost use Rattle.captures.specs.Units.{RefusesAt, Takes};
 ghost use Rattle.captures.specs.declared.byte_order.ByteOrder.{ByteOrder};
@@ -21,13 +22,16 @@ ghost use Rattle.captures.specs.declared.capture_error.CaptureError.TheVariants.
 ghost use Rattle.captures.specs.declared.pcapng.section.Section.{Section};
 ghost use Rattle.captures.specs.declared.translation.state.State.{State};
 ghost use Rattle.captures.specs.declared.translation.state.State.TheVariants.{Start};
+ghost use Rattle.captures.specs.declared.translation.skipped.Skipped.{Skipped};
+ghost use Rattle.captures.specs.declared.unfit.Unfit.{Unfit};
 ghost use Rattle.captures.specs.Spelling.{TimedFrame, capture_of, packets_in};
 
 use crate::limits::{
     BLOCK_LIMIT, FIRST_UNIT_LEN, FRAME_LIMIT, INPUT_ROOM, LINE_LIMIT, READ_COUNT_LIMIT,
+    SKIPPED_LIMIT,
 };
 use crate::pcapng::section::ETHERNET;
-use crate::{CaptureError, Place, RunError};
+use crate::{CaptureError, Place, RunError, Skipped, Unfit};
 use ep_base::laws::traits::Value;
 use runs::Fault;
 
@@ -35,23 +39,25 @@ use runs::Fault;
 pub fn written_frames_are_read()
     ensures { (frames : List TimedFrame)
         → AllByRecursion (λ timed. length timed.frame ≤ FRAME_LIMIT) frames
-        → IsCapture (capture_of frames) (packets_in frames) }
+        → (unfit : Unfit)
+        → IsCapture unfit (capture_of frames) (packets_in frames) none_skipped }
 {}
 
-/// The packets of a capture are known by its bytes.
+/// The packets of a capture are known by its bytes, and so is how many are passed over.
 pub fn capture_is_alone()
-    ensures { (bytes : List ℕ) (packets packets' : List Packet) → IsBytes bytes
-        → IsCapture bytes packets → IsCapture bytes packets'
-        → packets ≡ packets' }
+    ensures { (unfit : Unfit) (bytes : List ℕ) (packets packets' : List Packet)
+        (skipped skipped' : Skipped) → IsBytes bytes
+        → IsCapture unfit bytes packets skipped → IsCapture unfit bytes packets' skipped'
+        → (packets ≡ packets') × (skipped ≡ skipped') }
 {}
 
 /// What is told of any bytes, whether more are wanted behind them or they are refused, is known by
 /// them.
 pub fn told_is_alone()
-    ensures { (bytes rest rest' text text' : List ℕ) (count count' : ℕ) (state state' : State)
-        (refusal refusal' : Option CaptureError) → IsBytes bytes
-        → Takes Start bytes state rest count text refusal
-        → Takes Start bytes state' rest' count' text' refusal' → text ≡ text' }
+    ensures { (unfit : Unfit) (bytes rest rest' text text' : List ℕ) (count count' : ℕ)
+        (state state' : State) (refusal refusal' : Option CaptureError) → IsBytes bytes
+        → Takes (Start unfit) bytes state rest count text refusal
+        → Takes (Start unfit) bytes state' rest' count' text' refusal' → text ≡ text' }
 {}
 
 /// The frames that a text of lines hands in are known by its bytes.
@@ -129,12 +135,15 @@ pub fn types_are_plain_data()
     ensures capture_error { IsPlainData ⟦<CaptureError as Value>⟧ }
     ensures place { IsPlainData ⟦<Place as Value>⟧ }
     ensures run_error { IsPlainData ⟦<RunError as Value>⟧ }
+    ensures unfit { IsPlainData ⟦<Unfit as Value>⟧ }
+    ensures skipped { IsPlainData ⟦<Skipped as Value>⟧ }
     ensures fault { IsPlainData ⟦<Fault as Value>⟧ }
 {}
 
 /// The numbers that the definitions take from the code.
 pub fn constants()
     ensures frame { FRAME_LIMIT ≡ 99_991 }
+    ensures skipped { SKIPPED_LIMIT ≡ 262_128 }
     ensures block { BLOCK_LIMIT ≡ 262_144 }
     ensures first { FIRST_UNIT_LEN ≡ 24 }
     ensures input { INPUT_ROOM ≡ 262_144 }

@@ -12,12 +12,15 @@ mod pcapng;
 mod place;
 mod text;
 mod translation;
+mod unfit;
 
 pub use capture_error::CaptureError;
-pub use limits::{BLOCK_LIMIT, FRAME_LIMIT, READ_COUNT_LIMIT};
+pub use limits::{BLOCK_LIMIT, FRAME_LIMIT, READ_COUNT_LIMIT, SKIPPED_LIMIT};
 pub use pcap::writer::Writer;
 pub use place::Place;
 pub use runs::device;
 pub use translation::run_captures::{run, run_over};
 pub use translation::run_error::RunError;
 pub use translation::run_lines::{write_capture, write_capture_over};
+pub use translation::skipped::Skipped;
+pub use unfit::Unfit;

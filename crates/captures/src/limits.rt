@@ -18,6 +18,9 @@ pub const BLOCK_LIMIT: usize = INPUT_ROOM;
 /// The bytes that a run holds at most of what it has read.
 pub const INPUT_ROOM: usize = 262_144;
 
+/// The captured bytes at most of a packet that is passed over, as a packet record is held whole.
+pub const SKIPPED_LIMIT: usize = INPUT_ROOM - 16;
+
 /// The bytes of lines that come out of so many bytes at most.
 pub const OUTPUT_ROOM: usize = 4 * INPUT_ROOM;
 

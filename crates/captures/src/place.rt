@@ -12,8 +12,9 @@ use std::fmt;
 /// Where in a capture it is refused. Counts stop at the greatest number of 64 bits.
 #[derive(Clone, Copy, Debug, PartialEq, Eq)]
 pub struct Place {
-    /// The number of the packet there, or of the first one after it, counted from 1. A packet of
-    /// which no byte was captured isn't counted, as it has no line.
+    /// The number of the packet there, or of the first one after it, counted from 1. Packets that
+    /// have no line aren't counted: those of which no byte was captured, and those that are passed
+    /// over.
     pub packet: u64,
     /// How many bytes come before the file header, packet record or block there.
     pub offset: u64,
@@ -70,14 +71,14 @@ fn block_type(state: State, bytes: &[u8]) -> Option<u32>
         return None;
     }
     match state {
-        State::Start => {
+        State::Start(_) => {
             if ByteOrder::Big.word(bytes, 0) == SECTION_HEADER {
                 Some(SECTION_HEADER)
             } else {
                 None
             }
         }
-        State::Classic(_, _) => None,
+        State::Classic(_, _, _) => None,
         State::Pcapng(section) => Some(section.order.word(bytes, 0)),
     }
 }

@@ -6,6 +6,7 @@ pub(crate) mod refusal;
 pub(crate) mod run_captures;
 pub(crate) mod run_error;
 pub(crate) mod run_lines;
+pub(crate) mod skipped;
 pub(crate) mod state;
 pub(crate) mod translator;
 pub(crate) mod units;

@@ -1,5 +1,5 @@
-//! Turns a capture file into lines for `netlines`, `captures_cli lines [FILE|-]`, and lines into a
-//! capture file, `captures_cli capture [FILE|-]`.
+//! Turns a capture file into lines for `netlines`, `captures_cli lines [--skip] [FILE|-]`, and
+//! lines into a capture file, `captures_cli capture [FILE|-]`.
 #![tactic(auto)]
 
 ghost use Rattle.std.specs.Prelude.{◌≡◌, List, ℕ, OnOk, IfSome, MatchResult};
@@ -10,6 +10,7 @@ ghost use Rattle.captures.specs.Lines.{Packet, lines_of};
 ghost use Rattle.captures.specs.Runs.{IsCapture};
 ghost use Rattle.captures.specs.Spelling.{TimedFrame, capture_of};
 ghost use Rattle.captures.specs.Texts.{IsText};
+ghost use Rattle.captures.specs.declared.unfit.Unfit.{Unfit};
 
 mod looks;
 mod modes;
@@ -17,10 +18,10 @@ mod notes;
 
 use crate::looks::{Look, look_at};
 use crate::modes::Mode;
-use crate::notes::Told;
+use crate::notes::{Told, ToldSkipped};
 use anyhow::Context;
-use captures::RunError;
-use clap::{Arg, ArgMatches, Command};
+use captures::{RunError, Skipped, Unfit};
+use clap::{Arg, ArgAction, ArgMatches, Command};
 use std::alloc::Global;
 use std::env;
 use std::fs::File;
@@ -48,6 +49,12 @@ fn main(rt: HostRuntime) -> anyhow::Result<ExitCode> {
 fn command<'a>(alloc: Global) -> Result<Command<'a>, clap::Error> {
     let lines = Command::new(alloc, "lines")
         .about("Writes a line for each packet of a capture")
+        .arg(
+            Arg::new(alloc, "skip")
+                .long("skip")
+                .help("Passes over packets of other links, without a frame or too long for a line")
+                .action(ArgAction::SetTrue),
+        )?
         .arg(file(alloc))?;
     let capture = Command::new(alloc, "capture")
         .about("Writes a capture of the frames of such lines")
@@ -77,7 +84,7 @@ struct Asked<'m> {
 
 fn asked_for<'m>(matches: &'m ArgMatches) -> Option<Asked<'m>> {
     let (mode, words) = match matches.subcommand() {
-        Some(("lines", words)) => (Mode::Lines, words),
+        Some(("lines", words)) => (Mode::Lines(unfit_by(words.get_flag("skip"))), words),
         Some(("capture", words)) => (Mode::Capture, words),
         _ => return None,
     };
@@ -85,6 +92,10 @@ fn asked_for<'m>(matches: &'m ArgMatches) -> Option<Asked<'m>> {
         mode,
         name: words.get_str("FILE").unwrap_or("-"),
     })
+}
+
+fn unfit_by(skips: bool) -> Unfit {
+    if skips { Unfit::Skip } else { Unfit::Refuse }
 }
 
 // So many bytes tell what an input looks like.
@@ -102,7 +113,9 @@ fn make_of_file(rt: &HostRuntime, mode: Mode, name: &str) -> anyhow::Result<Exit
 
 fn make_of<R: Read + Drop>(rt: &HostRuntime, mode: Mode, mut input: BufReader<R>) -> ExitCode {
     let seen = input_look(&mut input);
-    let made = make(rt.alloc(), mode, &mut input, &mut rt.stdout());
+    let mut skipped = Skipped::NONE;
+    let made = make(rt.alloc(), mode, &mut input, &mut rt.stdout(), &mut skipped);
+    tell_skipped(rt, skipped);
     exit_code(rt, made, seen)
 }
 
@@ -122,16 +135,19 @@ fn make<R: Read, W: Write>(
     mode: Mode,
     reader: &mut R,
     writer: &mut W,
+    skipped: &mut Skipped,
 ) -> Result<(), RunError>
-    ensures lines { mode ≡ Mode.Lines
+    ensures lines { (unfit : Unfit) → mode ≡ Mode.Lines unfit
         → OnOk result (IfSome (R.remaining reader.old) (λ input. (packets : List Packet)
-        × IsCapture input packets × Appends (W.contents writer.old) (W.contents writer.new) (lines_of packets))) }
+        × IsCapture unfit input packets skipped.new
+        × Appends (W.contents writer.old) (W.contents writer.new) (lines_of packets))) }
     ensures capture { mode ≡ Mode.Capture
         → OnOk result (IfSome (R.remaining reader.old) (λ input. (frames : List TimedFrame)
-        × IsText input frames × Appends (W.contents writer.old) (W.contents writer.new) (capture_of frames))) }
+        × IsText input frames
+        × Appends (W.contents writer.old) (W.contents writer.new) (capture_of frames))) }
 {
     match mode {
-        Mode::Lines => make_lines(alloc, reader, writer),
+        Mode::Lines(unfit) => make_lines(alloc, unfit, reader, writer, skipped),
         Mode::Capture => make_capture(alloc, reader, writer),
     }
 }
@@ -139,13 +155,16 @@ fn make<R: Read, W: Write>(
 // What is written is flushed, where the input is refused too.
 fn make_lines<R: Read, W: Write>(
     alloc: Global,
+    unfit: Unfit,
     reader: &mut R,
     writer: &mut W,
+    skipped: &mut Skipped,
 ) -> Result<(), RunError>
     ensures { OnOk result (IfSome (R.remaining reader.old) (λ input. (packets : List Packet)
-        × IsCapture input packets × Appends (W.contents writer.old) (W.contents writer.new) (lines_of packets))) }
+        × IsCapture unfit input packets skipped.new
+        × Appends (W.contents writer.old) (W.contents writer.new) (lines_of packets))) }
 {
-    let made = captures::run(alloc, reader, writer);
+    let made = captures::run(alloc, unfit, reader, writer, skipped);
     let flushed = writer.flush();
     made?;
     match flushed {
@@ -160,7 +179,8 @@ fn make_capture<R: Read, W: Write>(
     writer: &mut W,
 ) -> Result<(), RunError>
     ensures { OnOk result (IfSome (R.remaining reader.old) (λ input. (frames : List TimedFrame)
-        × IsText input frames × Appends (W.contents writer.old) (W.contents writer.new) (capture_of frames))) }
+        × IsText input frames
+        × Appends (W.contents writer.old) (W.contents writer.new) (capture_of frames))) }
 {
     let made = captures::write_capture(alloc, reader, writer);
     let flushed = writer.flush();
@@ -168,6 +188,14 @@ fn make_capture<R: Read, W: Write>(
     match flushed {
         Ok(()) => Ok(()),
         Err(_) => Err(RunError::Write),
+    }
+}
+
+// Tells on standard error what was passed over, if anything was.
+fn tell_skipped<P: Eprint>(rt: &P, skipped: Skipped) {
+    if skipped != Skipped::NONE {
+        let told = ToldSkipped { skipped };
+        let _ = eprintln!(rt; "captures_cli: {told}");
     }
 }
 

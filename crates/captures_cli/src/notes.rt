@@ -1,6 +1,6 @@
 //! What is told beside an error: what its input is, or the name of its link type.
 use crate::looks::Look;
-use captures::{CaptureError, RunError};
+use captures::{CaptureError, RunError, Skipped};
 use std::fmt;
 
 /// What is told of an error, where the input looks like this.
@@ -19,6 +19,24 @@ impl fmt::Display for Told {
             RunError::Capture(CaptureError::NotCapture, _) => write!(f, "no capture file{note}"),
             _ => write!(f, "{error}{note}"),
         }
+    }
+}
+
+/// What is told of packets that were passed over.
+#[derive(Clone, Copy, Debug, PartialEq, Eq)]
+pub struct ToldSkipped {
+    pub skipped: Skipped,
+}
+
+impl fmt::Display for ToldSkipped {
+    fn fmt<W: fmt::Write>(&self, f: &mut fmt::Formatter<W>) -> fmt::Result {
+        let Skipped {
+            of_other_links,
+            too_long,
+            without_frame,
+        } = self.skipped;
+        write!(f, "passed over: {of_other_links} of other links, ")?;
+        write!(f, "{too_long} too long, {without_frame} without a frame")
     }
 }
 

@@ -1,9 +1,9 @@
 //! What is made of an input, the flush, the status and what is told of an error.
 use crate::looks::{Look, look_at};
 use crate::modes::Mode;
-use crate::notes::Told;
-use crate::{asked_for, command, exit_code, make};
-use captures::{CaptureError, Place, RunError};
+use crate::notes::{Told, ToldSkipped};
+use crate::{asked_for, command, exit_code, make, tell_skipped};
+use captures::{CaptureError, Place, RunError, Skipped, Unfit};
 use std::alloc::Global;
 use std::io::{self, ErrorKind, Write};
 use std::process::ExitCode;
@@ -37,15 +37,25 @@ const PACKET: &[u8; 18] =
 #[test]
 fn lines_are_made_a_capture_and_lines_again(rt: HostRuntime) -> Result<(), Fail> {
     let alloc = rt.alloc();
+    let mut skipped = Skipped::NONE;
     let mut capture = Vec::new(alloc);
     let mut text = b"frame 0 0aff 1700000000 250000\n".as_slice();
-    assert_eq!(rt; make(alloc, Mode::Capture, &mut text, &mut capture), Ok(()));
+    assert_eq!(rt;
+        make(alloc, Mode::Capture, &mut text, &mut capture, &mut skipped),
+        Ok(())
+    );
     let mut wanted = Vec::from_slice(alloc, HEADER)?;
     wanted.extend_from_slice(PACKET)?;
     assert_eq!(rt; capture.as_slice(), wanted.as_slice());
     let mut lines = Vec::new(alloc);
     assert_eq!(rt;
-        make(alloc, Mode::Lines, &mut capture.as_slice(), &mut lines),
+        make(
+            alloc,
+            Mode::Lines(Unfit::Refuse),
+            &mut capture.as_slice(),
+            &mut lines,
+            &mut skipped
+        ),
         Ok(())
     );
     assert_eq!(rt; lines.as_slice(), b"frame 0 0aff\n".as_slice());
@@ -81,25 +91,85 @@ fn the_word_capture_makes_a_capture(rt: HostRuntime) -> Result<(), Fail> {
     };
     assert_eq!(rt; asked.name, "-");
     let mut capture = Vec::new(rt.alloc());
+    let mut skipped = Skipped::NONE;
     assert_eq!(rt;
-        make(rt.alloc(), asked.mode, &mut LINES.as_slice(), &mut capture),
+        make(
+            rt.alloc(),
+            asked.mode,
+            &mut LINES.as_slice(),
+            &mut capture,
+            &mut skipped
+        ),
         Ok(())
     );
     assert_eq!(rt; capture.as_slice(), CAPTURE.as_slice());
     Ok(())
 }
 
+// The same header, of PPP in place of Ethernet.
+const PPP_HEADER: &[u8; 24] = b"\
+    \xd4\xc3\xb2\xa1\x02\x00\x04\x00\x00\x00\x00\x00\x00\x00\x00\x00\x00\x00\x04\x00\x09\x00\x00\x00";
+
+#[test]
+fn the_word_skip_passes_packets_over(rt: HostRuntime) -> Result<(), Fail> {
+    let words = ["captures_cli", "lines", "--skip", "-"];
+    let Ok(matches) = command(rt.alloc())?.try_get_matches_from(&words) else {
+        panic!(rt; "refused");
+    };
+    let Some(asked) = asked_for(&matches) else {
+        panic!(rt; "no mode");
+    };
+    assert_eq!(rt; asked.name, "-");
+    let mut file = Vec::from_slice(rt.alloc(), PPP_HEADER)?;
+    file.extend_from_slice(PACKET)?;
+    let mut lines = Vec::new(rt.alloc());
+    let mut skipped = Skipped::NONE;
+    assert_eq!(rt;
+        make(
+            rt.alloc(),
+            asked.mode,
+            &mut file.as_slice(),
+            &mut lines,
+            &mut skipped
+        ),
+        Ok(())
+    );
+    assert!(rt; lines.is_empty());
+    let told = ToldSkipped { skipped };
+    assert_eq!(rt;
+        format!(in rt.alloc(); "{told}")?.as_str(),
+        "passed over: 1 of other links, 0 too long, 0 without a frame"
+    );
+    Ok(())
+}
+
+#[test]
+#[should_panic(expected = "captures_cli: passed over: 1 of other links, 2 too long")]
+fn packets_that_are_passed_over_are_told(rt: HostRuntime) {
+    tell_skipped(&rt, Skipped::NONE);
+    tell_skipped(
+        &rt,
+        Skipped {
+            of_other_links: 1,
+            too_long: 2,
+            without_frame: 3,
+        },
+    );
+    panic!(rt; "told");
+}
+
 #[test]
 fn a_flush_that_fails_is_a_failed_write(rt: HostRuntime) {
-    for mode in [Mode::Lines, Mode::Capture] {
+    for mode in [Mode::Lines(Unfit::Refuse), Mode::Capture] {
         let mut writer = UnflushableWriter {
             taken: Vec::new(rt.alloc()),
         };
         let input = match mode {
-            Mode::Lines => HEADER.as_slice(),
+            Mode::Lines(_) => HEADER.as_slice(),
             Mode::Capture => b"".as_slice(),
         };
-        let made = make(rt.alloc(), mode, &mut &*input, &mut writer);
+        let mut skipped = Skipped::NONE;
+        let made = make(rt.alloc(), mode, &mut &*input, &mut writer, &mut skipped);
         assert_eq!(rt; made, Err(RunError::Write));
     }
 }

@@ -19,6 +19,8 @@ mod pieces;
 #[cfg(test)]
 mod reads;
 #[cfg(test)]
+mod skipping;
+#[cfg(test)]
 mod text;
 #[cfg(test)]
 mod writes;

@@ -1,6 +1,7 @@
 //! The lines that the captures of these tests hold, and what a run gives.
-use captures::{CaptureError, Place, RunError, run};
+use captures::{CaptureError, Place, RunError, Skipped, Unfit, run};
 use std::alloc::{AllocError, Global};
+use std::io::{Read, Write};
 
 // The packets that the files hold.
 pub const LINES: &[u8; 202] =
@@ -26,7 +27,32 @@ pub fn refused(
 
 pub fn lines_of(alloc: Global, file: &[u8]) -> Result<(Result<(), RunError>, Vec<u8>), AllocError> {
     let mut lines = Vec::new(alloc);
-    let mut reader = file;
-    let result = run(alloc, &mut reader, &mut lines);
+    let result = lines_to(alloc, &mut &*file, &mut lines);
     Ok((result, lines))
+}
+
+// A run that ends where a packet can't be told.
+pub fn lines_to<R: Read, W: Write>(
+    alloc: Global,
+    reader: &mut R,
+    writer: &mut W,
+) -> Result<(), RunError> {
+    let mut skipped = Skipped::NONE;
+    run(alloc, Unfit::Refuse, reader, writer, &mut skipped)
+}
+
+// How a run ended that passes over packets that can't be told, its lines, and how many it passed
+// over. It doesn't add to what stood there.
+pub fn lines_skipping(
+    alloc: Global,
+    file: &[u8],
+) -> Result<(Result<(), RunError>, Vec<u8>, Skipped), AllocError> {
+    let mut lines = Vec::new(alloc);
+    let mut skipped = Skipped {
+        of_other_links: 7,
+        too_long: 8,
+        without_frame: 9,
+    };
+    let result = run(alloc, Unfit::Skip, &mut &*file, &mut lines, &mut skipped);
+    Ok((result, lines, skipped))
 }

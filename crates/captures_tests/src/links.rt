@@ -5,7 +5,7 @@ use std::alloc::{AllocError, Global};
 use std::test::Fail;
 
 // A classic capture of one packet.
-fn capture(alloc: Global, link_type: u8, packet: &[u8]) -> Result<Vec<u8>, AllocError> {
+pub fn capture(alloc: Global, link_type: u8, packet: &[u8]) -> Result<Vec<u8>, AllocError> {
     let mut file = Vec::from_slice(
         alloc,
         b"\xa1\xb2\xc3\xd4\x00\x02\x00\x04\0\0\0\0\0\0\0\0\x00\x04\x00\x00\x00\x00",
@@ -152,7 +152,7 @@ const SECTION: &[u8; 28] = b"\
     \x0a\x0d\x0d\x0a\x1c\x00\x00\x00\x4d\x3c\x2b\x1a\x01\x00\x00\x00\xff\xff\xff\xff\
     \xff\xff\xff\xff\x1c\x00\x00\x00";
 
-fn describe(file: &mut Vec<u8>, link_type: u8) -> Result<(), AllocError> {
+pub fn describe(file: &mut Vec<u8>, link_type: u8) -> Result<(), AllocError> {
     file.extend_from_slice(b"\x01\0\0\0\x14\0\0\0")?;
     file.extend_from_slice(&[link_type, 0, 0, 0, 0, 0, 0, 0])?;
     file.extend_from_slice(b"\x14\0\0\0")

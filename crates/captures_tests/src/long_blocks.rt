@@ -1,7 +1,7 @@
 //! Blocks that are skipped and longer than what a run holds, in a section with one Ethernet
 //! interface. The files are made by hand from the format's description.
-use crate::lines::refused;
-use captures::{CaptureError, RunError, run};
+use crate::lines::{lines_to, refused};
+use captures::{CaptureError, RunError};
 use fault_devices::FaultReader;
 use std::alloc::{AllocError, Global};
 use std::test::Fail;
@@ -48,7 +48,7 @@ fn lines_by_pieces(
 ) -> Result<(Result<(), RunError>, Vec<u8>), AllocError> {
     let mut lines = Vec::new(alloc);
     let mut reader = FaultReader::new(file, size);
-    let result = run(alloc, &mut reader, &mut lines);
+    let result = lines_to(alloc, &mut reader, &mut lines);
     Ok((result, lines))
 }
 

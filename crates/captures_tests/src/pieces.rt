@@ -1,8 +1,8 @@
 //! Runs whose reads and writes move one byte, fail, or move none.
 use crate::blocks::{TWO_SECTIONS, TWO_SECTIONS_LINES};
 use crate::classic::LITTLE_NANOSECONDS;
-use crate::lines::LINES;
-use captures::{CaptureError, Place, RunError, run, write_capture};
+use crate::lines::{LINES, lines_to};
+use captures::{CaptureError, Place, RunError, write_capture};
 use fault_devices::{Fault, FaultReader, FaultWriter};
 use std::io::ErrorKind;
 use std::test::Fail;
@@ -18,7 +18,7 @@ fn one_byte_a_call(rt: HostRuntime) -> Result<(), Fail> {
     ] {
         let mut reader = FaultReader::new(file, 1);
         let mut writer = FaultWriter::new(rt.alloc(), 1);
-        assert!(rt; run(rt.alloc(), &mut reader, &mut writer) == Ok(()));
+        assert!(rt; lines_to(rt.alloc(), &mut reader, &mut writer) == Ok(()));
         assert!(rt; writer.taken.as_slice() == lines);
     }
     Ok(())
@@ -33,7 +33,7 @@ fn reads_that_fail(rt: HostRuntime) -> Result<(), Fail> {
     assert!(rt; capture.len() == 90);
     let mut lines = Vec::new(rt.alloc());
     let mut reader = FaultReader::failing(capture.as_slice(), 1, 90, FAILS);
-    assert!(rt; run(rt.alloc(), &mut reader, &mut lines) == Err(RunError::Read));
+    assert!(rt; lines_to(rt.alloc(), &mut reader, &mut lines) == Err(RunError::Read));
     assert!(rt; lines.as_slice() == &LINES[..109]);
     Ok(())
 }
@@ -54,7 +54,7 @@ fn writes_that_fail(rt: HostRuntime) -> Result<(), Fail> {
 fn writer_without_room(rt: HostRuntime) -> Result<(), Fail> {
     let mut room = [0u8; 111];
     let mut reader = LITTLE_NANOSECONDS.as_slice();
-    let result = run(rt.alloc(), &mut reader, &mut room.as_mut_slice());
+    let result = lines_to(rt.alloc(), &mut reader, &mut room.as_mut_slice());
     assert!(rt; result == Err(RunError::WriteZero));
     assert!(rt; room.as_slice() == &LINES[..111]);
     Ok(())

@@ -1,8 +1,10 @@
 //! Runs of which one read fails or gives nothing, before and after the last byte of each header and
 //! packet, and runs of few reads. Each other read gives a byte.
-use crate::lines::refused;
+use crate::lines::{lines_to, refused};
 use captures::device::ReaderWriter;
-use captures::{CaptureError, RunError, run, run_over, write_capture, write_capture_over};
+use captures::{
+    CaptureError, RunError, Skipped, Unfit, run_over, write_capture, write_capture_over,
+};
 use fault_devices::{Fault, FaultReader};
 use std::alloc::Global;
 use std::io::ErrorKind;
@@ -48,7 +50,7 @@ fn each_read_of_a_run(rt: HostRuntime) -> Result<(), Fail> {
         for before in [0, 23, 24, 40, 41, 58, 59] {
             let mut reader = FaultReader::failing(CAPTURE, 1, before, fault);
             let mut lines = Vec::new(rt.alloc());
-            let result = run(rt.alloc(), &mut reader, &mut lines);
+            let result = lines_to(rt.alloc(), &mut reader, &mut lines);
             let wanted = match fault {
                 Fault::MovesNone => end_of_capture(before),
                 _ => Err(RunError::Read),
@@ -92,7 +94,14 @@ fn run_of(
     reads: u8,
 ) -> Result<(), RunError> {
     let mut device = ReaderWriter { reader, writer };
-    run_over(alloc, &mut device, u64::from(reads))
+    let mut skipped = Skipped::NONE;
+    run_over(
+        alloc,
+        Unfit::Refuse,
+        &mut device,
+        u64::from(reads),
+        &mut skipped,
+    )
 }
 
 // The read that gives nothing counts: so a run of 59 bytes makes 60 reads.

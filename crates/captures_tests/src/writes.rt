@@ -1,9 +1,9 @@
 //! Runs of which one write fails, takes nothing or takes one byte, whichever it is. All other
 //! writes take 50 bytes at most.
 use crate::classic::LITTLE_MICROSECONDS;
-use crate::lines::LINES;
+use crate::lines::{LINES, lines_to};
 use captures::device::ReaderWriter;
-use captures::{RunError, run, write_capture};
+use captures::{RunError, write_capture};
 use fault_devices::{Fault, FaultReader, FaultWriter};
 use runs::write_whole;
 use std::io::{self, ErrorKind};
@@ -47,7 +47,7 @@ fn each_write_of_a_run(rt: HostRuntime) -> Result<(), Fail> {
         for (before, place) in [(0, 0), (1, 50), (2, 100), (3, 109), (4, 159), (5, 202)] {
             let mut reader = FaultReader::new(LITTLE_MICROSECONDS.as_slice(), 1);
             let mut writer = FaultWriter::failing(rt.alloc(), 50, before, fault);
-            let result = run(rt.alloc(), &mut reader, &mut writer);
+            let result = lines_to(rt.alloc(), &mut reader, &mut writer);
             if place == 202 || fault == Fault::MovesOne {
                 assert!(rt; result == Ok(()));
                 assert!(rt; writer.taken.as_slice() == LINES.as_slice());

@@ -1,14 +1,18 @@
 //! A packet as an Ethernet II frame.
-ghost use Rattle.std.specs.Prelude.{◌≡◌, ◌≤◌, ◌+◌, ◌*◌, ◌++◌, ◌==◌, List, ℕ, [], length, take, IfSome};
+ghost use Rattle.std.specs.Prelude.{◌≡◌, ◌≤◌, ◌+◌, ◌*◌, ◌++◌, ◌==◌, List, ℕ, [], length, take};
+ghost use Rattle.std.specs.Prelude.{IfOk, IfSome, None, Some, MatchOption};
 ghost use Rattle.hex.specs.Hex.{encode_lower};
 ghost use Rattle.captures.specs.Framed.{address_at, cooked_type, ethernet_header, family_type};
-ghost use Rattle.captures.specs.Framed.{made_header};
+ghost use Rattle.captures.specs.Framed.{made_header, reason_on, told_frame, told_of};
 ghost use Rattle.captures.specs.Framed.{framed, framed_behind, framed_packet, ip_type};
+ghost use Rattle.captures.specs.Skipping.{counted};
 ghost use Rattle.captures.specs.declared.link.kind.Link.TheVariants.{Null, Loop, Sll, Sll2};
 
 use crate::byte_order::ByteOrder;
 use crate::link::kind::Link;
 use crate::text::line::append_hex;
+use crate::translation::skipped::{Passing, Reason};
+use crate::unfit::Unfit;
 use std::marker::Model;
 
 /// The bytes of an Ethernet II header.
@@ -101,8 +105,58 @@ impl<'a> Frame<'a> {
     }
 }
 
-/// A packet of such a link as an Ethernet II frame, if it has one.
-pub(crate) fn framed(link: Link, packet: &[u8]) -> Option<Frame<'_>>
+/// What is told of a packet that isn't refused, and what is known of those passed over then.
+#[derive(Drop)]
+pub(crate) struct Telling<'a> {
+    /// The packet's frame, or no bytes where it is passed over.
+    pub frame: Frame<'a>,
+    pub passing: Passing,
+}
+
+/// What is told of a packet of such a link, if it isn't refused.
+pub(crate) fn tell(passing: Passing, link: Link, packet: &[u8]) -> Option<Telling<'_>>
+    ensures told { MatchOption result (told_frame passing.unfit link packet.now ≡ None)
+        (λ t. (told_frame passing.unfit link packet.now ≡ Some t.frame)
+        × (t.passing ≡ counted passing link packet.now)) }
+    ensures size { IfSome result (λ t. length t.frame ≤ length packet.now + 14) }
+{
+    match told(link, packet) {
+        Ok(frame) => Some(Telling { frame, passing }),
+        Err(reason) => match passing.unfit {
+            Unfit::Refuse => None,
+            Unfit::Skip => Some(Telling {
+                frame: Frame::of(&[]),
+                passing: passing.with_reason(reason),
+            }),
+        },
+    }
+}
+
+// The frame of a packet of such a link, or why it has none that a line can hold.
+fn told(link: Link, packet: &[u8]) -> Result<Frame<'_>, Reason>
+    ensures told { result ≡ told_of link packet.now }
+    ensures size { IfOk result (λ frame. length frame ≤ length packet.now + 14) }
+{
+    if packet.len() > link.captured_limit() {
+        return Err(reason_on(link, Reason::TooLong));
+    }
+    match framed(link, packet) {
+        Some(frame) => Ok(frame),
+        None => Err(reason_on(link, Reason::NoFrame)),
+    }
+}
+
+fn reason_on(link: Link, reason: Reason) -> Reason
+    ensures { result ≡ reason_on link reason }
+{
+    match link {
+        Link::Ethernet | Link::Ip | Link::Null | Link::Loop | Link::Sll | Link::Sll2 => reason,
+        Link::Other => Reason::OtherLink,
+    }
+}
+
+// A packet of such a link as an Ethernet II frame, if it has one.
+fn framed(link: Link, packet: &[u8]) -> Option<Frame<'_>>
     ensures frame { result ≡ framed link packet.now }
     ensures size { IfSome result (λ frame. length frame ≤ length packet.now + 14) }
 {
@@ -122,6 +176,7 @@ fn frame_of(link: Link, packet: &[u8]) -> Option<Frame<'_>>
         Link::Loop => framed_loop(packet),
         Link::Sll => framed_sll(packet),
         Link::Sll2 => framed_sll2(packet),
+        Link::Other => None,
     }
 }
 

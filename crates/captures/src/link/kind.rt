@@ -1,9 +1,10 @@
 //! The kinds of links that packets are captured on.
 ghost use Rattle.std.specs.Prelude.{◌≡◌};
-ghost use Rattle.captures.specs.Framed.{link_of, captured_limit};
+ghost use Rattle.captures.specs.Framed.{captured_limit, link_for, link_of, taken_limit};
 
-use crate::limits::FRAME_LIMIT;
+use crate::limits::{FRAME_LIMIT, SKIPPED_LIMIT};
 use crate::link::frame::HEADER_LEN;
+use crate::unfit::Unfit;
 
 /// A kind of link, by what its packets begin with.
 #[derive(Clone, Copy, Debug, PartialEq, Eq)]
@@ -20,6 +21,8 @@ pub(crate) enum Link {
     Sll,
     /// A header of their second version.
     Sll2,
+    /// Anything else, whose packets are passed over.
+    Other,
 }
 
 impl Link {
@@ -49,13 +52,33 @@ impl Link {
         }
     }
 
+    /// The kind that a link type's packets are taken as, if they are.
+    pub(crate) fn taken_as(unfit: Unfit, link_type: u16) -> Option<Link>
+        ensures { result ≡ link_for unfit link_type }
+    {
+        match unfit {
+            Unfit::Refuse => Link::of(link_type),
+            Unfit::Skip => Some(Link::of(link_type).unwrap_or(Link::Other)),
+        }
+    }
+
+    /// How many bytes may be captured of a packet that is told or passed over.
+    pub(crate) fn taken_limit(self, unfit: Unfit) -> usize
+        ensures { result ≡ taken_limit unfit self }
+    {
+        match unfit {
+            Unfit::Refuse => self.captured_limit(),
+            Unfit::Skip => SKIPPED_LIMIT,
+        }
+    }
+
     /// How many bytes of a packet may be captured, so that a line can hold its frame.
     pub(crate) fn captured_limit(self) -> usize
         ensures { result ≡ captured_limit self }
     {
         let head_len = match self {
             Link::Ethernet => HEADER_LEN,
-            Link::Ip => 0,
+            Link::Ip | Link::Other => 0,
             Link::Null | Link::Loop => 4,
             Link::Sll => 16,
             Link::Sll2 => 20,

@@ -9,12 +9,14 @@ ghost use Rattle.captures.specs.declared.translation.state.State.TheVariants.{St
 use crate::CaptureError;
 use crate::byte_order::ByteOrder;
 use crate::limits::FIRST_UNIT_LEN;
-use crate::link::frame::{Frame, framed};
+use crate::link::frame::{Frame, tell};
 use crate::link::kind::Link;
 use crate::pcapng::block::{BYTE_ORDER_MAGIC, SECTION_HEADER};
-use crate::pcapng::section::NO_SECTION;
+use crate::pcapng::section::no_section;
 use crate::pcapng::section_unit::section_unit;
+use crate::translation::skipped::Passing;
 use crate::translation::state::State;
+use crate::unfit::Unfit;
 
 const RECORD_HEAD_LEN: usize = 16;
 
@@ -25,7 +27,8 @@ pub(crate) struct Unit<'a> {
     pub after: State,
     /// The interface of the packet in it.
     pub channel: u32,
-    /// The packet's frame: no bytes where the unit has no packet, or where none were captured.
+    /// The packet's frame: no bytes where the unit has no packet, where none were captured, and
+    /// where it is passed over.
     pub frame: Frame<'a>,
     pub rest: &'a [u8],
 }
@@ -40,49 +43,49 @@ pub(crate) fn front_unit(state: State, bytes: &[u8]) -> Result<Option<Unit<'_>>,
     ensures refused { IfErr result (λ e. Refuses state bytes.now e) }
 {
     match state {
-        State::Start => first_unit(bytes),
-        State::Classic(order, link) => packet_record(order, link, bytes),
+        State::Start(unfit) => first_unit(unfit, bytes),
+        State::Classic(order, link, passing) => packet_record(order, link, passing, bytes),
         State::Pcapng(section) => section_unit(section, bytes),
     }
 }
 
-fn first_unit(bytes: &[u8]) -> Result<Option<Unit<'_>>, CaptureError>
-    ensures found { IfOk result (λ found. MatchOption found (IsBegun Start bytes.now)
-        (λ u. HasUnit Start bytes.now u.after u.channel u.frame u.rest.now)) }
+fn first_unit(unfit: Unfit, bytes: &[u8]) -> Result<Option<Unit<'_>>, CaptureError>
+    ensures found { IfOk result (λ found. MatchOption found (IsBegun (Start unfit) bytes.now)
+        (λ u. HasUnit (Start unfit) bytes.now u.after u.channel u.frame u.rest.now)) }
     ensures room { IfOk result
         (λ found. IfSome found (λ u. 18 + 2 * length u.frame + 4 * length u.rest.now
         ≤ 4 * length bytes.now)) }
-    ensures refused { IfErr result (λ e. Refuses Start bytes.now e) }
+    ensures refused { IfErr result (λ e. Refuses (Start unfit) bytes.now e) }
 {
     if bytes.len() < FIRST_UNIT_LEN {
         return Ok(None);
     }
     if begins_section(bytes) {
-        return section_unit(NO_SECTION, bytes);
+        return section_unit(no_section(unfit), bytes);
     }
-    file_header(bytes)
+    file_header(unfit, bytes)
 }
 
-fn file_header(bytes: &[u8]) -> Result<Option<Unit<'_>>, CaptureError>
+fn file_header(unfit: Unfit, bytes: &[u8]) -> Result<Option<Unit<'_>>, CaptureError>
     requires size { FIRST_UNIT_LEN ≤ length bytes.now }
     requires other { BeginsSection bytes.now → ⊥ }
-    ensures found { IfOk result (λ found. MatchOption found (IsBegun Start bytes.now)
-        (λ u. HasUnit Start bytes.now u.after u.channel u.frame u.rest.now)) }
+    ensures found { IfOk result (λ found. MatchOption found (IsBegun (Start unfit) bytes.now)
+        (λ u. HasUnit (Start unfit) bytes.now u.after u.channel u.frame u.rest.now)) }
     ensures room { IfOk result
         (λ found. IfSome found (λ u. 18 + 2 * length u.frame + 4 * length u.rest.now
         ≤ 4 * length bytes.now)) }
-    ensures refused { IfErr result (λ e. Refuses Start bytes.now e) }
+    ensures refused { IfErr result (λ e. Refuses (Start unfit) bytes.now e) }
 {
     let (header, rest) = bytes.split_at(FIRST_UNIT_LEN);
     let Some(order) = header_order(header) else {
         return Err(CaptureError::NotCapture);
     };
     let link_type = (order.word(header, 20) % 65_536) as u16;
-    let Some(link) = Link::of(link_type) else {
+    let Some(link) = Link::taken_as(unfit, link_type) else {
         return Err(CaptureError::LinkType(link_type));
     };
     Ok(Some(Unit {
-        after: State::Classic(order, link),
+        after: State::Classic(order, link, Passing::from(unfit)),
         channel: 0,
         frame: Frame::of(&[]),
         rest,
@@ -130,34 +133,37 @@ fn is_magic(number: u32) -> bool
 fn packet_record(
     order: ByteOrder,
     link: Link,
+    passing: Passing,
     bytes: &[u8],
 ) -> Result<Option<Unit<'_>>, CaptureError>
-    ensures found { IfOk result (λ found. MatchOption found (IsBegun (Classic order link) bytes.now)
-        (λ u. HasUnit (Classic order link) bytes.now u.after u.channel u.frame u.rest.now)) }
+    ensures found { IfOk result
+        (λ found. MatchOption found (IsBegun (Classic order link passing) bytes.now)
+        (λ u. HasUnit (Classic order link passing) bytes.now
+        u.after u.channel u.frame u.rest.now)) }
     ensures room { IfOk result
         (λ found. IfSome found (λ u. 18 + 2 * length u.frame + 4 * length u.rest.now
         ≤ 4 * length bytes.now)) }
-    ensures refused { IfErr result (λ e. Refuses (Classic order link) bytes.now e) }
+    ensures refused { IfErr result (λ e. Refuses (Classic order link passing) bytes.now e) }
 {
     if bytes.len() < RECORD_HEAD_LEN {
         return Ok(None);
     }
     let (head, body) = bytes.split_at(RECORD_HEAD_LEN);
     let captured = order.word(head, 8);
-    if captured as usize > link.captured_limit() {
+    if captured as usize > link.taken_limit(passing.unfit) {
         return Err(CaptureError::FrameTooLong(captured));
     }
     if body.len() < captured as usize {
         return Ok(None);
     }
     let (packet, rest) = body.split_at(captured as usize);
-    let Some(frame) = framed(link, packet) else {
+    let Some(telling) = tell(passing, link, packet) else {
         return Err(CaptureError::NoFrame);
     };
     Ok(Some(Unit {
-        after: State::Classic(order, link),
+        after: State::Classic(order, link, telling.passing),
         channel: 0,
-        frame,
+        frame: telling.frame,
         rest,
     }))
 }

@@ -3,15 +3,15 @@ ghost use Rattle.std.specs.Prelude.{◌≡◌, ◌≤◌, ◌+◌, ◌*◌, ◌=
 ghost use Rattle.std.specs.Prelude.{length, IfOk, IfErr, IfSome, MatchOption};
 ghost use Rattle.captures.specs.Numbers.{word};
 ghost use Rattle.captures.specs.Pcapng.{section_header, interface_description, simple_packet};
-ghost use Rattle.captures.specs.Pcapng.{captured_len, IsOther, IsSkipped, HoldsPacket, Content, Says};
-ghost use Rattle.captures.specs.Pcapng.{IsTimedPacket, IsSimplePacket, Reads, RefusesBlock};
+ghost use Rattle.captures.specs.Pcapng.{captured_len, IsOther, IsSkipped, HoldsPacket, Content};
+ghost use Rattle.captures.specs.Pcapng.{Says, IsTimedPacket, IsSimplePacket, Reads, RefusesBlock};
 ghost use Rattle.captures.specs.Pcapng.Content.{Holds};
 ghost use Rattle.captures.specs.Pcapng.{link_at, links_with, later_links};
 ghost use Rattle.captures.specs.declared.link.kind.Link.{Link};
 
 use crate::CaptureError;
 use crate::byte_order::ByteOrder;
-use crate::link::frame::{Frame, framed};
+use crate::link::frame::{Frame, tell};
 use crate::link::kind::Link;
 use crate::pcapng::section::{ETHERNET, LINKED_INTERFACES, Section};
 
@@ -105,6 +105,7 @@ fn begin_section(
             interfaces: 0,
             snap_len: 0,
             links,
+            passing: section.passing,
         },
         channel: 0,
         frame: Frame::of(&[]),
@@ -140,6 +141,7 @@ fn describe_interface(
             interfaces,
             snap_len,
             links,
+            passing: section.passing,
         },
         channel: 0,
         frame: Frame::of(&[]),
@@ -154,7 +156,7 @@ fn links_with(section: Section, link_type: u16) -> Option<[Link; LINKED_INTERFAC
     if interface >= LINKED_INTERFACES {
         return later_links(section, link_type);
     }
-    let link = Link::of(link_type)?;
+    let link = Link::taken_as(section.passing.unfit, link_type)?;
     let mut links = section.links;
     links[interface] = link;
     Some(links)
@@ -215,23 +217,26 @@ fn read_packet(
     let Some(held) = held_packet(section, order, block) else {
         return Err(CaptureError::BadBlock);
     };
-    if held.captured as usize > held.link.captured_limit() {
+    if held.captured as usize > held.link.taken_limit(section.passing.unfit) {
         return Err(CaptureError::FrameTooLong(held.captured));
     }
-    let Some(frame) = framed(held.link, held.packet) else {
+    let Some(telling) = tell(section.passing, held.link, held.packet) else {
         return Err(CaptureError::NoFrame);
     };
+    let mut after = section;
+    after.passing = telling.passing;
     Ok(Reading {
-        after: section,
+        after,
         channel: held.channel,
-        frame,
+        frame: telling.frame,
     })
 }
 
 fn held_packet(section: Section, order: ByteOrder, block: &[u8]) -> Option<Held<'_>>
     requires size { 12 ≤ length block.now }
     requires kind { HoldsPacket order block.now }
-    ensures found { MatchOption result ((content : Content) → Says section order block.now content → ⊥)
+    ensures found { MatchOption result
+        ((content : Content) → Says section order block.now content → ⊥)
         (λ h. Says section order block.now (Holds h.channel h.link h.packet.now)) }
     ensures captured { IfSome result (λ h. h.captured ≡ length h.packet.now) }
     ensures size { IfSome result (λ h. length h.packet.now + 16 ≤ length block.now) }

@@ -1,6 +1,11 @@
 //! A section of a pcapng file.
+ghost use Rattle.std.specs.Prelude.{◌≡◌};
+ghost use Rattle.captures.specs.Units.{no_section};
+
 use crate::byte_order::ByteOrder;
 use crate::link::kind::Link;
+use crate::translation::skipped::Passing;
+use crate::unfit::Unfit;
 
 /// The link type of Ethernet frames.
 pub(crate) const ETHERNET: u16 = 1;
@@ -20,13 +25,20 @@ pub(crate) struct Section {
     pub snap_len: u32,
     /// The links of its first interfaces. Of those that aren't described yet nothing is told.
     pub links: [Link; LINKED_INTERFACES],
+    /// What becomes of its packets that can't be told.
+    pub passing: Passing,
 }
 
 /// Before the first block of a file: no interface is described, and any byte order serves.
-pub(crate) const NO_SECTION: Section = Section {
-    order: ByteOrder::Big,
-    first: 0,
-    interfaces: 0,
-    snap_len: 0,
-    links: [Link::Ethernet; LINKED_INTERFACES],
-};
+pub(crate) fn no_section(unfit: Unfit) -> Section
+    ensures { result ≡ no_section unfit }
+{
+    Section {
+        order: ByteOrder::Big,
+        first: 0,
+        interfaces: 0,
+        snap_len: 0,
+        links: [Link::Ethernet; LINKED_INTERFACES],
+        passing: Passing::from(unfit),
+    }
+}

@@ -1,5 +1,6 @@
 //! What a run takes of its input, piece by piece.
-ghost use Rattle.std.specs.Prelude.{◌≡◌, ◌≤◌, ◌<◌, ◌+◌, ◌*◌, ◌++◌, ℕ, List, length, take, None, Some};
+ghost use Rattle.std.specs.Prelude.{◌≡◌, ◌≤◌, ◌<◌, ◌+◌, ◌*◌, ◌++◌, ℕ, List, length, take};
+ghost use Rattle.std.specs.Prelude.{None, Some};
 ghost use Rattle.captures.specs.Dropped.{IsDropped, Leaves, dropped_len};
 
 use crate::CaptureError;
@@ -22,7 +23,7 @@ pub(crate) struct Progress<'a> {
     pub rest: &'a [u8],
     /// How many bytes are passed: those of whole units.
     pub passed: u64,
-    /// How many packets the units hold.
+    /// How many packets of the units are told.
     pub count: usize,
     /// How many bytes the lines of the packets have.
     pub used: usize,

@@ -1,14 +1,16 @@
 //! A run: reads, and the lines of the packets that they give.
-ghost use Rattle.std.specs.Prelude.{◌≡◌, ◌≤◌, ◌+◌, ◌-◌, ◌*◌, ◌^◌, ◌++◌, ℕ, List, length, OnOk, IfSome};
-ghost use Rattle.std.specs.Prelude.{IsErrOf, None};
+ghost use Rattle.std.specs.Prelude.{◌≡◌, ◌≤◌, ◌+◌, ◌-◌, ◌*◌, ◌^◌, ◌++◌, ℕ, List, length};
+ghost use Rattle.std.specs.Prelude.{OnOk, IfSome, IsErrOf, None};
 ghost use Rattle.std.specs.Io.KnownBytes.{Appends, IsAtEnd};
 ghost use Rattle.runs.specs.Known.{KnownCall, Transfers, known_of};
 ghost use Rattle.captures.specs.Dropped.{IsDropped};
 ghost use Rattle.captures.specs.Endings.{ending_of};
 ghost use Rattle.captures.specs.Lines.{Packet, lines_of};
-ghost use Rattle.captures.specs.Places.{block_type, capped};
+ghost use Rattle.captures.specs.Numbers.{capped};
+ghost use Rattle.captures.specs.Places.{block_type};
 ghost use Rattle.captures.specs.Runs.{Runs, IsCapture, capture_to_lines, result_at_end};
-ghost use Rattle.captures.specs.Units.{Takes};
+ghost use Rattle.captures.specs.Framed.{unfit_by};
+ghost use Rattle.captures.specs.Units.{Takes, skipped_in};
 ghost use Rattle.captures.specs.declared.limits.TheConstants.{INPUT_ROOM};
 ghost use Rattle.captures.specs.declared.translation.state.State.TheVariants.{Start};
 
@@ -17,9 +19,10 @@ use crate::pcapng::long_block::LongBlock;
 use crate::place::{Place, begun_type};
 use crate::translation::progress::take_piece;
 use crate::translation::refusal::Refusal;
+use crate::translation::skipped::Skipped;
 use crate::translation::state::State;
 use crate::translation::translator::{Finished, Translated, Translator, run_translator};
-use crate::{CaptureError, READ_COUNT_LIMIT, RunError};
+use crate::{CaptureError, READ_COUNT_LIMIT, RunError, Unfit};
 use runs::{Device, ReaderWriter};
 use std::alloc::Global;
 use std::io::{Read, Write};
@@ -27,21 +30,31 @@ use std::io::{Read, Write};
 /// Writes the line of each packet of a capture, up to the end of the reader.
 ///
 /// The line of a packet is written before the next read. A packet of which no byte was captured has
-/// no line. A read that gives nothing tells the end, and nothing is read after it. Any fault that a
-/// read or a write answers ends the run, an interrupted call too.
-pub fn run<R: Read, W: Write>(alloc: Global, reader: &mut R, writer: &mut W) -> Result<(), RunError>
-    // All packets are told, and no byte is left to read.
+/// no line. A packet that can't be told ends the run or is passed over, as `unfit` says, and
+/// `skipped` becomes how many are passed over. A read that gives nothing tells the end, and nothing
+/// is read after it. Any fault that a read or a write answers ends the run, an interrupted call
+/// too.
+pub fn run<R: Read, W: Write>(
+    alloc: Global,
+    unfit: Unfit,
+    reader: &mut R,
+    writer: &mut W,
+    skipped: &mut Skipped,
+) -> Result<(), RunError>
+    // All packets are told or passed over, and no byte is left to read.
     ensures ok { OnOk result
-        (IfSome (R.remaining reader.old) (λ bytes. (packets : List Packet) × IsCapture bytes packets
+        (IfSome (R.remaining reader.old) (λ bytes. (packets : List Packet)
+        × IsCapture unfit bytes packets skipped.new
         × Appends (W.contents writer.old) (W.contents writer.new) (lines_of packets))) }
     ensures end { OnOk result (IsAtEnd (R.remaining reader.new)) }
 
     // However reads and writes cut the bytes, what is written is the output for the bytes read.
-    ensures bytes { Transfers capture_to_lines (R.remaining reader.old) (R.remaining reader.new)
+    ensures bytes { Transfers (capture_to_lines unfit skipped.new)
+        (R.remaining reader.old) (R.remaining reader.new)
         (W.contents writer.old) (W.contents writer.new) (ending_of result) }
 
     // The calls, one by one, as far as they show in the known bytes.
-    ensures calls { Runs KnownCall READ_COUNT_LIMIT
+    ensures calls { Runs unfit skipped.new KnownCall READ_COUNT_LIMIT
         (known_of (R.remaining reader.old) (W.contents writer.old))
         (known_of (R.remaining reader.new) (W.contents writer.new)) result }
 
@@ -54,7 +67,7 @@ pub fn run<R: Read, W: Write>(alloc: Global, reader: &mut R, writer: &mut W) -> 
         → (reader.new ≡ reader.old) × (writer.new ≡ writer.old) }
 {
     let mut device = ReaderWriter { reader, writer };
-    let result = run_over(alloc, &mut device, READ_COUNT_LIMIT);
+    let result = run_over(alloc, unfit, &mut device, READ_COUNT_LIMIT, skipped);
     // No effect at run time. The proof reads here what both hold at the end.
     let _ = &*device.reader;
     let _ = &*device.writer;
@@ -63,21 +76,43 @@ pub fn run<R: Read, W: Write>(alloc: Global, reader: &mut R, writer: &mut W) -> 
 
 /// A run of at most so many reads over any device: each call that it makes, in its order, and how
 /// these calls end it.
-pub fn run_over<D: Device>(alloc: Global, device: &mut D, reads: u64) -> Result<(), RunError>
-    ensures { Runs D.transition reads device.old device.new result }
+pub fn run_over<D: Device>(
+    alloc: Global,
+    unfit: Unfit,
+    device: &mut D,
+    reads: u64,
+    skipped: &mut Skipped,
+) -> Result<(), RunError>
+    ensures { Runs unfit skipped.new D.transition reads device.old device.new result }
 {
-    let mut teller = PacketTeller {
-        state: State::Start,
+    match unfit {
+        Unfit::Refuse => run_by::<false, D>(alloc, device, reads, skipped),
+        Unfit::Skip => run_by::<true, D>(alloc, device, reads, skipped),
+    }
+}
+
+fn run_by<const SKIPS: bool, D: Device>(
+    alloc: Global,
+    device: &mut D,
+    reads: u64,
+    skipped: &mut Skipped,
+) -> Result<(), RunError>
+    ensures { Runs (unfit_by SKIPS) skipped.new D.transition reads device.old device.new result }
+{
+    let mut teller: PacketTeller<SKIPS> = PacketTeller {
+        state: State::Start(Unfit::by(SKIPS)),
         begun: None,
         count: 0,
         passed: 0,
     };
-    run_translator(alloc, &mut teller, &[], device, reads)
+    let result = run_translator(alloc, &mut teller, &[], device, reads);
+    *skipped = teller.state.skipped();
+    result
 }
 
-// Tells the packets of a capture.
+// Tells the packets of a capture. Those that can't be told are passed over, or refused.
 #[derive(Drop)]
-struct PacketTeller {
+struct PacketTeller<const SKIPS: bool> {
     state: State,
     // A long block that is begun, of which nothing is held.
     begun: Option<LongBlock>,
@@ -87,7 +122,7 @@ struct PacketTeller {
     passed: u64,
 }
 
-impl PacketTeller {
+impl<const SKIPS: bool> PacketTeller<SKIPS> {
     // The place of what comes next, of which this is held.
     fn place(&self, held: &[u8]) -> Place
         ensures packet { result.packet ≡ capped (self.now.count + 1) }
@@ -103,14 +138,15 @@ impl PacketTeller {
     }
 }
 
-impl Translator for PacketTeller {
-    ghost task = { capture_to_lines };
+impl<const SKIPS: bool> Translator for PacketTeller<SKIPS> {
+    ghost task = { λ teller. capture_to_lines (unfit_by SKIPS) (skipped_in teller.state) };
 
     ghost most = { INPUT_ROOM * 2 ^ 64 };
 
     ghost shows = { λ teller held read written. (dropped : List ℕ)
         × IsDropped teller.state teller.begun dropped
-        × (count : ℕ) × Takes Start read teller.state (dropped ++ held) count written None
+        × (count : ℕ)
+        × Takes (Start (unfit_by SKIPS)) read teller.state (dropped ++ held) count written None
         × (teller.count ≡ capped count)
         × (teller.passed ≡ capped (length read - length (dropped ++ held))) };
 
@@ -152,10 +188,10 @@ fn end(state: State, begun: Option<LongBlock>, left: usize, place: Place) -> Res
         return Err(Refusal::InCapture(CaptureError::CutOff, place));
     }
     match state {
-        State::Start if left < FIRST_UNIT_LEN => {
+        State::Start(_) if left < FIRST_UNIT_LEN => {
             Err(Refusal::InCapture(CaptureError::NotCapture, place))
         }
-        State::Start => Err(Refusal::InCapture(CaptureError::CutOff, place)),
+        State::Start(_) => Err(Refusal::InCapture(CaptureError::CutOff, place)),
         _ if left == 0 => Ok(()),
         _ => Err(Refusal::InCapture(CaptureError::CutOff, place)),
     }

@@ -86,7 +86,7 @@ struct FrameWriter {
 }
 
 impl Translator for FrameWriter {
-    ghost task = { lines_to_capture };
+    ghost task = { λ writer. lines_to_capture };
 
     ghost most = { INPUT_ROOM * READ_COUNT_LIMIT };
 

@@ -1,15 +1,33 @@
 //! What a capture is known to be, after some of its units.
+ghost use Rattle.std.specs.Prelude.{◌≡◌};
+ghost use Rattle.captures.specs.Units.{skipped_in};
+
 use crate::byte_order::ByteOrder;
 use crate::link::kind::Link;
 use crate::pcapng::section::Section;
+use crate::translation::skipped::{Passing, Skipped};
+use crate::unfit::Unfit;
 
 /// What a capture is known to be.
 #[derive(Clone, Copy, Debug, PartialEq, Eq)]
 pub(crate) enum State {
     /// Nothing yet.
-    Start,
+    Start(Unfit),
     /// A classic capture of packets of such a link, with its numbers in this order.
-    Classic(ByteOrder, Link),
+    Classic(ByteOrder, Link, Passing),
     /// A pcapng file, within this section.
     Pcapng(Section),
+}
+
+impl State {
+    /// The packets that were passed over by then.
+    pub(crate) fn skipped(self) -> Skipped
+        ensures { result ≡ skipped_in self }
+    {
+        match self {
+            State::Start(_) => Skipped::NONE,
+            State::Classic(_, _, passing) => passing.skipped,
+            State::Pcapng(section) => section.passing.skipped,
+        }
+    }
 }

@@ -3,7 +3,7 @@ ghost use Rattle.std.specs.Prelude.{◌≡◌, ◌≤◌, ◌<◌, ◌*◌, ◌+
 ghost use Rattle.std.specs.Prelude.{None, vec_len};
 ghost use Rattle.runs.specs.Runs.{Task, Goes};
 ghost use Rattle.captures.specs.Endings.{ending_of};
-ghost use Rattle.captures.specs.Translations.{Begins, Translates, Finishes};
+ghost use Rattle.captures.specs.Translations.{Begins, IsDueBy, Translates, Finishes};
 ghost use Rattle.captures.specs.declared.limits.TheConstants.{INPUT_ROOM, OUTPUT_ROOM};
 ghost use Rattle.captures.specs.declared.translation.refusal.Refusal.{Refusal};
 
@@ -34,8 +34,8 @@ pub(crate) struct Finished {
 
 /// Makes some bytes of others, which come in pieces.
 pub(crate) trait Translator {
-    // What a run is to write.
-    ghost task: { Task Refusal };
+    // What a run is to write, where it ends with such a translator.
+    ghost task: { Self → Task Refusal };
 
     // How many bytes a run may read.
     ghost most: { ℕ };
@@ -53,7 +53,7 @@ pub(crate) trait Translator {
         ensures room { result.refusal ≡ None → length result.rest.now < INPUT_ROOM }
         ensures translates { (held piece read written : List ℕ) → shows self.old held read written
             → bytes.now ≡ held ++ piece → length (read ++ piece) ≤ most
-            → Translates task (shows self.new) result.rest.now (read ++ piece)
+            → Translates (task self.new) (shows self.new) result.rest.now (read ++ piece)
             (written ++ take result.used out.new) result.refusal };
 
     /// The same at the end of the input, where `left` bytes are held in front of `input`.
@@ -64,7 +64,7 @@ pub(crate) trait Translator {
         ensures fits { result.used ≤ length out.new }
         ensures finishes { (read written : List ℕ)
             → shows self.old (take left input.old) read written → length read ≤ most
-            → Finishes task read (written ++ take result.used out.new) result.result };
+            → Finishes (task self.new) read (written ++ take result.used out.new) result.result };
 }
 
 /// A run of at most so many reads, which begins with this header.
@@ -75,9 +75,11 @@ pub(crate) fn run_translator<T: Translator, D: Device>(
     device: &mut D,
     reads: u64,
 ) -> Result<(), RunError>
-    requires begins { Begins T.task (T.shows translator.old) header.now }
+    requires begins { Begins (T.task translator.old) (T.shows translator.old) header.now }
+    requires due { (t t' : T) → IsDueBy (T.task t) (T.task t') }
     requires most { INPUT_ROOM * reads ≤ T.most }
-    ensures { Goes T.task D.transition reads device.old device.new (ending_of result) }
+    ensures { Goes (T.task translator.new) D.transition reads device.old device.new
+        (ending_of result) }
 {
     let Ok((mut input, mut output)) = buffers(alloc) else {
         return Err(RunError::Memory);
@@ -110,11 +112,13 @@ fn translate_reads<T: Translator, D: Device>(
     device: &mut D,
     reads: u64,
 ) -> Result<(), RunError>
-    requires begins { Begins T.task (T.shows translator.old) header.now }
+    requires begins { Begins (T.task translator.old) (T.shows translator.old) header.now }
+    requires due { (t t' : T) → IsDueBy (T.task t) (T.task t') }
     requires most { INPUT_ROOM * reads ≤ T.most }
     requires input { length input.old ≡ INPUT_ROOM }
     requires output { length output.old ≡ OUTPUT_ROOM }
-    ensures { Goes T.task D.transition reads device.old device.new (ending_of result) }
+    ensures { Goes (T.task translator.new) D.transition reads device.old device.new
+        (ending_of result) }
 {
     write_whole(device, header)?;
     // The bytes in front of `input` that are held.

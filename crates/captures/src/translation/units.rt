@@ -14,7 +14,7 @@ pub(crate) struct Taken<'a> {
     pub after: State,
     /// What follows the units.
     pub rest: &'a [u8],
-    /// How many packets they hold.
+    /// How many packets of them are told.
     pub count: usize,
     /// How many bytes the lines of their packets have.
     pub used: usize,

@@ -2,4 +2,4 @@ use Rattle.captures.proofs.SpellingLemmas.{capture_is}
 use Rattle.captures.proofs.laws.written_frames_are_read.Goals as goal
 
 pub returns : goal.returns
-returns c = capture_is
+returns c = λ frames all unfit. capture_is unfit frames all

@@ -1,4 +1,5 @@
 use Rattle.std.proofs.Common.{◌∙◌, ◌++◌, sym, ap, refl, arith, append_assoc, List, ℕ}
+use Rattle.captures.specs.declared.translation.state.State.TheVariants.{Classic}
 use Rattle.captures.proofs.pcap.unit.packet_record.Goals as goal
 
 pub returns-clause-found : goal.returns-clause-found
@@ -21,9 +22,9 @@ returns-clause-found c =
             captured = omega arith;
           };
           fits = omega arith;
-          is_framed = sym c.framed.ensures.frame ∙ c.in-Some.is;
+          is_told = c.in-Some.ensures.told.0;
+          next = ap (Classic c.args.order c.args.link) c.in-Some.ensures.told.1;
         },
-        refl,
         refl,
       );
     }
@@ -47,5 +48,5 @@ returns-in_default-clause-refused c =
         captured = omega arith;
       };
       fits = omega arith;
-      none = sym c.framed.ensures.frame ∙ c.in_default.is;
+      none = c.in_default.ensures.told;
     }

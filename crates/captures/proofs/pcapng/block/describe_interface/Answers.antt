@@ -21,6 +21,7 @@ returns-clause-reads c =
               interfaces = n;
               snap_len = snap;
               links = links;
+              passing = section.passing;
             } in s) interfaces c.first_snap_len-snap_len.ensures,
         c.of.ensures,
       );

@@ -1,9 +1,10 @@
-use Rattle.std.proofs.Common.{arith, refl, sym, ◌∙◌}
+use Rattle.std.proofs.Common.{arith, refl, ap}
 use Rattle.captures.specs.Pcapng.Content.{Holds}
+use Rattle.captures.specs.declared.translation.skipped.Passing.{Passing}
 use Rattle.captures.proofs.pcapng.block.read_packet.Goals as goal
 
-pub returns-then-held-captured_limit-clause-refused : goal.returns-then-held-captured_limit-clause-refused
-returns-then-held-captured_limit-clause-refused c =
+pub returns-then-held-taken_limit-clause-refused : goal.returns-then-held-taken_limit-clause-refused
+returns-then-held-taken_limit-clause-refused c =
     let held = c.in-Some.held in (
       held.channel,
       held.link,
@@ -20,11 +21,16 @@ returns-clause-reads c =
     record {
       content = Holds held.channel held.link held.packet.now;
       says = c.in-Some.ensures.found;
-      becomes = (refl, refl, sym c.framed.ensures.frame ∙ c.in-Some-framed.is, omega arith);
+      becomes = (
+        ap (λ (p : Passing). record c.args.section { passing = p }) c.in-Some-tell.ensures.told.1,
+        refl,
+        c.in-Some-tell.ensures.told.0,
+        omega arith,
+      );
     }
 
-pub returns-in_default-framed-clause-refused : goal.returns-in_default-framed-clause-refused
-returns-in_default-framed-clause-refused c =
+pub returns-in_default-tell-clause-refused : goal.returns-in_default-tell-clause-refused
+returns-in_default-tell-clause-refused c =
     let held = c.in-Some.held in
     let captured = c.in-Some.ensures.captured in (
       held.channel,
@@ -32,5 +38,5 @@ returns-in_default-framed-clause-refused c =
       held.packet.now,
       c.in-Some.ensures.found,
       omega arith,
-      sym c.framed.ensures.frame ∙ c.in_default-framed.is,
+      c.in_default-tell.ensures.told,
     )

@@ -10,36 +10,41 @@ use Rattle.captures.proofs.translation.run_captures.run.Goals as goal
 pub returns-clause-ok : goal.returns-clause-ok
 returns-clause-ok g c =
     let result = c.run_over-result.result in
-    let seen = Goes-reader_writer capture_to_lines g.R.Read.remaining g.W.Write.contents
+    let task = capture_to_lines c.args.unfit c.run_over-result.new.skipped in
+    let seen = Goes-reader_writer task g.R.Read.remaining g.W.Write.contents
     READ_COUNT_LIMIT _ _ _ c.run_over-result.ensures in
     let reader = seen.0 in
     let writer = seen.1 in
-    let known = runs_ok READ_COUNT_LIMIT _ _ result seen.2 in
+    let known = runs_ok c.args.unfit c.run_over-result.new.skipped READ_COUNT_LIMIT _ _ result
+    seen.2 in
     search rules
 
 pub returns-clause-end : goal.returns-clause-end
 returns-clause-end g c =
     let result = c.run_over-result.result in
-    let seen = Goes-reader_writer capture_to_lines g.R.Read.remaining g.W.Write.contents
+    let task = capture_to_lines c.args.unfit c.run_over-result.new.skipped in
+    let seen = Goes-reader_writer task g.R.Read.remaining g.W.Write.contents
     READ_COUNT_LIMIT _ _ _ c.run_over-result.ensures in
     let reader = seen.0 in
     let writer = seen.1 in
-    let known = goes_end capture_to_lines cause READ_COUNT_LIMIT _ _ result seen.2 in
+    let known = goes_end task cause READ_COUNT_LIMIT _ _ result seen.2 in
     search rules
 
 pub returns-clause-bytes : goal.returns-clause-bytes
 returns-clause-bytes g c =
     let result = c.run_over-result.result in
-    let seen = Goes-reader_writer capture_to_lines g.R.Read.remaining g.W.Write.contents
+    let task = capture_to_lines c.args.unfit c.run_over-result.new.skipped in
+    let seen = Goes-reader_writer task g.R.Read.remaining g.W.Write.contents
     READ_COUNT_LIMIT _ _ _ c.run_over-result.ensures in
     let reader = seen.0 in
     let writer = seen.1 in
-    let known = goes_transfer capture_to_lines READ_COUNT_LIMIT _ _ (ending_of result) seen.2 in
+    let known = goes_transfer task READ_COUNT_LIMIT _ _ (ending_of result) seen.2 in
     search rules
 
 pub returns-clause-calls : goal.returns-clause-calls
 returns-clause-calls g c =
-    let seen = Goes-reader_writer capture_to_lines g.R.Read.remaining g.W.Write.contents
+    let task = capture_to_lines c.args.unfit c.run_over-result.new.skipped in
+    let seen = Goes-reader_writer task g.R.Read.remaining g.W.Write.contents
     READ_COUNT_LIMIT _ _ _ c.run_over-result.ensures in
     let reader = seen.0 in
     let writer = seen.1 in
@@ -48,19 +53,21 @@ returns-clause-calls g c =
 
 pub returns-clause-memory : goal.returns-clause-memory
 returns-clause-memory g c is =
-    let seen = Goes-reader_writer capture_to_lines g.R.Read.remaining g.W.Write.contents
+    let task = capture_to_lines c.args.unfit c.run_over-result.new.skipped in
+    let seen = Goes-reader_writer task g.R.Read.remaining g.W.Write.contents
     READ_COUNT_LIMIT _ _ _ c.run_over-result.ensures in
     let reader = seen.0 in
     let writer = seen.1 in
-    let same = goes_memory capture_to_lines _ READ_COUNT_LIMIT _ _
+    let same = goes_memory task _ READ_COUNT_LIMIT _ _
     (λ told read written starved. starved.0) (rw is at c.run_over-result.ensures) in
     search rules
 
 pub returns-clause-too_many : goal.returns-clause-too_many
 returns-clause-too_many g c is =
-    let seen = Goes-reader_writer capture_to_lines g.R.Read.remaining g.W.Write.contents
+    let task = capture_to_lines c.args.unfit c.run_over-result.new.skipped in
+    let seen = Goes-reader_writer task g.R.Read.remaining g.W.Write.contents
     READ_COUNT_LIMIT _ _ _ c.run_over-result.ensures in
     let reader = seen.0 in
     let writer = seen.1 in
-    let known = goes_too_many capture_to_lines READ_COUNT_LIMIT _ _ (rw is at seen.2) in
+    let known = goes_too_many task READ_COUNT_LIMIT _ _ (rw is at seen.2) in
     search rules

@@ -1,4 +1,4 @@
-use Rattle.std.proofs.Common.{rules, arith, ◌≡◌, ◌<◌, ◌≤◌, ◌+◌, ◌-◌, sym, ap, subst, ℕ, List}
+use Rattle.std.proofs.Common.{rules, arith, ◌≡◌, ◌∙◌, ◌<◌, ◌≤◌, ◌+◌, ◌-◌, sym, ap, subst, ℕ, List}
 use Rattle.std.proofs.Common.{take, drop, length, length-take, length-append}
 use Rattle.std.proofs.lemmas.Result.{err_from_is_err_and}
 use borrow.Rule.Slice.PartMut.{put_mid}
@@ -7,27 +7,28 @@ use Rattle.captures.proofs.BufferLemmas.{read_front, read_nothing, moved_front}
 use Rattle.captures.proofs.Translating.{Translating, translating_start, header_stops}
 use Rattle.captures.proofs.Translating.{translating_more, translating_stops, translating_refused}
 use Rattle.captures.proofs.Translating.{translating_fails, finish_stops, finish_ends}
-use Rattle.captures.proofs.Translating.{translating_all}
+use Rattle.captures.proofs.Translating.{translating_all, translating_by}
 use Rattle.captures.proofs.translation.translator.translate_reads.Goals as goal
 
 pub returns-in_err-write_whole : goal.returns-in_err-write_whole
 returns-in_err-write_whole g c =
     let exit = err_from_is_err_and c.from_residual.result c.from_residual.ensures.1 in
     rw (exit.1, exit.2)
-    (header_stops g.T.Translator.task g.D.Device.transition _ c.args.reads c.args.device.now
-    c.write_whole.new.device c.args.header.now c.requires.begins
+    (header_stops (g.T.Translator.task c.args.translator.now) g.D.Device.transition _
+    c.args.reads c.args.device.now c.write_whole.new.device c.args.header.now c.requires.begins
     c.in_err-write_whole.field-0.0 c.in_err-write_whole.ensures)
 
 pub reads-init : goal.reads-init
 reads-init g c = record {
-  translating = translating_start g.T.Translator.task g.D.Device.transition _ c.args.device.now
-      c.write_whole.new.device c.args.header.now c.requires.begins c.in_ok-write_whole.ensures;
+  translating = translating_start (g.T.Translator.task c.args.translator.now)
+      g.D.Device.transition _ c.args.device.now c.write_whole.new.device c.args.header.now
+      c.requires.begins c.in_ok-write_whole.ensures;
   room = let size = c.requires.input in omega arith;
 }
 
 pub returns-in-Err : goal.returns-in-Err
 returns-in-Err g c =
-    let task = g.T.Translator.task in
+    let task = g.T.Translator.task c.reads.translator in
     let transition = g.D.Device.transition in
     let t = c.reads.invariant.translating in
     let room = c.reads.invariant.room in
@@ -39,9 +40,10 @@ returns-in-Err g c =
 
 pub returns-in_err-write_whole-2 : goal.returns-in_err-write_whole-2
 returns-in_err-write_whole-2 g c =
-    let task = g.T.Translator.task in
+    let task = g.T.Translator.task c.finish-finished.new.self in
     let transition = g.D.Device.transition in
-    let t = c.reads.invariant.translating in
+    let t = translating_by (c.requires.due c.reads.translator
+    c.finish-finished.new.self) c.reads.invariant.translating in
     let room = c.reads.invariant.room in
     let left = c.reads.left in
     let input = c.reads.input in
@@ -57,9 +59,10 @@ returns-in_err-write_whole-2 g c =
 
 pub returns-in-Ok-result : goal.returns-in-Ok-result
 returns-in-Ok-result g c =
-    let task = g.T.Translator.task in
+    let task = g.T.Translator.task c.finish-finished.new.self in
     let transition = g.D.Device.transition in
-    let t = c.reads.invariant.translating in
+    let t = translating_by (c.requires.due c.reads.translator
+    c.finish-finished.new.self) c.reads.invariant.translating in
     let room = c.reads.invariant.room in
     let left = c.reads.left in
     let input = c.reads.input in
@@ -74,9 +77,10 @@ returns-in-Ok-result g c =
 
 pub returns-in-Err-result : goal.returns-in-Err-result
 returns-in-Err-result g c =
-    let task = g.T.Translator.task in
+    let task = g.T.Translator.task c.finish-finished.new.self in
     let transition = g.D.Device.transition in
-    let t = c.reads.invariant.translating in
+    let t = translating_by (c.requires.due c.reads.translator
+    c.finish-finished.new.self) c.reads.invariant.translating in
     let room = c.reads.invariant.room in
     let left = c.reads.left in
     let input = c.reads.input in
@@ -91,10 +95,13 @@ returns-in-Err-result g c =
 
 pub returns-in_err-write_whole-3 : goal.returns-in_err-write_whole-3
 returns-in_err-write_whole-3 g c =
-    let task = g.T.Translator.task in
+    let task = g.T.Translator.task c.translate-taken.new.self in
     let transition = g.D.Device.transition in
-    let t = c.reads.invariant.translating in
+    let t = translating_by (c.requires.due c.reads.translator
+    c.translate-taken.new.self) c.reads.invariant.translating in
     let room = c.reads.invariant.room in
+    let to_read = (c.requires.due c.args.translator.now c.translate-taken.new.self).room
+    ∙ c.requires.begins.room in
     let left = c.reads.left in
     let input = c.reads.input in
     let buf = c.read_some.new.buf in
@@ -108,16 +115,19 @@ returns-in_err-write_whole-3 g c =
     let exit = err_from_is_err_and c.from_residual-in_err-write_whole-3.result
     c.from_residual-in_err-write_whole-3.ensures.1 in
     rw (exit.1, exit.2) (translating_stops task transition t c.reads-test.true c.requires.most
-    (c.in-Ok.ensures.call some) size c.requires.begins.room given front
+    (c.in-Ok.ensures.call some) size to_read given front
     c.translate-taken.ensures.translates
     c.in_err-write_whole-3.field-0.0 c.in_err-write_whole-3.ensures)
 
 pub returns-in-Some : goal.returns-in-Some
 returns-in-Some g c =
-    let task = g.T.Translator.task in
+    let task = g.T.Translator.task c.translate-taken.new.self in
     let transition = g.D.Device.transition in
-    let t = c.reads.invariant.translating in
+    let t = translating_by (c.requires.due c.reads.translator
+    c.translate-taken.new.self) c.reads.invariant.translating in
     let room = c.reads.invariant.room in
+    let to_read = (c.requires.due c.args.translator.now c.translate-taken.new.self).room
+    ∙ c.requires.begins.room in
     let left = c.reads.left in
     let input = c.reads.input in
     let buf = c.read_some.new.buf in
@@ -129,7 +139,7 @@ returns-in-Some g c =
     let given : 0 < length (take c.in-Ok.given buf) = omega (arith, c.in-Ok.ensures.bound.0) in
     let front = read_front input buf left c.in-Ok.given (omega arith) c.in-Ok.ensures.bound.0 in
     rw c.from-in-Some.ensures (translating_refused task transition t c.reads-test.true
-    c.requires.most (c.in-Ok.ensures.call some) size c.requires.begins.room given front
+    c.requires.most (c.in-Ok.ensures.call some) size to_read given front
     c.translate-taken.ensures.translates
     c.in-Some.refusal c.in-Some.is c.in_ok-write_whole-3.ensures)
 
@@ -149,10 +159,13 @@ overflow_sub-left g c =
 
 pub reads-preserved : goal.reads-preserved
 reads-preserved g c =
-    let task = g.T.Translator.task in
+    let task = g.T.Translator.task c.translate-taken.new.self in
     let transition = g.D.Device.transition in
-    let t = c.reads.invariant.translating in
+    let t = translating_by (c.requires.due c.reads.translator
+    c.translate-taken.new.self) c.reads.invariant.translating in
     let room = c.reads.invariant.room in
+    let to_read = (c.requires.due c.args.translator.now c.translate-taken.new.self).room
+    ∙ c.requires.begins.room in
     let left = c.reads.left in
     let input = c.reads.input in
     let buf = c.read_some.new.buf in
@@ -178,7 +191,7 @@ reads-preserved g c =
           (c.reads.counter + 1) c.args.device.now c.write_whole-in-reads.new.device l)
           (sym moved)
           (translating_more task transition t c.reads-test.true c.requires.most
-          (c.in-Ok.ensures.call some) size c.requires.begins.room given front
+          (c.in-Ok.ensures.call some) size to_read given front
           c.translate-taken.ensures.translates
           c.in_default.is c.in_ok-write_whole-3.ensures);
       room = let few = c.translate-taken.ensures.room c.in_default.is in omega arith;
@@ -187,9 +200,10 @@ reads-preserved g c =
 pub returns : goal.returns
 returns g c =
     let all : c.reads.counter ≡ c.args.reads = omega arith in
+    let task = g.T.Translator.task c.reads.translator in
+    let transition = g.D.Device.transition in
     let shown = g.T.Translator.shows c.reads.translator in
-    translating_all g.T.Translator.task g.D.Device.transition shown c.args.reads c.args.device.now
-    c.reads.device (take c.reads.left c.reads.input)
-    (subst (λ (n : ℕ). Translating g.T.Translator.task g.D.Device.transition shown n
-    c.args.device.now c.reads.device (take c.reads.left c.reads.input)) all
-    c.reads.invariant.translating)
+    let held = take c.reads.left c.reads.input in
+    translating_all task transition shown c.args.reads c.args.device.now c.reads.device held
+    (subst (λ (n : ℕ). Translating task transition shown n c.args.device.now c.reads.device held)
+    all c.reads.invariant.translating)

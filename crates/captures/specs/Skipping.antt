@@ -1,0 +1,34 @@
+-- Packets that are passed over, counted by the reason.
+use Rattle.std.specs.Prelude.{ℕ, ◌+◌, List, Result, Ok, Err}
+use Rattle.captures.specs.Framed.{told_of}
+use Rattle.captures.specs.Numbers.{capped}
+use Rattle.captures.specs.declared.link.kind.Link.{Link}
+use Rattle.captures.specs.declared.translation.skipped.Passing.{Passing}
+use Rattle.captures.specs.declared.translation.skipped.Reason.{Reason}
+use Rattle.captures.specs.declared.translation.skipped.Reason.TheVariants.{OtherLink, TooLong}
+use Rattle.captures.specs.declared.translation.skipped.Reason.TheVariants.{NoFrame}
+use Rattle.captures.specs.declared.translation.skipped.Skipped.{Skipped}
+use Rattle.captures.specs.declared.unfit.Unfit.{Unfit}
+
+abbrev pub none_skipped : Skipped
+none_skipped = record { of_other_links = 0; too_long = 0; without_frame = 0 }
+
+-- before the first packet
+abbrev pub passing_from : Unfit → Passing
+passing_from unfit = record { unfit = unfit; skipped = none_skipped }
+
+-- one packet more
+abbrev pub with_reason : Skipped → Reason → Skipped
+with_reason skipped OtherLink =
+    record skipped { of_other_links = capped (skipped.of_other_links + 1) }
+with_reason skipped TooLong = record skipped { too_long = capped (skipped.too_long + 1) }
+with_reason skipped NoFrame = record skipped { without_frame = capped (skipped.without_frame + 1) }
+
+abbrev pub counted_by : Passing → Result (List ℕ) Reason → Passing
+counted_by passing (Ok frame) = passing
+counted_by passing (Err reason) =
+    record passing { skipped = with_reason passing.skipped reason }
+
+-- after a packet that is told or passed over
+abbrev pub counted : Passing → Link → List ℕ → Passing
+counted passing link packet = counted_by passing (told_of link packet)

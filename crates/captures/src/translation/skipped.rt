@@ -1,0 +1,86 @@
+//! How many packets a run passed over.
+ghost use Rattle.std.specs.Prelude.{◌≡◌};
+ghost use Rattle.captures.specs.Skipping.{passing_from, with_reason};
+
+use crate::unfit::Unfit;
+
+/// How many packets a run passed over, by the reason. Counts stop at the greatest number of 64
+/// bits.
+#[derive(Clone, Copy, Debug, PartialEq, Eq)]
+pub struct Skipped {
+    /// Those on links that aren't read.
+    pub of_other_links: u64,
+    /// Those whose frames are too long for a line.
+    pub too_long: u64,
+    /// Those that have no frame.
+    pub without_frame: u64,
+}
+
+/// Why a packet is passed over.
+#[derive(Clone, Copy, Debug, PartialEq, Eq)]
+pub(crate) enum Reason {
+    OtherLink,
+    TooLong,
+    NoFrame,
+}
+
+impl Skipped {
+    /// No packet.
+    pub const NONE: Skipped = Skipped {
+        of_other_links: 0,
+        too_long: 0,
+        without_frame: 0,
+    };
+
+    // One packet more.
+    fn with_reason(self, reason: Reason) -> Skipped
+        ensures { result ≡ with_reason self reason }
+    {
+        match reason {
+            Reason::OtherLink => Skipped {
+                of_other_links: self.of_other_links.saturating_add(1),
+                too_long: self.too_long,
+                without_frame: self.without_frame,
+            },
+            Reason::TooLong => Skipped {
+                of_other_links: self.of_other_links,
+                too_long: self.too_long.saturating_add(1),
+                without_frame: self.without_frame,
+            },
+            Reason::NoFrame => Skipped {
+                of_other_links: self.of_other_links,
+                too_long: self.too_long,
+                without_frame: self.without_frame.saturating_add(1),
+            },
+        }
+    }
+}
+
+/// What becomes of packets that can't be told, and how many were passed over so far.
+#[derive(Clone, Copy, Debug, PartialEq, Eq)]
+pub(crate) struct Passing {
+    pub unfit: Unfit,
+    pub skipped: Skipped,
+}
+
+impl Passing {
+    /// Before the first packet.
+    pub(crate) fn from(unfit: Unfit) -> Passing
+        ensures { result ≡ passing_from unfit }
+    {
+        Passing {
+            unfit,
+            skipped: Skipped::NONE,
+        }
+    }
+
+    /// After one packet more that is passed over.
+    pub(crate) fn with_reason(self, reason: Reason) -> Passing
+        ensures { result ≡ record self { skipped = with_reason self.skipped reason } }
+    {
+        Passing {
+            unfit: self.unfit,
+            skipped: self.skipped.with_reason(reason),
+        }
+    }
+}
