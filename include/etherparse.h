@@ -1,10 +1,12 @@
-/* Packets, sliced, judged and summed by proved code. Written by tools/bindings.
+/* Packets sliced, judged, summed and built by proved code. Written by tools/bindings.
    What a caller owes:
    - no pointer is null, also where the length behind it is 0, and each points to as many bytes or
      structs as that length says, at most PTRDIFF_MAX bytes of memory that was written before;
    - nobody writes during a call what it reads, nor reads or writes what it writes; what it writes
      overlaps nothing else that it is handed.
-   No call keeps a pointer, blocks or ends the process. */
+   No call keeps a pointer, blocks or ends the process.
+   Calls may call malloc, realloc and free, which come from one allocator and align blocks as
+   usual. None is made in a signal handler, nor in the forked child of a process with threads. */
 #ifndef ETHERPARSE_H
 #define ETHERPARSE_H
 #include <stdbool.h>
@@ -14,6 +16,23 @@
 extern "C" {
 #endif
 
+/* It is done. */
+#define EP_DONE 0
+/* The output has no room. */
+#define EP_NO_ROOM 1
+/* Out of memory. */
+#define EP_NO_MEMORY 2
+/* A field is refused. */
+#define EP_REFUSED 3
+#define EP_FIELD_LINK 1
+#define EP_FIELD_PACKET_TYPE 2
+#define EP_FIELD_TAG_COUNT 3
+#define EP_FIELD_OUTER_VLAN_ID 4
+#define EP_FIELD_INNER_VLAN_ID 5
+#define EP_FIELD_IP_VERSION 6
+#define EP_FIELD_TRANSPORT 7
+#define EP_FIELD_OPTIONS_LEN 8
+#define EP_FIELD_PAYLOAD 9
 #define EP_LAYER_LINUX_SLL_HEADER 1
 #define EP_LAYER_ETHERNET2_HEADER 2
 #define EP_LAYER_ETHER_PAYLOAD 3
@@ -46,6 +65,16 @@ extern "C" {
 #define EP_SOURCE_UDP_HEADER_LEN 5
 #define EP_SOURCE_TCP_HEADER_LEN 6
 #define EP_SOURCE_ARP_ADDR_LENGTHS 7
+
+/* What became of a packet that was to be built. */
+typedef struct {
+    /* 0 where it is built, else why it isn't. */
+    uint32_t status;
+    /* The first field of the plan at fault, where it is refused, else 0. */
+    uint32_t field;
+    /* The length of the packet, where it is built or has no room, else 0. */
+    size_t len;
+} ep_built;
 
 /* A link header. The fields of other kinds are 0. */
 typedef struct {
@@ -324,6 +353,91 @@ typedef struct {
     /* The message, where it is one of ICMP. */
     ep_icmp icmp;
 } ep_packet;
+
+/* What a packet is to be built of. The fields of headers that it doesn't ask for don't count.
+   Lengths, checksums, ether types and the numbers of headers follow from it. */
+typedef struct {
+    /* The link header: 0 none, 1 Ethernet II, 2 a Linux cooked capture of an Ethernet device. */
+    uint32_t link;
+    /* Of Ethernet II. */
+    uint8_t destination[6];
+    /* Of Ethernet II. */
+    uint8_t source[6];
+    /* Of a cooked capture: 0 to us, 1 broadcast, 2 multicast, 3 to others, 4 from us. */
+    uint16_t packet_type;
+    /* Of a cooked capture: how many bytes of the address are the sender's. */
+    uint16_t address_len;
+    /* Of a cooked capture: the sender's address. */
+    uint8_t address[8];
+    /* How many VLAN tags stand behind an Ethernet II header: 0, 1 or 2. */
+    uint32_t tag_count;
+    /* The identifier of the first of them, 0 to 4095. */
+    uint16_t outer_vlan_id;
+    /* The identifier of the second one, 0 to 4095. */
+    uint16_t inner_vlan_id;
+    /* The IP version: 4 or 6. */
+    uint32_t ip_version;
+    /* Of IPv4. */
+    uint8_t ipv4_source[4];
+    /* Of IPv4. */
+    uint8_t ipv4_destination[4];
+    /* Of IPv6. */
+    uint8_t ipv6_source[16];
+    /* Of IPv6. */
+    uint8_t ipv6_destination[16];
+    /* How many hops it may take. */
+    uint8_t hops;
+    /* Without a transport header: the number of the payload. */
+    uint8_t payload_number;
+    /* The transport header: 0 none, or its number: 1 ICMPv4, 6 TCP, 17 UDP, 58 ICMPv6. */
+    uint32_t transport;
+    /* Of UDP and TCP. */
+    uint16_t source_port;
+    /* Of UDP and TCP. */
+    uint16_t destination_port;
+    /* Of ICMP: whether it is the reply to an echo request, and not the request. */
+    bool is_reply;
+    /* Of ICMP: the identifier of the echo. */
+    uint16_t echo_id;
+    /* Of ICMP: the number of the echo. */
+    uint16_t echo_sequence;
+    /* Of TCP: the sequence number. */
+    uint32_t sequence_number;
+    /* Of TCP: the acknowledgment number. */
+    uint32_t acknowledgment_number;
+    /* Of TCP: the window. */
+    uint16_t window_size;
+    /* Of TCP: the urgent pointer. */
+    uint16_t urgent_pointer;
+    /* Of TCP: flag NS (RFC 3540). */
+    bool ns;
+    /* Of TCP: flag FIN. */
+    bool fin;
+    /* Of TCP: flag SYN. */
+    bool syn;
+    /* Of TCP: flag RST. */
+    bool rst;
+    /* Of TCP: flag PSH. */
+    bool psh;
+    /* Of TCP: flag ACK. */
+    bool ack;
+    /* Of TCP: flag URG. */
+    bool urg;
+    /* Of TCP: flag ECE. */
+    bool ece;
+    /* Of TCP: flag CWR. */
+    bool cwr;
+    /* Of TCP: how many bytes of options there are, at most 40. */
+    size_t options_len;
+    /* Of TCP: the options. They are filled up with 0 to whole words. */
+    uint8_t options[40];
+} ep_plan;
+
+/* Builds the packet of a plan with this payload, at the front of the output. The status is 0
+   where it is built, 1 where the output has no room for its length, 2 where there is no memory,
+   and 3 where a field of the plan, or the payload, is refused. Where it isn't 0 the output is as
+   it was. */
+ep_built ep_build(const ep_plan *plan, const uint8_t *payload, size_t payload_len, uint8_t *output, size_t output_len);
 
 /* The checksum of the bytes, as it stands in a header, high byte first. */
 uint16_t ep_checksum(const uint8_t *bytes, size_t bytes_len);

@@ -5,10 +5,10 @@
    - nobody writes during a call what it reads, nor reads or writes what it writes; what it writes
      overlaps nothing else that it is handed.
    No call keeps a pointer, blocks or ends the process.
-   These calls call malloc, realloc and free, which come from one allocator and align blocks as
+   Calls may call malloc, realloc and free, which come from one allocator and align blocks as
    usual. None is made in a signal handler, nor in the forked child of a process with threads.
-   A session begins as zeros, which is not open, and only these calls change it. It isn't copied,
-   and stays on the thread that opened it. */
+   A session begins as zeros, which is not open, and only these calls change it. It isn't copied, and
+   stays on the thread that opened it. */
 #ifndef NETLINES_H
 #define NETLINES_H
 #include <stdbool.h>

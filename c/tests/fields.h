@@ -1,9 +1,11 @@
-/* The fields of an ep_packet by their names. Written by tools/bindings. */
-static const struct {
+/* The fields of an ep_packet and of an ep_plan by their names. Written by tools/bindings. */
+struct field {
     const char *path;
     size_t offset, size;
     char kind; /* n a number, b bytes, p a part */
-} fields[] = {
+};
+
+static const struct field packet_fields[] = {
     {"refusal.kind", 0, 4, 'n'},
     {"refusal.layer", 4, 4, 'n'},
     {"refusal.needed", 8, 8, 'n'},
@@ -139,4 +141,44 @@ static const struct {
     {"icmp.icmp_type", 650, 1, 'n'},
     {"icmp.code", 651, 1, 'n'},
     {"icmp.rest", 652, 4, 'b'},
+};
+
+static const struct field plan_fields[] = {
+    {"link", 0, 4, 'n'},
+    {"destination", 4, 6, 'b'},
+    {"source", 10, 6, 'b'},
+    {"packet_type", 16, 2, 'n'},
+    {"address_len", 18, 2, 'n'},
+    {"address", 20, 8, 'b'},
+    {"tag_count", 28, 4, 'n'},
+    {"outer_vlan_id", 32, 2, 'n'},
+    {"inner_vlan_id", 34, 2, 'n'},
+    {"ip_version", 36, 4, 'n'},
+    {"ipv4_source", 40, 4, 'b'},
+    {"ipv4_destination", 44, 4, 'b'},
+    {"ipv6_source", 48, 16, 'b'},
+    {"ipv6_destination", 64, 16, 'b'},
+    {"hops", 80, 1, 'n'},
+    {"payload_number", 81, 1, 'n'},
+    {"transport", 84, 4, 'n'},
+    {"source_port", 88, 2, 'n'},
+    {"destination_port", 90, 2, 'n'},
+    {"is_reply", 92, 1, 'n'},
+    {"echo_id", 94, 2, 'n'},
+    {"echo_sequence", 96, 2, 'n'},
+    {"sequence_number", 100, 4, 'n'},
+    {"acknowledgment_number", 104, 4, 'n'},
+    {"window_size", 108, 2, 'n'},
+    {"urgent_pointer", 110, 2, 'n'},
+    {"ns", 112, 1, 'n'},
+    {"fin", 113, 1, 'n'},
+    {"syn", 114, 1, 'n'},
+    {"rst", 115, 1, 'n'},
+    {"psh", 116, 1, 'n'},
+    {"ack", 117, 1, 'n'},
+    {"urg", 118, 1, 'n'},
+    {"ece", 119, 1, 'n'},
+    {"cwr", 120, 1, 'n'},
+    {"options_len", 128, 8, 'n'},
+    {"options", 136, 40, 'b'},
 };

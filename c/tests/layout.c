@@ -3,6 +3,10 @@
 #include "etherparse.h"
 #include "netlines.h"
 
+_Static_assert(sizeof(ep_built) == 16, "ep_built");
+_Static_assert(offsetof(ep_built, status) == 0 && sizeof(((ep_built *)0)->status) == 4, "ep_built.status");
+_Static_assert(offsetof(ep_built, field) == 4 && sizeof(((ep_built *)0)->field) == 4, "ep_built.field");
+_Static_assert(offsetof(ep_built, len) == 8 && sizeof(((ep_built *)0)->len) == 8, "ep_built.len");
 _Static_assert(sizeof(ep_link) == 32, "ep_link");
 _Static_assert(offsetof(ep_link, kind) == 0 && sizeof(((ep_link *)0)->kind) == 4, "ep_link.kind");
 _Static_assert(offsetof(ep_link, protocol) == 4 && sizeof(((ep_link *)0)->protocol) == 2, "ep_link.protocol");
@@ -130,6 +134,45 @@ _Static_assert(offsetof(ep_packet, arp) == 424 && sizeof(((ep_packet *)0)->arp) 
 _Static_assert(offsetof(ep_packet, udp) == 512 && sizeof(((ep_packet *)0)->udp) == 40, "ep_packet.udp");
 _Static_assert(offsetof(ep_packet, tcp) == 552 && sizeof(((ep_packet *)0)->tcp) == 64, "ep_packet.tcp");
 _Static_assert(offsetof(ep_packet, icmp) == 616 && sizeof(((ep_packet *)0)->icmp) == 40, "ep_packet.icmp");
+_Static_assert(sizeof(ep_plan) == 176, "ep_plan");
+_Static_assert(offsetof(ep_plan, link) == 0 && sizeof(((ep_plan *)0)->link) == 4, "ep_plan.link");
+_Static_assert(offsetof(ep_plan, destination) == 4 && sizeof(((ep_plan *)0)->destination) == 6, "ep_plan.destination");
+_Static_assert(offsetof(ep_plan, source) == 10 && sizeof(((ep_plan *)0)->source) == 6, "ep_plan.source");
+_Static_assert(offsetof(ep_plan, packet_type) == 16 && sizeof(((ep_plan *)0)->packet_type) == 2, "ep_plan.packet_type");
+_Static_assert(offsetof(ep_plan, address_len) == 18 && sizeof(((ep_plan *)0)->address_len) == 2, "ep_plan.address_len");
+_Static_assert(offsetof(ep_plan, address) == 20 && sizeof(((ep_plan *)0)->address) == 8, "ep_plan.address");
+_Static_assert(offsetof(ep_plan, tag_count) == 28 && sizeof(((ep_plan *)0)->tag_count) == 4, "ep_plan.tag_count");
+_Static_assert(offsetof(ep_plan, outer_vlan_id) == 32 && sizeof(((ep_plan *)0)->outer_vlan_id) == 2, "ep_plan.outer_vlan_id");
+_Static_assert(offsetof(ep_plan, inner_vlan_id) == 34 && sizeof(((ep_plan *)0)->inner_vlan_id) == 2, "ep_plan.inner_vlan_id");
+_Static_assert(offsetof(ep_plan, ip_version) == 36 && sizeof(((ep_plan *)0)->ip_version) == 4, "ep_plan.ip_version");
+_Static_assert(offsetof(ep_plan, ipv4_source) == 40 && sizeof(((ep_plan *)0)->ipv4_source) == 4, "ep_plan.ipv4_source");
+_Static_assert(offsetof(ep_plan, ipv4_destination) == 44 && sizeof(((ep_plan *)0)->ipv4_destination) == 4, "ep_plan.ipv4_destination");
+_Static_assert(offsetof(ep_plan, ipv6_source) == 48 && sizeof(((ep_plan *)0)->ipv6_source) == 16, "ep_plan.ipv6_source");
+_Static_assert(offsetof(ep_plan, ipv6_destination) == 64 && sizeof(((ep_plan *)0)->ipv6_destination) == 16, "ep_plan.ipv6_destination");
+_Static_assert(offsetof(ep_plan, hops) == 80 && sizeof(((ep_plan *)0)->hops) == 1, "ep_plan.hops");
+_Static_assert(offsetof(ep_plan, payload_number) == 81 && sizeof(((ep_plan *)0)->payload_number) == 1, "ep_plan.payload_number");
+_Static_assert(offsetof(ep_plan, transport) == 84 && sizeof(((ep_plan *)0)->transport) == 4, "ep_plan.transport");
+_Static_assert(offsetof(ep_plan, source_port) == 88 && sizeof(((ep_plan *)0)->source_port) == 2, "ep_plan.source_port");
+_Static_assert(offsetof(ep_plan, destination_port) == 90 && sizeof(((ep_plan *)0)->destination_port) == 2, "ep_plan.destination_port");
+_Static_assert(offsetof(ep_plan, is_reply) == 92 && sizeof(((ep_plan *)0)->is_reply) == 1, "ep_plan.is_reply");
+_Static_assert(offsetof(ep_plan, echo_id) == 94 && sizeof(((ep_plan *)0)->echo_id) == 2, "ep_plan.echo_id");
+_Static_assert(offsetof(ep_plan, echo_sequence) == 96 && sizeof(((ep_plan *)0)->echo_sequence) == 2, "ep_plan.echo_sequence");
+_Static_assert(offsetof(ep_plan, sequence_number) == 100 && sizeof(((ep_plan *)0)->sequence_number) == 4, "ep_plan.sequence_number");
+_Static_assert(offsetof(ep_plan, acknowledgment_number) == 104 && sizeof(((ep_plan *)0)->acknowledgment_number) == 4, "ep_plan.acknowledgment_number");
+_Static_assert(offsetof(ep_plan, window_size) == 108 && sizeof(((ep_plan *)0)->window_size) == 2, "ep_plan.window_size");
+_Static_assert(offsetof(ep_plan, urgent_pointer) == 110 && sizeof(((ep_plan *)0)->urgent_pointer) == 2, "ep_plan.urgent_pointer");
+_Static_assert(offsetof(ep_plan, ns) == 112 && sizeof(((ep_plan *)0)->ns) == 1, "ep_plan.ns");
+_Static_assert(offsetof(ep_plan, fin) == 113 && sizeof(((ep_plan *)0)->fin) == 1, "ep_plan.fin");
+_Static_assert(offsetof(ep_plan, syn) == 114 && sizeof(((ep_plan *)0)->syn) == 1, "ep_plan.syn");
+_Static_assert(offsetof(ep_plan, rst) == 115 && sizeof(((ep_plan *)0)->rst) == 1, "ep_plan.rst");
+_Static_assert(offsetof(ep_plan, psh) == 116 && sizeof(((ep_plan *)0)->psh) == 1, "ep_plan.psh");
+_Static_assert(offsetof(ep_plan, ack) == 117 && sizeof(((ep_plan *)0)->ack) == 1, "ep_plan.ack");
+_Static_assert(offsetof(ep_plan, urg) == 118 && sizeof(((ep_plan *)0)->urg) == 1, "ep_plan.urg");
+_Static_assert(offsetof(ep_plan, ece) == 119 && sizeof(((ep_plan *)0)->ece) == 1, "ep_plan.ece");
+_Static_assert(offsetof(ep_plan, cwr) == 120 && sizeof(((ep_plan *)0)->cwr) == 1, "ep_plan.cwr");
+_Static_assert(offsetof(ep_plan, options_len) == 128 && sizeof(((ep_plan *)0)->options_len) == 8, "ep_plan.options_len");
+_Static_assert(offsetof(ep_plan, options) == 136 && sizeof(((ep_plan *)0)->options) == 40, "ep_plan.options");
+_Static_assert(__builtin_types_compatible_p(__typeof__(ep_build), ep_built (const ep_plan *plan, const uint8_t *payload, size_t payload_len, uint8_t *output, size_t output_len)), "ep_build");
 _Static_assert(__builtin_types_compatible_p(__typeof__(ep_checksum), uint16_t (const uint8_t *bytes, size_t bytes_len)), "ep_checksum");
 _Static_assert(__builtin_types_compatible_p(__typeof__(ep_checksum_is_right), bool (const uint8_t *bytes, size_t bytes_len)), "ep_checksum_is_right");
 _Static_assert(__builtin_types_compatible_p(__typeof__(ep_slice_ethernet), ep_packet (const uint8_t *bytes, size_t bytes_len)), "ep_slice_ethernet");

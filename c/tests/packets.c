@@ -11,20 +11,20 @@ static uint32_t verdict;
 /* The value of a field as the table writes it. */
 static int written(const char *path, char *out, size_t room) {
     if (!strcmp(path, "verdict")) return snprintf(out, room, "%u", verdict);
-    for (size_t i = 0; i < sizeof fields / sizeof *fields; i++) {
-        if (strcmp(fields[i].path, path)) continue;
-        const uint8_t *at = (const uint8_t *)&packet + fields[i].offset;
-        if (fields[i].kind == 'p') {
+    for (size_t i = 0; i < sizeof packet_fields / sizeof *packet_fields; i++) {
+        if (strcmp(packet_fields[i].path, path)) continue;
+        const uint8_t *at = (const uint8_t *)&packet + packet_fields[i].offset;
+        if (packet_fields[i].kind == 'p') {
             ep_part part;
             memcpy(&part, at, sizeof part);
             return snprintf(out, room, "%zu+%zu", part.offset, part.len);
         }
-        if (fields[i].kind == 'b') {
-            for (size_t k = 0; k < fields[i].size; k++) snprintf(out + 2 * k, room - 2 * k, "%02x", at[k]);
+        if (packet_fields[i].kind == 'b') {
+            for (size_t k = 0; k < packet_fields[i].size; k++) snprintf(out + 2 * k, room - 2 * k, "%02x", at[k]);
             return 0;
         }
         uint64_t number = 0;
-        memcpy(&number, at, fields[i].size);
+        memcpy(&number, at, packet_fields[i].size);
         return snprintf(out, room, "%llu", (unsigned long long)number);
     }
     return snprintf(out, room, "no such field");

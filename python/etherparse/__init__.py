@@ -1,32 +1,36 @@
-"""Packets sliced, judged and summed, and lines of hex frames answered, by proved code.
+"""Packets sliced, judged, summed and built, and lines of hex frames answered, by proved code.
 
     >>> from etherparse import slice_ethernet
     >>> slice_ethernet(frame).ipv4.source
     IPv4Address('10.0.0.1')
 
 The libraries libetherparse and libnetlines are looked for in the folder that ETHERPARSE_LIB_DIR names, in the folder
-that this package was installed beside, and where the loader looks.
+that this package was installed beside, and where the loader looks, which chooses those for the processor.
 """
 
 import ctypes as _c
 import enum
 import ipaddress
 import os
+from dataclasses import dataclass, fields
 from pathlib import Path
-from typing import List, Optional, Union
+from typing import List, Optional, Sequence, Union
 
 from . import _raw
 
 __all__ = [
-    "Arp", "Icmp", "Ipv4", "Ipv6", "Link", "Packet", "Refused", "Session", "Tag", "Tcp", "Udp", "Verdict", "answers",
-    "checksum", "checksum_is_right", "slice_ethernet", "slice_ip", "slice_linux_sll", "verdict_ethernet", "verdict_ip",
-    "verdict_linux_sll",
+    "Arp", "BuildRefused", "Icmp", "Ipv4", "Ipv6", "Link", "Packet", "PlannedCapture", "PlannedEcho",
+    "PlannedEthernet", "PlannedTcp", "PlannedUdp", "Refused", "Session", "Tag", "Tcp", "Udp", "Verdict", "answers",
+    "build", "checksum", "checksum_is_right", "slice_ethernet", "slice_ip", "slice_linux_sll", "verdict_ethernet",
+    "verdict_ip", "verdict_linux_sll",
 ]  # fmt: skip
 
 
 def _library(name: str) -> _c.CDLL:
     file = f"lib{name}.so.0"
     folders = [os.environ.get("ETHERPARSE_LIB_DIR"), Path(__file__).resolve().parents[3]]
+    if folders[1] == Path("/usr/lib"):
+        folders.pop()
     for folder in folders:
         if folder and (Path(folder) / file).exists():
             return _c.CDLL(str(Path(folder) / file))
@@ -251,6 +255,144 @@ def checksum(data: bytes) -> int:
 def checksum_is_right(data: bytes) -> bool:
     """Whether the words of the bytes sum to all ones."""
     return _etherparse.ep_checksum_is_right(data, len(data))
+
+
+Address = Union[ipaddress.IPv4Address, ipaddress.IPv6Address]
+
+_FIELDS = {
+    value: name[len("FIELD_") :].lower() for name, value in vars(_raw).items() if name.startswith("FIELD_")
+}
+
+
+class BuildRefused(ValueError):
+    """A packet that can't be built: `field` is the name of the field of `ep_plan` at fault, as in etherparse.h."""
+
+    def __init__(self, number: int) -> None:
+        self.field: str = _FIELDS[number]
+        super().__init__(f"no packet has such a field: {self.field}")
+
+
+@dataclass(frozen=True)
+class PlannedEthernet:
+    """An Ethernet II header, and up to two VLAN tags of these identifiers behind it."""
+
+    source: bytes
+    destination: bytes
+    vlan_ids: Sequence[int] = ()
+
+
+@dataclass(frozen=True)
+class PlannedCapture:
+    """The header of a Linux cooked capture of an Ethernet device."""
+
+    packet_type: int
+    address_len: int
+    address: bytes
+
+
+@dataclass(frozen=True)
+class PlannedUdp:
+    """A UDP header."""
+
+    source_port: int
+    destination_port: int
+
+
+@dataclass(frozen=True)
+class PlannedTcp:
+    """A TCP header. At most 40 bytes of options are filled up with 0 to whole words."""
+
+    source_port: int
+    destination_port: int
+    sequence_number: int = 0
+    acknowledgment_number: int = 0
+    window_size: int = 0
+    urgent_pointer: int = 0
+    ns: bool = False
+    fin: bool = False
+    syn: bool = False
+    rst: bool = False
+    psh: bool = False
+    ack: bool = False
+    urg: bool = False
+    ece: bool = False
+    cwr: bool = False
+    options: bytes = b""
+
+
+@dataclass(frozen=True)
+class PlannedEcho:
+    """An echo request or its reply: of ICMPv4 (`number` 1) or ICMPv6 (58)."""
+
+    number: int
+    id: int
+    sequence: int
+    is_reply: bool = False
+
+
+def _array(kind: type, data: bytes) -> _c.Array:
+    if len(data) != _c.sizeof(kind):
+        raise ValueError(f"{len(data)} bytes, where {_c.sizeof(kind)} are wanted")
+    return kind(*data)
+
+
+def build(
+    payload: bytes,
+    *,
+    source: Union[str, Address],
+    destination: Union[str, Address],
+    transport: Union[PlannedUdp, PlannedTcp, PlannedEcho, int],
+    link: Union[PlannedEthernet, PlannedCapture, None] = None,
+    hops: int = 64,
+) -> bytes:
+    """Builds a packet between these addresses, whose lengths, checksums, ether types and numbers follow.
+
+    A number as `transport` is that of the payload, with no transport header. Raises BuildRefused where no packet has
+    such a field, ValueError where no field has room for a value, and MemoryError.
+    """
+    ends = ipaddress.ip_address(source), ipaddress.ip_address(destination)
+    if ends[0].version != ends[1].version:
+        raise ValueError("addresses of two versions")
+    version = ends[0].version
+    plan = _raw.EpPlan(ip_version=version)
+    numbers = {"hops": hops}
+    names = f"ipv{version}_source", f"ipv{version}_destination"
+    for name, address in zip(names, ends):
+        setattr(plan, name, _array(type(getattr(plan, name)), address.packed))
+    if isinstance(link, PlannedEthernet):
+        plan.link = 1
+        plan.source = _array(type(plan.source), link.source)
+        plan.destination = _array(type(plan.destination), link.destination)
+        numbers["tag_count"] = len(link.vlan_ids)
+        numbers.update(zip(("outer_vlan_id", "inner_vlan_id"), link.vlan_ids))
+    elif link is not None:
+        plan.link = 2
+        plan.address = _array(type(plan.address), link.address)
+        numbers.update(packet_type=link.packet_type, address_len=link.address_len)
+    if isinstance(transport, PlannedUdp):
+        numbers.update(transport=17, **vars(transport))
+    elif isinstance(transport, PlannedTcp):
+        options = transport.options[:40]
+        plan.options[: len(options)] = list(options)
+        numbers.update({field.name: getattr(transport, field.name) for field in fields(transport)}, transport=6)
+        numbers["options_len"] = len(numbers.pop("options"))
+    elif isinstance(transport, PlannedEcho):
+        numbers.update(transport=transport.number, echo_id=transport.id, echo_sequence=transport.sequence)
+        numbers["is_reply"] = transport.is_reply
+    else:
+        numbers["payload_number"] = transport
+    for name, number in numbers.items():
+        setattr(plan, name, number)
+        if getattr(plan, name) != number:
+            raise ValueError(f"{name} has no room for {number}")
+    room = len(payload) + 128
+    output = (_c.c_uint8 * room)()
+    built = _etherparse.ep_build(_c.byref(plan), payload, len(payload), output, room)
+    if built.status == _raw.REFUSED:
+        raise BuildRefused(built.field)
+    if built.status != _raw.DONE:
+        raise MemoryError
+    return _c.string_at(output, built.len)
 
 
 def _handed_out(call, room: int) -> bytes:

@@ -2,6 +2,23 @@
 
 import ctypes as c
 
+# It is done.
+DONE = 0
+# The output has no room.
+NO_ROOM = 1
+# Out of memory.
+NO_MEMORY = 2
+# A field is refused.
+REFUSED = 3
+FIELD_LINK = 1
+FIELD_PACKET_TYPE = 2
+FIELD_TAG_COUNT = 3
+FIELD_OUTER_VLAN_ID = 4
+FIELD_INNER_VLAN_ID = 5
+FIELD_IP_VERSION = 6
+FIELD_TRANSPORT = 7
+FIELD_OPTIONS_LEN = 8
+FIELD_PAYLOAD = 9
 LAYER_LINUX_SLL_HEADER = 1
 LAYER_ETHERNET2_HEADER = 2
 LAYER_ETHER_PAYLOAD = 3
@@ -43,6 +60,16 @@ NETLINES_NO_ROOM = 1
 NETLINES_NO_MEMORY = 2
 # The session isn't open, or was told the end, or is open already.
 NETLINES_WRONG_STATE = 3
+
+
+class EpBuilt(c.Structure):
+    """What became of a packet that was to be built."""
+
+    _fields_ = [
+        ("status", c.c_uint32),
+        ("field", c.c_uint32),
+        ("len", c.c_size_t),
+    ]
 
 
 class EpLink(c.Structure):
@@ -238,6 +265,50 @@ class EpPacket(c.Structure):
     ]
 
 
+class EpPlan(c.Structure):
+    """What a packet is to be built of. The fields of headers that it doesn't ask for don't count. Lengths, checksums, ether types and the numbers of headers follow from it."""
+
+    _fields_ = [
+        ("link", c.c_uint32),
+        ("destination", c.c_uint8 * 6),
+        ("source", c.c_uint8 * 6),
+        ("packet_type", c.c_uint16),
+        ("address_len", c.c_uint16),
+        ("address", c.c_uint8 * 8),
+        ("tag_count", c.c_uint32),
+        ("outer_vlan_id", c.c_uint16),
+        ("inner_vlan_id", c.c_uint16),
+        ("ip_version", c.c_uint32),
+        ("ipv4_source", c.c_uint8 * 4),
+        ("ipv4_destination", c.c_uint8 * 4),
+        ("ipv6_source", c.c_uint8 * 16),
+        ("ipv6_destination", c.c_uint8 * 16),
+        ("hops", c.c_uint8),
+        ("payload_number", c.c_uint8),
+        ("transport", c.c_uint32),
+        ("source_port", c.c_uint16),
+        ("destination_port", c.c_uint16),
+        ("is_reply", c.c_bool),
+        ("echo_id", c.c_uint16),
+        ("echo_sequence", c.c_uint16),
+        ("sequence_number", c.c_uint32),
+        ("acknowledgment_number", c.c_uint32),
+        ("window_size", c.c_uint16),
+        ("urgent_pointer", c.c_uint16),
+        ("ns", c.c_bool),
+        ("fin", c.c_bool),
+        ("syn", c.c_bool),
+        ("rst", c.c_bool),
+        ("psh", c.c_bool),
+        ("ack", c.c_bool),
+        ("urg", c.c_bool),
+        ("ece", c.c_bool),
+        ("cwr", c.c_bool),
+        ("options_len", c.c_size_t),
+        ("options", c.c_uint8 * 40),
+    ]
+
+
 class NetlinesSession(c.Structure):
     """Lines that come in pieces. It begins as zeros, and is changed by these calls alone."""
 
@@ -246,6 +317,7 @@ class NetlinesSession(c.Structure):
         ("held", c.c_void_p),
     ]
 
+assert c.sizeof(EpBuilt) == 16
 assert c.sizeof(EpLink) == 32
 assert c.sizeof(EpPart) == 16
 assert c.sizeof(EpTag) == 48
@@ -257,12 +329,15 @@ assert c.sizeof(EpUdp) == 40
 assert c.sizeof(EpTcp) == 64
 assert c.sizeof(EpIcmp) == 40
 assert c.sizeof(EpPacket) == 656
+assert c.sizeof(EpPlan) == 176
 
 assert c.sizeof(NetlinesSession) == 16
 
 
 def declare_etherparse(library: c.CDLL) -> None:
     """Gives the calls of libetherparse their types."""
+    library.ep_build.argtypes = [c.POINTER(EpPlan), c.c_char_p, c.c_size_t, c.POINTER(c.c_uint8), c.c_size_t]
+    library.ep_build.restype = EpBuilt
     library.ep_checksum.argtypes = [c.c_char_p, c.c_size_t]
     library.ep_checksum.restype = c.c_uint16
     library.ep_checksum_is_right.argtypes = [c.c_char_p, c.c_size_t]

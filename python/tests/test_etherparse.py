@@ -97,6 +97,81 @@ class Packets(unittest.TestCase):
         self.assertFalse(ep.checksum_is_right(words))
 
 
+def plans():
+    for line in (TOP / "c/tests/plans.txt").read_text().splitlines():
+        if not line.startswith("#"):
+            digits, wanted, *fields = line.split()
+            yield bytes.fromhex(digits.strip("-")), wanted, dict(field.split("=") for field in fields)
+
+
+class Plans(unittest.TestCase):
+    def arguments(self, fields):
+        """Those of `build`, or None where it can't say these fields."""
+
+        def number(name):
+            return int(fields.get(name, 0))
+
+        version, tags = number("ip_version"), number("tag_count")
+        kinds = number("link"), number("transport")
+        if version not in (4, 6) or kinds[0] > 2 or kinds[1] not in (0, 1, 6, 17, 58) or kinds[0] != 1 and tags:
+            return None
+        link = None
+        if kinds[0] == 1:
+            ids = (number("outer_vlan_id"), number("inner_vlan_id"), 0)[:tags]
+            link = ep.PlannedEthernet(bytes.fromhex(fields["source"]), bytes.fromhex(fields["destination"]), ids)
+        elif kinds[0] == 2:
+            address = bytes.fromhex(fields.get("address", "00" * 8))
+            link = ep.PlannedCapture(number("packet_type"), number("address_len"), address)
+        if kinds[1] == 6:
+            names = ("source_port", "destination_port", "sequence_number", "acknowledgment_number", "window_size")
+            flags = ("ns", "fin", "syn", "rst", "psh", "ack", "urg", "ece", "cwr")
+            options = bytes.fromhex(fields.get("options", "")).ljust(41, b"\0")[: number("options_len")]
+            numbers = {name: number(name) for name in (*names, "urgent_pointer", *flags)}
+            transport = ep.PlannedTcp(options=options, **numbers)
+        elif kinds[1] == 17:
+            transport = ep.PlannedUdp(number("source_port"), number("destination_port"))
+        elif kinds[1]:
+            transport = ep.PlannedEcho(kinds[1], number("echo_id"), number("echo_sequence"), bool(number("is_reply")))
+        else:
+            transport = number("payload_number")
+        ends = (ipaddress.ip_address(bytes.fromhex(fields[f"ipv{version}_{end}"])) for end in ("source", "destination"))
+        source, destination = ends
+        return dict(source=source, destination=destination, transport=transport, link=link, hops=number("hops"))
+
+    def test_table(self):
+        names = {1: "link", 2: "packet_type", 3: "tag_count", 4: "outer_vlan_id", 5: "inner_vlan_id", 6: "ip_version"}
+        names.update({7: "transport", 8: "options_len", 9: "payload"})
+        seen = 0
+        for payload, wanted, fields in plans():
+            arguments = self.arguments(fields)
+            if arguments is None:
+                continue
+            seen += 1
+            with self.subTest(fields=fields):
+                if wanted.startswith("refused="):
+                    with self.assertRaises(ep.BuildRefused) as refused:
+                        ep.build(payload, **arguments)
+                    self.assertEqual(refused.exception.field, names[int(wanted[8:])])
+                else:
+                    self.assertEqual(ep.build(payload, **arguments).hex(), wanted)
+        self.assertGreater(seen, 30)
+
+    def test_arguments(self):
+        ends = dict(source="10.0.0.1", destination="10.0.0.2", transport=ep.PlannedUdp(1, 2))
+        self.assertEqual(len(ep.build(bytes(65507), **ends)), 65535)
+        with self.assertRaisesRegex(ep.BuildRefused, "no packet has such a field: payload"):
+            ep.build(bytes(65508), **ends)
+        for wrong in (
+            dict(destination="::1"),
+            dict(transport=ep.PlannedUdp(65536, 2)),
+            dict(transport=256),
+            dict(hops=-1),
+            dict(link=ep.PlannedEthernet(bytes(5), bytes(6))),
+        ):
+            with self.subTest(wrong), self.assertRaises(ValueError):
+                ep.build(b"", **{**ends, **wrong})
+
+
 class Answers(unittest.TestCase):
     def test_rows(self):
         texts = sorted((TOP / "crates/netlines_rows/data").glob("*.in"))

@@ -1,13 +1,17 @@
 //! Safe Rust over `libetherparse` and `libnetlines`, whose code is proved.
 //!
-//! The exports require nothing but what a slice's type says, so that each call is safe for every
-//! slice. All that is unsafe stands in this file.
+//! The exports require nothing but what a slice's type says, and of a session that only they changed it, so
+//! that each call is safe.
 
 mod packet;
+mod plan;
 pub mod raw;
 mod refusal;
 
 pub use packet::{Link, Net, Packet, Transport};
+pub use plan::{
+    BuildError, Plan, PlanField, PlannedAddresses, PlannedEcho, PlannedLink, PlannedTcp, PlannedTransport, build,
+};
 pub use refusal::{Fault, Layer, LenSource, Refusal};
 
 use std::error::Error;

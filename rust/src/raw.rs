@@ -1,5 +1,23 @@
 //! The exports and their structs. Written by `tools/bindings`.
+#![allow(dead_code)]
 
+/// It is done.
+pub const DONE: u32 = 0;
+/// The output has no room.
+pub const NO_ROOM: u32 = 1;
+/// Out of memory.
+pub const NO_MEMORY: u32 = 2;
+/// A field is refused.
+pub const REFUSED: u32 = 3;
+pub const FIELD_LINK: u32 = 1;
+pub const FIELD_PACKET_TYPE: u32 = 2;
+pub const FIELD_TAG_COUNT: u32 = 3;
+pub const FIELD_OUTER_VLAN_ID: u32 = 4;
+pub const FIELD_INNER_VLAN_ID: u32 = 5;
+pub const FIELD_IP_VERSION: u32 = 6;
+pub const FIELD_TRANSPORT: u32 = 7;
+pub const FIELD_OPTIONS_LEN: u32 = 8;
+pub const FIELD_PAYLOAD: u32 = 9;
 pub const LAYER_LINUX_SLL_HEADER: u32 = 1;
 pub const LAYER_ETHERNET2_HEADER: u32 = 2;
 pub const LAYER_ETHER_PAYLOAD: u32 = 3;
@@ -40,6 +58,18 @@ pub const NETLINES_NO_ROOM: u32 = 1;
 pub const NETLINES_NO_MEMORY: u32 = 2;
 /// The session isn't open, or was told the end, or is open already.
 pub const NETLINES_WRONG_STATE: u32 = 3;
+
+/// What became of a packet that was to be built.
+#[repr(C)]
+#[derive(Clone, Copy, Debug, PartialEq, Eq)]
+pub struct EpBuilt {
+    /// 0 where it is built, else why it isn't.
+    pub status: u32,
+    /// The first field of the plan at fault, where it is refused, else 0.
+    pub field: u32,
+    /// The length of the packet, where it is built or has no room, else 0.
+    pub len: usize,
+}
 
 /// A link header. The fields of other kinds are 0.
 #[repr(C)]
@@ -340,6 +370,87 @@ pub struct EpPacket {
     pub icmp: EpIcmp,
 }
 
+/// What a packet is to be built of. The fields of headers that it doesn't ask for don't count.
+/// Lengths, checksums, ether types and the numbers of headers follow from it.
+#[repr(C)]
+#[derive(Clone, Copy, Debug, PartialEq, Eq)]
+pub struct EpPlan {
+    /// The link header: 0 none, 1 Ethernet II, 2 a Linux cooked capture of an Ethernet device.
+    pub link: u32,
+    /// Of Ethernet II.
+    pub destination: [u8; 6],
+    /// Of Ethernet II.
+    pub source: [u8; 6],
+    /// Of a cooked capture: 0 to us, 1 broadcast, 2 multicast, 3 to others, 4 from us.
+    pub packet_type: u16,
+    /// Of a cooked capture: how many bytes of the address are the sender's.
+    pub address_len: u16,
+    /// Of a cooked capture: the sender's address.
+    pub address: [u8; 8],
+    /// How many VLAN tags stand behind an Ethernet II header: 0, 1 or 2.
+    pub tag_count: u32,
+    /// The identifier of the first of them, 0 to 4095.
+    pub outer_vlan_id: u16,
+    /// The identifier of the second one, 0 to 4095.
+    pub inner_vlan_id: u16,
+    /// The IP version: 4 or 6.
+    pub ip_version: u32,
+    /// Of IPv4.
+    pub ipv4_source: [u8; 4],
+    /// Of IPv4.
+    pub ipv4_destination: [u8; 4],
+    /// Of IPv6.
+    pub ipv6_source: [u8; 16],
+    /// Of IPv6.
+    pub ipv6_destination: [u8; 16],
+    /// How many hops it may take.
+    pub hops: u8,
+    /// Without a transport header: the number of the payload.
+    pub payload_number: u8,
+    /// The transport header: 0 none, or its number: 1 ICMPv4, 6 TCP, 17 UDP, 58 ICMPv6.
+    pub transport: u32,
+    /// Of UDP and TCP.
+    pub source_port: u16,
+    /// Of UDP and TCP.
+    pub destination_port: u16,
+    /// Of ICMP: whether it is the reply to an echo request, and not the request.
+    pub is_reply: bool,
+    /// Of ICMP: the identifier of the echo.
+    pub echo_id: u16,
+    /// Of ICMP: the number of the echo.
+    pub echo_sequence: u16,
+    /// Of TCP: the sequence number.
+    pub sequence_number: u32,
+    /// Of TCP: the acknowledgment number.
+    pub acknowledgment_number: u32,
+    /// Of TCP: the window.
+    pub window_size: u16,
+    /// Of TCP: the urgent pointer.
+    pub urgent_pointer: u16,
+    /// Of TCP: flag NS (RFC 3540).
+    pub ns: bool,
+    /// Of TCP: flag FIN.
+    pub fin: bool,
+    /// Of TCP: flag SYN.
+    pub syn: bool,
+    /// Of TCP: flag RST.
+    pub rst: bool,
+    /// Of TCP: flag PSH.
+    pub psh: bool,
+    /// Of TCP: flag ACK.
+    pub ack: bool,
+    /// Of TCP: flag URG.
+    pub urg: bool,
+    /// Of TCP: flag ECE.
+    pub ece: bool,
+    /// Of TCP: flag CWR.
+    pub cwr: bool,
+    /// Of TCP: how many bytes of options there are, at most 40.
+    pub options_len: usize,
+    /// Of TCP: the options. They are filled up with 0 to whole words.
+    pub options: [u8; 40],
+}
+
 /// Lines that come in pieces. It begins as zeros, and is changed by these calls alone.
 #[repr(C)]
 #[derive(Clone, Copy, Debug, PartialEq, Eq)]
@@ -351,6 +462,7 @@ pub struct NetlinesSession {
 }
 
 unsafe extern "C" {
+    pub(crate) fn ep_build(plan: *const EpPlan, payload: *const u8, payload_len: usize, output: *mut u8, output_len: usize) -> EpBuilt;
     pub(crate) fn ep_checksum(bytes: *const u8, bytes_len: usize) -> u16;
     pub(crate) fn ep_checksum_is_right(bytes: *const u8, bytes_len: usize) -> bool;
     pub(crate) fn ep_slice_ethernet(bytes: *const u8, bytes_len: usize) -> EpPacket;
@@ -367,6 +479,10 @@ unsafe extern "C" {
 }
 
 // The layout of the exports' sources.
+const _: () = assert!(size_of::<EpBuilt>() == 16);
+const _: () = assert!(std::mem::offset_of!(EpBuilt, status) == 0);
+const _: () = assert!(std::mem::offset_of!(EpBuilt, field) == 4);
+const _: () = assert!(std::mem::offset_of!(EpBuilt, len) == 8);
 const _: () = assert!(size_of::<EpLink>() == 32);
 const _: () = assert!(std::mem::offset_of!(EpLink, kind) == 0);
 const _: () = assert!(std::mem::offset_of!(EpLink, protocol) == 4);
@@ -494,6 +610,44 @@ const _: () = assert!(std::mem::offset_of!(EpPacket, arp) == 424);
 const _: () = assert!(std::mem::offset_of!(EpPacket, udp) == 512);
 const _: () = assert!(std::mem::offset_of!(EpPacket, tcp) == 552);
 const _: () = assert!(std::mem::offset_of!(EpPacket, icmp) == 616);
+const _: () = assert!(size_of::<EpPlan>() == 176);
+const _: () = assert!(std::mem::offset_of!(EpPlan, link) == 0);
+const _: () = assert!(std::mem::offset_of!(EpPlan, destination) == 4);
+const _: () = assert!(std::mem::offset_of!(EpPlan, source) == 10);
+const _: () = assert!(std::mem::offset_of!(EpPlan, packet_type) == 16);
+const _: () = assert!(std::mem::offset_of!(EpPlan, address_len) == 18);
+const _: () = assert!(std::mem::offset_of!(EpPlan, address) == 20);
+const _: () = assert!(std::mem::offset_of!(EpPlan, tag_count) == 28);
+const _: () = assert!(std::mem::offset_of!(EpPlan, outer_vlan_id) == 32);
+const _: () = assert!(std::mem::offset_of!(EpPlan, inner_vlan_id) == 34);
+const _: () = assert!(std::mem::offset_of!(EpPlan, ip_version) == 36);
+const _: () = assert!(std::mem::offset_of!(EpPlan, ipv4_source) == 40);
+const _: () = assert!(std::mem::offset_of!(EpPlan, ipv4_destination) == 44);
+const _: () = assert!(std::mem::offset_of!(EpPlan, ipv6_source) == 48);
+const _: () = assert!(std::mem::offset_of!(EpPlan, ipv6_destination) == 64);
+const _: () = assert!(std::mem::offset_of!(EpPlan, hops) == 80);
+const _: () = assert!(std::mem::offset_of!(EpPlan, payload_number) == 81);
+const _: () = assert!(std::mem::offset_of!(EpPlan, transport) == 84);
+const _: () = assert!(std::mem::offset_of!(EpPlan, source_port) == 88);
+const _: () = assert!(std::mem::offset_of!(EpPlan, destination_port) == 90);
+const _: () = assert!(std::mem::offset_of!(EpPlan, is_reply) == 92);
+const _: () = assert!(std::mem::offset_of!(EpPlan, echo_id) == 94);
+const _: () = assert!(std::mem::offset_of!(EpPlan, echo_sequence) == 96);
+const _: () = assert!(std::mem::offset_of!(EpPlan, sequence_number) == 100);
+const _: () = assert!(std::mem::offset_of!(EpPlan, acknowledgment_number) == 104);
+const _: () = assert!(std::mem::offset_of!(EpPlan, window_size) == 108);
+const _: () = assert!(std::mem::offset_of!(EpPlan, urgent_pointer) == 110);
+const _: () = assert!(std::mem::offset_of!(EpPlan, ns) == 112);
+const _: () = assert!(std::mem::offset_of!(EpPlan, fin) == 113);
+const _: () = assert!(std::mem::offset_of!(EpPlan, syn) == 114);
+const _: () = assert!(std::mem::offset_of!(EpPlan, rst) == 115);
+const _: () = assert!(std::mem::offset_of!(EpPlan, psh) == 116);
+const _: () = assert!(std::mem::offset_of!(EpPlan, ack) == 117);
+const _: () = assert!(std::mem::offset_of!(EpPlan, urg) == 118);
+const _: () = assert!(std::mem::offset_of!(EpPlan, ece) == 119);
+const _: () = assert!(std::mem::offset_of!(EpPlan, cwr) == 120);
+const _: () = assert!(std::mem::offset_of!(EpPlan, options_len) == 128);
+const _: () = assert!(std::mem::offset_of!(EpPlan, options) == 136);
 const _: () = assert!(size_of::<NetlinesSession>() == 16);
 const _: () = assert!(std::mem::offset_of!(NetlinesSession, is_open) == 0);
 const _: () = assert!(std::mem::offset_of!(NetlinesSession, held) == 8);

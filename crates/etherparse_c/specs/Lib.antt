@@ -1,7 +1,9 @@
+pub mod Build
 pub mod Link
 pub mod Net
 pub mod Packet
 pub mod Part
+pub mod Plan
 pub mod Refusal
 pub mod Transport
 pub mod Verdict

@@ -1,0 +1,61 @@
+"""Nanoseconds a frame in Python, of which addresses and ports are read: the best of five rounds."""
+
+import time
+
+import dpkt
+import etherparse
+from scapy.layers.inet import IP, UDP
+from scapy.layers.l2 import Ether
+
+CALLS = 2000
+FRAME = etherparse.build(
+    bytes(22),
+    source="10.0.0.1",
+    destination="10.0.0.2",
+    transport=etherparse.PlannedUdp(1, 2),
+    link=etherparse.PlannedEthernet(b"\2\0\0\0\0\1", b"\2\0\0\0\0\2"),
+)
+
+
+def ours():
+    packet = etherparse.slice_ethernet(FRAME)
+    return str(packet.ipv4.source), packet.udp.destination_port
+
+
+def by_dpkt():
+    packet = dpkt.ethernet.Ethernet(FRAME)
+    return dpkt.utils.inet_to_str(packet.data.src), packet.data.data.dport
+
+
+def by_scapy():
+    packet = Ether(FRAME)
+    return packet[IP].src, packet[UDP].dport
+
+
+def built():
+    return len(
+        etherparse.build(bytes(22), source="10.0.0.1", destination="10.0.0.2", transport=etherparse.PlannedUdp(1, 2))
+    )
+
+
+def built_by_scapy():
+    return len(bytes(IP(src="10.0.0.1", dst="10.0.0.2", ttl=64) / UDP(sport=1, dport=2) / bytes(22)))
+
+
+def measure(name, call, wanted):
+    best = float("inf")
+    for _ in range(5):
+        start = time.perf_counter_ns()
+        for _ in range(CALLS):
+            told = call()
+        best = min(best, (time.perf_counter_ns() - start) / CALLS)
+        assert told == wanted, (name, told)
+    print(f"{name:44} {best:8.0f}")
+
+
+told = "10.0.0.1", 2
+measure("Python: slice_ethernet, 64 bytes", ours, told)
+measure("Python: dpkt", by_dpkt, told)
+measure("Python: scapy", by_scapy, told)
+measure("Python: build, 50 bytes", built, 50)
+measure("Python: scapy builds", built_by_scapy, 50)
