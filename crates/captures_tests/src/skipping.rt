@@ -85,7 +85,7 @@ fn packets_of_each_kind(rt: HostRuntime) -> Result<(), Fail> {
 }
 
 // What still ends a run: a packet above that, and an end within one. What was passed over before is
-// counted, and the second line would have been the first.
+// counted, but not in the place.
 #[test]
 fn refusals_after_packets_are_passed_over(rt: HostRuntime) -> Result<(), Fail> {
     let mut file = capture(rt.alloc(), 101, b"\0")?;
@@ -98,6 +98,7 @@ fn refusals_after_packets_are_passed_over(rt: HostRuntime) -> Result<(), Fail> {
         (57, CaptureError::FrameTooLong(262_129)),
         (56, CaptureError::CutOff),
     ] {
+        assert!(rt; len <= file.len());
         let (result, lines, passed) = lines_skipping(rt.alloc(), &file.as_slice()[..len])?;
         assert!(rt; result == refused(error, 1, 41, None));
         assert!(rt; lines.is_empty());
@@ -110,8 +111,8 @@ const SECTION: &[u8; 28] = b"\
     \x0a\x0d\x0d\x0a\x1c\x00\x00\x00\x4d\x3c\x2b\x1a\x01\x00\x00\x00\xff\xff\xff\xff\
     \xff\xff\xff\xff\x1c\x00\x00\x00";
 
-// Interfaces of PPP, Ethernet and raw IP, and packets of one byte, 45: those of PPP are passed over,
-// and a second section goes on with the counts.
+// Interfaces of PPP, Ethernet and raw IP, and packets of one byte, 45: those of PPP are passed
+// over, and a second section goes on with the counts.
 #[test]
 fn interfaces_of_two_sections(rt: HostRuntime) -> Result<(), Fail> {
     let mut file = Vec::new(rt.alloc());
