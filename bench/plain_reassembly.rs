@@ -194,7 +194,7 @@ fn add_all(buf: &mut Reassembly, order: Order, message: &[u8]) -> u64 {
         let start = 8 * usize::from(units);
         let end = message.len().min(start + 8);
         let Some(bytes) = message.get(start..end) else {
-            continue;
+            break;
         };
         if buf.add(units, end < message.len(), bytes).is_ok() {
             accepted += 1;

@@ -47,11 +47,13 @@ fn add_all(buf: &mut IpDefragBuf, order: Order, message: &[u8]) -> u64 {
         let units = order.units(place);
         let start = 8 * usize::from(units);
         let end = message.len().min(start + 8);
+        // Both are there each time. Where one that isn't were passed over, clang would make vectors
+        // of the search for the next one.
         let Some(bytes) = message.get(start..end) else {
-            continue;
+            break;
         };
         let Ok(offset) = IpFragOffset::try_new(units) else {
-            continue;
+            break;
         };
         if buf.add(offset, end < message.len(), bytes).is_ok() {
             accepted = accepted.wrapping_add(1);
