@@ -12,9 +12,14 @@ use Rattle.std.specs.Prelude.{◌==◌}
 use Rattle.ep_defrag.specs.declared.defrag.ip_defrag_error.IpDefragError.{IpDefragError}
 use Rattle.ep_defrag.specs.declared.defrag.ip_defrag_error.IpDefragError.TheVariants.{SegmentTooBig}
 use Rattle.ep_defrag.specs.declared.defrag.ip_defrag_error.IpDefragError.TheVariants.{UnalignedFragmentPayloadLen}
-use Rattle.ep_defrag.specs.Fragments.{Fragment, end_of, named_end, refusal_of, with_all_accepted}
-use Rattle.ep_defrag.specs.Fragments.{AgreesWith, MembersAgree, holds, Holds}
+use Rattle.ep_defrag.specs.declared.defrag.overlap_rule.OverlapRule.{OverlapRule}
+use Rattle.ep_defrag.specs.declared.defrag.overlap_rule.OverlapRule.TheVariants.{Refuses}
+use Rattle.ep_defrag.specs.Fragments.{Fragment, end_of, named_end, refusal_at, overlaps}
+use Rattle.ep_defrag.specs.Fragments.{with_accepted, with_all_accepted, IsAccepted, AgreesWith}
+use Rattle.ep_defrag.specs.Fragments.{MembersAgree, AreDisjoint, AcceptedAreDisjoint, holds, Holds}
 use Rattle.ep_defrag.specs.Picture.{byte_of, LastByteCounts, OpenPlaceHasNone}
+use Rattle.ep_defrag.proofs.Clash.{clash_is}
+use Rattle.ep_defrag.proofs.Disjoint.{disjoint_push}
 use Rattle.ep_defrag.proofs.Members.{AllByRecursion-push, AnyOf-from_Any, Any-from_AnyOf}
 use Rattle.ep_defrag.proofs.Push.{named_end-push, own_end, cond_none, agrees, end_push}
 use Rattle.ep_defrag.proofs.Push.{byte_of-here}
@@ -39,7 +44,7 @@ units_test true false h e = cc
 units_test false test h e = cc
 
 -- one that isn't refused agrees with the list that it ends
-last_agrees : (fs : List Fragment) (f : Fragment) → refusal_of fs f ≡ None
+last_agrees : (fs : List Fragment) (f : Fragment) → refusal_at (named_end fs) f ≡ None
     → AgreesWith (fs ++ f ∷ []) f
 last_agrees fs f none =
     let long = cond_none (ltb 65535 (end_of f))
@@ -52,52 +57,91 @@ last_agrees fs f none =
       end = λ last. sym (end_push fs f (agrees (named_end fs) f none)) ∙ rw last refl;
     }
 
-length-with_all_accepted : (fs rest : List Fragment) → length (with_all_accepted fs rest) ≤ length
-    fs + length rest
-length-with_all_accepted fs [] = omega arith
-length-with_all_accepted fs (f ∷ rest) =
-    elim (is_some (refusal_of fs f)) as
-    (λ (b : Bool). length (with_all_accepted (cond b fs (fs ++ f ∷ [])) rest)
-    ≤ length fs + length (f ∷ rest)) [
-      | true ↦ omega (arith, length-with_all_accepted fs rest)
-      | false ↦ omega (
-        arith,
-        length-with_all_accepted (fs ++ f ∷ []) rest,
-        length-append fs (f
-            ∷ []),
-      )
+length-with_accepted : (rule : OverlapRule) (fs : List Fragment) (f : Fragment)
+    → length (with_accepted rule fs f) ≤ length fs + 1
+length-with_accepted rule fs f =
+    elim (is_some (refusal_at (named_end fs) f)) as (λ (b : Bool). length
+    (cond b fs (cond (overlaps rule fs f) [] (fs ++ f ∷ []))) ≤ length fs + 1) [
+      | true ↦ omega arith
+      | false ↦ elim (overlaps rule fs f) as (λ (b : Bool). length (cond b [] (fs ++ f ∷ []))
+          ≤ length fs + 1)
+          [ true ↦ omega arith | false ↦ omega (arith, length-append fs (f ∷ [])) ]
     ]
 
-pub members : (fs rest : List Fragment) → with_all_accepted fs rest ≡ fs ++ rest
-    → AllByRecursion (AgreesWith fs) fs → AllByRecursion (AgreesWith (fs ++ rest)) (fs ++ rest)
-members fs [] is h = rw append-nil h
-members fs (f ∷ rest) is h =
-    elim (refusal_of fs f) as (λ (o : Option IpDefragError). refusal_of fs f ≡ o
-    → AllByRecursion (AgreesWith (fs ++ f ∷ rest)) (fs ++ f ∷ rest)) [
-      | Some e ↦ λ refused.
-          let passed : with_all_accepted fs rest ≡ fs ++ f ∷ rest =
-          sym (ap (λ (o : Option IpDefragError). with_all_accepted
-          (cond (is_some o) fs (fs ++ f ∷ [])) rest) refused) ∙ is in
-          absurd (omega (
-            arith,
-            length-with_all_accepted fs rest,
-            ap
-                (λ (gs : List Fragment). length gs) passed,
-            length-append fs (f ∷ rest),
-          ))
-      | None ↦ λ none.
-          let joined : (fs ++ f ∷ []) ++ rest ≡ fs ++ f ∷ rest = append_assoc fs (f ∷ []) rest in
-          let taken : with_all_accepted (fs ++ f ∷ []) rest ≡ (fs ++ f ∷ []) ++ rest =
-          sym (ap (λ (o : Option IpDefragError). with_all_accepted
-          (cond (is_some o) fs (fs ++ f ∷ [])) rest) none) ∙ is ∙ sym joined in
-          subst (λ (gs : List Fragment). AllByRecursion (AgreesWith gs) gs) joined
-          (members (fs ++ f ∷ []) rest taken
-          (AllByRecursion-push (AgreesWith (fs ++ f ∷ [])) fs f (still_agrees fs fs f h)
-          (last_agrees fs f none)))
-    ] refl
+length-with_all_accepted : (rule : OverlapRule) (fs rest : List Fragment)
+    → length (with_all_accepted rule fs rest) ≤ length fs + length rest
+length-with_all_accepted rule fs [] = omega arith
+length-with_all_accepted rule fs (f ∷ rest) = omega (
+  arith,
+  length-with_all_accepted rule (with_accepted rule fs f) rest,
+  length-with_accepted rule fs f,
+)
+
+-- where all of them are accepted, the first one is
+record First (rule : OverlapRule) (fs rest : List Fragment) (f : Fragment) : Type 0 where
+  unrefused : refusal_at (named_end fs) f ≡ None
+  alone : overlaps rule fs f ≡ false
+  others : with_all_accepted rule (fs ++ f ∷ []) rest ≡ (fs ++ f ∷ []) ++ rest
+
+first_is : (rule : OverlapRule) (fs rest : List Fragment) (f : Fragment)
+    → with_all_accepted rule fs (f ∷ rest) ≡ fs ++ f ∷ rest → First rule fs rest f
+first_is rule fs rest f is =
+    let joined : (fs ++ f ∷ []) ++ rest ≡ fs ++ f ∷ rest = append_assoc fs (f ∷ []) rest in
+    let len = ap (λ (gs : List Fragment). length gs) is ∙ length-append fs (f ∷ rest) in
+    elim (refusal_at (named_end fs) f) as (λ (o : Option IpDefragError).
+    refusal_at (named_end fs) f ≡ o → with_all_accepted rule
+    (cond (is_some o) fs (cond (overlaps rule fs f) [] (fs ++ f ∷ []))) rest
+    ≡ fs ++ f ∷ rest → First rule fs rest f) [
+      | Some e ↦ λ refused passed. absurd (omega (
+        arith,
+        length-with_all_accepted rule fs rest,
+        ap (λ (gs : List Fragment). length gs) passed,
+        length-append fs (f ∷ rest),
+      ))
+      | None ↦ λ none passed. elim (overlaps rule fs f) as (λ (b : Bool). overlaps rule fs f ≡ b
+          → with_all_accepted rule (cond b [] (fs ++ f ∷ [])) rest ≡ fs ++ f ∷ rest
+          → First rule fs rest f) [
+            | true ↦ λ clash gone. absurd (omega (
+              arith,
+              length-with_all_accepted rule [] rest,
+              ap (λ (gs : List Fragment). length gs) gone,
+              length-append fs (f ∷ rest),
+            ))
+            | false ↦ λ alone taken. record {
+              unrefused = none;
+              alone = alone;
+              others = taken ∙ sym joined;
+            }
+          ] refl passed
+    ] refl is
+
+-- what one more member keeps, all keep
+pub members_by : (rule : OverlapRule) (P : List Fragment → Type 0)
+    → ((fs : List Fragment) (f : Fragment) → P fs → refusal_at (named_end fs) f ≡ None
+    → overlaps rule fs f ≡ false → P (fs ++ f ∷ [])) → (fs rest : List Fragment)
+    → with_all_accepted rule fs rest ≡ fs ++ rest → P fs → P (fs ++ rest)
+members_by rule P step fs [] is h = rw append-nil h
+members_by rule P step fs (f ∷ rest) is h =
+    let first = first_is rule fs rest f is in
+    subst P (append_assoc fs (f ∷ []) rest)
+    (members_by rule P step (fs ++ f ∷ []) rest first.others
+    (step fs f h first.unrefused first.alone))
+
+pub members : (rule : OverlapRule) (fs : List Fragment) → IsAccepted rule fs
+    → AllByRecursion (AgreesWith fs) fs
+members rule fs is = members_by rule (λ gs. AllByRecursion (AgreesWith gs) gs)
+    (λ gs f h none alone. AllByRecursion-push (AgreesWith (gs ++ f ∷ [])) gs f
+    (still_agrees gs gs f h) (last_agrees gs f none)) [] fs is tt
+
+pub accepted_are_disjoint : AcceptedAreDisjoint
+accepted_are_disjoint fs is = members_by Refuses AreDisjoint
+    (λ gs f h none alone. disjoint_push gs f h none (clash_is gs f alone)) [] fs is record {
+      apart = λ f g p h k. let below = h.1 in absurd (omega arith);
+      within = λ end p is h. cc;
+    }
 
 pub members_agree : MembersAgree
-members_agree fs is = All-from_recursion (AgreesWith fs) fs (members [] fs is tt)
+members_agree rule fs is = All-from_recursion (AgreesWith fs) fs (members rule fs is)
 
 -- ---- bytes
 

@@ -1,5 +1,7 @@
 -- for the crates above, beside what is proved of each function
+pub mod Clash
 pub mod Complete
+pub mod Disjoint
 pub mod Members
 pub mod OutcomeLemmas
 pub mod Push
@@ -7,8 +9,14 @@ mod Accepted
 mod AcceptedLists
 mod Added
 mod CallLemmas
+mod Found
 mod Halving
+mod Handed
+mod HasBytesLemmas
+mod Joining
+mod Kept
 mod Lengths
+mod MemberOrder
 mod OpenCount
 mod Ordered
 mod PartLemmas
@@ -18,4 +26,5 @@ mod Retaining
 mod Runs
 mod SameBuffers
 mod SameCalls
+mod Sharing
 mod Written

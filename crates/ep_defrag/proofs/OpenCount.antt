@@ -23,10 +23,11 @@ use Rattle.ep_defrag.specs.declared.defrag.ip_frag_id.IpFragId.{IpFragId}
 use Rattle.ep_defrag.specs.declared.defrag.ip_frag_version_spec_id.IpFragVersionSpecId.{IpFragVersionSpecId}
 use Rattle.ep_defrag.specs.declared.defrag.ip_frag_version_spec_id.IpFragVersionSpecId.TheVariants.{Ipv4}
 use Rattle.ep_defrag.specs.declared.defrag.ip_frag_version_spec_id.IpFragVersionSpecId.TheVariants.{Ipv6}
+use Rattle.ep_defrag.specs.declared.defrag.overlap_rule.OverlapRule.{OverlapRule}
 use Rattle.ep_defrag.specs.declared.defrag.stream.Stream.{Stream}
 use Rattle.ep_defrag.specs.Counts.{open_in}
 use Rattle.ep_defrag.specs.IpDefragPool.{same_id as same_by}
-use Rattle.ep_defrag.specs.IpFragId.{id_named, same_name, spec_id}
+use Rattle.ep_defrag.specs.IpFragId.{id_named, rule_over, same_name, spec_id}
 use Rattle.ep_defrag.specs.OpenMessages.{AreOpen, IsOpenCount}
 use Rattle.ep_defrag.specs.Outcome.{Held}
 use Rattle.ep_defrag.specs.PoolCalls.{Lists, ShowsHeld, ShowsLists}
@@ -90,13 +91,15 @@ message_again message = λ i. (
 )
 
 -- a stream is there where a list isn't empty
-list_held : (o : Option (Stream ℕ)) (h : Held) → IsSome o → ShowsHeld o h → h.fragments ≢ []
-list_held None h some shows = cc
-list_held (Some s) h some shows = shows.0.1
+list_held : (rule : OverlapRule) (o : Option (Stream ℕ)) (h : Held) → IsSome o
+    → ShowsHeld rule o h → h.fragments ≢ []
+list_held rule None h some shows = cc
+list_held rule (Some s) h some shows = shows.0.2
 
-stream_held : (o : Option (Stream ℕ)) (h : Held) → ShowsHeld o h → h.fragments ≢ [] → IsSome o
-stream_held None h shows held = absurd (held shows.0)
-stream_held (Some s) h shows held = refl
+stream_held : (rule : OverlapRule) (o : Option (Stream ℕ)) (h : Held) → ShowsHeld rule o h
+    → h.fragments ≢ [] → IsSome o
+stream_held rule None h shows held = absurd (held shows.0)
+stream_held rule (Some s) h shows held = refl
 
 -- what holds of all elements holds of one that equals an element
 any_has : {K : Type 0} (same : K → K → Bool) (exact : (a b : K) → same a b ≡ true → a ≡ b)
@@ -170,8 +173,8 @@ module _ (parts : (a b : FragmentName) (x y : ℕ)
     held_at : (k : IpFragId ℕ) → IsSome (lookup (same_id k) pool.streams) → IsHeld (message_of k)
     held_at k some =
         let m = message_of k in
-        list_held (lookup (same_id k) pool.streams) (lists m.0 m.1) some
-        (subst (λ (q : IpFragId ℕ). ShowsHeld (lookup (same_id q) pool.streams)
+        list_held (rule_over m.0.addresses) (lookup (same_id k) pool.streams) (lists m.0 m.1) some
+        (subst (λ (q : IpFragId ℕ). ShowsHeld (rule_over m.0.addresses) (lookup (same_id q) pool.streams)
         (lists m.0 m.1)) (id_again k) (shows m.0 m.1))
 
     each : All IsHeld all_open
@@ -205,7 +208,8 @@ module _ (parts : (a b : FragmentName) (x y : ℕ)
           let below : i < length others = omega (arith, length-map others id_of) in
           let m = get_or others i (message_of d) in
           subst IsHere (sym (get_or-map id_of others i (message_of d) d below))
-          (stream_held (lookup (same_id (id_of m)) pool.streams) (lists m.0 m.1)
+          (stream_held (rule_over m.0.addresses) (lookup (same_id (id_of m)) pool.streams)
+          (lists m.0 m.1)
           (shows m.0 m.1) (are_open.each i (message_of d) below))
 
       no_more : length others ≤ open_in pool

@@ -1,6 +1,6 @@
 -- A buffer that shows fragments, with one more of them.
 use Rattle.std.proofs.Common.{◌≡◌, ℕ, ◌-◌, ◌%◌, ◌<◌, ◌≤◌, Bool, true, false, cond, not, ◌&&◌, ◌||◌}
-use Rattle.std.proofs.Common.{ltb, ◌⊎◌, ◌↔◌, inl, inr, Option, Some, None, is_some, Ok, List, []}
+use Rattle.std.proofs.Common.{ltb, ◌⊎◌, ◌↔◌, inl, inr, Option, Some, None, is_some, List, []}
 use Rattle.std.proofs.Common.{◌∷◌, ◌++◌, length, max, take, get_or, unwrap_or, arith, sym, ap, ◌∙◌}
 use Rattle.std.proofs.Common.{refl, subst}
 use mathlib.Core.Logic.{∥∥₁_map}
@@ -9,20 +9,22 @@ use Rattle.std.proofs.lemmas.Bool.Decides.{nat_tests}
 use Rattle.std.proofs.lemmas.List.{get_or-take, get_or_past, length-take}
 use Rattle.std.proofs.lemmas.List.FromFn.{fill_by_all, get_or-map-range_with_len}
 use Rattle.std.proofs.lemmas.List.FromFn.{length-map-range_with_len}
-use Rattle.std.specs.Prelude.{◌==◌}
+use Rattle.std.specs.Prelude.{◌==◌, IfSome}
 use Rattle.std.specs.List.{Any}
 use Rattle.std.specs.Option.{option_or}
 use Rattle.ep_defrag.specs.declared.defrag.ip_frag_range.IpFragRange.{IpFragRange}
+use Rattle.ep_defrag.specs.declared.defrag.member.Member.{Member}
+use Rattle.ep_defrag.specs.declared.defrag.overlap_rule.OverlapRule.{OverlapRule}
 use Rattle.ep_defrag.specs.declared.defrag.ip_defrag_error.IpDefragError.{IpDefragError}
 use Rattle.ep_defrag.specs.declared.defrag.ip_defrag_error.IpDefragError.TheVariants.{SegmentTooBig}
 use Rattle.ep_defrag.specs.declared.defrag.ip_defrag_error.IpDefragError.TheVariants.{UnalignedFragmentPayloadLen}
 use Rattle.ep_defrag.specs.declared.defrag.ip_defrag_error.IpDefragError.TheVariants.{ConflictingEnd}
 use Rattle.ep_defrag.specs.Fragments.{Fragment, start_of, end_of, named_end, greatest_end}
-use Rattle.ep_defrag.specs.Fragments.{refusal_at, with_accepted, IsAccepted}
+use Rattle.ep_defrag.specs.Fragments.{refusal_at, overlaps, with_accepted, IsAccepted}
 use Rattle.ep_defrag.specs.IpFragRange.{HasNumber, HasPlace, AreOrdered, AddsRange}
 use Rattle.ep_defrag.specs.Picture.{byte_of, byte_at, kept_bytes}
-use Rattle.ep_defrag.specs.IpDefragBuf.{Contents, IsPicture, IsSound, Shows, Writes}
-use Rattle.ep_defrag.specs.IpDefragBuf.{unless_refused}
+use Rattle.ep_defrag.specs.IpDefragBuf.{Contents, IsPicture, IsSound, Shows, Writes, rule_of}
+use Rattle.ep_defrag.specs.Member.{Keeps, emptied, member_of}
 use Rattle.ep_defrag.proofs.Accepted.{with_all_accepted-push}
 use Rattle.ep_defrag.proofs.Members.{AnyOf-from_Any, Any-from_AnyOf, AnyOf-push, push-AnyOf}
 
@@ -84,9 +86,25 @@ byte_of-before f p h = grind (arith, nat_tests)
 -- ---- buffers that show the same
 
 -- an empty buffer
+keeps_none : (ms : Option (List Member)) → ms ≡ emptied ms → Keeps ms []
+keeps_none None is = tt
+keeps_none (Some ms) is = record {
+  members = λ m. (
+    (λ h. let below = h.1 in
+        let none : ms ≡ [] = cc in absurd (omega (arith, ap length none, below))),
+    (λ h. let below = h.2 in absurd (omega arith)),
+  );
+  listed = λ i j d low high. let none : ms ≡ [] = cc in
+      absurd (omega (arith, ap length none, high));
+  disjoint = record {
+    apart = λ f g p h k. let below = h.1 in absurd (omega arith);
+    within = λ end p is h. cc;
+  };
+}
+
 pub shows_none : {N : Type 0} (buf : Contents N) → buf.bytes ≡ [] → buf.sections ≡ []
-    → buf.end ≡ None → Shows buf []
-shows_none buf bytes sections end = record {
+    → buf.end ≡ None → buf.members ≡ emptied buf.members → Shows buf []
+shows_none buf bytes sections end members = record {
   ended = end;
   kept = bytes;
   apart = rw sections tt;
@@ -100,19 +118,36 @@ shows_none buf bytes sections end = record {
     (λ h. let below = h.2 in
         absurd (omega arith)),
   );
+  members = keeps_none buf.members members;
+}
+
+pub none_listed : (ms : Option (List Member)) → IfSome ms (λ xs. xs ≡ []) → ms ≡ emptied ms
+none_listed None h = refl
+none_listed (Some xs) h = ap Some h
+
+pub emptied_twice : (old new : Option (List Member)) → new ≡ emptied old → new ≡ emptied new
+emptied_twice None new h = rw h refl
+emptied_twice (Some xs) new h = rw h refl
+
+pub sound_none : {N : Type 0} (buf : Contents N) → buf.bytes ≡ [] → buf.sections ≡ []
+    → buf.end ≡ None → buf.members ≡ emptied buf.members → IsSound buf
+sound_none buf bytes sections end members = record {
+  picture = ∣ ([], refl, shows_none buf bytes sections end members) ∣₁;
+  ordered = rw sections tt;
 }
 
 -- a buffer of the same fields
 pub sound_same : {N : Type 0} (old new : Contents N) → new.ip_number ≡ old.ip_number
-    → new.bytes ≡ old.bytes → new.sections ≡ old.sections → new.end ≡ old.end → IsSound old
-    → IsSound new
-sound_same old new number bytes sections end =
+    → new.bytes ≡ old.bytes → new.sections ≡ old.sections → new.end ≡ old.end
+    → new.members ≡ old.members → IsSound old → IsSound new
+sound_same old new number bytes sections end members =
     subst IsSound
     (λ i. record {
       ip_number = sym number i;
       bytes = sym bytes i;
       sections = sym sections i;
       end = sym end i;
+      members = sym members i;
     })
 
 -- ---- what a fragment that is not refused meets
@@ -285,8 +320,8 @@ shows_push : {N : Type 0} (old new : Contents N) (fs : List Fragment) (f : Fragm
     → Shows old fs → refusal_at old.end f ≡ None
     → Writes old.bytes mid (start_of f) f.bytes → new.bytes ≡ bytes_after f mid
     → AddsRange old.sections new.sections (range_of f) → new.end ≡ end_after old.end f
-    → Shows new (fs ++ f ∷ [])
-shows_push old new fs f mid shows none w bytes added end =
+    → Keeps new.members (fs ++ f ∷ []) → Shows new (fs ++ f ∷ [])
+shows_push old new fs f mid shows none w bytes added end keeps =
     let ok = agrees (named_end fs) f
     (subst (λ (o : Option ℕ). refusal_at o f ≡ None) shows.ended none) in
     record {
@@ -297,72 +332,74 @@ shows_push old new fs f mid shows none w bytes added end =
           (shows.numbers n) (added.numbers n);
       places = λ p. any_push (λ s. HasPlace s p) old.sections new.sections fs f
           (shows.places p) (added.places p);
+      members = keeps;
     }
 
-pub unless_ok : {X : Type 0} (r : Option IpDefragError) (x y : X)
-    → Ok y ≡ unless_refused r x → (r ≡ None) × (y ≡ x)
-unless_ok None x y h = (refl, cc)
-unless_ok (Some e) x y h = cc
-
--- what `add` does: the memory made first, the write, the range, and the cut
+-- what `insert` does: the memory made first, the write, the range, the member, and the cut
 pub record Goes {N : Type 0} (old new : Contents N) (f : Fragment) (reserved mid : List ℕ)
-    (sections : List IpFragRange) (place start end : ℕ) : Type 0 where
-  pub checked : Ok end ≡ unless_refused (refusal_at old.end f) (end_of f)
+    (sections : List IpFragRange) (member : Member) : Type 0 where
+  pub unrefused : refusal_at old.end f ≡ None
+  pub is_member : member ≡ member_of f
+  pub alone : (fs : List Fragment) → Shows old fs → overlaps (rule_of old) fs f ≡ false
   pub same_bytes : reserved ≡ old.bytes
   pub same_sections : sections ≡ old.sections
-  pub place_is : place ≡ start_of f
-  pub start_is : start ≡ start_of f
-  pub writes : Writes reserved mid place f.bytes
-  pub adds : AddsRange sections new.sections record { start = start; end = end }
+  pub writes : Writes reserved mid member.start f.bytes
+  pub adds : AddsRange sections new.sections record { start = member.start; end = member.end }
   pub cut : ((f.more ≡ true) × (new.bytes ≡ mid) × (new.end ≡ old.end))
-      ⊎ ((f.more ≡ false) × (new.bytes ≡ take end mid) × (new.end ≡ Some end))
+      ⊎ ((f.more ≡ false) × (new.bytes ≡ take member.end mid) × (new.end ≡ Some member.end))
+  pub same_rule : rule_of new ≡ rule_of old
+  pub keeps : (fs : List Fragment) → Shows old fs → Keeps new.members (fs ++ f ∷ [])
 
 pub shows_add : {N : Type 0} (old new : Contents N) (fs : List Fragment) (f : Fragment)
-    (reserved mid : List ℕ) (sections : List IpFragRange) (place start end : ℕ) → Shows old fs
-    → Goes old new f reserved mid sections place start end → Shows new (fs ++ f ∷ [])
-shows_add old new fs f reserved mid sections place start end shows goes =
-    let ok = unless_ok (refusal_at old.end f) (end_of f) end goes.checked in
+    (reserved mid : List ℕ) (sections : List IpFragRange) (member : Member) → Shows old fs
+    → Goes old new f reserved mid sections member → Shows new (fs ++ f ∷ [])
+shows_add old new fs f reserved mid sections member shows goes =
+    let end : member.end ≡ end_of f = ap (λ (m : Member). m.end) goes.is_member in
     let w : Writes old.bytes mid (start_of f) f.bytes =
     subst (λ (xs : List ℕ). Writes xs mid (start_of f) f.bytes) goes.same_bytes
-    (subst (λ (n : ℕ). Writes reserved mid n f.bytes) goes.place_is goes.writes) in
+    (subst (λ (m : Member). Writes reserved mid m.start f.bytes) goes.is_member goes.writes) in
     let range : AddsRange old.sections new.sections (range_of f) =
-    subst (λ (n : ℕ). AddsRange old.sections new.sections
-    record { start = start_of f; end = n }) ok.1
-    (subst (λ (n : ℕ). AddsRange old.sections new.sections record { start = n; end = end })
-    goes.start_is
+    subst (λ (m : Member). AddsRange old.sections new.sections
+    record { start = m.start; end = m.end }) goes.is_member
     (subst (λ (rs : List IpFragRange). AddsRange rs new.sections
-    record { start = start; end = end }) goes.same_sections goes.adds)) in
+    record { start = member.start; end = member.end }) goes.same_sections goes.adds) in
+    let keeps = goes.keeps fs shows in
     elim goes.cut [
-      | inl h ↦ shows_push old new fs f mid shows ok.0 w
-          (h.1 ∙ rw h.0 refl) range (h.2 ∙ rw h.0 refl)
-      | inr h ↦ shows_push old new fs f mid shows ok.0 w (h.1 ∙ rw (h.0, ok.1) refl) range
-          (h.2 ∙ rw (h.0, ok.1) refl)
+      | inl h ↦ shows_push old new fs f mid shows goes.unrefused w
+          (h.1 ∙ rw h.0 refl) range (h.2 ∙ rw h.0 refl) keeps
+      | inr h ↦ shows_push old new fs f mid shows goes.unrefused w (h.1 ∙ rw (h.0, end) refl) range
+          (h.2 ∙ rw (h.0, end) refl) keeps
     ]
 
-accepted_after : {N : Type 0} (fs : List Fragment) (f : Fragment) (old : Contents N)
-    → IsAccepted fs → Shows old fs → refusal_at old.end f ≡ None → IsAccepted (fs ++ f ∷ [])
-accepted_after fs f old is shows none =
-    with_all_accepted-push [] fs f ∙ ap (λ (gs : List Fragment). with_accepted gs f) is
-    ∙ ap (λ (o : Option IpDefragError). cond (is_some o) fs (fs ++ f ∷ []))
-    (subst (λ (o : Option ℕ). refusal_at o f ≡ None) shows.ended none)
+pub accepted_push : (rule : OverlapRule) (fs : List Fragment) (f : Fragment) → IsAccepted rule fs
+    → refusal_at (named_end fs) f ≡ None → overlaps rule fs f ≡ false
+    → IsAccepted rule (fs ++ f ∷ [])
+accepted_push rule fs f is none alone =
+    with_all_accepted-push rule [] fs f
+    ∙ ap (λ (gs : List Fragment). with_accepted rule gs f) is
+    ∙ ap (λ (o : Option IpDefragError). cond (is_some o) fs
+    (cond (overlaps rule fs f) [] (fs ++ f ∷ []))) none
+    ∙ ap (λ (b : Bool). cond b [] (fs ++ f ∷ [])) alone
 
 -- the same, of a buffer that shows some accepted fragments
 picture_add : {N : Type 0} (old new : Contents N) (f : Fragment) (reserved mid : List ℕ)
-    (sections : List IpFragRange) (place start end : ℕ) → IsPicture old
-    → Goes old new f reserved mid sections place start end → IsPicture new
-picture_add old new f reserved mid sections place start end picture goes =
+    (sections : List IpFragRange) (member : Member) → IsPicture old
+    → Goes old new f reserved mid sections member → IsPicture new
+picture_add old new f reserved mid sections member picture goes =
     ∥∥₁_map picture (λ p. (
       p.0 ++ f ∷ [],
-      accepted_after p.0 f old p.1 p.2
-          (unless_ok (refusal_at old.end f) (end_of f) end goes.checked).0,
-      shows_add old new p.0 f reserved mid sections place start end p.2 goes,
+      subst (λ (r : OverlapRule). IsAccepted r (p.0 ++ f ∷ [])) (sym goes.same_rule)
+          (accepted_push (rule_of old) p.0 f p.1
+          (subst (λ (o : Option ℕ). refusal_at o f ≡ None) p.2.ended goes.unrefused)
+          (goes.alone p.0 p.2)),
+      shows_add old new p.0 f reserved mid sections member p.2 goes,
     ))
 
 pub sound_add : {N : Type 0} (old new : Contents N) (f : Fragment) (reserved mid : List ℕ)
-    (sections : List IpFragRange) (place start end : ℕ) → IsSound old → AreOrdered new.sections
-    → Goes old new f reserved mid sections place start end → IsSound new
-sound_add old new f reserved mid sections place start end sound ordered goes =
+    (sections : List IpFragRange) (member : Member) → IsSound old → AreOrdered new.sections
+    → Goes old new f reserved mid sections member → IsSound new
+sound_add old new f reserved mid sections member sound ordered goes =
     record {
-      picture = picture_add old new f reserved mid sections place start end sound.picture goes;
+      picture = picture_add old new f reserved mid sections member sound.picture goes;
       ordered = ordered;
     }

@@ -14,6 +14,7 @@ use Rattle.ep_defrag.specs.declared.defrag.ip_defrag_error.IpDefragError.TheVari
 use Rattle.ep_defrag.specs.declared.defrag.ip_defrag_error.IpDefragError.TheVariants.{ConflictingEnd}
 use Rattle.ep_defrag.specs.declared.defrag.ip_defrag_error.IpDefragError.TheVariants.{SegmentTooBig}
 use Rattle.ep_defrag.specs.declared.defrag.ip_defrag_error.IpDefragError.TheVariants.{UnalignedFragmentPayloadLen}
+use Rattle.ep_defrag.specs.declared.defrag.overlap_rule.OverlapRule.{OverlapRule}
 use Rattle.ep_defrag.specs.declared.defrag.pool_calls.PoolCall.{PoolCall}
 use Rattle.ep_defrag.specs.declared.defrag.pool_calls.PoolCall.TheVariants.{Frame, RetainFrom}
 use Rattle.ep_defrag.specs.declared.defrag.pool_calls.PoolReply.{PoolReply}
@@ -21,10 +22,10 @@ use Rattle.ep_defrag.specs.declared.defrag.ip_frag_id.IpFragId.{IpFragId}
 use Rattle.ep_defrag.specs.Counts.{Bounded, open_in}
 use Rattle.ep_defrag.specs.Fragments.{Fragment, end_conflict, end_of, fragment, named_end}
 use Rattle.ep_defrag.specs.Fragments.{refusal_at}
-use Rattle.ep_defrag.specs.IpFragId.{fragment_in, id_named}
+use Rattle.ep_defrag.specs.IpFragId.{fragment_in, id_named, rule_over}
 use Rattle.ep_defrag.specs.OpenMessages.{IsOpenCount, NeverMore}
 use Rattle.ep_defrag.specs.Outcome.{Outcome, memory_error, outcome}
-use Rattle.ep_defrag.specs.Outcome.Outcome.{Completed, Refusal, Waiting}
+use Rattle.ep_defrag.specs.Outcome.Outcome.{Clash, Completed, Refusal, Waiting}
 use Rattle.ep_defrag.specs.PoolCalls.{Answered, HasMemory, Lists, Replies, Told, answer_to}
 use Rattle.ep_defrag.specs.PoolCalls.{answer_to_frame, answers, lists_after, lists_with}
 use Rattle.ep_defrag.specs.PoolCalls.{outcome_at, as_told, told_of, want_at, want_at_fragment}
@@ -75,6 +76,7 @@ replies_more ends more lists calls i call replies reply below at goes_on h =
 lacks_memory : (f : Fragment) (o : Outcome) (t : Told)
     → option_map Refused (memory_error f o) ≡ Some t → HasMemory t → ⊥
 lacks_memory f (Refusal error) t is has = cc
+lacks_memory f (Clash error) t is has = cc
 lacks_memory f (Waiting fs) t is has =
     subst HasMemory (sym (some_same (Refused (AllocationFailure (end_of f))) t is)) has
 lacks_memory f (Completed text) t is has =
@@ -115,15 +117,16 @@ refusal_has named f e is =
     (conflict_has named f e)) is
 
 -- so no answer tells of it
-fragment_has : (id : IpFragId ℕ) (fs : List Fragment) (f : Fragment)
-    → HasMemory (told_of id (outcome fs f))
-fragment_has id fs f = by_outcome fs f (λ (o : Outcome). HasMemory (told_of id o))
-    (λ e refused. refusal_has (named_end fs) f e refused) (λ _ _. tt) (λ _ _. tt)
+fragment_has : (rule : OverlapRule) (id : IpFragId ℕ) (fs : List Fragment) (f : Fragment)
+    → HasMemory (told_of id (outcome rule fs f))
+fragment_has rule id fs f = by_outcome rule fs f (λ (o : Outcome). HasMemory (told_of id o))
+    (λ e refused. refusal_has (named_end fs) f e refused) (λ _ _. tt) (λ _ _. tt) (λ _ _. tt)
 
 answer_has : (lists : Lists) (class : Class) (channel : ℕ) (fault : Option SliceError)
     → HasMemory (answer_to_frame lists class channel fault)
 answer_has lists (Cut name offset more bytes) channel fault =
-    fragment_has (id_named name channel) (lists name channel).fragments (fragment offset more bytes)
+    fragment_has (rule_over name.addresses) (id_named name channel)
+    (lists name channel).fragments (fragment offset more bytes)
 answer_has lists (Whole addresses number bytes message) channel fault = tt
 answer_has lists Other channel fault = tt
 answer_has lists Faulty channel fault = tt

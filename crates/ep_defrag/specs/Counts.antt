@@ -1,6 +1,8 @@
 -- How many messages a pool holds, and how many buffers are spare.
 use Rattle.std.specs.Prelude.{◌≡◌, ◌+◌, ◌-◌, ◌≤◌, ◌⊎◌, ℕ, Bool, Option, Some, None, Result, Ok, Err}
-use Rattle.std.specs.Prelude.{length}
+use Rattle.std.specs.Prelude.{length, if◌then◌else◌}
+use Rattle.ep_defrag.specs.declared.defrag.ip_defrag_error.IpDefragError.{IpDefragError}
+use Rattle.ep_defrag.specs.IpDefragError.{is_overlap}
 use Rattle.ep_defrag.specs.Streams.{Pool, stream_at}
 
 -- the messages that are on their way
@@ -8,9 +10,9 @@ abbrev pub open_in : {K T : Type 0} → Pool K T → ℕ
 open_in pool = length pool.streams
 
 -- of so many messages, those that are on their way after a fragment: one more where it begins one,
--- one fewer where it completes one
-abbrev pub held_after : {X E S : Type 0} → Result (Option X) E → Option S → ℕ → ℕ
-held_after (Err error) stream n = n
+-- one fewer where it completes one, or overlaps it
+abbrev pub held_after : {X S : Type 0} → Result (Option X) IpDefragError → Option S → ℕ → ℕ
+held_after (Err error) stream n = if is_overlap error then n - 1 else n
 held_after (Ok None) None n = n + 1
 held_after (Ok None) (Some s) n = n
 held_after (Ok (Some whole)) None n = n
@@ -24,8 +26,8 @@ spare_after (Ok told) None n = n - 1
 spare_after (Ok told) (Some s) n = n
 
 -- both counts after a fragment of this name
-pub record Counts {K T X E : Type 0} (same : K → K → Bool) (old new : Pool K T) (name : K)
-    (result : Result (Option X) E) : Type 0 where
+pub record Counts {K T X : Type 0} (same : K → K → Bool) (old new : Pool K T) (name : K)
+    (result : Result (Option X) IpDefragError) : Type 0 where
   pub open_len : open_in new ≡ held_after result (stream_at same old name) (open_in old)
   pub spare_len : new.spare ≡ spare_after result (stream_at same old name) old.spare
 

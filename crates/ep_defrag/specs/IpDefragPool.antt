@@ -7,10 +7,11 @@ use Rattle.ep_defrag.specs.contracts.defrag.ip_frag_version_spec_id.IpFragVersio
 use Rattle.ep_defrag.specs.declared.defrag.ip_defrag_error.IpDefragError.{IpDefragError}
 use Rattle.ep_defrag.specs.declared.defrag.ip_defrag_payload_vec.IpDefragPayloadVec.{IpDefragPayloadVec}
 use Rattle.ep_defrag.specs.declared.defrag.ip_frag_id.IpFragId.{IpFragId}
+use Rattle.ep_defrag.specs.declared.defrag.overlap_rule.OverlapRule.{OverlapRule}
 use Rattle.ep_defrag.specs.Fragments.{Fragment}
-use Rattle.ep_defrag.specs.IpFragId.{len_source_of}
+use Rattle.ep_defrag.specs.IpFragId.{len_source_of, overlap_rule_of}
 use Rattle.ep_defrag.specs.Outcome.{outcome}
-use Rattle.ep_defrag.specs.Streams.{Becomes, Pool, ShowsStream, stream_at}
+use Rattle.ep_defrag.specs.Streams.{Becomes, Pool, RefusesBy, ShowsStream, stream_at}
 
 -- a message that was put together: its protocol, what the lengths of its fragments came from, and
 -- its bytes
@@ -41,12 +42,24 @@ abbrev pub payload_of : {C : Type 0} → IpFragId C → List ℕ → Payload
 payload_of id bytes =
     record { ip_number = id.payload_ip_number; len_source = len_source_of id.ip; bytes = bytes }
 
--- a fragment of this name that is accepted goes to those that its stream shows, at this time, and a
--- message that is complete with it is handed out
+-- a fragment of this name, whose fragments overlap by this rule, goes where it is accepted to those
+-- that its stream shows, at this time, and a message that is complete with it is handed out
+abbrev pub AcceptsBy : {C T : Type 0} → OverlapRule → (IpFragId C → IpFragId C → Bool)
+    → (old new : Pool (IpFragId C) T) → IpFragId C → Fragment → T
+    → Result (Option IpDefragPayloadVec) IpDefragError → Type 0
+AcceptsBy rule same old new id f time result = (fs : List Fragment)
+    → ShowsStream rule (stream_at same old id) fs
+    → IfOk result (λ payload. Becomes rule (payload_of id) (outcome rule fs f) time
+    (stream_at same new id) (option_map payload_told payload))
+
+-- the same by the rule of the name's version
 abbrev pub Accepts : {C T : Type 0} → (IpFragId C → IpFragId C → Bool)
     → (old new : Pool (IpFragId C) T) → IpFragId C → Fragment → T
     → Result (Option IpDefragPayloadVec) IpDefragError → Type 0
-Accepts same old new id f time result = (fs : List Fragment)
-    → ShowsStream (stream_at same old id) fs
-    → IfOk result (λ payload. Becomes (payload_of id) (outcome fs f) time (stream_at same new id)
-    (option_map payload_told payload))
+Accepts same old new id f time result =
+    AcceptsBy (overlap_rule_of id.ip) same old new id f time result
+
+-- a fragment of this name is refused by those that its stream shows, or else may want memory
+abbrev pub Refuses : {C T X : Type 0} → (IpFragId C → IpFragId C → Bool) → Pool (IpFragId C) T
+    → IpFragId C → Fragment → Result X IpDefragError → Type 0
+Refuses same old id f result = RefusesBy (overlap_rule_of id.ip) same old id f result

@@ -14,6 +14,8 @@ use Rattle.ep_defrag.specs.declared.defrag.ip_frag_id.IpFragId.{IpFragId}
 use Rattle.ep_defrag.specs.declared.defrag.ip_frag_version_spec_id.IpFragVersionSpecId.{IpFragVersionSpecId}
 use Rattle.ep_defrag.specs.declared.defrag.ip_frag_version_spec_id.IpFragVersionSpecId.TheVariants.{Ipv4}
 use Rattle.ep_defrag.specs.declared.defrag.ip_frag_version_spec_id.IpFragVersionSpecId.TheVariants.{Ipv6}
+use Rattle.ep_defrag.specs.declared.defrag.overlap_rule.OverlapRule.{OverlapRule}
+use Rattle.ep_defrag.specs.declared.defrag.overlap_rule.OverlapRule.TheVariants.{Overwrites, Refuses}
 use Rattle.ep_defrag.specs.Fragments.{Fragment, fragment}
 
 abbrev pub spec_id : Addresses → ℕ → IpFragVersionSpecId
@@ -50,6 +52,16 @@ hashed_as (Ipv6 source destination identification) = source ∷ destination ∷ 
 abbrev pub len_source_of : IpFragVersionSpecId → LenSource
 len_source_of (Ipv4 source destination identification) = Ipv4HeaderTotalLen
 len_source_of (Ipv6 source destination identification) = Ipv6HeaderPayloadLen
+
+-- how the fragments of packets of a version overlap (RFC 791, section 3.2; RFC 8200, section 4.5)
+abbrev pub overlap_rule_of : IpFragVersionSpecId → OverlapRule
+overlap_rule_of (Ipv4 source destination identification) = Overwrites
+overlap_rule_of (Ipv6 source destination identification) = Refuses
+
+-- the same by the addresses of the packets
+abbrev pub rule_over : Addresses → OverlapRule
+rule_over (V4 source destination) = Overwrites
+rule_over (V6 source destination) = Refuses
 
 -- the fragment that a packet of this class is, and the name of its message
 abbrev pub fragment_in : Class → Option (FragmentName × Fragment)

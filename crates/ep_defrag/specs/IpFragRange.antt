@@ -44,6 +44,10 @@ abbrev pub AreApart : List IpFragRange → Type 0
 AreApart [] = ⊤
 AreApart (r ∷ rs) = (r.start ≤ r.end) × AllByRecursion (Apart r) rs × AreApart rs
 
+-- a place of the range is one of some range of the list, too
+abbrev pub SharesWith : List IpFragRange → IpFragRange → Type 0
+SharesWith rs r = (p : ℕ) × HasPlace r p × Any (λ s. HasPlace s p) rs
+
 -- there is one range, and it starts at 0
 abbrev pub is_one_from_zero : List IpFragRange → Bool
 is_one_from_zero [] = false

@@ -5,10 +5,13 @@ pub mod IpDefragError
 pub mod IpDefragPool
 pub mod IpFragId
 pub mod IpFragRange
+pub mod Joined
+pub mod Member
 pub mod OpenMessages
 pub mod Outcome
 pub mod Picture
 pub mod PoolCalls
 pub mod Processed
+pub mod Refused
 pub mod SpareBuffers
 pub mod Streams

@@ -11,6 +11,7 @@ use Rattle.ep_defrag.specs.declared.defrag.ip_defrag_error.IpDefragError.{IpDefr
 use Rattle.ep_defrag.specs.declared.defrag.ip_defrag_error.IpDefragError.TheVariants.{AllocationFailure}
 use Rattle.ep_defrag.specs.declared.defrag.ip_defrag_payload_vec.IpDefragPayloadVec.{IpDefragPayloadVec}
 use Rattle.ep_defrag.specs.declared.defrag.ip_frag_id.IpFragId.{IpFragId}
+use Rattle.ep_defrag.specs.declared.defrag.overlap_rule.OverlapRule.{OverlapRule}
 use Rattle.ep_defrag.specs.declared.defrag.pool_calls.PoolCall.{PoolCall}
 use Rattle.ep_defrag.specs.declared.defrag.pool_calls.PoolCall.TheVariants.{Frame, RetainFrom}
 use Rattle.ep_defrag.specs.declared.defrag.pool_calls.PoolReply.{PoolReply}
@@ -18,9 +19,9 @@ use Rattle.ep_defrag.specs.declared.defrag.pool_calls.PoolReply.TheVariants as r
 use Rattle.ep_defrag.specs.declared.defrag.stream.Stream.{Stream}
 use Rattle.ep_defrag.specs.Fragments.{Fragment, fragment}
 use Rattle.ep_defrag.specs.IpDefragPool.{Payload, payload_of, payload_told, same_id}
-use Rattle.ep_defrag.specs.IpFragId.{fragment_in, id_named, same_name}
+use Rattle.ep_defrag.specs.IpFragId.{fragment_in, id_named, rule_over, same_name}
 use Rattle.ep_defrag.specs.Outcome.{Held, Outcome, held_after, memory_error, outcome}
-use Rattle.ep_defrag.specs.Outcome.Outcome.{Completed, Refusal, Waiting}
+use Rattle.ep_defrag.specs.Outcome.Outcome.{Clash, Completed, Refusal, Waiting}
 use Rattle.ep_defrag.specs.Streams.{Pool, ShowsStream, stream_at}
 
 -- the list of each name and channel
@@ -29,7 +30,8 @@ Lists = FragmentName → ℕ → Held
 
 -- what becomes of a fragment of this name by its list
 abbrev pub outcome_at : Lists → FragmentName → (channel : ℕ) → Fragment → Outcome
-outcome_at lists name channel f = outcome (lists name channel).fragments f
+outcome_at lists name channel f =
+    outcome (rule_over name.addresses) (lists name channel).fragments f
 
 -- what a reply tells
 pub data Told : Type 0 where
@@ -80,7 +82,7 @@ abbrev pub after_fragment : FragmentName → ℕ → Option (FragmentName × Fra
 after_fragment name channel None time other_channel h = h
 after_fragment name channel (Some told) time other_channel h =
     if same_name told.0 name && (other_channel == channel)
-    then held_after h time (outcome h.fragments told.1) else h
+    then held_after h time (outcome (rule_over name.addresses) h.fragments told.1) else h
 
 -- what a frame of a class makes of it
 abbrev pub after_frame : FragmentName → ℕ → Class → ℕ → ℕ → Held → Held
@@ -100,6 +102,7 @@ after name channel (RetainFrom from) h = retained_from from h
 -- what is answered to a fragment of a message with this name, by its outcome
 abbrev pub told_of : IpFragId ℕ → Outcome → Told
 told_of id (Refusal error) = Refused error
+told_of id (Clash error) = Refused error
 told_of id (Waiting fs) = Nothing
 told_of id (Completed text) = Delivered (payload_of id text)
 
@@ -185,10 +188,12 @@ abbrev pub no_lists : Lists
 no_lists name channel = record { fragments = []; time = 0 }
 
 -- a stream is there exactly where the list has a fragment, and shows its fragments and its time
-abbrev pub ShowsHeld : Option (Stream ℕ) → Held → Type 0
-ShowsHeld stream h = ShowsStream stream h.fragments × IfSome stream (λ s. s.timestamp ≡ h.time)
+abbrev pub ShowsHeld : OverlapRule → Option (Stream ℕ) → Held → Type 0
+ShowsHeld rule stream h =
+    ShowsStream rule stream h.fragments × IfSome stream (λ s. s.timestamp ≡ h.time)
 
 -- each stream shows the list of its name
 abbrev pub ShowsLists : Pool (IpFragId ℕ) ℕ → Lists → Type 0
 ShowsLists pool lists = (name : FragmentName) (channel : ℕ)
-    → ShowsHeld (stream_at (same_id nat_eq) pool (id_named name channel)) (lists name channel)
+    → ShowsHeld (rule_over name.addresses)
+    (stream_at (same_id nat_eq) pool (id_named name channel)) (lists name channel)

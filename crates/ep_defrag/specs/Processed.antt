@@ -1,16 +1,16 @@
 -- What a pool makes of a packet, said of the lists that its streams show.
-use Rattle.std.specs.Prelude.{◌≡◌, ℕ, nat_eq, Option, None, Some, Result, Ok, IfSome, OnErr}
+use Rattle.std.specs.Prelude.{◌≡◌, ℕ, nat_eq, Option, None, Some, Result, Ok, IfSome, IfErr}
 use Rattle.ep_packet.specs.Class.{Class}
 use Rattle.ep_packet.specs.Class.Class.{Refused}
 use Rattle.ep_packet.specs.declared.err.packet.slice_error.SliceError.{SliceError}
 use Rattle.ep_defrag.specs.declared.defrag.ip_defrag_error.IpDefragError.{IpDefragError}
 use Rattle.ep_defrag.specs.declared.defrag.ip_defrag_payload_vec.IpDefragPayloadVec.{IpDefragPayloadVec}
 use Rattle.ep_defrag.specs.declared.defrag.ip_frag_id.IpFragId.{IpFragId}
-use Rattle.ep_defrag.specs.IpDefragPool.{Accepts, same_id}
+use Rattle.ep_defrag.specs.IpDefragPool.{Accepts, Refuses, same_id}
 use Rattle.ep_defrag.specs.IpFragId.{fragment_in, id_named}
 use Rattle.ep_defrag.specs.PoolCalls.{FrameAnswered, HasMemory, Lists, ShowsLists, Told}
 use Rattle.ep_defrag.specs.PoolCalls.{answer_to_frame, told_outcome, want_at_frame}
-use Rattle.ep_defrag.specs.Streams.{OthersStay, Pool, Refuses, SameStreams}
+use Rattle.ep_defrag.specs.Streams.{OthersStay, Pool, Stays}
 
 -- a packet of this class was processed, which came at this time on this channel: the clauses of
 -- `process_sliced_packet`
@@ -24,7 +24,8 @@ pub record Processed (old : Pool (IpFragId ℕ) ℕ) (class : Class) (time chann
       (λ told. Refuses (same_id nat_eq) old (id_named told.0 channel) told.1 result)
   pub others : IfSome (fragment_in class)
       (λ told. OthersStay (same_id nat_eq) (id_named told.0 channel) old new)
-  pub err : OnErr result (SameStreams (same_id nat_eq) old new)
+  pub err : IfSome (fragment_in class) (λ told.
+      IfErr result (Stays (same_id nat_eq) (id_named told.0 channel) old new))
 
 -- what becomes of the packet is the answer by the lists, and the streams show the lists with it; or
 -- it is a want of memory that may be told in its place, and they show the lists as they were

@@ -1,16 +1,18 @@
 -- The fragmented messages that are on their way, each under its name: which fragments of each were
 -- accepted, and when the last of them.
 use denote.Ref.{Bor}
-use Rattle.std.specs.Prelude.{◌≡◌, ◌≢◌, ◌⊎◌, ℕ, Bool, true, false, Option, Some, None, Result, List}
-use Rattle.std.specs.Prelude.{[], IfErr, IsSomeAnd}
+use Rattle.std.specs.Prelude.{◌≡◌, ◌≢◌, ◌⊎◌, ℕ, Bool, true, false, if◌then◌else◌, Option, Some, None}
+use Rattle.std.specs.Prelude.{Result, List, [], IfErr, IsSomeAnd}
 use Rattle.std.specs.Map.{lookup}
 use Rattle.ep_packet.specs.declared.class.Part.{Part}
 use Rattle.ep_defrag.specs.declared.defrag.ip_defrag_error.IpDefragError.{IpDefragError}
+use Rattle.ep_defrag.specs.declared.defrag.overlap_rule.OverlapRule.{OverlapRule}
 use Rattle.ep_defrag.specs.declared.defrag.stream.Stream.{Stream}
 use Rattle.ep_defrag.specs.Fragments.{Fragment, fragment}
-use Rattle.ep_defrag.specs.IpDefragBuf.{Shows}
-use Rattle.ep_defrag.specs.Outcome.{Outcome, memory_error, outcome}
-use Rattle.ep_defrag.specs.Outcome.Outcome.{Completed, Refusal, Waiting}
+use Rattle.ep_defrag.specs.IpDefragBuf.{Shows, rule_of}
+use Rattle.ep_defrag.specs.IpDefragError.{is_overlap}
+use Rattle.ep_defrag.specs.Outcome.{Outcome, error_of, memory_error, outcome}
+use Rattle.ep_defrag.specs.Outcome.Outcome.{Clash, Completed, Refusal, Waiting}
 
 -- the fragment that a part of a message is
 abbrev pub fragment_of : Part → Fragment
@@ -26,26 +28,30 @@ pub record Pool (K T : Type 0) : Type 0 where
 abbrev pub stream_at : {K T : Type 0} → (K → K → Bool) → Pool K T → K → Option (Stream T)
 stream_at same pool name = lookup (same name) pool.streams
 
--- these fragments were accepted since the stream began; of none, there is no stream
-abbrev pub ShowsStream : {T : Type 0} → Option (Stream T) → List Fragment → Type 0
-ShowsStream None fs = fs ≡ []
-ShowsStream (Some s) fs = Shows s.buf fs × (fs ≢ [])
+-- these fragments were accepted since the stream began, whose fragments overlap by this rule; of
+-- none, there is no stream
+abbrev pub ShowsStream : {T : Type 0} → OverlapRule → Option (Stream T) → List Fragment → Type 0
+ShowsStream rule None fs = fs ≡ []
+ShowsStream rule (Some s) fs = Shows s.buf fs × (rule_of s.buf ≡ rule) × (fs ≢ [])
 
 -- the stream is the picture of these fragments, the last of which came at this time
-abbrev pub IsStreamOf : {T : Type 0} → List Fragment → T → Stream T → Type 0
-IsStreamOf fs time s = Shows s.buf fs × (s.timestamp ≡ time)
+abbrev pub IsStreamOf : {T : Type 0} → OverlapRule → List Fragment → T → Stream T → Type 0
+IsStreamOf rule fs time s = Shows s.buf fs × (rule_of s.buf ≡ rule) × (s.timestamp ≡ time)
 
 -- what is handed out after a fragment with this outcome, which came at this time, and its stream
 -- then: it waits with the others; or its message is handed out, and the stream ends
-abbrev pub Becomes : {T X : Type 0} → (List ℕ → X) → Outcome → T
+abbrev pub Becomes : {T X : Type 0} → OverlapRule → (List ℕ → X) → Outcome → T
     → Option (Stream T) → Option X → Type 0
-Becomes whole (Refusal error) time stream told = ⊥
-Becomes whole (Waiting fs) time stream told = (told ≡ None) × IsSomeAnd stream (IsStreamOf fs time)
-Becomes whole (Completed text) time stream told = (told ≡ Some (whole text)) × (stream ≡ None)
+Becomes rule whole (Refusal error) time stream told = ⊥
+Becomes rule whole (Clash error) time stream told = ⊥
+Becomes rule whole (Waiting fs) time stream told =
+    (told ≡ None) × IsSomeAnd stream (IsStreamOf rule fs time)
+Becomes rule whole (Completed text) time stream told =
+    (told ≡ Some (whole text)) × (stream ≡ None)
 
 -- the error of a fragment with this outcome is its refusal, or else tells of want of memory
 abbrev pub IsErrorOf : Fragment → Outcome → IpDefragError → Type 0
-IsErrorOf f o error = (o ≡ Refusal error) ⊎ (memory_error f o ≡ Some error)
+IsErrorOf f o error = (error_of o ≡ Some error) ⊎ (memory_error f o ≡ Some error)
 
 -- each name has the stream that it had
 abbrev pub SameStreams : {K T : Type 0} → (K → K → Bool) → Pool K T → Pool K T → Type 0
@@ -56,11 +62,18 @@ abbrev pub OthersStay : {K T : Type 0} → (K → K → Bool) → K → Pool K T
 OthersStay {K} same name old new = (q : K) → same name q ≡ false
     → stream_at same new q ≡ stream_at same old q
 
+-- after an error this name has the stream that it had, and none after an overlap
+abbrev pub Stays : {K T : Type 0} → (K → K → Bool) → K → Pool K T → Pool K T → IpDefragError
+    → Type 0
+Stays same name old new error = stream_at same new name
+    ≡ (if is_overlap error then None else stream_at same old name)
+
 -- a fragment of this name is refused by those that its stream shows, or else may want memory
-abbrev pub Refuses : {K T X : Type 0} → (K → K → Bool) → Pool K T → K → Fragment
+abbrev pub RefusesBy : {K T X : Type 0} → OverlapRule → (K → K → Bool) → Pool K T → K → Fragment
     → Result X IpDefragError → Type 0
-Refuses same old name f result = (fs : List Fragment) → ShowsStream (stream_at same old name) fs
-    → IfErr result (IsErrorOf f (outcome fs f))
+RefusesBy rule same old name f result = (fs : List Fragment)
+    → ShowsStream rule (stream_at same old name) fs
+    → IfErr result (IsErrorOf f (outcome rule fs f))
 
 -- what is left of a stream by a test of its timestamp: all of it where the test answers `true`,
 -- else nothing

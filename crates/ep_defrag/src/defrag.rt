@@ -7,6 +7,8 @@ mod ip_defrag_pool;
 mod ip_frag_id;
 mod ip_frag_range;
 mod ip_frag_version_spec_id;
+mod member;
+mod overlap_rule;
 mod part;
 mod pool_calls;
 mod retain_streams;

@@ -38,4 +38,14 @@ pub enum IpDefragError {
         /// The end of the fragment, in bytes.
         len: usize,
     },
+    /// The fragment holds a place that another fragment of its message holds, or it is a last one and
+    /// another reaches behind its end, where overlaps are refused: over IPv6 (RFC 5722; RFC 8200,
+    /// section 4.5). The message is dropped.
+    #[error("IP fragment (offset {offset}, payload len: {payload_len}) overlaps an earlier one. The fragments of its message are dropped.")]
+    OverlappingFragment {
+        /// Where the fragment begins, in units of 8 bytes.
+        offset: IpFragOffset,
+        /// The number of its bytes.
+        payload_len: usize,
+    },
 }

@@ -8,11 +8,12 @@ ghost use Rattle.std.specs.Map.{keys_of};
 ghost use Rattle.ep_packet.specs.Class.{IdentificationFits, as_class, packet_told};
 ghost use Rattle.ep_packet.specs.declared.class.Class.TheVariants as told;
 ghost use Rattle.ep_defrag.specs.Counts.{Bounded, Counts, open_in};
-ghost use Rattle.ep_defrag.specs.IpDefragPool.{Accepts, same_id};
+ghost use Rattle.ep_defrag.specs.IpDefragPool.{Accepts, AcceptsBy, Refuses, same_id};
 ghost use Rattle.ep_defrag.specs.IpFragId.{fragment_in, id_named};
-ghost use Rattle.ep_defrag.specs.Streams.{MayAsk, OthersStay, Refuses, Retained, SameStreams};
+ghost use Rattle.ep_defrag.specs.Streams.{MayAsk, OthersStay, RefusesBy, Retained, Stays};
 ghost use Rattle.ep_defrag.specs.Streams.{fragment_of, stream_at};
 
+use super::overlap_rule::OverlapRule;
 use super::part::spec_id;
 use super::streams::Streams;
 use super::{IpDefragError, IpDefragPayloadVec, IpFragId};
@@ -85,8 +86,10 @@ impl<Timestamp: Drop, CustomChannelId: Eq + Hash + Drop, S: BuildHasher> IpDefra
     /// it, and one that completes the message hands it out. Nothing is held of the message then.
     /// Any other packet changes nothing.
     ///
-    /// A fragment is refused as by [`super::IpDefragBuf::add`]. Then the message has the fragments
-    /// and the timestamp that it had.
+    /// A fragment is refused as by [`super::IpDefragBuf::add`], over IPv6 also where it overlaps
+    /// (RFC 5722; RFC 8200, section 4.5). Then the message has the fragments and the timestamp that
+    /// it had, **but after an overlap none**: the message is dropped with its buffers, and the
+    /// fragment begins no other one. So whoever sends one overlapping fragment ends a message.
     pub fn process_sliced_packet(
         &mut self,
         packet: &SlicedPacket<'_>,
@@ -101,10 +104,13 @@ impl<Timestamp: Drop, CustomChannelId: Eq + Hash + Drop, S: BuildHasher> IpDefra
             Accepts (same_id CustomChannelId.eq) self.old self.new (id_named told.0 channel_id) told.1 timestamp result) }
         ensures refused { IfSome (fragment_in (packet_told packet.now)) (λ told.
             Refuses (same_id CustomChannelId.eq) self.old (id_named told.0 channel_id) told.1 result) }
-        // Every other name's list and timestamp stay, and after a refusal all of them do.
+        // Every other name's list and timestamp stay. After a refusal this name's do, too, but an
+        // overlap ends its stream.
         ensures others { IfSome (fragment_in (packet_told packet.now)) (λ told.
             OthersStay (same_id CustomChannelId.eq) (id_named told.0 channel_id) self.old self.new) }
-        ensures err { OnErr result (SameStreams (same_id CustomChannelId.eq) self.old self.new) }
+        ensures err { IfSome (fragment_in (packet_told packet.now)) (λ told.
+            IfErr result (Stays (same_id CustomChannelId.eq) (id_named told.0 channel_id)
+            self.old self.new)) }
         ensures short { IfOk result
             (λ payload. IfSome payload (λ whole. length whole.payload.items ≤ 65535)) }
         // A message that begins takes a spare buffer.
@@ -141,7 +147,9 @@ impl<Timestamp: Drop, CustomChannelId: Eq + Hash + Drop, S: BuildHasher> IpDefra
         ensures others { IfSome (fragment_in (as_class (told.Cut message.entry))) (λ named.
             OthersStay (same_id CustomChannelId.eq) (id_named named.0 channel_id)
             self.old self.new) }
-        ensures err { OnErr result (SameStreams (same_id CustomChannelId.eq) self.old self.new) }
+        ensures err { IfSome (fragment_in (as_class (told.Cut message.entry))) (λ named.
+            IfErr result (Stays (same_id CustomChannelId.eq) (id_named named.0 channel_id)
+            self.old self.new)) }
         ensures short { IfOk result
             (λ payload. IfSome payload (λ whole. length whole.payload.items ≤ 65535)) }
         ensures counts { IfSome (fragment_in (as_class (told.Cut message.entry))) (λ named.
@@ -154,37 +162,40 @@ impl<Timestamp: Drop, CustomChannelId: Eq + Hash + Drop, S: BuildHasher> IpDefra
             identification,
             part,
         } = message;
+        let ip = spec_id(addresses, identification);
+        let rule = ip.overlap_rule();
         let id = IpFragId {
             vlan_ids,
-            ip: spec_id(addresses, identification),
+            ip,
             payload_ip_number: part.ip_number,
             channel_id,
         };
-        self.add_part(id, &part, timestamp)
+        self.add_part(id, rule, &part, timestamp)
     }
 
-    // Takes a part of the message with this name.
+    // Takes a part of the message with this name, whose parts overlap by this rule.
     fn add_part(
         &mut self,
         id: IpFragId<CustomChannelId>,
+        rule: OverlapRule,
         part: &Part<'_>,
         timestamp: Timestamp,
     ) -> Result<Option<IpDefragPayloadVec>, IpDefragError>
-        ensures accepted { Accepts ⟦<IpFragId<CustomChannelId> as PartialEq>⟧.eq self.old self.new
-            id (fragment_of part.now) timestamp result }
-        ensures refused { Refuses ⟦<IpFragId<CustomChannelId> as PartialEq>⟧.eq self.old id
+        ensures accepted { AcceptsBy rule ⟦<IpFragId<CustomChannelId> as PartialEq>⟧.eq
+            self.old self.new id (fragment_of part.now) timestamp result }
+        ensures refused { RefusesBy rule ⟦<IpFragId<CustomChannelId> as PartialEq>⟧.eq self.old id
             (fragment_of part.now) result }
         ensures others { OthersStay ⟦<IpFragId<CustomChannelId> as PartialEq>⟧.eq
             id self.old self.new }
-        ensures err { OnErr result
-            (SameStreams ⟦<IpFragId<CustomChannelId> as PartialEq>⟧.eq self.old self.new) }
+        ensures err { IfErr result
+            (Stays ⟦<IpFragId<CustomChannelId> as PartialEq>⟧.eq id self.old self.new) }
         ensures short { IfOk result
             (λ payload. IfSome payload (λ whole. length whole.payload.items ≤ 65535)) }
         ensures counts { Counts ⟦<IpFragId<CustomChannelId> as PartialEq>⟧.eq self.old self.new id result }
     {
         let ip_number = id.payload_ip_number;
         let len_source = id.ip.len_source();
-        match self.streams.add(id, part, timestamp) {
+        match self.streams.add(id, rule, part, timestamp) {
             Ok(Some(payload)) => Ok(Some(IpDefragPayloadVec {
                 ip_number,
                 len_source,

@@ -4,6 +4,7 @@ ghost use Rattle.std.specs.Cmp.Rules.{hashing};
 ghost use Rattle.std.proofs.Common.{rules};
 ghost use Rattle.ep_defrag.specs.IpFragId.{hashed_as};
 
+use super::overlap_rule::OverlapRule;
 use ep_base::LenSource;
 use std::hash::{Hash, Hasher};
 
@@ -33,7 +34,7 @@ pub enum IpFragVersionSpecId {
 
 impl IpFragVersionSpecId {
     ghost use Rattle.std.specs.Prelude.{◌≡◌};
-    ghost use Rattle.ep_defrag.specs.IpFragId.{len_source_of};
+    ghost use Rattle.ep_defrag.specs.IpFragId.{len_source_of, overlap_rule_of};
 
     // What the length of a packet of this version comes from.
     pub(crate) fn len_source(&self) -> LenSource
@@ -42,6 +43,16 @@ impl IpFragVersionSpecId {
         match self {
             IpFragVersionSpecId::Ipv4 { .. } => LenSource::Ipv4HeaderTotalLen,
             IpFragVersionSpecId::Ipv6 { .. } => LenSource::Ipv6HeaderPayloadLen,
+        }
+    }
+
+    // What becomes of fragments of this version that overlap.
+    pub(crate) fn overlap_rule(&self) -> OverlapRule
+        ensures { result ≡ overlap_rule_of self.now }
+    {
+        match self {
+            IpFragVersionSpecId::Ipv4 { .. } => OverlapRule::Overwrites,
+            IpFragVersionSpecId::Ipv6 { .. } => OverlapRule::Refuses,
         }
     }
 }

@@ -1,8 +1,8 @@
 //! The sections of a message, in order.
 
-ghost use Rattle.std.specs.Prelude.{◌≡◌, ◌<◌, ◌≤◌, vec_len, vec_capacity, length};
+ghost use Rattle.std.specs.Prelude.{◌≡◌, ◌<◌, ◌≤◌, ◌↔◌, vec_len, vec_capacity, length, IsTrue};
 ghost use Rattle.std.specs.List.{remove_range};
-ghost use Rattle.ep_defrag.specs.IpFragRange.{AddsRange, AreOrdered, EndBefore, StartBy};
+ghost use Rattle.ep_defrag.specs.IpFragRange.{AddsRange, AreOrdered, EndBefore, SharesWith, StartBy};
 
 use super::IpFragRange;
 
@@ -46,6 +46,23 @@ fn count_up_to(sections: &[IpFragRange], range: IpFragRange, first: usize) -> us
         count += 1;
     }
     count
+}
+
+// Whether a place of a range is one of a section, too. Between the first section that doesn't end
+// before it and the first that has a place there are only sections of fragments without bytes.
+pub(crate) fn shares_place(sections: &[IpFragRange], range: IpFragRange) -> bool
+    requires { AreOrdered sections.now }
+    ensures { IsTrue result ↔ SharesWith sections.now range }
+{
+    let mut at = count_before(sections, range.start);
+    while at < sections.len() && sections[at].start < range.end {
+        let section = sections[at];
+        if section.start.max(range.start) < section.end.min(range.end) {
+            return true;
+        }
+        at += 1;
+    }
+    false
 }
 
 // Takes out the sections from one place on, up to another. One or none are taken out most often.

@@ -1,17 +1,21 @@
 //! A message that is on its way.
 
 ghost use Rattle.std.specs.Prelude.{◌≡◌, ◌++◌, ◌∷◌, ◌+◌, ◌-◌, ◌≤◌, ℕ, [], List, None, false, OnOk};
-ghost use Rattle.std.specs.Prelude.{OnErr, IfErr, IfOk, IfSome, length, option_map, vec_len};
+ghost use Rattle.std.specs.Prelude.{OnErr, IfErr, IfOk, IfSome, if◌then◌else◌, length, option_map, vec_len};
 ghost use Rattle.indexmap.specs.IndexMap.{get, index_map_len};
 ghost use Rattle.ep_defrag.specs.Counts.{held_after, spare_after};
 ghost use Rattle.ep_defrag.specs.Fragments.{Fragment, refusal_of, refusal_at, end_of};
-ghost use Rattle.ep_defrag.specs.IpDefragBuf.{AnswersAdd, Shows};
+ghost use Rattle.ep_defrag.specs.IpDefragBuf.{AnswersAdd, Shows, rule_of};
+ghost use Rattle.ep_defrag.specs.IpDefragError.{is_overlap};
 ghost use Rattle.ep_defrag.specs.Outcome.{outcome};
+ghost use Rattle.ep_defrag.specs.declared.defrag.overlap_rule.OverlapRule.{OverlapRule};
 ghost use Rattle.ep_defrag.specs.SpareBuffers.{HasPlaces, SameCounts};
 ghost use Rattle.ep_defrag.specs.Streams.{Becomes, IsErrorOf, IsStreamOf, ShowsStream};
 ghost use Rattle.ep_defrag.specs.Streams.{fragment_of};
+ghost use Rattle.ep_defrag.specs.Refused.{error_in, refused_by};
 
 use super::ip_defrag_buf::checked_end;
+use super::overlap_rule::OverlapRule;
 use super::spare_buffers::SpareBuffers;
 use super::{IpDefragBuf, IpDefragError};
 use ep_packet::Part;
@@ -30,25 +34,57 @@ pub(crate) struct Stream<T> {
 
 impl<T: Drop> Stream<T> {
     // Takes one more part.
-    fn add(&mut self, part: &Part<'_>, timestamp: T) -> Result<(), IpDefragError>
+    fn add(&mut self, part: &Part<'_>, timestamp: T) -> Result<(), Refused>
         ensures accepted { let f = fragment_of part.now in (fs : List Fragment)
             → Shows self.old.buf fs →
-            IfOk result (λ u. IsStreamOf (fs ++ f ∷ []) timestamp self.new) }
+            IfOk result (λ u. IsStreamOf (rule_of self.old.buf) (fs ++ f ∷ []) timestamp self.new) }
+        ensures unrefused { let f = fragment_of part.now in (fs : List Fragment)
+            → Shows self.old.buf fs →
+            OnOk result (refusal_of (rule_of self.old.buf) fs f ≡ None) }
         ensures refused { let f = fragment_of part.now in (fs : List Fragment)
             → Shows self.old.buf fs →
-            AnswersAdd (refusal_of fs f) (end_of f) result }
-        ensures err { OnErr result (self.new ≡ self.old) }
+            IfErr result (λ r. IsErrorOf f (outcome (rule_of self.old.buf) fs f) (error_in r)) }
+        ensures told { IfErr result (λ r. r ≡ refused_by (error_in r)) }
+        ensures stays { IfErr result (λ r. is_overlap (error_in r) ≡ false
+            → self.new ≡ self.old) }
     {
-        self.buf.add(part.offset, part.more_fragments, part.bytes)?;
-        self.timestamp = timestamp;
-        Ok(())
+        match self.buf.add(part.offset, part.more_fragments, part.bytes) {
+            Ok(()) => {
+                self.timestamp = timestamp;
+                Ok(())
+            }
+            Err(error) => Err(refused_by(error)),
+        }
+    }
+}
+
+// A refusal, by what becomes of its stream.
+enum Refused {
+    Stays(IpDefragError),
+    Ends(IpDefragError),
+}
+
+fn refused_by(error: IpDefragError) -> Refused
+    ensures { result ≡ refused_by error }
+{
+    match error {
+        IpDefragError::OverlappingFragment {
+            offset,
+            payload_len,
+        } => Refused::Ends(IpDefragError::OverlappingFragment {
+            offset,
+            payload_len,
+        }),
+        error => Refused::Stays(error),
     }
 }
 
 // Why a part that would begin a message isn't taken where there is no memory for it: it is refused
 // in want of memory too.
 fn want_of_memory(part: &Part<'_>) -> IpDefragError
-    ensures { let f = fragment_of part.now in IsErrorOf f (outcome [] f) result }
+    ensures error { let f = fragment_of part.now in (rule : OverlapRule)
+        → IsErrorOf f (outcome rule [] f) result }
+    ensures stays { is_overlap result ≡ false }
 {
     match checked_end(None, part.offset, part.more_fragments, part.bytes) {
         Ok(end) => IpDefragError::AllocationFailure {
@@ -63,9 +99,11 @@ fn want_of_memory(part: &Part<'_>) -> IpDefragError
 fn begin(
     alloc: Global,
     spare: &mut SpareBuffers,
+    rule: OverlapRule,
     part: &Part<'_>,
 ) -> Result<IpDefragBuf<()>, IpDefragError>
     ensures accepted { IfOk result (λ buf. Shows buf (fragment_of part.now ∷ [])) }
+    ensures rule { IfOk result (λ buf. rule_of buf ≡ rule) }
     ensures refused { let f = fragment_of part.now in
         AnswersAdd (refusal_at None f) (end_of f) result }
     ensures fewer { OnOk result (vec_len spare.new.bytes ≡ vec_len spare.old.bytes - 1) }
@@ -73,7 +111,7 @@ fn begin(
     ensures places { (count : ℕ) → HasPlaces spare.old count → HasPlaces spare.new count }
 {
     let (bytes, sections, taken) = spare.take(alloc);
-    let mut buf = IpDefragBuf::new((), bytes, sections);
+    let mut buf = IpDefragBuf::of_rule(rule, alloc, (), bytes, sections);
     match buf.add(part.offset, part.more_fragments, part.bytes) {
         Ok(()) => Ok(buf),
         Err(error) => {
@@ -96,28 +134,30 @@ fn finish(spare: &mut SpareBuffers, buf: IpDefragBuf<()>) -> Vec<u8>
     bytes
 }
 
-// Takes a part of the message with this name. The stream ends where the message is complete. One
-// that is complete at once isn't kept: no packet's part is a whole message, but the contract speaks
-// of every part.
+// Takes a part of the message with this name, whose parts overlap by this rule. The stream ends
+// where the message is complete, or the part overlaps where that is refused. One that is complete
+// at once isn't kept: no packet's part is a whole message, but the contract speaks of every part.
 pub(crate) fn add_part<K: Eq + Hash + Drop, T: Drop, S: BuildHasher>(
     alloc: Global,
     streams: &mut IndexMap<K, Stream<T>, S>,
     spare: &mut SpareBuffers,
     name: K,
+    rule: OverlapRule,
     part: &Part<'_>,
     timestamp: T,
 ) -> Result<Option<Vec<u8>>, IpDefragError>
     requires { HasPlaces spare.old (index_map_len streams.old) }
     ensures accepted { let f = fragment_of part.now in (fs : List Fragment)
-        → ShowsStream (get K.eq streams.old name) fs →
-        IfOk result (λ told. Becomes (λ text. text) (outcome fs f) timestamp
+        → ShowsStream rule (get K.eq streams.old name) fs →
+        IfOk result (λ told. Becomes rule (λ text. text) (outcome rule fs f) timestamp
         (get K.eq streams.new name) (option_map (λ bytes. bytes.items) told)) }
     ensures refused { let f = fragment_of part.now in (fs : List Fragment)
-        → ShowsStream (get K.eq streams.old name) fs →
-        IfErr result (IsErrorOf f (outcome fs f)) }
+        → ShowsStream rule (get K.eq streams.old name) fs →
+        IfErr result (IsErrorOf f (outcome rule fs f)) }
     ensures others { (q : K) → K.eq name q ≡ false
         → get K.eq streams.new q ≡ get K.eq streams.old q }
-    ensures err { OnErr result ((q : K) → get K.eq streams.new q ≡ get K.eq streams.old q) }
+    ensures err { IfErr result (λ e. get K.eq streams.new name
+        ≡ (if is_overlap e then None else get K.eq streams.old name)) }
     ensures short { IfOk result (λ told. IfSome told (λ bytes. length bytes.items ≤ 65535)) }
     ensures places { HasPlaces spare.new (index_map_len streams.new) }
     ensures spare { vec_len spare.new.bytes
@@ -132,14 +172,18 @@ pub(crate) fn add_part<K: Eq + Hash + Drop, T: Drop, S: BuildHasher>(
                 Ok(Some(finish(spare, entry.swap_remove().buf)))
             }
             Ok(()) => Ok(None),
-            Err(error) => Err(error),
+            Err(Refused::Stays(error)) => Err(error),
+            Err(Refused::Ends(error)) => {
+                entry.swap_remove();
+                Err(error)
+            }
         },
         Ok(Entry::Vacant(entry)) => {
             if !spare.make_places(held) {
                 entry.into_key();
                 return Err(want_of_memory(part));
             }
-            match begin(alloc, spare, part) {
+            match begin(alloc, spare, rule, part) {
                 Ok(buf) if buf.is_complete() => {
                     entry.into_key();
                     Ok(Some(finish(spare, buf)))

@@ -8,10 +8,11 @@ ghost use Rattle.std.specs.Map.{keys_of};
 ghost use Rattle.ep_defrag.specs.Counts.{Counts, open_in};
 ghost use Rattle.ep_defrag.specs.Fragments.{Fragment};
 ghost use Rattle.ep_defrag.specs.Outcome.{outcome};
-ghost use Rattle.ep_defrag.specs.Streams.{Becomes, MayAsk, OthersStay, Refuses, Retained};
-ghost use Rattle.ep_defrag.specs.Streams.{SameStreams, ShowsStream, fragment_of, stream_at};
+ghost use Rattle.ep_defrag.specs.Streams.{Becomes, MayAsk, OthersStay, RefusesBy, Retained};
+ghost use Rattle.ep_defrag.specs.Streams.{ShowsStream, Stays, fragment_of, stream_at};
 
 use super::IpDefragError;
+use super::overlap_rule::OverlapRule;
 use super::retain_streams::retain_streams;
 use super::spare_buffers::SpareBuffers;
 use super::stream::{Stream, add_part};
@@ -88,21 +89,24 @@ impl<K: Eq + Hash + Drop, T: Drop, S: BuildHasher> Streams<K, T, S> {
         Ok(())
     }
 
-    /// Takes a part of the message with this name. One that completes it hands its bytes out, and
-    /// ends the stream.
+    /// Takes a part of the message with this name, whose parts overlap by this rule. One that
+    /// completes it hands its bytes out, and ends the stream. So does one that overlaps where that
+    /// is refused, and hands nothing out.
     pub(crate) fn add(
         &mut self,
         name: K,
+        rule: OverlapRule,
         part: &Part<'_>,
         timestamp: T,
     ) -> Result<Option<Vec<u8>>, IpDefragError>
-        ensures accepted { (fs : List Fragment) → ShowsStream (stream_at K.eq self.old name) fs →
-            IfOk result (λ told. Becomes (λ text. text)
-            (outcome fs (fragment_of part.now)) timestamp
+        ensures accepted { (fs : List Fragment)
+            → ShowsStream rule (stream_at K.eq self.old name) fs →
+            IfOk result (λ told. Becomes rule (λ text. text)
+            (outcome rule fs (fragment_of part.now)) timestamp
             (stream_at K.eq self.new name) (option_map (λ bytes. bytes.items) told)) }
-        ensures refused { Refuses K.eq self.old name (fragment_of part.now) result }
+        ensures refused { RefusesBy rule K.eq self.old name (fragment_of part.now) result }
         ensures others { OthersStay K.eq name self.old self.new }
-        ensures err { OnErr result (SameStreams K.eq self.old self.new) }
+        ensures err { IfErr result (Stays K.eq name self.old self.new) }
         ensures short { IfOk result (λ text. IfSome text (λ bytes. length bytes.items ≤ 65535)) }
         ensures counts { Counts K.eq self.old self.new name result }
     {
@@ -111,6 +115,7 @@ impl<K: Eq + Hash + Drop, T: Drop, S: BuildHasher> Streams<K, T, S> {
             &mut self.active,
             &mut self.spare,
             name,
+            rule,
             part,
             timestamp,
         )

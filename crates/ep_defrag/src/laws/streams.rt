@@ -28,6 +28,7 @@ ghost use Rattle.ep_defrag.specs.PoolCalls.Told.{Delivered, NoMemory, NotSliced,
 ghost use Rattle.ep_defrag.specs.PoolCalls.Told.{Retained};
 ghost use Rattle.ep_defrag.specs.declared.defrag.ip_defrag_error.IpDefragError.TheVariants.{AllocationFailure};
 ghost use Rattle.ep_defrag.specs.declared.defrag.ip_defrag_error.IpDefragError.TheVariants.{ConflictingEnd};
+ghost use Rattle.ep_defrag.specs.declared.defrag.ip_defrag_error.IpDefragError.TheVariants.{OverlappingFragment};
 ghost use Rattle.ep_defrag.specs.declared.defrag.ip_frag_id.IpFragId.{IpFragId};
 ghost use Rattle.ep_defrag.specs.declared.defrag.pool_calls.PoolCall.TheVariants.{RetainFrom};
 ghost use Rattle.ep_defrag.specs.declared.defrag.ip_frag_version_spec_id.IpFragVersionSpecId.TheVariants.{Ipv4};
@@ -146,7 +147,8 @@ pub fn parts_of_names()
 
 /// What is answered to a packet where the last 8 of 16 bytes came at time 4: the message with its
 /// front, the conflict with its end behind it, and nothing to packets that are no fragments; a
-/// frame that breaks its format is told with its fault.
+/// frame that breaks its format is told with its fault. Other bytes in its place are an overlap over
+/// IPv6 alone.
 pub fn answers_behind_a_last_part()
     ensures ipv4 { (ids : List ℕ) (a b : List ℕ)
         → answer_to_frame
@@ -166,10 +168,19 @@ pub fn answers_behind_a_last_part()
           len_source = Ipv6HeaderPayloadLen;
           bytes = replicate 8 1 ++ replicate 8 2;
         }) }
-    ensures repeat { (name : FragmentName)
+    ensures other_bytes { (ids : List ℕ) (a b : List ℕ)
         → answer_to_frame
         (λ name channel. record { fragments = fragment 1 false (replicate 8 2) ∷ []; time = 4 })
-        (Cut name 1 false (replicate 8 3)) 3 None ≡ Nothing }
+        (Cut (record { vlan_ids = ids; addresses = V4 a b; identification = 7; number = 17 }) 1 false (replicate 8 3)) 3 None ≡ Nothing }
+    ensures repeat { (ids : List ℕ) (a b : List ℕ)
+        → answer_to_frame
+        (λ name channel. record { fragments = fragment 1 false (replicate 8 2) ∷ []; time = 4 })
+        (Cut (record { vlan_ids = ids; addresses = V6 a b; identification = 7; number = 17 }) 1 false (replicate 8 2)) 3 None ≡ Nothing }
+    ensures overlap { (ids : List ℕ) (a b : List ℕ)
+        → answer_to_frame
+        (λ name channel. record { fragments = fragment 1 false (replicate 8 2) ∷ []; time = 4 })
+        (Cut (record { vlan_ids = ids; addresses = V6 a b; identification = 7; number = 17 }) 1 false (replicate 8 3)) 3 None
+        ≡ Refused (OverlappingFragment 1 8) }
     ensures behind { (name : FragmentName)
         → answer_to_frame
         (λ name channel. record { fragments = fragment 1 false (replicate 8 2) ∷ []; time = 4 })
@@ -183,7 +194,7 @@ pub fn answers_behind_a_last_part()
 
 /// What a fragment makes of the list of a name where the last 8 of 16 bytes came at time 4: one
 /// that is accepted is appended and renews the time, one that is refused or goes to another name or
-/// channel does neither, and a complete list is empty again.
+/// channel does neither, and a complete list is empty again, and so is one with an overlap over IPv6.
 pub fn lists_behind_a_last_part()
     ensures appended { after_frame
         (record { vlan_ids = []; addresses = V4 [] []; identification = 7; number = 17 }) 3
@@ -209,6 +220,18 @@ pub fn lists_behind_a_last_part()
         true (replicate 8 3)) 9 3
         (record { fragments = fragment 1 false (replicate 8 2) ∷ []; time = 4 })
         ≡ record { fragments = fragment 1 false (replicate 8 2) ∷ []; time = 4 } }
+    ensures repeated { after_frame
+        (record { vlan_ids = []; addresses = V6 [] []; identification = 7; number = 17 }) 3
+        (Cut (record { vlan_ids = []; addresses = V6 [] []; identification = 7; number = 17 }) 1
+        false (replicate 8 2)) 9 3
+        (record { fragments = fragment 1 false (replicate 8 2) ∷ []; time = 4 })
+        ≡ record { fragments = fragment 1 false (replicate 8 2) ∷ fragment 1 false (replicate 8 2) ∷ []; time = 9 } }
+    ensures overlapped { after_frame
+        (record { vlan_ids = []; addresses = V6 [] []; identification = 7; number = 17 }) 3
+        (Cut (record { vlan_ids = []; addresses = V6 [] []; identification = 7; number = 17 }) 1
+        false (replicate 8 3)) 9 3
+        (record { fragments = fragment 1 false (replicate 8 2) ∷ []; time = 4 })
+        ≡ record { fragments = []; time = 9 } }
     ensures complete { after_frame
         (record { vlan_ids = []; addresses = V4 [] []; identification = 7; number = 17 }) 3
         (Cut (record { vlan_ids = []; addresses = V4 [] []; identification = 7; number = 17 }) 0
@@ -242,14 +265,20 @@ pub fn replies_without_memory()
 /// 16 bytes came before it, and then its list is as it was; and of nothing else, `RetainFrom`
 /// neither.
 pub fn wants_of_memory()
-    ensures fragment { (name : FragmentName)
+    ensures fragment { (ids : List ℕ) (a b : List ℕ)
         → want_at_frame
         (λ name channel. record { fragments = fragment 1 false (replicate 8 2) ∷ []; time = 4 })
-        (Cut name 0 true (replicate 8 1)) 3 ≡ Some (Refused (AllocationFailure 8)) }
-    ensures stays { (name : FragmentName)
-        → FrameAnswered (λ after. (after name 3).fragments ≡ fragment 1 false (replicate 8 2) ∷ [])
+        (Cut (record { vlan_ids = ids; addresses = V6 a b; identification = 7; number = 17 }) 0 true (replicate 8 1)) 3 ≡ Some (Refused (AllocationFailure 8)) }
+    ensures stays { (a b : List ℕ)
+        → FrameAnswered (λ after. (after
+        (record { vlan_ids = []; addresses = V6 a b; identification = 7; number = 17 }) 3).fragments
+        ≡ fragment 1 false (replicate 8 2) ∷ [])
         (λ name channel. record { fragments = fragment 1 false (replicate 8 2) ∷ []; time = 4 })
-        (Cut name 0 true (replicate 8 1)) 9 3 None (Refused (AllocationFailure 8)) }
+        (Cut (record { vlan_ids = []; addresses = V6 a b; identification = 7; number = 17 }) 0 true (replicate 8 1)) 9 3 None (Refused (AllocationFailure 8)) }
+    ensures overlap { (ids : List ℕ) (a b : List ℕ)
+        → want_at_frame
+        (λ name channel. record { fragments = fragment 1 false (replicate 8 2) ∷ []; time = 4 })
+        (Cut (record { vlan_ids = ids; addresses = V6 a b; identification = 7; number = 17 }) 1 true (replicate 8 1)) 3 ≡ None }
     ensures refused { (name : FragmentName)
         → want_at_frame
         (λ name channel. record { fragments = fragment 1 false (replicate 8 2) ∷ []; time = 4 })
@@ -283,6 +312,7 @@ pub fn a_part_that_is_shown()
           bytes = replicate 8 0 ++ replicate 8 2;
           sections = record { start = 8; end = 16 } ∷ [];
           end = None;
+          members = None;
         })
         (fragment 1 true (replicate 8 2) ∷ []) }
     ensures not_shown { Shows {Number = IpNumber}
@@ -291,6 +321,7 @@ pub fn a_part_that_is_shown()
           bytes = replicate 8 0 ++ replicate 8 2;
           sections = record { start = 8; end = 16 } ∷ [];
           end = None;
+          members = None;
         })
         (fragment 0 true (replicate 8 2) ∷ []) → ⊥ }
 {}

@@ -1,12 +1,6 @@
 use Rattle.std.proofs.Common.{rules, arith}
 use Rattle.ep_defrag.proofs.Places.{ended_places, fewer_places, same_places}
-use Rattle.ep_defrag.proofs.PutBack.{put_back}
 use Rattle.ep_defrag.proofs.defrag.stream.add_part.Goals as goal
-
-pub returns-in-Err-add-clause-err : goal.returns-in-Err-add-clause-err
-returns-in-Err-add-clause-err g c =
-    put_back g.met.K.Eq.laws c.args.name c.get_mut.result.now c.args.streams.now.entries _
-    (search rules) (search rules)
 
 pub finish-requires-in-Ok-begin : goal.finish-requires-in-Ok-begin
 finish-requires-in-Ok-begin g c =

@@ -1,97 +1,61 @@
-use Rattle.std.proofs.Common.{subst, sym, refl, inl, inr, arith, ◌++◌, ◌∷◌, []}
+use Rattle.std.proofs.Common.{arith, ap, inl, subst}
 use Rattle.ep_defrag.specs.Fragments.{fragment}
-use Rattle.ep_defrag.specs.IpDefragBuf.{Contents, Shows}
-use Rattle.ep_defrag.proofs.Push.{shows_add, sound_add, sound_same}
+use Rattle.ep_defrag.specs.IpDefragBuf.{Contents, IsPicture}
+use Rattle.ep_defrag.proofs.Found.{accepted_again, at_index, looked, only_again, refused_at_clash}
+use Rattle.ep_defrag.proofs.Found.{shows_repeat}
 use Rattle.ep_defrag.proofs.defrag.ip_defrag_buf.IpDefragBuf.add.Goals as goal
-use Rattle.ep_defrag.proofs.defrag.ip_defrag_buf.IpDefragBuf.add.Goals.{then-not-more_fragments}
-use Rattle.ep_defrag.proofs.defrag.ip_defrag_buf.IpDefragBuf.add.Goals.{else-not-more_fragments}
 
-pub returns-clause-accepted : goal.returns-clause-accepted
-returns-clause-accepted g c fs shows =
-    let had = subst (λ (b : Contents _). Shows b fs) (sym c.self.view_is) shows in
-    elim c.if-not-more_fragments.branch [
-      | then-not-more_fragments w ↦
-          subst (λ (b : Contents _). Shows b
-          (fs ++ fragment c.args.offset c.args.more_fragments c.args.bytes.now ∷ []))
-          (sym w.self-is)
-          (shows_add _ _ fs (fragment c.args.offset c.args.more_fragments c.args.bytes.now)
-          c.try_reserve.new.self.items c.write_at.new.buffer.items
-          c.try_reserve-else-is_err.new.self.items c.from.result c.byte_offset-start.result
-          c.in_ok-end.end had record {
-            checked = c.in_ok-end.ensures;
-            same_bytes = c.try_reserve.ensures.items;
-            same_sections = c.try_reserve-else-is_err.ensures.items;
-            place_is = omega arith;
-            start_is = omega arith;
-            writes = c.write_at.ensures;
-            adds = c.add_range.ensures.adds;
-            cut = inr (
-              w.if-not-more_fragments.true,
-              rw c.from-len.ensures at
-                  w.truncate.ensures.items,
-              refl,
-            );
-          })
-      | else-not-more_fragments w ↦
-          subst (λ (b : Contents _). Shows b
-          (fs ++ fragment c.args.offset c.args.more_fragments c.args.bytes.now ∷ []))
-          (sym w.self-is)
-          (shows_add _ _ fs (fragment c.args.offset c.args.more_fragments c.args.bytes.now)
-          c.try_reserve.new.self.items c.write_at.new.buffer.items
-          c.try_reserve-else-is_err.new.self.items c.from.result c.byte_offset-start.result
-          c.in_ok-end.end had record {
-            checked = c.in_ok-end.ensures;
-            same_bytes = c.try_reserve.ensures.items;
-            same_sections = c.try_reserve-else-is_err.ensures.items;
-            place_is = omega arith;
-            start_is = omega arith;
-            writes = c.write_at.ensures;
-            adds = c.add_range.ensures.adds;
-            cut = inl (w.if-not-more_fragments.false, refl, refl);
-          })
-    ]
+pub returns-in-Repeat-clause-accepted : goal.returns-in-Repeat-clause-accepted
+returns-in-Repeat-clause-accepted g c fs shows =
+    let l = looked c.args.self.now
+    (fragment c.args.offset c.args.more_fragments c.args.bytes.now) c.self.inside.end
+    c.byte_offset.result c.in_ok-end.end _ c.find.result
+    (ap (λ (b : Contents _). b.end) c.self.view_is) (omega (arith, c.byte_offset.ensures))
+    c.in_ok-end.ensures c.find.ensures c.in-Repeat.is in
+    shows_repeat _ fs _ shows l.none l.finds
 
-pub invariant_of-self-then-not-more_fragments : goal.invariant_of-self-then-not-more_fragments
-invariant_of-self-then-not-more_fragments g c =
-    sound_add _ _ (fragment c.args.offset c.args.more_fragments c.args.bytes.now)
-    c.try_reserve.new.self.items c.write_at.new.buffer.items
-    c.try_reserve-else-is_err.new.self.items c.from.result c.byte_offset-start.result
-    c.in_ok-end.end c.self.invariant c.add_range.ensures.ordered record {
-      checked = c.in_ok-end.ensures;
-      same_bytes = c.try_reserve.ensures.items;
-      same_sections = c.try_reserve-else-is_err.ensures.items;
-      place_is = omega arith;
-      start_is = omega arith;
-      writes = c.write_at.ensures;
-      adds = c.add_range.ensures.adds;
-      cut = inr (
-        c.if-not-more_fragments.true,
-        rw c.from-len.ensures at
-            c.truncate.ensures.items,
-        refl,
-      );
-    }
+pub returns-in-Repeat-clause-refused : goal.returns-in-Repeat-clause-refused
+returns-in-Repeat-clause-refused g c fs shows =
+    let l = looked c.args.self.now
+    (fragment c.args.offset c.args.more_fragments c.args.bytes.now) c.self.inside.end
+    c.byte_offset.result c.in_ok-end.end _ c.find.result
+    (ap (λ (b : Contents _). b.end) c.self.view_is) (omega (arith, c.byte_offset.ensures))
+    c.in_ok-end.ensures c.find.ensures c.in-Repeat.is in
+    accepted_again _ fs _ shows l.none l.finds
 
-pub invariant_of-self-else-not-more_fragments : goal.invariant_of-self-else-not-more_fragments
-invariant_of-self-else-not-more_fragments g c =
-    sound_add _ _ (fragment c.args.offset c.args.more_fragments c.args.bytes.now)
-    c.try_reserve.new.self.items c.write_at.new.buffer.items
-    c.try_reserve-else-is_err.new.self.items c.from.result c.byte_offset-start.result
-    c.in_ok-end.end c.self.invariant c.add_range.ensures.ordered record {
-      checked = c.in_ok-end.ensures;
-      same_bytes = c.try_reserve.ensures.items;
-      same_sections = c.try_reserve-else-is_err.ensures.items;
-      place_is = omega arith;
-      start_is = omega arith;
-      writes = c.write_at.ensures;
-      adds = c.add_range.ensures.adds;
-      cut = inl (c.if-not-more_fragments.false, refl, refl);
-    }
+pub returns-in-Clash-clause-refused : goal.returns-in-Clash-clause-refused
+returns-in-Clash-clause-refused g c fs shows =
+    let l = looked c.args.self.now
+    (fragment c.args.offset c.args.more_fragments c.args.bytes.now) c.self.inside.end
+    c.byte_offset.result c.in_ok-end.end _ c.find.result
+    (ap (λ (b : Contents _). b.end) c.self.view_is) (omega (arith, c.byte_offset.ensures))
+    c.in_ok-end.ensures c.find.ensures c.in-Clash.is in
+    inl (refused_at_clash _ fs _ shows l.none l.finds)
 
-pub invariant_of-self : goal.invariant_of-self
-invariant_of-self g c = sound_same _ _ refl c.try_reserve.ensures.items refl refl c.self.invariant
+pub returns-in-Clash-clause-repeat : goal.returns-in-Clash-clause-repeat
+returns-in-Clash-clause-repeat g c fs shows rule at none =
+    let l = looked c.args.self.now
+    (fragment c.args.offset c.args.more_fragments c.args.bytes.now) c.self.inside.end
+    c.byte_offset.result c.in_ok-end.end _ c.find.result
+    (ap (λ (b : Contents _). b.end) c.self.view_is) (omega (arith, c.byte_offset.ensures))
+    c.in_ok-end.ensures c.find.ensures c.in-Clash.is in
+    only_again _ _ fs _ _ l shows rule at (λ is. cc)
 
-pub invariant_of-self-then-is_err-2 : goal.invariant_of-self-then-is_err-2
-invariant_of-self-then-is_err-2 g c =
-    sound_same _ _ refl c.try_reserve.ensures.items
-    c.try_reserve-else-is_err.ensures.items refl c.self.invariant
+pub returns-in-At-clause-refused : goal.returns-in-At-clause-refused
+returns-in-At-clause-refused g c fs shows =
+    let l = looked c.args.self.now
+    (fragment c.args.offset c.args.more_fragments c.args.bytes.now) c.self.inside.end
+    c.byte_offset.result c.in_ok-end.end _ c.find.result
+    (ap (λ (b : Contents _). b.end) c.self.view_is) (omega (arith, c.byte_offset.ensures))
+    c.in_ok-end.ensures c.find.ensures c.in-At.is in
+    at_index c.args.self.now _ fs _ c.in_ok-end.end c.insert.result
+    (subst IsPicture c.self.view_is c.self.invariant.picture) l c.insert.ensures.memory shows
+
+pub returns-in-At-clause-repeat : goal.returns-in-At-clause-repeat
+returns-in-At-clause-repeat g c fs shows rule at none =
+    let l = looked c.args.self.now
+    (fragment c.args.offset c.args.more_fragments c.args.bytes.now) c.self.inside.end
+    c.byte_offset.result c.in_ok-end.end _ c.find.result
+    (ap (λ (b : Contents _). b.end) c.self.view_is) (omega (arith, c.byte_offset.ensures))
+    c.in_ok-end.ensures c.find.ensures c.in-At.is in
+    only_again _ _ fs _ _ l shows rule at (λ is. cc)

@@ -1,9 +1,10 @@
 use Rattle.std.proofs.Common.{◌∙◌, ap, subst, sym}
 use Rattle.std.specs.Option.{IfSome}
+use Rattle.std.specs.Prelude.{IfErr}
 use Rattle.ep_packet.specs.Class.{Class, as_class}
-use Rattle.ep_defrag.specs.IpDefragPool.{Accepts, same_id}
+use Rattle.ep_defrag.specs.IpDefragPool.{Accepts, Refuses, same_id}
 use Rattle.ep_defrag.specs.IpFragId.{fragment_in, id_named}
-use Rattle.ep_defrag.specs.Streams.{OthersStay, Refuses}
+use Rattle.ep_defrag.specs.Streams.{OthersStay, Stays}
 use Rattle.ep_defrag.proofs.defrag.ip_defrag_pool.IpDefragPool.process_sliced_packet.Goals as goal
 
 pub returns-in-Cut-clause-accepted : goal.returns-in-Cut-clause-accepted
@@ -27,3 +28,10 @@ returns-in-Cut-clause-others g c =
     OthersStay (same_id g.CustomChannelId.PartialEq.eq) (id_named told.0 c.args.channel_id)
     c.args.self.now c.process_cut_message.new.self))
     (ap as_class (sym c.in-Cut.is) ∙ c.class.ensures.class) c.process_cut_message.ensures.others
+
+pub returns-in-Cut-clause-err : goal.returns-in-Cut-clause-err
+returns-in-Cut-clause-err g c =
+    subst (λ (class : Class). IfSome (fragment_in class) (λ told.
+    IfErr c.process_cut_message.result (Stays (same_id g.CustomChannelId.PartialEq.eq)
+    (id_named told.0 c.args.channel_id) c.args.self.now c.process_cut_message.new.self)))
+    (ap as_class (sym c.in-Cut.is) ∙ c.class.ensures.class) c.process_cut_message.ensures.err

@@ -1,0 +1,24 @@
+use Rattle.ep_defrag.proofs.Handed.{none_told, whole_told}
+use Rattle.ep_defrag.proofs.defrag.ip_defrag_pool.IpDefragPool.add_part.Goals as goal
+use Rattle.ep_defrag.proofs.defrag.ip_defrag_pool.IpDefragPool.add_part.Goals.{in-Ok-Some, in-Ok-None}
+use Rattle.ep_defrag.proofs.defrag.ip_defrag_pool.IpDefragPool.add_part.Goals.{in-Err}
+
+pub returns-clause-accepted : goal.returns-clause-accepted
+returns-clause-accepted g c fs shows =
+    elim c.match-add.branch [
+      | in-Ok-Some w ↦
+          let told = rw w.in-Ok-Some.field-0-is at
+          (w.in-Ok-Some.ensures.accepted fs (rw c.self.view_is shows)) in
+          rw w.result-is
+          (whole_told c.args.rule c.args.id c.args.timestamp _ _ _ _ told
+          (λ i. record {
+            ip_number = c.args.id.payload_ip_number;
+            len_source = c.len_source-len_source.ensures i;
+            bytes = w.in-Ok-Some.payload.items;
+          }))
+      | in-Ok-None w ↦
+          let told = rw w.in-Ok-None.field-0-is at
+          (w.in-Ok-None.ensures.accepted fs (rw c.self.view_is shows)) in
+          rw w.result-is (none_told c.args.rule c.args.id c.args.timestamp _ _ told)
+      | in-Err w ↦ rw w.result-is tt
+    ]
