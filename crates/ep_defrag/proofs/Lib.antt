@@ -2,6 +2,7 @@
 pub mod Clash
 pub mod Complete
 pub mod Disjoint
+pub mod Found
 pub mod Members
 pub mod OutcomeLemmas
 pub mod Push
@@ -9,7 +10,6 @@ mod Accepted
 mod AcceptedLists
 mod Added
 mod CallLemmas
-mod Found
 mod Halving
 mod Handed
 mod HasBytesLemmas

@@ -51,6 +51,20 @@ fn texts_of_other_refusals(rt: HostRuntime) -> Result<(), Fail> {
 }
 
 #[test]
+fn text_of_an_overlap(rt: HostRuntime) -> Result<(), Fail> {
+    let offset = offset(&rt, 123);
+    let payload_len = 15;
+    let overlap = IpDefragError::OverlappingFragment {
+        offset,
+        payload_len,
+    };
+    let text =
+        "IP fragment (offset 123, payload len: 15) overlaps an earlier one. The fragments of its message are dropped.";
+    assert!(rt; reads_as(&rt, overlap, text)?);
+    Ok(())
+}
+
+#[test]
 fn refusals_are_ordered_by_kind(rt: HostRuntime) {
     let offset = offset(&rt, 5);
     let unaligned = IpDefragError::UnalignedFragmentPayloadLen {
@@ -71,4 +85,10 @@ fn refusals_are_ordered_by_kind(rt: HostRuntime) {
     assert!(rt; long < end);
     assert!(rt; end < memory);
     assert!(rt; memory < IpDefragError::AllocationFailure { len: 3 });
+    let payload_len = 1;
+    let overlap = IpDefragError::OverlappingFragment {
+        offset,
+        payload_len,
+    };
+    assert!(rt; memory < overlap);
 }

@@ -14,6 +14,16 @@ pub fn empty(rt: &HostRuntime) -> IpDefragBuf {
     IpDefragBuf::new(IpNumber::UDP, Vec::new(rt.alloc()), Vec::new(rt.alloc()))
 }
 
+/// An empty buffer that refuses overlaps; no contract, as above.
+pub fn refusing(rt: &HostRuntime) -> IpDefragBuf {
+    IpDefragBuf::new_refusing_overlap(
+        rt.alloc(),
+        IpNumber::UDP,
+        Vec::new(rt.alloc()),
+        Vec::new(rt.alloc()),
+    )
+}
+
 /// The offset of so many units of 8 bytes; no contract, as above.
 pub fn offset(rt: &impl Abort, units: u16) -> IpFragOffset {
     let Ok(offset) = IpFragOffset::try_new(units) else {

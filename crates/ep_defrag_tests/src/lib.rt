@@ -19,11 +19,15 @@ mod memory;
 #[cfg(test)]
 mod names;
 #[cfg(test)]
+mod overlaps;
+#[cfg(test)]
 mod pool_kinds;
 #[cfg(test)]
 mod pool_memory;
 #[cfg(test)]
 mod pool_orders;
+#[cfg(test)]
+mod pool_overlaps;
 #[cfg(test)]
 mod pool_refusals;
 #[cfg(test)]
