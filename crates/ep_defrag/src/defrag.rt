@@ -24,6 +24,7 @@ pub use ip_defrag_pool::IpDefragPool;
 pub use ip_frag_id::IpFragId;
 pub use ip_frag_range::IpFragRange;
 pub use ip_frag_version_spec_id::IpFragVersionSpecId;
+pub use overlap_rule::OverlapRule;
 pub use pool_calls::{PoolCall, PoolReply, run_calls};
 
 /// The greatest length of a message, in bytes.

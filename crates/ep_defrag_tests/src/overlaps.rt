@@ -1,7 +1,7 @@
 //! Fragments that overlap, where a buffer refuses that (RFC 5722; RFC 8200, section 4.5).
 
 use crate::fragments::{ZEROS, empty, holds, is_one_section, offset, refusing};
-use ep_defrag::defrag::{IpDefragBuf, IpDefragError};
+use ep_defrag::defrag::{IpDefragBuf, IpDefragError, OverlapRule};
 use std::process::Abort;
 use std::test::*;
 
@@ -184,4 +184,10 @@ fn a_repeat_wants_no_memory(rt: HostRuntime) {
         assert!(rt; add_units(&rt, &mut buf, unit, unit + 1, true).is_ok());
     }
     assert!(rt; buf.sections().len() == 2);
+}
+
+#[test]
+fn rules_of_buffers(rt: HostRuntime) {
+    assert!(rt; empty(&rt).overlap_rule() == OverlapRule::Overwrites);
+    assert!(rt; refusing(&rt).overlap_rule() == OverlapRule::Refuses);
 }

@@ -242,6 +242,16 @@ impl<Number: Drop> IpDefragBuf<Number> {
         self.end
     }
 
+    /// What becomes of a fragment that overlaps those that are there.
+    pub fn overlap_rule(&self) -> OverlapRule
+        ensures { result ≡ rule_of self.now }
+    {
+        match self.members {
+            Some(_) => OverlapRule::Refuses,
+            None => OverlapRule::Overwrites,
+        }
+    }
+
     /// Takes a fragment of the message, whose bytes go over those that are there. A last one names
     /// the end of the message and cuts the data to it.
     ///

@@ -1,8 +1,8 @@
 //! Fragments that hold the same place of a message.
 
 /// What becomes of a fragment that holds a place of an earlier one.
-#[derive(Clone, Copy, Debug)]
-pub(crate) enum OverlapRule {
+#[derive(Clone, Copy, Debug, PartialEq, Eq)]
+pub enum OverlapRule {
     /// Its bytes go over those that are there (RFC 791, section 3.2).
     Overwrites,
     /// It is refused, and its message ends, unless it is the same fragment again (RFC 5722; RFC

@@ -20,7 +20,7 @@ ghost use Rattle.ep_defrag.specs.declared.defrag.pool_calls.PoolReply.{PoolReply
 
 use crate::defrag::{
     IpDefragBuf, IpDefragError, IpDefragPayloadVec, IpFragId, IpFragRange, IpFragVersionSpecId,
-    PoolCall, PoolReply,
+    OverlapRule, PoolCall, PoolReply,
 };
 use ep_base::laws::traits::Value;
 use std::hash::Hash;
@@ -30,6 +30,7 @@ pub fn types_are_plain_data()
     ensures ip_defrag_error { IsPlainData ⟦<IpDefragError as Value>⟧ }
     ensures ip_frag_range { IsPlainData ⟦<IpFragRange as Value>⟧ }
     ensures ip_frag_version_spec_id { IsPlainData ⟦<IpFragVersionSpecId as Value>⟧ }
+    ensures overlap_rule { IsPlainData ⟦<OverlapRule as Value>⟧ }
 {}
 
 /// A copy is the value.
