@@ -1,13 +1,16 @@
 -- A range that is added to sections in order, by the places at which the touched ones begin and end.
 use Rattle.std.proofs.Common.{◌≡◌, ℕ, zero, suc, ◌+◌, ◌-◌, ◌<◌, ◌≤◌, List, [], ◌∷◌, ◌++◌, length}
 use Rattle.std.proofs.Common.{take, drop, set, get_or, add-one, drop-cons, append_assoc, arith, ap, refl}
-use Rattle.std.proofs.Common.{sym, ◌∙◌, subst}
+use Rattle.std.proofs.Common.{sym, ◌∙◌, subst, min, max, true}
+use Rattle.std.proofs.lemmas.Bool.Decides.{leb_tells}
 use Rattle.std.proofs.lemmas.List.{take-append-drop, drop-take, drop-drop, drop-set-lt}
-use Rattle.std.proofs.lemmas.List.{get_or-drop, length-drop, take_more_set}
+use Rattle.std.proofs.lemmas.List.{get_or-drop, get_or_default, length-drop, take_more_set}
 use Rattle.std.specs.List.{AllByRecursion, remove_range}
 use Rattle.ep_defrag.specs.declared.defrag.ip_frag_range.IpFragRange.{IpFragRange}
-use Rattle.ep_defrag.specs.IpFragRange.{AreOrdered, EndBefore, StartBy, hull}
+use Rattle.ep_defrag.specs.IpFragRange.{AreOrdered, EndBefore, HasNumber, StartBy, has_number}
+use Rattle.ep_defrag.specs.IpFragRange.{hull}
 use Rattle.ep_defrag.proofs.Ordered.{IsAdded, added_alone, added_joined, last_of, all_split}
+use Rattle.ep_defrag.proofs.Ordered.{back_all, ends_below, from_place, front_all, starts_rise}
 
 -- those that end before the range are no more than those that start by its end
 pub no_fewer : (rs : List IpFragRange) (low high first behind : ℕ) → AreOrdered rs → low ≤ high
@@ -105,3 +108,82 @@ added_set rs new first behind a z r j h o low high some long a_is z_is j_is new_
     subst (λ (xs : List IpFragRange). IsAdded rs xs r) (sym items)
     (subst (λ (k : IpFragRange). IsAdded rs ((take first rs ++ k ∷ []) ++ drop behind rs) r)
     (sym j_is) (added_at rs first behind a z r h o low high some long a_is z_is))
+
+-- one section alone is touched, and is the joined one
+added_one : (rs new : List IpFragRange) (i : ℕ) (a r j : IpFragRange) → AreOrdered rs
+    → r.start ≤ r.end → EndBefore rs r.start i → StartBy rs r.end (i + 1) → i < length rs
+    → a ≡ get_or rs i a → j ≡ hull a r → new ≡ set rs i j → IsAdded rs new r
+added_one rs new i a r j h o low high within a_is j_is new_is =
+    let start : min a.start r.start ≡ min (min r.start a.start) a.start = omega arith in
+    let end : max a.end r.end ≡ max (max r.end a.end) a.end = omega arith in
+    let same : hull a r ≡ hull (hull r a) a = λ k. record { start = start k; end = end k } in
+    added_set rs new i (i + 1) a a r j h o low high (omega arith) (omega arith) a_is
+    (a_is ∙ ap (λ (k : ℕ). get_or rs k a) (omega arith)) (j_is ∙ same)
+    (new_is ∙ sym (take-append-drop (i + 1) (set rs i j)))
+
+number_in : (s : IpFragRange) (n : ℕ) → has_number s n ≡ true → HasNumber s n
+number_in s n e = grind (arith, leb_tells, e)
+
+-- the range begins in the last section, or where it ends
+pub added_to_last : (rs new : List IpFragRange) (last : ℕ) (a r j : IpFragRange) → AreOrdered rs
+    → r.start ≤ r.end → last + 1 ≡ length rs → a ≡ get_or rs last a
+    → has_number a r.start ≡ true → j ≡ hull a r → new ≡ set rs last j → IsAdded rs new r
+added_to_last rs new last a r j h o long a_is meets j_is new_is =
+    let has = number_in a r.start meets in
+    let at : (d : IpFragRange) → get_or rs last d ≡ a =
+    λ d. get_or_default rs last d a (omega arith) ∙ sym a_is in
+    let ends = ap (λ (s : IpFragRange). s.end) (at a) in
+    added_one rs new last a r j h o (
+      front_all (λ s. s.end < r.start) rs last (omega arith)
+          (λ k d low high. omega (
+            arith,
+            ends_below rs h k last d a high (omega arith),
+            ap (λ (s : IpFragRange). s.start) (at a),
+            has.0,
+          )),
+      back_all (λ s. r.start ≤ s.end) rs last
+          (from_place rs last r.start a h (omega arith) (omega (arith, ends, has.1))),
+    ) (
+      front_all (λ s. s.start ≤ r.end) rs (last + 1) (omega arith)
+          (λ k d low high. omega (
+            arith,
+            starts_rise rs h k last d (omega arith) (omega arith),
+            ap (λ (s : IpFragRange). s.start) (at d),
+            has.0,
+            o,
+          )),
+      back_all (λ s. r.end < s.start) rs (last + 1)
+          (λ k d low high. absurd (omega (arith, low, high))),
+    )
+    (omega arith) a_is j_is new_is
+
+-- the range ends in the first section, or where it begins, and begins no later
+pub added_to_first : (rs new : List IpFragRange) (a r j : IpFragRange) → AreOrdered rs
+    → r.start ≤ r.end → 0 < length rs → a ≡ get_or rs 0 a → r.start ≤ a.start
+    → has_number a r.end ≡ true → j ≡ hull a r → new ≡ set rs 0 j → IsAdded rs new r
+added_to_first rs new a r j h o some a_is before meets j_is new_is =
+    let has = number_in a r.end meets in
+    let at : (d : IpFragRange) → get_or rs 0 d ≡ a =
+    λ d. get_or_default rs 0 d a some ∙ sym a_is in
+    added_one rs new 0 a r j h o (
+      tt,
+      back_all (λ s. r.start ≤ s.end) rs 0
+          (from_place rs 0 r.start a h some
+          (omega (arith, ap (λ (s : IpFragRange). s.end) (at a), before, has.0, has.1))),
+    ) (
+      front_all (λ s. s.start ≤ r.end) rs 1 (omega arith)
+          (λ k d low high. omega (
+            arith,
+            starts_rise rs h k 0 d (omega arith) some,
+            ap (λ (s : IpFragRange). s.start) (at d),
+            has.0,
+          )),
+      back_all (λ s. r.end < s.start) rs 1
+          (λ k d low high. omega (
+            arith,
+            ends_below rs h 0 k a d (omega arith) high,
+            ap (λ (s : IpFragRange). s.end) (at a),
+            has.1,
+          )),
+    )
+    some a_is j_is new_is

@@ -120,6 +120,16 @@ starts_rise (r ∷ rs) h (suc i) zero d low high = absurd (omega arith)
 starts_rise (r ∷ rs) h (suc i) (suc j) d low high =
     starts_rise rs h.2 i j d (omega arith) (omega arith)
 
+-- each ends below the start of those behind it
+pub ends_below : (rs : List IpFragRange) → AreOrdered rs → (i j : ℕ) (d e : IpFragRange) → i < j
+    → j < length rs → (get_or rs i d).end < (get_or rs j e).start
+ends_below [] h i j d e below within = absurd (omega arith)
+ends_below (r ∷ rs) h i zero d e below within = absurd (omega arith)
+ends_below (r ∷ rs) h zero (suc j) d e below within =
+    all_at (λ s. r.end < s.start) rs j e (omega arith) h.1
+ends_below (r ∷ rs) h (suc i) (suc j) d e below within =
+    ends_below rs h.2 i j d e (omega arith) (omega arith)
+
 -- ---- the sections that a range touches, and the one that they are with it
 
 abbrev pub last_of : IpFragRange → List IpFragRange → IpFragRange

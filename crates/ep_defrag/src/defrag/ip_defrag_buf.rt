@@ -92,14 +92,19 @@ impl Eq for IpDefragBuf {
 
 // Writes bytes at a place, over those that are there, and 0 at each new place before it. There is
 // memory for them.
+#[inline(always)]
 fn write_at(buffer: &mut Vec<u8>, start: usize, bytes: &[u8])
     requires room { start + length bytes.now ≤ vec_capacity buffer.old }
     requires fits { start + length bytes.now ≤ 65535 }
     ensures { Writes buffer.old.items buffer.new.items start bytes.now }
 {
-    let end = start + bytes.len();
-    buffer.resize(buffer.len().max(end), 0).unwrap();
-    buffer[start..end].copy_from_slice(bytes);
+    if start == buffer.len() {
+        buffer.extend_from_slice(bytes).unwrap();
+    } else {
+        let end = start + bytes.len();
+        buffer.resize(buffer.len().max(end), 0).unwrap();
+        buffer[start..end].copy_from_slice(bytes);
+    }
 }
 
 // Whether an end is known, and there is one section, from 0 on.

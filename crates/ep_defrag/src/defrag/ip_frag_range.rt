@@ -32,7 +32,7 @@ impl IpFragRange {
         }
     }
 
-    fn contains(&self, number: u16) -> bool
+    pub(crate) fn contains(&self, number: u16) -> bool
         ensures { result ≡ has_number self.now number }
     {
         self.start <= number && number <= self.end

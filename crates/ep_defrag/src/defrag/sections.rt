@@ -78,9 +78,10 @@ fn remove_between(sections: &mut Vec<IpFragRange>, from: usize, to: usize)
     }
 }
 
-// Adds a range to sections that are in order: it and those that it touches are one. There is memory
-// for one more section.
-pub(crate) fn add_range(sections: &mut Vec<IpFragRange>, range: IpFragRange)
+// Adds a range by a search for the sections that it touches: it and they are one. There is memory
+// for one more section. Called, since most ranges need no search.
+#[inline(never)]
+fn insert_range(sections: &mut Vec<IpFragRange>, range: IpFragRange)
     requires room { vec_len sections.old < vec_capacity sections.old }
     requires in_order { AreOrdered sections.old.items }
     requires range { range.start ≤ range.end }
@@ -96,4 +97,29 @@ pub(crate) fn add_range(sections: &mut Vec<IpFragRange>, range: IpFragRange)
         sections[first] = joined;
         remove_between(sections, first + 1, behind);
     }
+}
+
+// Adds a range to sections that are in order. Most ranges begin where the last section ends, or end
+// where the first one begins: these make one section longer, and no search is needed.
+#[inline(always)]
+pub(crate) fn add_range(sections: &mut Vec<IpFragRange>, range: IpFragRange)
+    requires room { vec_len sections.old < vec_capacity sections.old }
+    requires in_order { AreOrdered sections.old.items }
+    requires range { range.start ≤ range.end }
+    ensures adds { AddsRange sections.old.items sections.new.items range }
+    ensures ordered { AreOrdered sections.new.items }
+{
+    let len = sections.len();
+    if len > 0 {
+        let (first, last) = (sections[0], sections[len - 1]);
+        if last.contains(range.start) {
+            sections[len - 1] = last.hull(range);
+            return;
+        }
+        if range.start <= first.start && first.contains(range.end) {
+            sections[0] = first.hull(range);
+            return;
+        }
+    }
+    insert_range(sections, range);
 }

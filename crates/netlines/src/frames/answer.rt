@@ -11,6 +11,7 @@ use etherparse::defrag::IpDefragError;
 
 /// Writes the answer that hands out a message to the front of `out`, and tells how many bytes it
 /// has.
+#[inline(always)]
 pub fn write_message(number: u8, verdict: Verdict, message: &[u8], out: &mut [u8]) -> usize
     requires { 2 * length message.now + 20 ≤ length out.old }
     ensures end { result < length out.new }
@@ -18,7 +19,7 @@ pub fn write_message(number: u8, verdict: Verdict, message: &[u8], out: &mut [u8
 {
     let end = append(out, 0, b"message ");
     let end = append_decimal(out, end, number);
-    let end = append(out, end, verdict_text(verdict));
+    let end = append_verdict(out, end, verdict);
     if message.is_empty() {
         append(out, end, b"-")
     } else {
@@ -26,15 +27,19 @@ pub fn write_message(number: u8, verdict: Verdict, message: &[u8], out: &mut [u8
     }
 }
 
-// The word of a verdict, between spaces.
-fn verdict_text(verdict: Verdict) -> &'static [u8]
-    ensures text { result.now ≡ codes " " ++ verdict_word verdict ++ codes " " }
-    ensures short { length result.now ≤ 6 }
+// Puts the word of a verdict, between spaces, behind the first `used` bytes, and tells how many are
+// used then. Each word is copied where it is chosen, so that its length is known.
+#[inline(always)]
+fn append_verdict(out: &mut [u8], used: usize, verdict: Verdict) -> usize
+    requires { used + 6 ≤ length out.old }
+    ensures end { result ≤ used + 6 }
+    ensures text { take result out.new
+        ≡ take used out.old ++ (codes " " ++ verdict_word verdict ++ codes " ") }
 {
     match verdict {
-        Verdict::Good => b" good ",
-        Verdict::Bad => b" bad ",
-        Verdict::None => b" none ",
+        Verdict::Good => append(out, used, b" good "),
+        Verdict::Bad => append(out, used, b" bad "),
+        Verdict::None => append(out, used, b" none "),
     }
 }
 

@@ -1,71 +1,34 @@
-use Rattle.std.proofs.Common.{◌≡◌, ℕ, arith, subst}
-use Rattle.ep_defrag.specs.IpFragRange.{StartBy}
-use Rattle.ep_defrag.proofs.Added.{added_behind, added_set, in_front}
+use Rattle.std.proofs.Common.{◌≡◌, ◌-◌, arith, refl, slice_set, sym}
+use Rattle.ep_defrag.proofs.Ordered.{IsAdded}
+use Rattle.ep_defrag.proofs.Added.{added_to_first, added_to_last}
 use Rattle.ep_defrag.proofs.defrag.sections.add_range.Goals as goal
 
-pub index-requires : goal.index-requires
-index-requires c =
-    let order = in_front _ _ _ c.args.range _ _ c.deref.ensures.value c.deref-2.ensures.value
-    c.requires.in_order c.requires.range c.count_before-first.ensures.before
-    c.count_up_to-behind.ensures.up_to c.count_before-first.ensures.bound in
-    let long = rw c.deref-2.ensures.value at c.count_up_to-behind.ensures.bound in
-    omega (arith, order, long, c.if-first-behind.false, c.args.sections.now.ok.0)
+to_last : (c : goal.After-sections-1)
+    → IsAdded c.args.sections.now.items (slice_set c.args.sections.now.items (c.len-len.result - 1) c.hull.result) c.args.range
+to_last c =
+    added_to_last c.args.sections.now.items _ (c.len-len.result - 1)
+    c.index-then-len-gt0.result.now c.args.range c.hull.result c.requires.in_order
+    c.requires.range
+    (omega (arith, c.if-len-gt0.true, c.args.sections.now.ok.0))
+    c.index-then-len-gt0.ensures (sym c.if-contains.ensures) c.hull.ensures refl
 
-pub index_mut-requires : goal.index_mut-requires
-index_mut-requires c =
-    let order = in_front _ _ _ c.args.range _ _ c.deref.ensures.value c.deref-2.ensures.value
-    c.requires.in_order c.requires.range c.count_before-first.ensures.before
-    c.count_up_to-behind.ensures.up_to c.count_before-first.ensures.bound in
-    let long = rw c.deref-2.ensures.value at c.count_up_to-behind.ensures.bound in
-    omega (arith, order, long, c.if-first-behind.false, c.args.sections.now.ok.0)
+pub returns-then-contains-clause-adds : goal.returns-then-contains-clause-adds
+returns-then-contains-clause-adds c = (to_last c).adds
 
-pub remove_between-requires-clause-ordered : goal.remove_between-requires-clause-ordered
-remove_between-requires-clause-ordered c =
-    let order = in_front _ _ _ c.args.range _ _ c.deref.ensures.value c.deref-2.ensures.value
-    c.requires.in_order c.requires.range c.count_before-first.ensures.before
-    c.count_up_to-behind.ensures.up_to c.count_before-first.ensures.bound in
-    omega (arith, order, c.if-first-behind.false)
+pub returns-then-contains-clause-ordered : goal.returns-then-contains-clause-ordered
+returns-then-contains-clause-ordered c = (to_last c).ordered
 
-pub returns-then-first-behind-clause-adds : goal.returns-then-first-behind-clause-adds
-returns-then-first-behind-clause-adds c =
-    let low = rw c.deref.ensures.value at c.count_before-first.ensures.before in
-    let high = rw c.deref-2.ensures.value at c.count_up_to-behind.ensures.up_to in
-    let same : c.count_up_to-behind.result ≡ c.count_before-first.result = omega arith in
-    rw (c.insert.ensures.items, c.unwrap.ensures)
-    (added_behind _ _ _ c.requires.in_order c.requires.range low
-    (subst (λ (n : ℕ). StartBy c.args.sections.now.items c.args.range.end n) same high)).adds
+to_first : (c : goal.After-sections-then-contains-2-1)
+    → IsAdded c.args.sections.now.items (slice_set c.args.sections.now.items 0 c.hull-then-contains-2.result) c.args.range
+to_first c =
+    added_to_first c.args.sections.now.items _ c.index.result.now c.args.range
+    c.hull-then-contains-2.result c.requires.in_order c.requires.range
+    (omega (arith, c.if-len-gt0.true, c.args.sections.now.ok.0))
+    c.index.ensures (omega (arith, c.if-range-first.true))
+    (sym c.if-contains-2.ensures) c.hull-then-contains-2.ensures refl
 
-pub returns-then-first-behind-clause-ordered : goal.returns-then-first-behind-clause-ordered
-returns-then-first-behind-clause-ordered c =
-    let low = rw c.deref.ensures.value at c.count_before-first.ensures.before in
-    let high = rw c.deref-2.ensures.value at c.count_up_to-behind.ensures.up_to in
-    let same : c.count_up_to-behind.result ≡ c.count_before-first.result = omega arith in
-    rw (c.insert.ensures.items, c.unwrap.ensures)
-    (added_behind _ _ _ c.requires.in_order c.requires.range low
-    (subst (λ (n : ℕ). StartBy c.args.sections.now.items c.args.range.end n) same high)).ordered
+pub returns-then-contains-2-clause-adds : goal.returns-then-contains-2-clause-adds
+returns-then-contains-2-clause-adds c = (to_first c).adds
 
-pub returns-else-first-behind-clause-adds : goal.returns-else-first-behind-clause-adds
-returns-else-first-behind-clause-adds c =
-    let order = in_front _ _ _ c.args.range _ _ c.deref.ensures.value c.deref-2.ensures.value
-    c.requires.in_order c.requires.range c.count_before-first.ensures.before
-    c.count_up_to-behind.ensures.up_to c.count_before-first.ensures.bound in
-    let low = rw c.deref.ensures.value at c.count_before-first.ensures.before in
-    let high = rw c.deref-2.ensures.value at c.count_up_to-behind.ensures.up_to in
-    let long = rw c.deref-2.ensures.value at c.count_up_to-behind.ensures.bound in
-    (added_set _ _ _ _ c.index.result.now c.index-else-first-behind.result.now c.args.range _
-    c.requires.in_order c.requires.range low high (omega (arith, order, c.if-first-behind.false))
-    long c.index.ensures c.index-else-first-behind.ensures
-    (rw c.hull.ensures at c.hull-joined.ensures) c.remove_between.ensures).adds
-
-pub returns-else-first-behind-clause-ordered : goal.returns-else-first-behind-clause-ordered
-returns-else-first-behind-clause-ordered c =
-    let order = in_front _ _ _ c.args.range _ _ c.deref.ensures.value c.deref-2.ensures.value
-    c.requires.in_order c.requires.range c.count_before-first.ensures.before
-    c.count_up_to-behind.ensures.up_to c.count_before-first.ensures.bound in
-    let low = rw c.deref.ensures.value at c.count_before-first.ensures.before in
-    let high = rw c.deref-2.ensures.value at c.count_up_to-behind.ensures.up_to in
-    let long = rw c.deref-2.ensures.value at c.count_up_to-behind.ensures.bound in
-    (added_set _ _ _ _ c.index.result.now c.index-else-first-behind.result.now c.args.range _
-    c.requires.in_order c.requires.range low high (omega (arith, order, c.if-first-behind.false))
-    long c.index.ensures c.index-else-first-behind.ensures
-    (rw c.hull.ensures at c.hull-joined.ensures) c.remove_between.ensures).ordered
+pub returns-then-contains-2-clause-ordered : goal.returns-then-contains-2-clause-ordered
+returns-then-contains-2-clause-ordered c = (to_first c).ordered
