@@ -17,12 +17,22 @@ static const ep_plan plan = {
     .source_port = 1,
     .destination_port = 2,
 };
+/* The parts of a message of 16 bytes over IPv4, cut at byte 8. */
+static const uint8_t first[] = {2, 0, 0, 0, 0, 2, 2,    0,    0, 0, 0, 1, 8, 0, 0x45, 0, 0, 0x1c, 0, 7, 0x20,
+                                0, 64, 17, 0x46, 0xc8, 10, 0, 0, 1, 10, 0, 0, 2, 0,    1, 0, 2,    0, 16, 0xdb, 0xb4};
+static const uint8_t last[] = {2,    0,    0,    0,    0,    2, 2, 0, 0, 0, 0,  1, 8, 0, 0x45, 0, 0, 0x1c, 0, 7, 0,
+                               1, 64, 17, 0x66, 0xc7, 10, 0, 0, 1, 10, 0, 0, 2, 1,    2, 3, 4,    5, 6, 7, 8};
 static uint8_t frame[64], message[64];
 static size_t len;
+static ep_pool pool;
 
 static unsigned slice(void) { return ep_slice_ethernet(frame, len).udp.source_port; }
 static unsigned judge(void) { return ep_verdict_ethernet(frame, len); }
 static unsigned build(void) { return (unsigned)ep_build(&plan, message, 22, frame, sizeof frame).len; }
+static unsigned put_together(void) {
+    ep_pool_add(&pool, first, sizeof first, 1, 0, message, sizeof message);
+    return ep_pool_add(&pool, last, sizeof last, 1, 0, message, sizeof message).status;
+}
 
 static void measure(const char *name, unsigned (*call)(void), unsigned wanted) {
     double best = 1e9;
@@ -40,9 +50,12 @@ static void measure(const char *name, unsigned (*call)(void), unsigned wanted) {
 }
 
 int main(void) {
+    if (ep_pool_new(&pool) != EP_DONE) return 1;
     measure("C: ep_build, 64 bytes", build, 64);
     len = 64;
     measure("C: ep_slice_ethernet, 64 bytes", slice, 1);
     measure("C: ep_verdict_ethernet, 64 bytes", judge, 1);
+    measure("C: ep_pool_add, two parts of 8 bytes", put_together, EP_COMPLETED);
+    ep_pool_free(&pool);
     return 0;
 }

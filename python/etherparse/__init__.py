@@ -1,4 +1,4 @@
-"""Packets sliced, judged, summed and built, and lines of hex frames answered, by proved code.
+"""Packets sliced, judged, summed, built and put together, and lines of hex frames answered, by proved code.
 
     >>> from etherparse import slice_ethernet
     >>> slice_ethernet(frame).ipv4.source
@@ -19,10 +19,10 @@ from typing import List, Optional, Sequence, Union
 from . import _raw
 
 __all__ = [
-    "Arp", "BuildRefused", "Icmp", "Ipv4", "Ipv6", "Link", "Packet", "PlannedCapture", "PlannedEcho",
-    "PlannedEthernet", "PlannedTcp", "PlannedUdp", "Refused", "Session", "Tag", "Tcp", "Udp", "Verdict", "answers",
-    "build", "checksum", "checksum_is_right", "slice_ethernet", "slice_ip", "slice_linux_sll", "verdict_ethernet",
-    "verdict_ip", "verdict_linux_sll",
+    "Arp", "BuildRefused", "Icmp", "Ipv4", "Ipv6", "Link", "Message", "Packet", "PartRefused", "PlannedCapture",
+    "PlannedEcho", "PlannedEthernet", "PlannedTcp", "PlannedUdp", "Pool", "Refused", "Session", "Tag", "Tcp", "Udp",
+    "Verdict", "answers", "build", "checksum", "checksum_is_right", "slice_ethernet", "slice_ip", "slice_linux_sll",
+    "verdict_ethernet", "verdict_ip", "verdict_linux_sll",
 ]  # fmt: skip
 
 
@@ -393,6 +393,96 @@ def build(
     if built.status != _raw.DONE:
         raise MemoryError
     return _c.string_at(output, built.len)
+
+
+@dataclass(frozen=True)
+class Message:
+    """A message that is complete: its addresses, the number of its protocol, and its bytes."""
+
+    source: Address
+    destination: Address
+    number: int
+    data: bytes
+
+
+class PartRefused(ValueError):
+    """A part of a message that isn't taken. Its `kind` and fields are as in etherparse.h."""
+
+    def __init__(self, refusal: _raw.EpPartRefusal) -> None:
+        self.kind: int = refusal.kind
+        self.offset: int = refusal.offset
+        self.len: int = refusal.len
+        self.previous_end: int = refusal.previous_end
+        self.end: int = refusal.end
+        if self.kind == 3:
+            text = f"a part that ends at {self.end}, of a message that ends at {self.previous_end}"
+        else:
+            reason = "and no multiple of 8" if self.kind == 1 else "which ends behind byte 65535"
+            text = f"a part of {self.len} bytes at offset {self.offset}, {reason}"
+        super().__init__(text)
+
+
+class Pool:
+    """The messages that are on their way in parts.
+
+    One that never completes is held until `forget_before` drops it. So a caller whose input isn't trusted calls that
+    regularly: a receiver gives a message up by a timer (RFC 791, section 3.2), over IPv6 60 seconds after its first
+    part came (RFC 8200, section 4.5).
+
+        with Pool() as pool:
+            for frame in frames:
+                message = pool.add(frame, time)
+    """
+
+    _ROOM = 65535
+
+    def __init__(self) -> None:
+        self._raw = _raw.EpPool()
+        self._room = (_c.c_uint8 * self._ROOM)()
+        if _etherparse.ep_pool_new(_c.byref(self._raw)) != _raw.DONE:
+            raise MemoryError
+
+    def add(self, frame: bytes, time: int, channel: int = 0) -> Optional[Message]:
+        """Takes an Ethernet II frame, which came at this time on this channel, and gives the message that is complete
+        with it. Messages of other channels are other messages. Raises Refused, PartRefused and MemoryError, and leaves
+        all messages as they were then."""
+        if not self._raw.is_open:
+            raise ValueError("the pool is closed")
+        pool = _c.byref(self._raw)
+        added = _etherparse.ep_pool_add(pool, frame, len(frame), time, channel, self._room, self._ROOM)
+        if added.refusal.kind:
+            raise Refused(added.refusal)
+        if added.part.kind:
+            raise PartRefused(added.part)
+        if added.status == _raw.NO_MEMORY:
+            raise MemoryError
+        if added.status != _raw.COMPLETED:
+            return None
+        told = added.message
+        ends = (getattr(told, f"ipv{told.ip_version}_{end}") for end in ("source", "destination"))
+        source, destination = (ipaddress.ip_address(bytes(end)) for end in ends)
+        return Message(source, destination, told.number, _c.string_at(self._room, told.len))
+
+    def forget_before(self, time: int) -> None:
+        """Drops the messages whose last part came before this time."""
+        _etherparse.ep_pool_forget_before(_c.byref(self._raw), time)
+
+    def __len__(self) -> int:
+        """How many messages are on their way."""
+        return _etherparse.ep_pool_open(_c.byref(self._raw))
+
+    def close(self) -> None:
+        """Frees what the pool holds. Closing it again does nothing."""
+        _etherparse.ep_pool_free(_c.byref(self._raw))
+
+    def __enter__(self) -> "Pool":
+        return self
+
+    def __exit__(self, *_) -> None:
+        self.close()
+
+    def __del__(self) -> None:
+        self.close()
 
 
 def _handed_out(call, room: int) -> bytes:

@@ -172,6 +172,38 @@ class Plans(unittest.TestCase):
                 ep.build(b"", **{**ends, **wrong})
 
 
+class Pools(unittest.TestCase):
+    # UDP from port 1 to port 2, identification 7, cut at byte 8 (RFC 791, section 3.2)
+    FIRST = bytes.fromhex("02000000000202000000000108004500001c00072000401146c80a0000010a000002000100020010dbb4")
+    LAST = bytes.fromhex("02000000000202000000000108004500001c00070001401166c70a0000010a0000020102030405060708")
+    BEHIND = bytes.fromhex("02000000000202000000000108004500001c00070002401166c60a0000010a0000020102030405060708")
+
+    def test_parts(self):
+        with ep.Pool() as pool:
+            self.assertIsNone(pool.add(UDP, 1))
+            self.assertIsNone(pool.add(self.LAST, 1))
+            self.assertIsNone(pool.add(self.FIRST, 2, 1))
+            self.assertEqual(len(pool), 2)
+            with self.assertRaises(ep.PartRefused) as refused:
+                pool.add(self.BEHIND, 3)
+            told = refused.exception
+            self.assertEqual((told.kind, told.previous_end, told.end), (3, 16, 24))
+            message = pool.add(self.FIRST, 4)
+            ends = ipaddress.ip_address("10.0.0.1"), ipaddress.ip_address("10.0.0.2")
+            self.assertEqual((message.source, message.destination, message.number), (*ends, 17))
+            self.assertEqual(message.data, bytes.fromhex("000100020010dbb40102030405060708"))
+            pool.forget_before(2)
+            self.assertEqual(len(pool), 1)
+            pool.forget_before(3)
+            self.assertEqual(len(pool), 0)
+            with self.assertRaises(ep.Refused):
+                pool.add(self.LAST[:13], 5)
+        with self.assertRaises(ValueError):
+            pool.add(self.LAST, 6)
+        self.assertEqual(len(pool), 0)
+        pool.close()
+
+
 class Answers(unittest.TestCase):
     def test_rows(self):
         texts = sorted((TOP / "crates/netlines_rows/data").glob("*.in"))
