@@ -52,5 +52,5 @@ module _ {M : Type 1} {𝓤 : Ura M} {𝓛 : Logic 𝓤} {K : Type 0} {Γ : List
         rewrite t 0 (λ (m : Option R.Denot). ‵ (holds R d.at m)) is refl $
         in_a_block t d.at (λ p. box_owns (ghosts.dealloc_token heap) R p x) (fst∗ 𝓤 (never 𝓤) (sem 𝓛
         (ghosts.dealloc_token heap (bare (lone R.mir)) null_ptr))) (λ b o e. k b o
-        (subst (λ (p : Ptr). vs ≡ word p ∷ []) e (subst (λ (ps : List Val). vs ≡ vstruct (of_list (ps
+        (subst (λ (p : Ptr). vs ≡ word p ∷ []) e (subst (λ (l : List Val). vs ≡ vstruct (of_list (l
         ++ [])) ∷ []) ep ev))))))

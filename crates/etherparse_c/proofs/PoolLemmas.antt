@@ -92,18 +92,21 @@ pub none_completed : (was now : Added) (shows : Lists → Type 0) (lists : Lists
     → kept_after (length old) (addresses_in class) (added_told now) ≡ None → kept ≡ None
     → result ≡ numbers_of (length old) (addresses_in class) (added_told now)
     → new ≡ output_after old (added_told now)
-    → IsAnswered (λ l k. shows l × (kept_told kept ≡ k)) lists class time channel fault old new result
+    → IsAnswered (λ l k. shows l × (kept_told kept ≡ k)) lists class time channel fault old new
+    result
 none_completed was now shows lists class time channel fault old new result kept is answered keeps
-    none numbers output = record {
-  told = added_told now;
-  answered = frame_goes_on shows (λ l. shows l
-      × (kept_told kept ≡ kept_after (length old) (addresses_in class) (added_told now))) lists class
-      time channel fault (added_told now) (λ l s. (s, ap kept_told none ∙ sym keeps))
-      (subst (λ (a : Added). FrameAnswered shows lists class time channel fault (added_told a)) is
-      answered);
-  numbers = numbers;
-  output = output;
-}
+    none numbers output =
+    let told = added_told now in
+    let kept_then = kept_after (length old) (addresses_in class) told in
+    record {
+      told = told;
+      answered = frame_goes_on shows (λ l. shows l × (kept_told kept ≡ kept_then)) lists class time
+          channel fault told (λ l s. (s, ap kept_told none ∙ sym keeps))
+          (subst (λ (a : Added). FrameAnswered shows lists class time channel fault (added_told a))
+          is answered);
+      numbers = numbers;
+      output = output;
+    }
 
 -- a frame with which this message is complete
 pub one_completed : (was : Added) (message : Completed) (shows after : Lists → Type 0)
@@ -114,22 +117,24 @@ pub one_completed : (was : Added) (message : Completed) (shows after : Lists →
     → result ≡ completed (length old) message.addresses (payload_told message.payload)
     → kept_told kept ≡ kept_of (length old) (Some message.addresses) (payload_told message.payload)
     → new ≡ written old (payload_told message.payload) → ((l : Lists) → shows l → after l)
-    → IsAnswered (λ l k. after l × (kept_told kept ≡ k)) lists class time channel fault old new result
+    → IsAnswered (λ l k. after l × (kept_told kept ≡ k)) lists class time channel fault old new
+    result
 one_completed was message shows after lists class time channel fault old new result kept is answered
     has numbers keeps output then =
     let payload = payload_told message.payload in
     let between : addresses_in class ≡ Some message.addresses =
-        subst (λ (a : Added). HasAddresses (addresses_in class) a) is has in
+    subst (λ (a : Added). HasAddresses (addresses_in class) a) is has in
     record {
       told = Delivered payload;
       answered = frame_goes_on shows (λ l. after l
           × (kept_told kept ≡ kept_of (length old) (addresses_in class) payload)) lists class time
           channel fault (Delivered payload) (λ l s. (
-        then l s,
-        keeps ∙ sym (ap (λ (o : Option Addresses). kept_of (length old) o payload) between),
-      ))
+            then l s,
+            keeps ∙ sym (ap (λ (o : Option Addresses). kept_of (length old) o payload) between),
+          ))
           (subst (λ (a : Added). FrameAnswered shows lists class time channel fault (added_told a))
           is answered);
-      numbers = numbers ∙ sym (ap (λ (o : Option Addresses). completed_if (length old) o payload) between);
+      numbers = numbers
+          ∙ sym (ap (λ (o : Option Addresses). completed_if (length old) o payload) between);
       output = output;
     }
