@@ -1,124 +1,188 @@
-/* The states of a pool, what it tells of parts and messages, and that nothing is left when it is freed: with a number N, a
-   pool is given so many first parts. */
+/* What pools make of the frames of a table, c/tests/pools.txt, which says how its lines read: with much room, with just enough,
+   with a byte too little and with none. The states of a pool, and that nothing is left when one of many parts is freed. */
+#include "common.h"
 #include "etherparse.h"
-#include <stdio.h>
-#include <stdlib.h>
-#include <string.h>
 
-static int passed, failed;
+enum room { MUCH, ENOUGH, TOO_LITTLE, NONE };
 
-static void check(int right, const char *what) {
-    if (right) {
-        passed++;
+static int same_refusal(ep_refusal a, ep_refusal b) {
+    return a.kind == b.kind && a.layer == b.layer && a.needed == b.needed && a.there == b.there && a.place == b.place &&
+           a.source == b.source && a.value == b.value;
+}
+
+static int same_part(ep_part_refusal a, ep_part_refusal b) {
+    return a.kind == b.kind && a.offset == b.offset && a.previous_end == b.previous_end && a.end == b.end && a.len == b.len;
+}
+
+static int same_message(ep_message a, ep_message b) {
+    return a.len == b.len && a.ip_version == b.ip_version && a.number == b.number &&
+           !memcmp(a.ipv4_source, b.ipv4_source, 4) && !memcmp(a.ipv4_destination, b.ipv4_destination, 4) &&
+           !memcmp(a.ipv6_source, b.ipv6_source, 16) && !memcmp(a.ipv6_destination, b.ipv6_destination, 16);
+}
+
+static int same(ep_added a, ep_added b) {
+    return a.status == b.status && same_refusal(a.refusal, b.refusal) && same_part(a.part, b.part) &&
+           same_message(a.message, b.message);
+}
+
+static int is_filled(const uint8_t *bytes, size_t len) {
+    for (size_t i = 0; i < len; i++)
+        if (bytes[i] != 7) return 0;
+    return 1;
+}
+
+/* A room of this length, in which nothing is written. */
+static uint8_t *room_of(size_t len) {
+    uint8_t *room = block(len);
+    memset(room, 7, len);
+    return room;
+}
+
+/* Whether the pool keeps the message, takes no frame, and hands it out once. */
+static int hands_out_later(ep_pool *pool, const uint8_t *frame, size_t len, ep_added wanted, const uint8_t *message) {
+    const ep_added wrong_state = {.status = EP_WRONG_STATE};
+    uint8_t *room = room_of(wanted.message.len), none = 7;
+    size_t open = ep_pool_open(pool);
+    int right = same(ep_pool_add(pool, frame, len, 0, 0, room, wanted.message.len), wrong_state) &&
+                is_filled(room, wanted.message.len) && ep_pool_open(pool) == open;
+    wanted.status = EP_NO_ROOM;
+    right &= same(ep_pool_take(pool, &none, 0), wanted) && none == 7;
+    wanted.status = EP_COMPLETED;
+    right &= same(ep_pool_take(pool, room, wanted.message.len), wanted) && !memcmp(room, message, wanted.message.len);
+    right &= same(ep_pool_take(pool, room, wanted.message.len), wrong_state);
+    free(room);
+    return right;
+}
+
+/* Whether a frame is answered as it is to be, with a room of this kind. */
+static int answers(ep_pool *pool, const uint8_t *frame, size_t len, uint64_t time, uint32_t channel, ep_added wanted,
+                   const uint8_t *message, enum room kind) {
+    size_t size = kind == MUCH ? wanted.message.len + 2 : kind == ENOUGH ? wanted.message.len : 0;
+    if (kind == TOO_LITTLE && wanted.message.len) size = wanted.message.len - 1;
+    uint8_t *room = room_of(size);
+    int lacks = size < wanted.message.len;
+    if (lacks) wanted.status = EP_NO_ROOM;
+    int right = same(ep_pool_add(pool, frame, len, time, channel, room, size), wanted);
+    size_t written = lacks ? 0 : wanted.message.len;
+    right &= !memcmp(room, message, written) && is_filled(room + written, size - written);
+    free(room);
+    return right && (!lacks || hands_out_later(pool, frame, len, wanted, message));
+}
+
+static void read_address(const char *hex, uint8_t *address, size_t wants) {
+    size_t len;
+    uint8_t *bytes = block_of(hex, &len);
+    if (len != wants) exit(2);
+    memcpy(address, bytes, len);
+    free(bytes);
+}
+
+/* What the rest of a line says of a frame, and the bytes of the message that is complete with it. */
+static ep_added wanted_of(const uint8_t *frame, size_t len, uint8_t **message) {
+    const char *answer = strtok(NULL, " \n"), *word[5] = {0};
+    ep_added wanted = {.status = EP_REFUSED};
+    size_t none;
+    for (int i = 0; i < 5; i++) word[i] = strtok(NULL, " \n");
+    *message = block_of(!strcmp(answer, "message") ? word[4] : "-", &none);
+    if (!strcmp(answer, "none")) {
+        wanted.status = EP_DONE;
+    } else if (!strcmp(answer, "frame")) {
+        wanted.refusal = ep_slice_ethernet(frame, len).refusal;
+        if (wanted.refusal.kind != strtoul(word[0], NULL, 10)) exit(2);
+    } else if (!strcmp(answer, "part")) {
+        unsigned long number[5];
+        for (int i = 0; i < 5; i++) number[i] = strtoul(word[i], NULL, 10);
+        wanted.part.kind = (uint32_t)number[0];
+        wanted.part.offset = (uint16_t)number[1];
+        wanted.part.previous_end = (uint16_t)number[2];
+        wanted.part.end = (uint16_t)number[3];
+        wanted.part.len = number[4];
     } else {
-        failed++;
-        printf("FAILED: %s\n", what);
+        ep_message *told = &wanted.message;
+        wanted.status = EP_COMPLETED;
+        told->len = strlen(word[4]) / 2;
+        told->ip_version = (uint32_t)atoi(word[0]);
+        told->number = (uint8_t)atoi(word[1]);
+        if (told->ip_version == 4) {
+            read_address(word[2], told->ipv4_source, 4);
+            read_address(word[3], told->ipv4_destination, 4);
+        } else {
+            read_address(word[2], told->ipv6_source, 16);
+            read_address(word[3], told->ipv6_destination, 16);
+        }
     }
+    return wanted;
+}
+
+static void add(ep_pool *pool, enum room kind) {
+    const char *time = strtok(NULL, " "), *channel = strtok(NULL, " "), *hex = strtok(NULL, " ");
+    size_t len;
+    uint8_t *frame = block_of(hex, &len), *message;
+    const ep_added wanted = wanted_of(frame, len, &message);
+    check(answers(pool, frame, len, strtoull(time, NULL, 10), (uint32_t)strtoul(channel, NULL, 10), wanted, message, kind), hex);
+    free(frame);
+    free(message);
+}
+
+static void rows(FILE *table, enum room kind) {
+    static char line[65536];
+    ep_pool pool = {0};
+    rewind(table);
+    while (fgets(line, sizeof line, table)) {
+        const char *call = strtok(line, " \n");
+        if (!strcmp(call, "pool")) {
+            ep_pool_free(&pool);
+            check(ep_pool_new(&pool) == EP_DONE, "a new pool");
+        } else if (!strcmp(call, "add")) {
+            add(&pool, kind);
+        } else if (!strcmp(call, "forget")) {
+            check(ep_pool_forget_before(&pool, strtoull(strtok(NULL, " \n"), NULL, 10)) == EP_DONE, "forget");
+        } else if (!strcmp(call, "open")) {
+            check(ep_pool_open(&pool) == strtoul(strtok(NULL, " \n"), NULL, 10), "how many are on their way");
+        }
+    }
+    ep_pool_free(&pool);
 }
 
 /* UDP from port 1 to port 2 over IPv4, 10.0.0.1 to 10.0.0.2, identification 7, cut at byte 8. */
-static uint8_t first[] = {2, 0, 0, 0, 0, 2, 2,    0,    0, 0, 0, 1, 8, 0, 0x45, 0, 0, 0x1c, 0, 7, 0x20,
-                          0, 64, 17, 0x46, 0xc8, 10, 0, 0, 1, 10, 0, 0, 2, 0,    1, 0, 2,    0, 16, 0xdb, 0xb4};
+static const uint8_t first[] = {2, 0, 0, 0, 0, 2, 2,    0,    0, 0, 0, 1, 8, 0, 0x45, 0, 0, 0x1c, 0, 7, 0x20,
+                                0, 64, 17, 0x46, 0xc8, 10, 0, 0, 1, 10, 0, 0, 2, 0,    1, 0, 2,    0, 16, 0xdb, 0xb4};
 static const uint8_t last[] = {2,    0,    0,    0,    0,    2, 2, 0, 0, 0, 0,  1, 8, 0, 0x45, 0, 0, 0x1c, 0, 7, 0,
                                1, 64, 17, 0x66, 0xc7, 10, 0, 0, 1, 10, 0, 0, 2, 1,    2, 3, 4,    5, 6, 7, 8};
-static const uint8_t message[] = {0, 1, 0, 2, 0, 16, 0xdb, 0xb4, 1, 2, 3, 4, 5, 6, 7, 8};
-
-/* The same over IPv6, 2001:db8::1 to 2001:db8::2, with a fragment header (RFC 8200, section 4.5). */
-static void part_over_ipv6(uint8_t *frame, int is_last) {
-    static const uint8_t head[] = {2, 0, 0, 0, 0, 2, 2, 0, 0, 0, 0, 1, 0x86, 0xdd, 0x60, 0, 0, 0, 0, 16, 44, 64};
-    memset(frame, 0, 70);
-    memcpy(frame, head, sizeof head);
-    for (int end = 22; end <= 38; end += 16) memcpy(frame + end, (uint8_t[]){0x20, 1, 0xd, 0xb8}, 4);
-    frame[37] = 1, frame[53] = 2;
-    frame[54] = 17, frame[57] = is_last ? 8 : 1, frame[61] = 7;
-    memcpy(frame + 62, message + (is_last ? 8 : 0), 8);
-}
-
-static int is_told(ep_added told, uint32_t status) {
-    return told.status == status && !told.refusal.kind && !told.part.kind &&
-           (status == EP_COMPLETED || status == EP_NO_ROOM ? told.message.len == 16 : !told.message.ip_version);
-}
 
 static void states(void) {
-    uint8_t none = 7, room[32] = {0};
+    const ep_added wrong_state = {.status = EP_WRONG_STATE};
+    uint8_t none = 7, room[16];
     ep_pool pool = {0};
-    check(ep_pool_add(&pool, first, sizeof first, 1, 0, &none, 0).status == EP_WRONG_STATE, "add before new");
-    check(ep_pool_take(&pool, &none, 0).status == EP_WRONG_STATE, "take before new");
+    check(same(ep_pool_add(&pool, first, sizeof first, 1, 0, &none, 0), wrong_state), "add before new");
+    check(same(ep_pool_take(&pool, &none, 0), wrong_state), "take before new");
     check(ep_pool_forget_before(&pool, 1) == EP_WRONG_STATE, "forget before new");
-    check(ep_pool_open(&pool) == 0 && !pool.is_open && !pool.held, "nothing is changed");
+    check(ep_pool_open(&pool) == 0 && !pool.is_open && !pool.held && none == 7, "nothing is changed");
     ep_pool_free(&pool);
     check(ep_pool_new(&pool) == EP_DONE && pool.is_open, "new");
-    check(ep_pool_new(&pool) == EP_WRONG_STATE && pool.is_open, "new twice");
-    check(is_told(ep_pool_take(&pool, room, 32), EP_WRONG_STATE), "no message is kept");
-    check(is_told(ep_pool_add(&pool, first, sizeof first, 1, 0, &none, 0), EP_DONE), "a part waits");
-    check(ep_pool_open(&pool) == 1, "one message is on its way");
-    check(is_told(ep_pool_add(&pool, last, sizeof last, 1, 1, &none, 0), EP_DONE), "another channel's");
-    check(ep_pool_open(&pool) == 2, "two of them");
-    ep_added told = ep_pool_add(&pool, last, sizeof last, 2, 0, room, 15);
-    check(is_told(told, EP_NO_ROOM) && told.message.number == 17, "a byte too little room");
-    check(ep_pool_open(&pool) == 1 && !room[1], "nothing is written");
-    check(is_told(ep_pool_add(&pool, last, sizeof last, 2, 0, room, 32), EP_WRONG_STATE), "a message is kept");
-    check(is_told(ep_pool_take(&pool, &none, 0), EP_NO_ROOM) && none == 7, "a room of length 0");
-    told = ep_pool_take(&pool, room, 16);
-    check(is_told(told, EP_COMPLETED) && !memcmp(room, message, 16), "the message is handed out");
-    check(told.message.ip_version == 4 && told.message.number == 17, "its version and number");
-    check(!memcmp(told.message.ipv4_source, first + 26, 4), "its source");
-    check(!memcmp(told.message.ipv4_destination, first + 30, 4), "its destination");
-    check(is_told(ep_pool_take(&pool, room, 32), EP_WRONG_STATE), "it is handed out once");
-    memset(room, 0, sizeof room);
-    check(is_told(ep_pool_add(&pool, first, sizeof first, 3, 1, room, 17), EP_COMPLETED), "the other channel's");
-    check(!memcmp(room, message, 16) && !room[16], "and its bytes");
-    check(ep_pool_open(&pool) == 0, "none is on its way");
-    ep_pool_add(&pool, first, sizeof first, 4, 0, &none, 0);
-    check(ep_pool_forget_before(&pool, 4) == EP_DONE && ep_pool_open(&pool) == 1, "one of this time stays");
-    check(ep_pool_forget_before(&pool, 5) == EP_DONE && ep_pool_open(&pool) == 0, "one before it goes");
-    ep_pool_free(&pool);
-    check(!pool.is_open && ep_pool_open(&pool) == 0, "freed");
-    ep_pool_free(&pool);
-}
-
-static void refusals(void) {
-    uint8_t none = 7, frame[sizeof first];
-    ep_pool pool = {0};
-    ep_pool_new(&pool);
-    ep_added told = ep_pool_add(&pool, first, 13, 1, 0, &none, 0);
-    check(told.status == EP_REFUSED && told.refusal.kind == 1 && told.refusal.needed == 14, "13 bytes");
-    memcpy(frame, first, sizeof frame);
-    frame[17] = 0x1b;
-    told = ep_pool_add(&pool, frame, sizeof frame, 1, 0, &none, 0);
-    check(told.status == EP_REFUSED && told.part.kind == 1 && told.part.len == 7 && !told.refusal.kind, "7 bytes, and more");
-    frame[17] = 0x1c, frame[20] = 0x1f, frame[21] = 0xff;
-    told = ep_pool_add(&pool, frame, sizeof frame, 1, 0, &none, 0);
-    check(told.status == EP_REFUSED && told.part.kind == 2 && told.part.offset == 8191, "an end behind 65535");
-    check(told.part.len == 8, "by 8 bytes");
+    ep_pool_add(&pool, first, sizeof first, 1, 0, &none, 0);
+    check(ep_pool_new(&pool) == EP_WRONG_STATE && ep_pool_open(&pool) == 1, "new twice, and nothing is changed");
+    check(same(ep_pool_take(&pool, room, sizeof room), wrong_state), "no message is kept");
+    check(ep_pool_add(&pool, last, sizeof last, 1, 0, &none, 0).status == EP_NO_ROOM, "a message is kept");
+    check(ep_pool_forget_before(&pool, 9) == EP_DONE && ep_pool_open(&pool) == 0, "forget while it is kept");
+    check(ep_pool_take(&pool, room, sizeof room).status == EP_COMPLETED, "it isn't forgotten");
+    ep_pool_add(&pool, first, sizeof first, 1, 0, &none, 0);
     ep_pool_add(&pool, last, sizeof last, 1, 0, &none, 0);
-    frame[20] = 0x20, frame[21] = 2;
-    told = ep_pool_add(&pool, frame, sizeof frame, 1, 0, &none, 0);
-    check(told.status == EP_REFUSED && told.part.kind == 3 && told.part.previous_end == 16, "an end behind the message's");
-    check(told.part.end == 24 && ep_pool_open(&pool) == 1, "at 24, and the message waits");
+    ep_pool_add(&pool, first, sizeof first, 1, 1, &none, 0);
+    ep_pool_free(&pool);
+    check(!pool.is_open && ep_pool_open(&pool) == 0, "freed with a message that is kept");
+    check(same(ep_pool_take(&pool, &none, 0), wrong_state), "take after it");
+    ep_pool_free(&pool);
+    check(ep_pool_new(&pool) == EP_DONE && ep_pool_open(&pool) == 0, "opened again, and empty");
     ep_pool_free(&pool);
 }
 
-static void over_ipv6(void) {
-    uint8_t frame[70], room[16];
-    ep_pool pool = {0};
-    ep_pool_new(&pool);
-    part_over_ipv6(frame, 1);
-    check(is_told(ep_pool_add(&pool, frame, sizeof frame, 1, 0, room, 16), EP_DONE), "the last part over IPv6");
-    part_over_ipv6(frame, 0);
-    ep_added told = ep_pool_add(&pool, frame, sizeof frame, 2, 0, room, 16);
-    check(is_told(told, EP_COMPLETED) && !memcmp(room, message, 16), "and the first one");
-    check(told.message.ip_version == 6 && told.message.number == 17, "version 6");
-    check(told.message.ipv6_source[15] == 1 && told.message.ipv6_destination[15] == 2, "and the addresses");
-    ep_pool_free(&pool);
-}
-
-/* So many messages of which the first part came, of which every third is completed, and every third forgotten. */
+/* So many frames: a first part each, of which every third is completed, and every third is forgotten. */
 static void many(uint32_t count) {
     uint8_t room[16];
     ep_pool pool = {0};
     size_t completed = 0;
-    ep_pool_new(&pool);
+    check(ep_pool_new(&pool) == EP_DONE, "a pool for many");
     for (uint32_t i = 0; i < count; i++) {
         ep_pool_add(&pool, first, sizeof first, i % 3, i, room, 16);
         if (i % 3 == 1) completed += ep_pool_add(&pool, last, sizeof last, i, i, room, 16).status == EP_COMPLETED;
@@ -131,10 +195,10 @@ static void many(uint32_t count) {
 }
 
 int main(int argc, char **argv) {
+    FILE *table = table_of(argc, argv);
+    for (enum room kind = MUCH; kind <= NONE; kind++) rows(table, kind);
+    fclose(table);
     states();
-    refusals();
-    over_ipv6();
-    many(argc > 1 ? (uint32_t)atol(argv[1]) : 1000);
-    printf("%d passed, %d failed\n", passed, failed);
-    return failed != 0;
+    many(argc > 2 ? (uint32_t)strtoul(argv[2], NULL, 10) : 1000);
+    return counted();
 }

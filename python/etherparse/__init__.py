@@ -422,8 +422,15 @@ class PartRefused(ValueError):
         super().__init__(text)
 
 
+def _number(name: str, number: int, bits: int) -> int:
+    """The number, where it fits: ctypes takes its lowest bits in silence."""
+    if not 0 <= number < 1 << bits:
+        raise ValueError(f"{name} has no room for {number}")
+    return number
+
+
 class Pool:
-    """The messages that are on their way in parts.
+    """The messages that are on their way in parts. One thread at a time uses it.
 
     One that never completes is held until `forget_before` drops it. So a caller whose input isn't trusted calls that
     regularly: a receiver gives a message up by a timer (RFC 791, section 3.2), over IPv6 60 seconds after its first
@@ -442,13 +449,16 @@ class Pool:
         if _etherparse.ep_pool_new(_c.byref(self._raw)) != _raw.DONE:
             raise MemoryError
 
+    def _opened(self):
+        if not self._raw.is_open:
+            raise ValueError("the pool is closed")
+        return _c.byref(self._raw)
+
     def add(self, frame: bytes, time: int, channel: int = 0) -> Optional[Message]:
         """Takes an Ethernet II frame, which came at this time on this channel, and gives the message that is complete
         with it. Messages of other channels are other messages. Raises Refused, PartRefused and MemoryError, and leaves
         all messages as they were then."""
-        if not self._raw.is_open:
-            raise ValueError("the pool is closed")
-        pool = _c.byref(self._raw)
+        pool, time, channel = self._opened(), _number("time", time, 64), _number("channel", channel, 32)
         added = _etherparse.ep_pool_add(pool, frame, len(frame), time, channel, self._room, self._ROOM)
         if added.refusal.kind:
             raise Refused(added.refusal)
@@ -465,7 +475,7 @@ class Pool:
 
     def forget_before(self, time: int) -> None:
         """Drops the messages whose last part came before this time."""
-        _etherparse.ep_pool_forget_before(_c.byref(self._raw), time)
+        _etherparse.ep_pool_forget_before(self._opened(), _number("time", time, 64))
 
     def __len__(self) -> int:
         """How many messages are on their way."""
@@ -505,7 +515,7 @@ def answers(text: bytes) -> bytes:
 
 
 class Session:
-    """Lines that come in pieces of any length, and the answers to them as they come.
+    """Lines that come in pieces of any length, and the answers to them as they come. One thread at a time uses it.
 
     Fed in any pieces, the answers are `answers` of the whole. After a MemoryError it is closed.
 

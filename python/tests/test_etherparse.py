@@ -173,33 +173,48 @@ class Plans(unittest.TestCase):
 
 
 class Pools(unittest.TestCase):
-    # UDP from port 1 to port 2, identification 7, cut at byte 8 (RFC 791, section 3.2)
-    FIRST = bytes.fromhex("02000000000202000000000108004500001c00072000401146c80a0000010a000002000100020010dbb4")
-    LAST = bytes.fromhex("02000000000202000000000108004500001c00070001401166c70a0000010a0000020102030405060708")
-    BEHIND = bytes.fromhex("02000000000202000000000108004500001c00070002401166c60a0000010a0000020102030405060708")
+    def answer(self, pool, frame, time, channel):
+        """What a frame is answered, in the words of the table."""
+        try:
+            message = pool.add(frame, time, channel)
+        except ep.Refused as refused:
+            return ["frame", refused.kind]
+        except ep.PartRefused as part:
+            return ["part", part.kind, part.offset, part.previous_end, part.end, part.len]
+        if message is None:
+            return ["none"]
+        ends = message.source, message.destination
+        return ["message", ends[0].version, message.number, *(end.packed.hex() for end in ends), message.data.hex()]
 
-    def test_parts(self):
+    def test_table(self):
+        pool = ep.Pool()
+        for line in (TOP / "c/tests/pools.txt").read_text().splitlines():
+            call, *words = line.split()
+            with self.subTest(line):
+                if call == "pool":
+                    pool.close()
+                    pool = ep.Pool()
+                elif call == "add":
+                    time, channel, digits, *wanted = words
+                    told = self.answer(pool, bytes.fromhex(digits.strip("-")), int(time), int(channel))
+                    self.assertEqual([str(word) for word in told], wanted)
+                elif call == "forget":
+                    pool.forget_before(int(words[0]))
+                elif call == "open":
+                    self.assertEqual(len(pool), int(words[0]))
+
+    def test_states(self):
         with ep.Pool() as pool:
-            self.assertIsNone(pool.add(UDP, 1))
-            self.assertIsNone(pool.add(self.LAST, 1))
-            self.assertIsNone(pool.add(self.FIRST, 2, 1))
-            self.assertEqual(len(pool), 2)
-            with self.assertRaises(ep.PartRefused) as refused:
-                pool.add(self.BEHIND, 3)
-            told = refused.exception
-            self.assertEqual((told.kind, told.previous_end, told.end), (3, 16, 24))
-            message = pool.add(self.FIRST, 4)
-            ends = ipaddress.ip_address("10.0.0.1"), ipaddress.ip_address("10.0.0.2")
-            self.assertEqual((message.source, message.destination, message.number), (*ends, 17))
-            self.assertEqual(message.data, bytes.fromhex("000100020010dbb40102030405060708"))
-            pool.forget_before(2)
-            self.assertEqual(len(pool), 1)
-            pool.forget_before(3)
-            self.assertEqual(len(pool), 0)
-            with self.assertRaises(ep.Refused):
-                pool.add(self.LAST[:13], 5)
-        with self.assertRaises(ValueError):
-            pool.add(self.LAST, 6)
+            for wrong in dict(time=-1), dict(time=1 << 64), dict(channel=-1), dict(channel=1 << 32):
+                with self.subTest(wrong), self.assertRaises(ValueError):
+                    pool.add(UDP, **{"time": 1, **wrong})
+            with self.assertRaises(ValueError):
+                pool.forget_before(-1)
+            with self.assertRaisesRegex(ep.PartRefused, "a part of 7 bytes at offset 0, and no multiple of 8"):
+                pool.add(bytes.fromhex("00" * 12 + "0800" + "4500001b00012000401166ca0a0000010a000002" + "00" * 7), 1)
+        for call in (lambda: pool.add(UDP, 6), lambda: pool.forget_before(6)):
+            with self.assertRaisesRegex(ValueError, "the pool is closed"):
+                call()
         self.assertEqual(len(pool), 0)
         pool.close()
 

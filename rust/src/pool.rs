@@ -34,12 +34,27 @@ pub struct Message {
 /// Why a part of a message is refused.
 #[derive(Clone, Copy, Debug, PartialEq, Eq)]
 pub enum PartRefusal {
-    /// Others follow it, and its length is no multiple of 8. The offset is in units of 8 bytes.
-    Unaligned { offset: u16, len: usize },
+    /// Others follow it, and its length is no multiple of 8.
+    Unaligned {
+        /// Its offset in the message, in units of 8 bytes.
+        offset: u16,
+        /// Its length.
+        len: usize,
+    },
     /// It ends behind byte 65535.
-    TooLong { offset: u16, len: usize },
+    TooLong {
+        /// Its offset in the message, in units of 8 bytes.
+        offset: u16,
+        /// Its length.
+        len: usize,
+    },
     /// It ends elsewhere than the message.
-    ConflictingEnd { previous_end: u16, end: u16 },
+    ConflictingEnd {
+        /// The end of the message, in bytes.
+        previous_end: u16,
+        /// Its own end, in bytes.
+        end: u16,
+    },
 }
 
 /// Why a frame isn't taken. All messages are as they were.

@@ -1,32 +1,77 @@
 //! Messages that come in parts.
 
-use etherparse_proved::{AddError, PartRefusal, Pool, Refusal, slice_ethernet};
+use etherparse_proved::{AddError, Message, PartRefusal, Pool, slice_ethernet};
+use std::fs;
+use std::net::{IpAddr, Ipv4Addr, Ipv6Addr};
+
+const TABLE: &str = concat!(env!("CARGO_MANIFEST_DIR"), "/../c/tests/pools.txt");
 
 fn bytes(hex: &str) -> Vec<u8> {
+    let hex = hex.trim_matches('-');
     (0..hex.len() / 2).map(|i| u8::from_str_radix(&hex[2 * i..2 * i + 2], 16).unwrap()).collect()
 }
 
+fn address(hex: &str) -> IpAddr {
+    match <[u8; 4]>::try_from(bytes(hex)) {
+        Ok(address) => Ipv4Addr::from(address).into(),
+        Err(address) => Ipv6Addr::from(<[u8; 16]>::try_from(address).unwrap()).into(),
+    }
+}
+
+/// What the words of an answer in the table ask for.
+fn wanted(frame: &[u8], answer: &[&str]) -> Result<Option<Message>, AddError> {
+    match *answer {
+        ["none"] => Ok(None),
+        ["message", version, number, source, destination, message] => {
+            let (source, destination) = (address(source), address(destination));
+            assert_eq!(source.is_ipv4(), version == "4");
+            Ok(Some(Message { source, destination, number: number.parse().unwrap(), bytes: bytes(message) }))
+        }
+        ["frame", _] => Err(AddError::Frame(slice_ethernet(frame).unwrap_err())),
+        ["part", kind, offset, previous_end, end, len] => {
+            let (offset, len) = (offset.parse().unwrap(), len.parse().unwrap());
+            Err(AddError::Part(match kind {
+                "1" => PartRefusal::Unaligned { offset, len },
+                "2" => PartRefusal::TooLong { offset, len },
+                _ => {
+                    let (previous_end, end) = (previous_end.parse().unwrap(), end.parse().unwrap());
+                    PartRefusal::ConflictingEnd { previous_end, end }
+                }
+            }))
+        }
+        _ => panic!("{answer:?}"),
+    }
+}
+
 #[test]
-fn parts() {
-    // UDP from port 1 to port 2, identification 7, cut at byte 8 (RFC 791, section 3.2).
-    let first = bytes("02000000000202000000000108004500001c00072000401146c80a0000010a000002000100020010dbb4");
-    let last = bytes("02000000000202000000000108004500001c00070001401166c70a0000010a0000020102030405060708");
-    let behind = bytes("02000000000202000000000108004500001c00070002401166c60a0000010a0000020102030405060708");
+fn table() {
     let mut pool = Pool::new().unwrap();
-    assert_eq!(pool.add(&last, 1, 0), Ok(None));
-    assert_eq!(pool.add(&first, 2, 1), Ok(None));
-    assert_eq!(pool.open_len(), 2);
-    let refusal = PartRefusal::ConflictingEnd { previous_end: 16, end: 24 };
-    assert_eq!(pool.add(&behind, 3, 0), Err(AddError::Part(refusal)));
-    let message = pool.add(&first, 4, 0).unwrap().unwrap();
-    assert_eq!((message.source.to_string(), message.destination.to_string()), ("10.0.0.1".into(), "10.0.0.2".into()));
-    assert_eq!((message.number, message.bytes), (17, bytes("000100020010dbb40102030405060708")));
-    pool.forget_before(2);
-    assert_eq!(pool.open_len(), 1);
-    pool.forget_before(3);
-    assert_eq!(pool.open_len(), 0);
-    let frame: Refusal = slice_ethernet(&last[..13]).unwrap_err();
-    assert_eq!(pool.add(&last[..13], 5, 0), Err(AddError::Frame(frame)));
-    let error: Box<dyn std::error::Error> = AddError::Part(refusal).into();
-    assert_eq!(error.to_string(), "a part that ends at 24, of a message that ends at 16");
+    for line in fs::read_to_string(TABLE).unwrap().lines() {
+        match line.split(' ').collect::<Vec<_>>()[..] {
+            ["#", ..] => {}
+            ["pool"] => pool = Pool::new().unwrap(),
+            ["add", time, channel, frame, ref answer @ ..] => {
+                let frame = bytes(frame);
+                let told = pool.add(&frame, time.parse().unwrap(), channel.parse().unwrap());
+                assert_eq!(told, wanted(&frame, answer), "{line}");
+            }
+            ["forget", time] => pool.forget_before(time.parse().unwrap()),
+            ["open", count] => assert_eq!(pool.open_len(), count.parse().unwrap(), "{line}"),
+            _ => panic!("{line}"),
+        }
+    }
+}
+
+#[test]
+fn errors() {
+    let text = |error: AddError| Box::<dyn std::error::Error>::from(error).to_string();
+    let part = |refusal| text(AddError::Part(refusal));
+    assert_eq!(part(PartRefusal::Unaligned { offset: 5, len: 9 }), "a part of 9 bytes at offset 5, and no multiple of 8");
+    let long = PartRefusal::TooLong { offset: 8191, len: 8 };
+    assert_eq!(part(long), "a part of 8 bytes at offset 8191, which ends behind byte 65535");
+    let end = PartRefusal::ConflictingEnd { previous_end: 16, end: 24 };
+    assert_eq!(part(end), "a part that ends at 24, of a message that ends at 16");
+    let frame = slice_ethernet(&[]).unwrap_err();
+    assert_eq!(text(AddError::Frame(frame)), frame.to_string());
+    assert_eq!(text(AddError::OutOfMemory), "out of memory");
 }
