@@ -430,7 +430,7 @@ def _number(name: str, number: int, bits: int) -> int:
 
 
 class Pool:
-    """The messages that are on their way in parts. One thread at a time uses it.
+    """The messages that are on their way in parts. It stays on the thread that made it.
 
     One that never completes is held until `forget_before` drops it. So a caller whose input isn't trusted calls that
     regularly: a receiver gives a message up by a timer (RFC 791, section 3.2), over IPv6 60 seconds after its first
@@ -515,7 +515,7 @@ def answers(text: bytes) -> bytes:
 
 
 class Session:
-    """Lines that come in pieces of any length, and the answers to them as they come. One thread at a time uses it.
+    """Lines that come in pieces of any length, and the answers to them as they come. It stays on the thread that made it.
 
     Fed in any pieces, the answers are `answers` of the whole. After a MemoryError it is closed.
 
