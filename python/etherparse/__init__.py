@@ -121,10 +121,12 @@ class Ipv4(_Layer):
 
     @property
     def source(self) -> ipaddress.IPv4Address:
+        """The source address."""
         return ipaddress.IPv4Address(bytes(self._fields.source))
 
     @property
     def destination(self) -> ipaddress.IPv4Address:
+        """The destination address."""
         return ipaddress.IPv4Address(bytes(self._fields.destination))
 
 
@@ -133,10 +135,12 @@ class Ipv6(_Layer):
 
     @property
     def source(self) -> ipaddress.IPv6Address:
+        """The source address."""
         return ipaddress.IPv6Address(bytes(self._fields.source))
 
     @property
     def destination(self) -> ipaddress.IPv6Address:
+        """The destination address."""
         return ipaddress.IPv6Address(bytes(self._fields.destination))
 
 
@@ -169,30 +173,37 @@ class Packet:
 
     @property
     def link(self) -> Optional[Link]:
+        """The link header."""
         return Link(self._frame, self._fields.link) if self._fields.link.kind else None
 
     @property
     def tags(self) -> List[Tag]:
+        """The VLAN tags and MACsec headers behind it, in their order."""
         return [Tag(self._frame, tag) for tag in self._fields.tags[: self._fields.tag_count]]
 
     @property
     def arp(self) -> Optional[Arp]:
+        """The ARP packet."""
         return Arp(self._frame, self._fields.arp) if self._fields.net == 1 else None
 
     @property
     def ipv4(self) -> Optional[Ipv4]:
+        """The IPv4 packet."""
         return Ipv4(self._frame, self._fields.ipv4) if self._fields.net == 4 else None
 
     @property
     def ipv6(self) -> Optional[Ipv6]:
+        """The IPv6 packet."""
         return Ipv6(self._frame, self._fields.ipv6) if self._fields.net == 6 else None
 
     @property
     def udp(self) -> Optional[Udp]:
+        """The UDP datagram."""
         return Udp(self._frame, self._fields.udp) if self._fields.transport == 17 else None
 
     @property
     def tcp(self) -> Optional[Tcp]:
+        """The TCP segment."""
         return Tcp(self._frame, self._fields.tcp) if self._fields.transport == 6 else None
 
     @property

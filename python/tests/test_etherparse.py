@@ -1,5 +1,6 @@
 """Run at the top of the repository: python3 -m unittest discover -s python -t python"""
 
+import inspect
 import ipaddress
 import unittest
 from pathlib import Path
@@ -253,6 +254,23 @@ class Answers(unittest.TestCase):
         with self.assertRaises(ValueError):
             session.finish()
         session.close()
+
+
+class Documentation(unittest.TestCase):
+    def test_public_calls_have_hints_and_a_text(self):
+        for name in ep.__all__:
+            item = getattr(ep, name)
+            self.assertTrue(item.__doc__, name)
+            calls = [item] if inspect.isfunction(item) else []
+            for own, member in vars(item).items() if isinstance(item, type) else ():
+                member = member.fget if isinstance(member, property) else member
+                if inspect.isfunction(member) and not own.startswith("_"):
+                    calls.append(member)
+            for call in calls:
+                with self.subTest(name, call=call.__name__):
+                    self.assertTrue(call.__doc__)
+                    wanted = {*inspect.signature(call).parameters, "return"} - {"self"}
+                    self.assertEqual(set(call.__annotations__), wanted)
 
 
 if __name__ == "__main__":
