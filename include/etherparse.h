@@ -1,4 +1,4 @@
-/* Packets sliced, judged, summed and built by proved code. Written by tools/bindings.
+/* Packets sliced, judged, summed, built and put together by proved code. Written by tools/bindings.
    What a caller owes:
    - no pointer is null, also where the length behind it is 0, and each points to as many bytes or
      structs as that length says, at most PTRDIFF_MAX bytes of memory that was written before;
@@ -6,7 +6,9 @@
      overlaps nothing else that it is handed.
    No call keeps a pointer, blocks or ends the process.
    Calls may call malloc, realloc and free, which come from one allocator and align blocks as
-   usual. None is made in a signal handler, nor in the forked child of a process with threads. */
+   usual. None is made in a signal handler, nor in the forked child of a process with threads.
+   A pool begins as zeros, which is not open, and only these calls change it. It isn't copied, and
+   stays on the thread that opened it. */
 #ifndef ETHERPARSE_H
 #define ETHERPARSE_H
 #include <stdbool.h>
@@ -24,6 +26,10 @@ extern "C" {
 #define EP_NO_MEMORY 2
 /* A field is refused. */
 #define EP_REFUSED 3
+/* It isn't open, or is open already, or keeps a message. */
+#define EP_WRONG_STATE 4
+/* A message is complete. */
+#define EP_COMPLETED 5
 #define EP_FIELD_LINK 1
 #define EP_FIELD_PACKET_TYPE 2
 #define EP_FIELD_TAG_COUNT 3
@@ -65,6 +71,70 @@ extern "C" {
 #define EP_SOURCE_UDP_HEADER_LEN 5
 #define EP_SOURCE_TCP_HEADER_LEN 6
 #define EP_SOURCE_ARP_ADDR_LENGTHS 7
+
+/* Why a packet is refused. All fields are 0 where it isn't. */
+typedef struct {
+    /* 0 not refused, 1 too few bytes, and from 2 on a header that breaks its format. */
+    uint32_t kind;
+    /* The layer at fault, numbered from 1 as the errors of `etherparse` name the layers. */
+    uint32_t layer;
+    /* Of too few bytes: how many the layer needs. */
+    size_t needed;
+    /* Of too few bytes: how many are there. */
+    size_t there;
+    /* Of too few bytes: the offset of the layer's first byte. */
+    size_t place;
+    /* Of too few bytes: where their number comes from. */
+    uint32_t source;
+    /* Of a header that breaks its format: the field that it holds in place of a right one. */
+    uint32_t value;
+} ep_refusal;
+
+/* Why a part of a message is refused. All fields are 0 where it isn't. */
+typedef struct {
+    /* 0 not refused, 1 others follow it and its length is no multiple of 8, 2 it ends behind byte
+       65535, 3 it ends elsewhere than the message. */
+    uint32_t kind;
+    /* Of kinds 1 and 2: its offset in the message, in units of 8 bytes. */
+    uint16_t offset;
+    /* Of kind 3: the end of the message, in bytes. */
+    uint16_t previous_end;
+    /* Of kind 3: its own end, in bytes. */
+    uint16_t end;
+    /* Of kinds 1 and 2: its length. */
+    size_t len;
+} ep_part_refusal;
+
+/* A message that was put together. All fields are 0 where there is none. */
+typedef struct {
+    /* How many bytes it has. */
+    size_t len;
+    /* The IP version: 4 or 6. */
+    uint32_t ip_version;
+    /* The number of its protocol. */
+    uint8_t number;
+    /* Of IPv4. */
+    uint8_t ipv4_source[4];
+    /* Of IPv4. */
+    uint8_t ipv4_destination[4];
+    /* Of IPv6. */
+    uint8_t ipv6_source[16];
+    /* Of IPv6. */
+    uint8_t ipv6_destination[16];
+} ep_message;
+
+/* What became of a frame that a pool was given, or of the message that it kept. */
+typedef struct {
+    /* 5 where a message is complete and written, 1 where it is complete and has no room, and 0 where
+       none is complete; 2 out of memory, 3 refused, 4 in a wrong state. */
+    uint32_t status;
+    /* Why the frame is refused. */
+    ep_refusal refusal;
+    /* Why the part of a message that the frame has is refused. */
+    ep_part_refusal part;
+    /* The message that is complete. */
+    ep_message message;
+} ep_added;
 
 /* What became of a packet that was to be built. */
 typedef struct {
@@ -231,24 +301,6 @@ typedef struct {
     /* 1 request, 2 reply. */
     uint16_t operation;
 } ep_arp;
-
-/* Why a packet is refused. All fields are 0 where it isn't. */
-typedef struct {
-    /* 0 not refused, 1 too few bytes, and from 2 on a header that breaks its format. */
-    uint32_t kind;
-    /* The layer at fault, numbered from 1 as the errors of `etherparse` name the layers. */
-    uint32_t layer;
-    /* Of too few bytes: how many the layer needs. */
-    size_t needed;
-    /* Of too few bytes: how many are there. */
-    size_t there;
-    /* Of too few bytes: the offset of the layer's first byte. */
-    size_t place;
-    /* Of too few bytes: where their number comes from. */
-    uint32_t source;
-    /* Of a header that breaks its format: the field that it holds in place of a right one. */
-    uint32_t value;
-} ep_refusal;
 
 /* A UDP datagram (RFC 768). */
 typedef struct {
@@ -433,6 +485,15 @@ typedef struct {
     uint8_t options[40];
 } ep_plan;
 
+/* The messages that are on their way in parts. It begins as zeros, and is changed by these calls
+   alone. */
+typedef struct {
+    /* Whether it was opened and not freed. */
+    bool is_open;
+    /* For these calls alone. */
+    void *held;
+} ep_pool;
+
 /* Builds the packet of a plan with this payload, at the front of the output. The status is 0
    where it is built, 1 where the output has no room for its length, 2 where there is no memory,
    and 3 where a field of the plan, or the payload, is refused. Where it isn't 0 the output is as
@@ -444,6 +505,34 @@ uint16_t ep_checksum(const uint8_t *bytes, size_t bytes_len);
 
 /* Whether the words of the bytes sum to all ones, as those of a text with a right checksum do. */
 bool ep_checksum_is_right(const uint8_t *bytes, size_t bytes_len);
+
+/* Opens a pool with no message. The result is 0 where it is open, 2 where there is no memory,
+   and 4 where it was open before. Where it isn't 0 nothing is changed. */
+uint32_t ep_pool_new(ep_pool *pool);
+
+/* Takes an Ethernet II frame, which came at this time on this channel. Messages of other
+   channels are other messages. The status is 5 where a message is complete with it: then it
+   stands at the front of the output. It is 1 where the message has no room: then the pool keeps
+   it until `ep_pool_take` hands it out. It is 0 where no message is complete, since the frame is
+   no part of one, or its message waits for others. It is 2 where there is no memory for the
+   part, and 3 where the frame or the part is refused: then all messages are as they were. It is
+   4 where the pool isn't open or keeps a message: then nothing is changed. */
+ep_added ep_pool_add(ep_pool *pool, const uint8_t *frame, size_t frame_len, uint64_t time, uint32_t channel, uint8_t *output, size_t output_len);
+
+/* Hands out the message that a pool keeps. The status is 5 where it stands at the front of the
+   output, 1 where it has no room, and 4 where the pool isn't open or keeps none. */
+ep_added ep_pool_take(ep_pool *pool, uint8_t *output, size_t output_len);
+
+/* Drops the messages whose last part came before this time. The result is 0, or 4 where the pool
+   isn't open. */
+uint32_t ep_pool_forget_before(ep_pool *pool, uint64_t time);
+
+/* How many messages are on their way, 0 where the pool isn't open. One that is complete isn't
+   counted. */
+size_t ep_pool_open(ep_pool *pool);
+
+/* Frees a pool and all that it holds. One that isn't open stays as it is. */
+void ep_pool_free(ep_pool *pool);
 
 /* Tells the parts of an Ethernet II frame, or why it is refused. */
 ep_packet ep_slice_ethernet(const uint8_t *bytes, size_t bytes_len);

@@ -3,6 +3,33 @@
 #include "etherparse.h"
 #include "netlines.h"
 
+_Static_assert(sizeof(ep_refusal) == 40, "ep_refusal");
+_Static_assert(offsetof(ep_refusal, kind) == 0 && sizeof(((ep_refusal *)0)->kind) == 4, "ep_refusal.kind");
+_Static_assert(offsetof(ep_refusal, layer) == 4 && sizeof(((ep_refusal *)0)->layer) == 4, "ep_refusal.layer");
+_Static_assert(offsetof(ep_refusal, needed) == 8 && sizeof(((ep_refusal *)0)->needed) == 8, "ep_refusal.needed");
+_Static_assert(offsetof(ep_refusal, there) == 16 && sizeof(((ep_refusal *)0)->there) == 8, "ep_refusal.there");
+_Static_assert(offsetof(ep_refusal, place) == 24 && sizeof(((ep_refusal *)0)->place) == 8, "ep_refusal.place");
+_Static_assert(offsetof(ep_refusal, source) == 32 && sizeof(((ep_refusal *)0)->source) == 4, "ep_refusal.source");
+_Static_assert(offsetof(ep_refusal, value) == 36 && sizeof(((ep_refusal *)0)->value) == 4, "ep_refusal.value");
+_Static_assert(sizeof(ep_part_refusal) == 24, "ep_part_refusal");
+_Static_assert(offsetof(ep_part_refusal, kind) == 0 && sizeof(((ep_part_refusal *)0)->kind) == 4, "ep_part_refusal.kind");
+_Static_assert(offsetof(ep_part_refusal, offset) == 4 && sizeof(((ep_part_refusal *)0)->offset) == 2, "ep_part_refusal.offset");
+_Static_assert(offsetof(ep_part_refusal, previous_end) == 6 && sizeof(((ep_part_refusal *)0)->previous_end) == 2, "ep_part_refusal.previous_end");
+_Static_assert(offsetof(ep_part_refusal, end) == 8 && sizeof(((ep_part_refusal *)0)->end) == 2, "ep_part_refusal.end");
+_Static_assert(offsetof(ep_part_refusal, len) == 16 && sizeof(((ep_part_refusal *)0)->len) == 8, "ep_part_refusal.len");
+_Static_assert(sizeof(ep_message) == 56, "ep_message");
+_Static_assert(offsetof(ep_message, len) == 0 && sizeof(((ep_message *)0)->len) == 8, "ep_message.len");
+_Static_assert(offsetof(ep_message, ip_version) == 8 && sizeof(((ep_message *)0)->ip_version) == 4, "ep_message.ip_version");
+_Static_assert(offsetof(ep_message, number) == 12 && sizeof(((ep_message *)0)->number) == 1, "ep_message.number");
+_Static_assert(offsetof(ep_message, ipv4_source) == 13 && sizeof(((ep_message *)0)->ipv4_source) == 4, "ep_message.ipv4_source");
+_Static_assert(offsetof(ep_message, ipv4_destination) == 17 && sizeof(((ep_message *)0)->ipv4_destination) == 4, "ep_message.ipv4_destination");
+_Static_assert(offsetof(ep_message, ipv6_source) == 21 && sizeof(((ep_message *)0)->ipv6_source) == 16, "ep_message.ipv6_source");
+_Static_assert(offsetof(ep_message, ipv6_destination) == 37 && sizeof(((ep_message *)0)->ipv6_destination) == 16, "ep_message.ipv6_destination");
+_Static_assert(sizeof(ep_added) == 128, "ep_added");
+_Static_assert(offsetof(ep_added, status) == 0 && sizeof(((ep_added *)0)->status) == 4, "ep_added.status");
+_Static_assert(offsetof(ep_added, refusal) == 8 && sizeof(((ep_added *)0)->refusal) == 40, "ep_added.refusal");
+_Static_assert(offsetof(ep_added, part) == 48 && sizeof(((ep_added *)0)->part) == 24, "ep_added.part");
+_Static_assert(offsetof(ep_added, message) == 72 && sizeof(((ep_added *)0)->message) == 56, "ep_added.message");
 _Static_assert(sizeof(ep_built) == 16, "ep_built");
 _Static_assert(offsetof(ep_built, status) == 0 && sizeof(((ep_built *)0)->status) == 4, "ep_built.status");
 _Static_assert(offsetof(ep_built, field) == 4 && sizeof(((ep_built *)0)->field) == 4, "ep_built.field");
@@ -79,14 +106,6 @@ _Static_assert(offsetof(ep_arp, target_protocol) == 64 && sizeof(((ep_arp *)0)->
 _Static_assert(offsetof(ep_arp, hardware_type) == 80 && sizeof(((ep_arp *)0)->hardware_type) == 2, "ep_arp.hardware_type");
 _Static_assert(offsetof(ep_arp, protocol_type) == 82 && sizeof(((ep_arp *)0)->protocol_type) == 2, "ep_arp.protocol_type");
 _Static_assert(offsetof(ep_arp, operation) == 84 && sizeof(((ep_arp *)0)->operation) == 2, "ep_arp.operation");
-_Static_assert(sizeof(ep_refusal) == 40, "ep_refusal");
-_Static_assert(offsetof(ep_refusal, kind) == 0 && sizeof(((ep_refusal *)0)->kind) == 4, "ep_refusal.kind");
-_Static_assert(offsetof(ep_refusal, layer) == 4 && sizeof(((ep_refusal *)0)->layer) == 4, "ep_refusal.layer");
-_Static_assert(offsetof(ep_refusal, needed) == 8 && sizeof(((ep_refusal *)0)->needed) == 8, "ep_refusal.needed");
-_Static_assert(offsetof(ep_refusal, there) == 16 && sizeof(((ep_refusal *)0)->there) == 8, "ep_refusal.there");
-_Static_assert(offsetof(ep_refusal, place) == 24 && sizeof(((ep_refusal *)0)->place) == 8, "ep_refusal.place");
-_Static_assert(offsetof(ep_refusal, source) == 32 && sizeof(((ep_refusal *)0)->source) == 4, "ep_refusal.source");
-_Static_assert(offsetof(ep_refusal, value) == 36 && sizeof(((ep_refusal *)0)->value) == 4, "ep_refusal.value");
 _Static_assert(sizeof(ep_udp) == 40, "ep_udp");
 _Static_assert(offsetof(ep_udp, header) == 0 && sizeof(((ep_udp *)0)->header) == 16, "ep_udp.header");
 _Static_assert(offsetof(ep_udp, payload) == 16 && sizeof(((ep_udp *)0)->payload) == 16, "ep_udp.payload");
@@ -172,9 +191,18 @@ _Static_assert(offsetof(ep_plan, ece) == 119 && sizeof(((ep_plan *)0)->ece) == 1
 _Static_assert(offsetof(ep_plan, cwr) == 120 && sizeof(((ep_plan *)0)->cwr) == 1, "ep_plan.cwr");
 _Static_assert(offsetof(ep_plan, options_len) == 128 && sizeof(((ep_plan *)0)->options_len) == 8, "ep_plan.options_len");
 _Static_assert(offsetof(ep_plan, options) == 136 && sizeof(((ep_plan *)0)->options) == 40, "ep_plan.options");
+_Static_assert(sizeof(ep_pool) == 16, "ep_pool");
+_Static_assert(offsetof(ep_pool, is_open) == 0 && sizeof(((ep_pool *)0)->is_open) == 1, "ep_pool.is_open");
+_Static_assert(offsetof(ep_pool, held) == 8 && sizeof(((ep_pool *)0)->held) == 8, "ep_pool.held");
 _Static_assert(__builtin_types_compatible_p(__typeof__(ep_build), ep_built (const ep_plan *plan, const uint8_t *payload, size_t payload_len, uint8_t *output, size_t output_len)), "ep_build");
 _Static_assert(__builtin_types_compatible_p(__typeof__(ep_checksum), uint16_t (const uint8_t *bytes, size_t bytes_len)), "ep_checksum");
 _Static_assert(__builtin_types_compatible_p(__typeof__(ep_checksum_is_right), bool (const uint8_t *bytes, size_t bytes_len)), "ep_checksum_is_right");
+_Static_assert(__builtin_types_compatible_p(__typeof__(ep_pool_new), uint32_t (ep_pool *pool)), "ep_pool_new");
+_Static_assert(__builtin_types_compatible_p(__typeof__(ep_pool_add), ep_added (ep_pool *pool, const uint8_t *frame, size_t frame_len, uint64_t time, uint32_t channel, uint8_t *output, size_t output_len)), "ep_pool_add");
+_Static_assert(__builtin_types_compatible_p(__typeof__(ep_pool_take), ep_added (ep_pool *pool, uint8_t *output, size_t output_len)), "ep_pool_take");
+_Static_assert(__builtin_types_compatible_p(__typeof__(ep_pool_forget_before), uint32_t (ep_pool *pool, uint64_t time)), "ep_pool_forget_before");
+_Static_assert(__builtin_types_compatible_p(__typeof__(ep_pool_open), size_t (ep_pool *pool)), "ep_pool_open");
+_Static_assert(__builtin_types_compatible_p(__typeof__(ep_pool_free), void (ep_pool *pool)), "ep_pool_free");
 _Static_assert(__builtin_types_compatible_p(__typeof__(ep_slice_ethernet), ep_packet (const uint8_t *bytes, size_t bytes_len)), "ep_slice_ethernet");
 _Static_assert(__builtin_types_compatible_p(__typeof__(ep_slice_linux_sll), ep_packet (const uint8_t *bytes, size_t bytes_len)), "ep_slice_linux_sll");
 _Static_assert(__builtin_types_compatible_p(__typeof__(ep_slice_ip), ep_packet (const uint8_t *bytes, size_t bytes_len)), "ep_slice_ip");

@@ -1,9 +1,7 @@
 /* What is told of the packets of a table: c/tests/packets.txt says how its lines read. */
+#include "common.h"
 #include "etherparse.h"
 #include "fields.h"
-#include <stdio.h>
-#include <stdlib.h>
-#include <string.h>
 
 static ep_packet packet;
 static uint32_t verdict;
@@ -43,54 +41,37 @@ static void slice(const char *call, const uint8_t *bytes, size_t len) {
     }
 }
 
-/* The bytes stand at the end of a block, so that a sanitizer sees a read behind them. */
-static uint8_t *block_of(const char *hex, size_t *len) {
-    *len = strcmp(hex, "-") ? strlen(hex) / 2 : 0;
-    uint8_t *bytes = malloc(*len ? *len : 1);
-    for (size_t i = 0; bytes && i < *len; i++) {
-        unsigned byte;
-        sscanf(hex + 2 * i, "%2x", &byte);
-        bytes[i] = (uint8_t)byte;
-    }
-    return bytes;
-}
-
-static int sums_fail(void) {
+static int sums_are_right(void) {
     /* RFC 1071, section 3: the words 0001 f203 f4f5 f6f7 sum to ddf2. */
     static const uint8_t words[] = {0x00, 0x01, 0xf2, 0x03, 0xf4, 0xf5, 0xf6, 0xf7};
     static const uint8_t sealed[] = {0x00, 0x01, 0xf2, 0x03, 0xf4, 0xf5, 0xf6, 0xf7, 0x22, 0x0d};
-    return ep_checksum(words, 8) != 0x220d || ep_checksum(words, 0) != 0xffff || ep_checksum_is_right(words, 8) ||
-           ep_checksum_is_right(words, 0) || !ep_checksum_is_right(sealed, 10);
+    return ep_checksum(words, 8) == 0x220d && ep_checksum(words, 0) == 0xffff && !ep_checksum_is_right(words, 8) &&
+           !ep_checksum_is_right(words, 0) && ep_checksum_is_right(sealed, 10);
 }
 
 int main(int argc, char **argv) {
-    FILE *table = argc > 1 ? fopen(argv[1], "r") : NULL;
+    FILE *table = table_of(argc, argv);
     static char line[65536], value[256];
-    int passed = 0, failed = 0;
-    if (!table) return 2;
     while (fgets(line, sizeof line, table)) {
         if (*line == '#') continue;
         char *call = strtok(line, " "), *hex = strtok(NULL, " "), *field;
         size_t len;
         uint8_t *bytes = block_of(hex, &len);
-        if (!bytes) return 2;
         slice(call, bytes, len);
-        int wrong = 0;
+        int right = 1;
         while ((field = strtok(NULL, " \n"))) {
             char *wanted = strchr(field, '=');
             *wanted++ = 0;
             written(field, value, sizeof value);
             if (strcmp(value, wanted)) {
                 printf("%s %s: %s is %s, not %s\n", call, hex, field, value, wanted);
-                wrong = 1;
+                right = 0;
             }
         }
         free(bytes);
-        passed += !wrong, failed += wrong;
+        check(right, "a packet");
     }
     fclose(table);
-    int wrong = sums_fail();
-    passed += !wrong, failed += wrong;
-    printf("%d passed, %d failed\n", passed, failed);
-    return failed != 0;
+    check(sums_are_right(), "checksums");
+    return counted();
 }

@@ -1,22 +1,7 @@
 /* What is built of the plans of a table: c/tests/plans.txt says how its lines read. */
+#include "common.h"
 #include "etherparse.h"
 #include "fields.h"
-#include <stdio.h>
-#include <stdlib.h>
-#include <string.h>
-
-/* Hex digits as bytes at the end of a block, so that a sanitizer sees a step behind them. */
-static uint8_t *block_of(const char *hex, size_t *len) {
-    *len = strcmp(hex, "-") ? strlen(hex) / 2 : 0;
-    uint8_t *bytes = malloc(*len ? *len : 1);
-    if (!bytes) exit(2);
-    for (size_t i = 0; i < *len; i++) {
-        unsigned byte;
-        sscanf(hex + 2 * i, "%2x", &byte);
-        bytes[i] = (uint8_t)byte;
-    }
-    return bytes;
-}
 
 /* Gives a field of the plan the value that the table has. */
 static int set(ep_plan *plan, const char *path, const char *value) {
@@ -39,8 +24,7 @@ static int set(ep_plan *plan, const char *path, const char *value) {
 
 /* Whether the plan is built as these bytes, in a room of its length, and in none that is smaller. */
 static int builds(const ep_plan *plan, const uint8_t *payload, size_t payload_len, const uint8_t *frame, size_t len) {
-    uint8_t *output = malloc(len + 2), before = 7;
-    if (!output) exit(2);
+    uint8_t *output = block(len + 2), before = 7;
     memset(output, 7, len + 2);
     ep_built none = ep_build(plan, payload, payload_len, &before, 0);
     ep_built less = ep_build(plan, payload, payload_len, output, len - 1);
@@ -61,19 +45,17 @@ static int refuses(const ep_plan *plan, const uint8_t *payload, size_t payload_l
 }
 
 /* A payload that is a byte longer than the total length can say (RFC 791, section 3.1), and the longest. */
-static int length_is_wrong(void) {
+static int lengths_are_right(void) {
     static uint8_t payload[65508], output[65536];
     ep_plan plan = {.ip_version = 4, .transport = 17}, echo = {.ip_version = 4, .transport = 58};
     ep_built longest = ep_build(&plan, payload, 65507, output, sizeof output);
-    return !refuses(&plan, payload, 65508, EP_FIELD_PAYLOAD) || longest.status != EP_DONE || longest.len != 65535 ||
-           !refuses(&echo, payload, 65508, EP_FIELD_PAYLOAD);
+    return refuses(&plan, payload, 65508, EP_FIELD_PAYLOAD) && longest.status == EP_DONE && longest.len == 65535 &&
+           refuses(&echo, payload, 65508, EP_FIELD_PAYLOAD);
 }
 
 int main(int argc, char **argv) {
-    FILE *table = argc > 1 ? fopen(argv[1], "r") : NULL;
+    FILE *table = table_of(argc, argv);
     static char line[65536];
-    int passed = 0, failed = 0;
-    if (!table) return 2;
     while (fgets(line, sizeof line, table)) {
         if (*line == '#') continue;
         char *payload_hex = strtok(line, " "), *wanted = strtok(NULL, " "), *path;
@@ -93,13 +75,10 @@ int main(int argc, char **argv) {
             right &= builds(&plan, payload, payload_len, frame, len);
             free(frame);
         }
-        if (!right) printf("FAILED: %s %s\n", payload_hex, wanted);
+        check(right, wanted);
         free(payload);
-        passed += right, failed += !right;
     }
     fclose(table);
-    int wrong = length_is_wrong();
-    passed += !wrong, failed += wrong;
-    printf("%d passed, %d failed\n", passed, failed);
-    return failed != 0;
+    check(lengths_are_right(), "the longest payload");
+    return counted();
 }

@@ -1,18 +1,6 @@
 /* The states of a session, rooms of length 0, and what its calls leave as it was. */
+#include "common.h"
 #include "netlines.h"
-#include <stdio.h>
-#include <string.h>
-
-static int passed, failed;
-
-static void check(int right, const char *what) {
-    if (right) {
-        passed++;
-    } else {
-        failed++;
-        printf("FAILED: %s\n", what);
-    }
-}
 
 int main(void) {
     static const char bad[] = "bad line\n";
@@ -46,6 +34,5 @@ int main(void) {
         netlines_feed(&one, (const uint8_t *)"\n", 1, &none, 0, &written);
         netlines_close(&one);
     }
-    printf("%d passed, %d failed\n", passed, failed);
-    return failed != 0;
+    return counted();
 }

@@ -1,4 +1,4 @@
-"""Packets sliced, judged, summed and built, and lines of hex frames answered, by proved code.
+"""Packets sliced, judged, summed, built and put together, and lines of hex frames answered, by proved code.
 
     >>> from etherparse import slice_ethernet
     >>> slice_ethernet(frame).ipv4.source
@@ -19,10 +19,10 @@ from typing import List, Optional, Sequence, Union
 from . import _raw
 
 __all__ = [
-    "Arp", "BuildRefused", "Icmp", "Ipv4", "Ipv6", "Link", "Packet", "PlannedCapture", "PlannedEcho",
-    "PlannedEthernet", "PlannedTcp", "PlannedUdp", "Refused", "Session", "Tag", "Tcp", "Udp", "Verdict", "answers",
-    "build", "checksum", "checksum_is_right", "slice_ethernet", "slice_ip", "slice_linux_sll", "verdict_ethernet",
-    "verdict_ip", "verdict_linux_sll",
+    "Arp", "BuildRefused", "Icmp", "Ipv4", "Ipv6", "Link", "Message", "Packet", "PartRefused", "PlannedCapture",
+    "PlannedEcho", "PlannedEthernet", "PlannedTcp", "PlannedUdp", "Pool", "Refused", "Session", "Tag", "Tcp", "Udp",
+    "Verdict", "answers", "build", "checksum", "checksum_is_right", "slice_ethernet", "slice_ip", "slice_linux_sll",
+    "verdict_ethernet", "verdict_ip", "verdict_linux_sll",
 ]  # fmt: skip
 
 
@@ -121,10 +121,12 @@ class Ipv4(_Layer):
 
     @property
     def source(self) -> ipaddress.IPv4Address:
+        """The source address."""
         return ipaddress.IPv4Address(bytes(self._fields.source))
 
     @property
     def destination(self) -> ipaddress.IPv4Address:
+        """The destination address."""
         return ipaddress.IPv4Address(bytes(self._fields.destination))
 
 
@@ -133,10 +135,12 @@ class Ipv6(_Layer):
 
     @property
     def source(self) -> ipaddress.IPv6Address:
+        """The source address."""
         return ipaddress.IPv6Address(bytes(self._fields.source))
 
     @property
     def destination(self) -> ipaddress.IPv6Address:
+        """The destination address."""
         return ipaddress.IPv6Address(bytes(self._fields.destination))
 
 
@@ -169,30 +173,37 @@ class Packet:
 
     @property
     def link(self) -> Optional[Link]:
+        """The link header."""
         return Link(self._frame, self._fields.link) if self._fields.link.kind else None
 
     @property
     def tags(self) -> List[Tag]:
+        """The VLAN tags and MACsec headers behind it, in their order."""
         return [Tag(self._frame, tag) for tag in self._fields.tags[: self._fields.tag_count]]
 
     @property
     def arp(self) -> Optional[Arp]:
+        """The ARP packet."""
         return Arp(self._frame, self._fields.arp) if self._fields.net == 1 else None
 
     @property
     def ipv4(self) -> Optional[Ipv4]:
+        """The IPv4 packet."""
         return Ipv4(self._frame, self._fields.ipv4) if self._fields.net == 4 else None
 
     @property
     def ipv6(self) -> Optional[Ipv6]:
+        """The IPv6 packet."""
         return Ipv6(self._frame, self._fields.ipv6) if self._fields.net == 6 else None
 
     @property
     def udp(self) -> Optional[Udp]:
+        """The UDP datagram."""
         return Udp(self._frame, self._fields.udp) if self._fields.transport == 17 else None
 
     @property
     def tcp(self) -> Optional[Tcp]:
+        """The TCP segment."""
         return Tcp(self._frame, self._fields.tcp) if self._fields.transport == 6 else None
 
     @property
@@ -395,6 +406,106 @@ def build(
     return _c.string_at(output, built.len)
 
 
+@dataclass(frozen=True)
+class Message:
+    """A message that is complete: its addresses, the number of its protocol, and its bytes."""
+
+    source: Address
+    destination: Address
+    number: int
+    data: bytes
+
+
+class PartRefused(ValueError):
+    """A part of a message that isn't taken. Its `kind` and fields are as in etherparse.h."""
+
+    def __init__(self, refusal: _raw.EpPartRefusal) -> None:
+        self.kind: int = refusal.kind
+        self.offset: int = refusal.offset
+        self.len: int = refusal.len
+        self.previous_end: int = refusal.previous_end
+        self.end: int = refusal.end
+        if self.kind == 3:
+            text = f"a part that ends at {self.end}, of a message that ends at {self.previous_end}"
+        else:
+            reason = "and no multiple of 8" if self.kind == 1 else "which ends behind byte 65535"
+            text = f"a part of {self.len} bytes at offset {self.offset}, {reason}"
+        super().__init__(text)
+
+
+def _number(name: str, number: int, bits: int) -> int:
+    """The number, where it fits: ctypes takes its lowest bits in silence."""
+    if not 0 <= number < 1 << bits:
+        raise ValueError(f"{name} has no room for {number}")
+    return number
+
+
+class Pool:
+    """The messages that are on their way in parts. It stays on the thread that made it.
+
+    One that never completes is held until `forget_before` drops it. So a caller whose input isn't trusted calls that
+    regularly: a receiver gives a message up by a timer (RFC 791, section 3.2), over IPv6 60 seconds after its first
+    part came (RFC 8200, section 4.5).
+
+        with Pool() as pool:
+            for frame in frames:
+                message = pool.add(frame, time)
+    """
+
+    _ROOM = 65535
+
+    def __init__(self) -> None:
+        self._raw = _raw.EpPool()
+        self._room = (_c.c_uint8 * self._ROOM)()
+        if _etherparse.ep_pool_new(_c.byref(self._raw)) != _raw.DONE:
+            raise MemoryError
+
+    def _opened(self):
+        if not self._raw.is_open:
+            raise ValueError("the pool is closed")
+        return _c.byref(self._raw)
+
+    def add(self, frame: bytes, time: int, channel: int = 0) -> Optional[Message]:
+        """Takes an Ethernet II frame, which came at this time on this channel, and gives the message that is complete
+        with it. Messages of other channels are other messages. Raises Refused, PartRefused and MemoryError, and leaves
+        all messages as they were then."""
+        pool, time, channel = self._opened(), _number("time", time, 64), _number("channel", channel, 32)
+        added = _etherparse.ep_pool_add(pool, frame, len(frame), time, channel, self._room, self._ROOM)
+        if added.refusal.kind:
+            raise Refused(added.refusal)
+        if added.part.kind:
+            raise PartRefused(added.part)
+        if added.status == _raw.NO_MEMORY:
+            raise MemoryError
+        if added.status != _raw.COMPLETED:
+            return None
+        told = added.message
+        ends = (getattr(told, f"ipv{told.ip_version}_{end}") for end in ("source", "destination"))
+        source, destination = (ipaddress.ip_address(bytes(end)) for end in ends)
+        return Message(source, destination, told.number, _c.string_at(self._room, told.len))
+
+    def forget_before(self, time: int) -> None:
+        """Drops the messages whose last part came before this time."""
+        _etherparse.ep_pool_forget_before(self._opened(), _number("time", time, 64))
+
+    def __len__(self) -> int:
+        """How many messages are on their way."""
+        return _etherparse.ep_pool_open(_c.byref(self._raw))
+
+    def close(self) -> None:
+        """Frees what the pool holds. Closing it again does nothing."""
+        _etherparse.ep_pool_free(_c.byref(self._raw))
+
+    def __enter__(self) -> "Pool":
+        return self
+
+    def __exit__(self, *_) -> None:
+        self.close()
+
+    def __del__(self) -> None:
+        self.close()
+
+
 def _handed_out(call, room: int) -> bytes:
     """Calls again with the room that is needed, where there was too little."""
     while True:
@@ -415,7 +526,7 @@ def answers(text: bytes) -> bytes:
 
 
 class Session:
-    """Lines that come in pieces of any length, and the answers to them as they come.
+    """Lines that come in pieces of any length, and the answers to them as they come. It stays on the thread that made it.
 
     Fed in any pieces, the answers are `answers` of the whole. After a MemoryError it is closed.
 

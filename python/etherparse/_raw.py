@@ -10,6 +10,10 @@ NO_ROOM = 1
 NO_MEMORY = 2
 # A field is refused.
 REFUSED = 3
+# It isn't open, or is open already, or keeps a message.
+WRONG_STATE = 4
+# A message is complete.
+COMPLETED = 5
 FIELD_LINK = 1
 FIELD_PACKET_TYPE = 2
 FIELD_TAG_COUNT = 3
@@ -60,6 +64,57 @@ NETLINES_NO_ROOM = 1
 NETLINES_NO_MEMORY = 2
 # The session isn't open, or was told the end, or is open already.
 NETLINES_WRONG_STATE = 3
+
+
+class EpRefusal(c.Structure):
+    """Why a packet is refused. All fields are 0 where it isn't."""
+
+    _fields_ = [
+        ("kind", c.c_uint32),
+        ("layer", c.c_uint32),
+        ("needed", c.c_size_t),
+        ("there", c.c_size_t),
+        ("place", c.c_size_t),
+        ("source", c.c_uint32),
+        ("value", c.c_uint32),
+    ]
+
+
+class EpPartRefusal(c.Structure):
+    """Why a part of a message is refused. All fields are 0 where it isn't."""
+
+    _fields_ = [
+        ("kind", c.c_uint32),
+        ("offset", c.c_uint16),
+        ("previous_end", c.c_uint16),
+        ("end", c.c_uint16),
+        ("len", c.c_size_t),
+    ]
+
+
+class EpMessage(c.Structure):
+    """A message that was put together. All fields are 0 where there is none."""
+
+    _fields_ = [
+        ("len", c.c_size_t),
+        ("ip_version", c.c_uint32),
+        ("number", c.c_uint8),
+        ("ipv4_source", c.c_uint8 * 4),
+        ("ipv4_destination", c.c_uint8 * 4),
+        ("ipv6_source", c.c_uint8 * 16),
+        ("ipv6_destination", c.c_uint8 * 16),
+    ]
+
+
+class EpAdded(c.Structure):
+    """What became of a frame that a pool was given, or of the message that it kept."""
+
+    _fields_ = [
+        ("status", c.c_uint32),
+        ("refusal", EpRefusal),
+        ("part", EpPartRefusal),
+        ("message", EpMessage),
+    ]
 
 
 class EpBuilt(c.Structure):
@@ -180,20 +235,6 @@ class EpArp(c.Structure):
     ]
 
 
-class EpRefusal(c.Structure):
-    """Why a packet is refused. All fields are 0 where it isn't."""
-
-    _fields_ = [
-        ("kind", c.c_uint32),
-        ("layer", c.c_uint32),
-        ("needed", c.c_size_t),
-        ("there", c.c_size_t),
-        ("place", c.c_size_t),
-        ("source", c.c_uint32),
-        ("value", c.c_uint32),
-    ]
-
-
 class EpUdp(c.Structure):
     """A UDP datagram (RFC 768)."""
 
@@ -309,6 +350,15 @@ class EpPlan(c.Structure):
     ]
 
 
+class EpPool(c.Structure):
+    """The messages that are on their way in parts. It begins as zeros, and is changed by these calls alone."""
+
+    _fields_ = [
+        ("is_open", c.c_bool),
+        ("held", c.c_void_p),
+    ]
+
+
 class NetlinesSession(c.Structure):
     """Lines that come in pieces. It begins as zeros, and is changed by these calls alone."""
 
@@ -317,6 +367,10 @@ class NetlinesSession(c.Structure):
         ("held", c.c_void_p),
     ]
 
+assert c.sizeof(EpRefusal) == 40
+assert c.sizeof(EpPartRefusal) == 24
+assert c.sizeof(EpMessage) == 56
+assert c.sizeof(EpAdded) == 128
 assert c.sizeof(EpBuilt) == 16
 assert c.sizeof(EpLink) == 32
 assert c.sizeof(EpPart) == 16
@@ -324,12 +378,12 @@ assert c.sizeof(EpTag) == 48
 assert c.sizeof(EpIpv4) == 72
 assert c.sizeof(EpIpv6) == 104
 assert c.sizeof(EpArp) == 88
-assert c.sizeof(EpRefusal) == 40
 assert c.sizeof(EpUdp) == 40
 assert c.sizeof(EpTcp) == 64
 assert c.sizeof(EpIcmp) == 40
 assert c.sizeof(EpPacket) == 656
 assert c.sizeof(EpPlan) == 176
+assert c.sizeof(EpPool) == 16
 
 assert c.sizeof(NetlinesSession) == 16
 
@@ -342,6 +396,18 @@ def declare_etherparse(library: c.CDLL) -> None:
     library.ep_checksum.restype = c.c_uint16
     library.ep_checksum_is_right.argtypes = [c.c_char_p, c.c_size_t]
     library.ep_checksum_is_right.restype = c.c_bool
+    library.ep_pool_new.argtypes = [c.POINTER(EpPool)]
+    library.ep_pool_new.restype = c.c_uint32
+    library.ep_pool_add.argtypes = [c.POINTER(EpPool), c.c_char_p, c.c_size_t, c.c_uint64, c.c_uint32, c.POINTER(c.c_uint8), c.c_size_t]
+    library.ep_pool_add.restype = EpAdded
+    library.ep_pool_take.argtypes = [c.POINTER(EpPool), c.POINTER(c.c_uint8), c.c_size_t]
+    library.ep_pool_take.restype = EpAdded
+    library.ep_pool_forget_before.argtypes = [c.POINTER(EpPool), c.c_uint64]
+    library.ep_pool_forget_before.restype = c.c_uint32
+    library.ep_pool_open.argtypes = [c.POINTER(EpPool)]
+    library.ep_pool_open.restype = c.c_size_t
+    library.ep_pool_free.argtypes = [c.POINTER(EpPool)]
+    library.ep_pool_free.restype = None
     library.ep_slice_ethernet.argtypes = [c.c_char_p, c.c_size_t]
     library.ep_slice_ethernet.restype = EpPacket
     library.ep_slice_linux_sll.argtypes = [c.c_char_p, c.c_size_t]

@@ -1,5 +1,6 @@
 """Run at the top of the repository: python3 -m unittest discover -s python -t python"""
 
+import inspect
 import ipaddress
 import unittest
 from pathlib import Path
@@ -172,6 +173,53 @@ class Plans(unittest.TestCase):
                 ep.build(b"", **{**ends, **wrong})
 
 
+class Pools(unittest.TestCase):
+    def answer(self, pool, frame, time, channel):
+        """What a frame is answered, in the words of the table."""
+        try:
+            message = pool.add(frame, time, channel)
+        except ep.Refused as refused:
+            return ["frame", refused.kind]
+        except ep.PartRefused as part:
+            return ["part", part.kind, part.offset, part.previous_end, part.end, part.len]
+        if message is None:
+            return ["none"]
+        ends = message.source, message.destination
+        return ["message", ends[0].version, message.number, *(end.packed.hex() for end in ends), message.data.hex()]
+
+    def test_table(self):
+        pool = ep.Pool()
+        for line in (TOP / "c/tests/pools.txt").read_text().splitlines():
+            call, *words = line.split()
+            with self.subTest(line):
+                if call == "pool":
+                    pool.close()
+                    pool = ep.Pool()
+                elif call == "add":
+                    time, channel, digits, *wanted = words
+                    told = self.answer(pool, bytes.fromhex(digits.strip("-")), int(time), int(channel))
+                    self.assertEqual([str(word) for word in told], wanted)
+                elif call == "forget":
+                    pool.forget_before(int(words[0]))
+                elif call == "open":
+                    self.assertEqual(len(pool), int(words[0]))
+
+    def test_states(self):
+        with ep.Pool() as pool:
+            for wrong in dict(time=-1), dict(time=1 << 64), dict(channel=-1), dict(channel=1 << 32):
+                with self.subTest(wrong), self.assertRaises(ValueError):
+                    pool.add(UDP, **{"time": 1, **wrong})
+            with self.assertRaises(ValueError):
+                pool.forget_before(-1)
+            with self.assertRaisesRegex(ep.PartRefused, "a part of 7 bytes at offset 0, and no multiple of 8"):
+                pool.add(bytes.fromhex("00" * 12 + "0800" + "4500001b00012000401166ca0a0000010a000002" + "00" * 7), 1)
+        for call in (lambda: pool.add(UDP, 6), lambda: pool.forget_before(6)):
+            with self.assertRaisesRegex(ValueError, "the pool is closed"):
+                call()
+        self.assertEqual(len(pool), 0)
+        pool.close()
+
+
 class Answers(unittest.TestCase):
     def test_rows(self):
         texts = sorted((TOP / "crates/netlines_rows/data").glob("*.in"))
@@ -206,6 +254,23 @@ class Answers(unittest.TestCase):
         with self.assertRaises(ValueError):
             session.finish()
         session.close()
+
+
+class Documentation(unittest.TestCase):
+    def test_public_calls_have_hints_and_a_text(self):
+        for name in ep.__all__:
+            item = getattr(ep, name)
+            self.assertTrue(item.__doc__, name)
+            calls = [item] if inspect.isfunction(item) else []
+            for own, member in vars(item).items() if isinstance(item, type) else ():
+                member = member.fget if isinstance(member, property) else member
+                if inspect.isfunction(member) and not own.startswith("_"):
+                    calls.append(member)
+            for call in calls:
+                with self.subTest(name, call=call.__name__):
+                    self.assertTrue(call.__doc__)
+                    wanted = {*inspect.signature(call).parameters, "return"} - {"self"}
+                    self.assertEqual(set(call.__annotations__), wanted)
 
 
 if __name__ == "__main__":

@@ -1,10 +1,11 @@
 //! Safe Rust over `libetherparse` and `libnetlines`, whose code is proved.
 //!
-//! The exports require nothing but what a slice's type says, and of a session that only they changed it, so
-//! that each call is safe.
+//! The exports require nothing but what a slice's type says, and of a session or a pool that only they
+//! changed it, so that each call is safe.
 
 mod packet;
 mod plan;
+mod pool;
 pub mod raw;
 mod refusal;
 
@@ -12,6 +13,7 @@ pub use packet::{Link, Net, Packet, Transport};
 pub use plan::{
     BuildError, Plan, PlanField, PlannedAddresses, PlannedEcho, PlannedLink, PlannedTcp, PlannedTransport, build,
 };
+pub use pool::{AddError, Message, PartRefusal, Pool};
 pub use refusal::{Fault, Layer, LenSource, Refusal};
 
 use std::error::Error;

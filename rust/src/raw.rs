@@ -9,6 +9,10 @@ pub const NO_ROOM: u32 = 1;
 pub const NO_MEMORY: u32 = 2;
 /// A field is refused.
 pub const REFUSED: u32 = 3;
+/// It isn't open, or is open already, or keeps a message.
+pub const WRONG_STATE: u32 = 4;
+/// A message is complete.
+pub const COMPLETED: u32 = 5;
 pub const FIELD_LINK: u32 = 1;
 pub const FIELD_PACKET_TYPE: u32 = 2;
 pub const FIELD_TAG_COUNT: u32 = 3;
@@ -58,6 +62,78 @@ pub const NETLINES_NO_ROOM: u32 = 1;
 pub const NETLINES_NO_MEMORY: u32 = 2;
 /// The session isn't open, or was told the end, or is open already.
 pub const NETLINES_WRONG_STATE: u32 = 3;
+
+/// Why a packet is refused. All fields are 0 where it isn't.
+#[repr(C)]
+#[derive(Clone, Copy, Debug, PartialEq, Eq)]
+pub struct EpRefusal {
+    /// 0 not refused, 1 too few bytes, and from 2 on a header that breaks its format.
+    pub kind: u32,
+    /// The layer at fault, numbered from 1 as the errors of `etherparse` name the layers.
+    pub layer: u32,
+    /// Of too few bytes: how many the layer needs.
+    pub needed: usize,
+    /// Of too few bytes: how many are there.
+    pub there: usize,
+    /// Of too few bytes: the offset of the layer's first byte.
+    pub place: usize,
+    /// Of too few bytes: where their number comes from.
+    pub source: u32,
+    /// Of a header that breaks its format: the field that it holds in place of a right one.
+    pub value: u32,
+}
+
+/// Why a part of a message is refused. All fields are 0 where it isn't.
+#[repr(C)]
+#[derive(Clone, Copy, Debug, PartialEq, Eq)]
+pub struct EpPartRefusal {
+    /// 0 not refused, 1 others follow it and its length is no multiple of 8, 2 it ends behind byte
+    /// 65535, 3 it ends elsewhere than the message.
+    pub kind: u32,
+    /// Of kinds 1 and 2: its offset in the message, in units of 8 bytes.
+    pub offset: u16,
+    /// Of kind 3: the end of the message, in bytes.
+    pub previous_end: u16,
+    /// Of kind 3: its own end, in bytes.
+    pub end: u16,
+    /// Of kinds 1 and 2: its length.
+    pub len: usize,
+}
+
+/// A message that was put together. All fields are 0 where there is none.
+#[repr(C)]
+#[derive(Clone, Copy, Debug, PartialEq, Eq)]
+pub struct EpMessage {
+    /// How many bytes it has.
+    pub len: usize,
+    /// The IP version: 4 or 6.
+    pub ip_version: u32,
+    /// The number of its protocol.
+    pub number: u8,
+    /// Of IPv4.
+    pub ipv4_source: [u8; 4],
+    /// Of IPv4.
+    pub ipv4_destination: [u8; 4],
+    /// Of IPv6.
+    pub ipv6_source: [u8; 16],
+    /// Of IPv6.
+    pub ipv6_destination: [u8; 16],
+}
+
+/// What became of a frame that a pool was given, or of the message that it kept.
+#[repr(C)]
+#[derive(Clone, Copy, Debug, PartialEq, Eq)]
+pub struct EpAdded {
+    /// 5 where a message is complete and written, 1 where it is complete and has no room, and 0
+    /// where none is complete; 2 out of memory, 3 refused, 4 in a wrong state.
+    pub status: u32,
+    /// Why the frame is refused.
+    pub refusal: EpRefusal,
+    /// Why the part of a message that the frame has is refused.
+    pub part: EpPartRefusal,
+    /// The message that is complete.
+    pub message: EpMessage,
+}
 
 /// What became of a packet that was to be built.
 #[repr(C)]
@@ -237,26 +313,6 @@ pub struct EpArp {
     pub protocol_type: u16,
     /// 1 request, 2 reply.
     pub operation: u16,
-}
-
-/// Why a packet is refused. All fields are 0 where it isn't.
-#[repr(C)]
-#[derive(Clone, Copy, Debug, PartialEq, Eq)]
-pub struct EpRefusal {
-    /// 0 not refused, 1 too few bytes, and from 2 on a header that breaks its format.
-    pub kind: u32,
-    /// The layer at fault, numbered from 1 as the errors of `etherparse` name the layers.
-    pub layer: u32,
-    /// Of too few bytes: how many the layer needs.
-    pub needed: usize,
-    /// Of too few bytes: how many are there.
-    pub there: usize,
-    /// Of too few bytes: the offset of the layer's first byte.
-    pub place: usize,
-    /// Of too few bytes: where their number comes from.
-    pub source: u32,
-    /// Of a header that breaks its format: the field that it holds in place of a right one.
-    pub value: u32,
 }
 
 /// A UDP datagram (RFC 768).
@@ -451,6 +507,17 @@ pub struct EpPlan {
     pub options: [u8; 40],
 }
 
+/// The messages that are on their way in parts. It begins as zeros, and is changed by these calls
+/// alone.
+#[repr(C)]
+#[derive(Clone, Copy, Debug, PartialEq, Eq)]
+pub struct EpPool {
+    /// Whether it was opened and not freed.
+    pub is_open: bool,
+    /// For these calls alone.
+    pub held: *mut std::ffi::c_void,
+}
+
 /// Lines that come in pieces. It begins as zeros, and is changed by these calls alone.
 #[repr(C)]
 #[derive(Clone, Copy, Debug, PartialEq, Eq)]
@@ -465,6 +532,12 @@ unsafe extern "C" {
     pub(crate) fn ep_build(plan: *const EpPlan, payload: *const u8, payload_len: usize, output: *mut u8, output_len: usize) -> EpBuilt;
     pub(crate) fn ep_checksum(bytes: *const u8, bytes_len: usize) -> u16;
     pub(crate) fn ep_checksum_is_right(bytes: *const u8, bytes_len: usize) -> bool;
+    pub(crate) fn ep_pool_new(pool: *mut EpPool) -> u32;
+    pub(crate) fn ep_pool_add(pool: *mut EpPool, frame: *const u8, frame_len: usize, time: u64, channel: u32, output: *mut u8, output_len: usize) -> EpAdded;
+    pub(crate) fn ep_pool_take(pool: *mut EpPool, output: *mut u8, output_len: usize) -> EpAdded;
+    pub(crate) fn ep_pool_forget_before(pool: *mut EpPool, time: u64) -> u32;
+    pub(crate) fn ep_pool_open(pool: *mut EpPool) -> usize;
+    pub(crate) fn ep_pool_free(pool: *mut EpPool);
     pub(crate) fn ep_slice_ethernet(bytes: *const u8, bytes_len: usize) -> EpPacket;
     pub(crate) fn ep_slice_linux_sll(bytes: *const u8, bytes_len: usize) -> EpPacket;
     pub(crate) fn ep_slice_ip(bytes: *const u8, bytes_len: usize) -> EpPacket;
@@ -479,6 +552,33 @@ unsafe extern "C" {
 }
 
 // The layout of the exports' sources.
+const _: () = assert!(size_of::<EpRefusal>() == 40);
+const _: () = assert!(std::mem::offset_of!(EpRefusal, kind) == 0);
+const _: () = assert!(std::mem::offset_of!(EpRefusal, layer) == 4);
+const _: () = assert!(std::mem::offset_of!(EpRefusal, needed) == 8);
+const _: () = assert!(std::mem::offset_of!(EpRefusal, there) == 16);
+const _: () = assert!(std::mem::offset_of!(EpRefusal, place) == 24);
+const _: () = assert!(std::mem::offset_of!(EpRefusal, source) == 32);
+const _: () = assert!(std::mem::offset_of!(EpRefusal, value) == 36);
+const _: () = assert!(size_of::<EpPartRefusal>() == 24);
+const _: () = assert!(std::mem::offset_of!(EpPartRefusal, kind) == 0);
+const _: () = assert!(std::mem::offset_of!(EpPartRefusal, offset) == 4);
+const _: () = assert!(std::mem::offset_of!(EpPartRefusal, previous_end) == 6);
+const _: () = assert!(std::mem::offset_of!(EpPartRefusal, end) == 8);
+const _: () = assert!(std::mem::offset_of!(EpPartRefusal, len) == 16);
+const _: () = assert!(size_of::<EpMessage>() == 56);
+const _: () = assert!(std::mem::offset_of!(EpMessage, len) == 0);
+const _: () = assert!(std::mem::offset_of!(EpMessage, ip_version) == 8);
+const _: () = assert!(std::mem::offset_of!(EpMessage, number) == 12);
+const _: () = assert!(std::mem::offset_of!(EpMessage, ipv4_source) == 13);
+const _: () = assert!(std::mem::offset_of!(EpMessage, ipv4_destination) == 17);
+const _: () = assert!(std::mem::offset_of!(EpMessage, ipv6_source) == 21);
+const _: () = assert!(std::mem::offset_of!(EpMessage, ipv6_destination) == 37);
+const _: () = assert!(size_of::<EpAdded>() == 128);
+const _: () = assert!(std::mem::offset_of!(EpAdded, status) == 0);
+const _: () = assert!(std::mem::offset_of!(EpAdded, refusal) == 8);
+const _: () = assert!(std::mem::offset_of!(EpAdded, part) == 48);
+const _: () = assert!(std::mem::offset_of!(EpAdded, message) == 72);
 const _: () = assert!(size_of::<EpBuilt>() == 16);
 const _: () = assert!(std::mem::offset_of!(EpBuilt, status) == 0);
 const _: () = assert!(std::mem::offset_of!(EpBuilt, field) == 4);
@@ -555,14 +655,6 @@ const _: () = assert!(std::mem::offset_of!(EpArp, target_protocol) == 64);
 const _: () = assert!(std::mem::offset_of!(EpArp, hardware_type) == 80);
 const _: () = assert!(std::mem::offset_of!(EpArp, protocol_type) == 82);
 const _: () = assert!(std::mem::offset_of!(EpArp, operation) == 84);
-const _: () = assert!(size_of::<EpRefusal>() == 40);
-const _: () = assert!(std::mem::offset_of!(EpRefusal, kind) == 0);
-const _: () = assert!(std::mem::offset_of!(EpRefusal, layer) == 4);
-const _: () = assert!(std::mem::offset_of!(EpRefusal, needed) == 8);
-const _: () = assert!(std::mem::offset_of!(EpRefusal, there) == 16);
-const _: () = assert!(std::mem::offset_of!(EpRefusal, place) == 24);
-const _: () = assert!(std::mem::offset_of!(EpRefusal, source) == 32);
-const _: () = assert!(std::mem::offset_of!(EpRefusal, value) == 36);
 const _: () = assert!(size_of::<EpUdp>() == 40);
 const _: () = assert!(std::mem::offset_of!(EpUdp, header) == 0);
 const _: () = assert!(std::mem::offset_of!(EpUdp, payload) == 16);
@@ -648,6 +740,9 @@ const _: () = assert!(std::mem::offset_of!(EpPlan, ece) == 119);
 const _: () = assert!(std::mem::offset_of!(EpPlan, cwr) == 120);
 const _: () = assert!(std::mem::offset_of!(EpPlan, options_len) == 128);
 const _: () = assert!(std::mem::offset_of!(EpPlan, options) == 136);
+const _: () = assert!(size_of::<EpPool>() == 16);
+const _: () = assert!(std::mem::offset_of!(EpPool, is_open) == 0);
+const _: () = assert!(std::mem::offset_of!(EpPool, held) == 8);
 const _: () = assert!(size_of::<NetlinesSession>() == 16);
 const _: () = assert!(std::mem::offset_of!(NetlinesSession, is_open) == 0);
 const _: () = assert!(std::mem::offset_of!(NetlinesSession, held) == 8);

@@ -1,2 +1,4 @@
+mod HeldValues
 pub mod Places
 mod PlanLemmas
+mod PoolLemmas

@@ -1,6 +1,6 @@
 -- Which field of a plan is told to be at fault.
-use Rattle.std.proofs.Common.{◌≡◌, subst, Option, Some, None, MatchOption, IfSome, IsOkUnless, Result}
-use Rattle.std.proofs.Common.{Ok, Err}
+use Rattle.std.proofs.Common.{◌≡◌, subst, Option, Some, None, MatchOption, IfSome, IsOkUnless}
+use Rattle.std.proofs.Common.{Result, Ok, Err}
 use Rattle.std.specs.Option.{option_or}
 use Rattle.etherparse_c.specs.Build.{refused}
 use Rattle.etherparse_c.specs.Plan.{unless}

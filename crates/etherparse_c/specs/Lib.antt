@@ -1,9 +1,13 @@
 pub mod Build
+pub mod FramePool
 pub mod Link
+pub mod Message
 pub mod Net
 pub mod Packet
 pub mod Part
+pub mod PartRefusal
 pub mod Plan
+pub mod Pool
 pub mod Refusal
 pub mod Transport
 pub mod Verdict

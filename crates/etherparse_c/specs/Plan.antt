@@ -1,5 +1,5 @@
--- The packet that a plan asks for: the headers by the builder's words, and the first field that asks
--- for what no packet has.
+-- The packet that a plan asks for: the headers by the builder's words, and the first field that
+-- asks for what no packet has.
 use Rattle.std.specs.Prelude.{ℕ, ◌==◌, nat_lt, if◌then◌else◌, List, take, Option, Some, None}
 use Rattle.std.specs.Prelude.{Result, Ok, Err}
 use Rattle.std.specs.Option.{option_map, option_map_or, option_or}

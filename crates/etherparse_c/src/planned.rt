@@ -94,7 +94,8 @@ fn with_ip<L: LinkStep>(
     step: PacketBuilderStep<L>,
     plan: &EpPlan,
 ) -> Result<PacketBuilderStep<IpHeaders>, PlanField>
-    ensures { result ≡ unless (wrong_ip plan.now) (record step { ip_headers = Some (ip_in plan.now) }) }
+    ensures { result ≡ unless (wrong_ip plan.now)
+        (record step { ip_headers = Some (ip_in plan.now) }) }
 {
     match plan.ip_version {
         4 => Ok(step.ipv4(plan.ipv4_source, plan.ipv4_destination, plan.hops)),

@@ -3,8 +3,12 @@ use Rattle.netlines_c.proofs.StreamLemmas.{ended_of, put_took, replies_ended, to
 use Rattle.netlines_c.proofs.session.hand_out.Goals as goal
 
 pub returns-then-is_out-clause-session : goal.returns-then-is_out-clause-session
-returns-then-is_out-clause-session c is_open =
-    (_, c.put.ensures.held, c.hand_out-is_out.ensures.written (written_of _ _ c.deref_mut.ensures.value c.requires))
+returns-then-is_out-clause-session c is_open = (
+  _,
+  c.put.ensures.held,
+  c.hand_out-is_out.ensures.written (written_of _ _
+      c.deref_mut.ensures.value c.requires),
+)
 
 pub returns-then-is_out-clause-answered : goal.returns-then-is_out-clause-answered
 returns-then-is_out-clause-answered c text told took zero =
@@ -17,8 +21,12 @@ returns-then-is_out-clause-answered c text told took zero =
     )
 
 pub returns-else-is_out-clause-session : goal.returns-else-is_out-clause-session
-returns-else-is_out-clause-session c is_open =
-    (_, c.put.ensures.held, c.hand_out-is_out.ensures.written (written_of _ _ c.deref_mut.ensures.value c.requires))
+returns-else-is_out-clause-session c is_open = (
+  _,
+  c.put.ensures.held,
+  c.hand_out-is_out.ensures.written (written_of _ _
+      c.deref_mut.ensures.value c.requires),
+)
 
 pub returns-else-is_out-clause-no_room : goal.returns-else-is_out-clause-no_room
 returns-else-is_out-clause-no_room c text told took one =

@@ -15,7 +15,8 @@ pub returns-in-Ok-clause-answered : goal.returns-in-Ok-clause-answered
 returns-in-Ok-clause-answered c text told took zero =
     let is = c.take.ensures.going in
     let taken = taken_took _ _ _ text told took c.taken-stream.ensures.stream in
-    let went = c.in-Ok.ensures.took text told (took_of _ _ text told c.deref_mut.ensures.value taken) in
+    let went = c.in-Ok.ensures.took text told (took_of _ _ text told c.deref_mut.ensures.value
+    taken) in
     let out = c.hand_out.ensures.answered _ told went zero in
     (out.0, told_ended _ _ _ _ _ is out.1, out.2 ∙ replies_ended _ _ _ is)
 
@@ -23,6 +24,7 @@ pub returns-in-Ok-clause-no_room : goal.returns-in-Ok-clause-no_room
 returns-in-Ok-clause-no_room c text told took one =
     let is = c.take.ensures.going in
     let taken = taken_took _ _ _ text told took c.taken-stream.ensures.stream in
-    let went = c.in-Ok.ensures.took text told (took_of _ _ text told c.deref_mut.ensures.value taken) in
+    let went = c.in-Ok.ensures.took text told (took_of _ _ text told c.deref_mut.ensures.value
+    taken) in
     let out = c.hand_out.ensures.no_room _ told went one in
     (out.0, out.1, told_ended _ _ _ _ _ is out.2, out.3 ∙ ap length (replies_ended _ _ _ is))

@@ -20,7 +20,8 @@ pub returns-in-Ok-clause-answered : goal.returns-in-Ok-clause-answered
 returns-in-Ok-clause-answered c ended text told took zero =
     let is = c.finish.ensures.ended in
     let taken = taken_took _ ended _ text told took c.taken-stream.ensures.stream in
-    let went = c.in-Ok.ensures.took text told (took_of _ _ text told c.deref_mut.ensures.value taken) in
+    let went = c.in-Ok.ensures.took text told (took_of _ _ text told c.deref_mut.ensures.value
+    taken) in
     let out = c.hand_out-in-Ok.ensures.answered text told went zero in
     (out.0, told_ended _ _ _ text _ is out.1, out.2 ∙ replies_ended _ _ text is)
 
@@ -28,6 +29,7 @@ pub returns-in-Ok-clause-no_room : goal.returns-in-Ok-clause-no_room
 returns-in-Ok-clause-no_room c ended text told took one =
     let is = c.finish.ensures.ended in
     let taken = taken_took _ ended _ text told took c.taken-stream.ensures.stream in
-    let went = c.in-Ok.ensures.took text told (took_of _ _ text told c.deref_mut.ensures.value taken) in
+    let went = c.in-Ok.ensures.took text told (took_of _ _ text told c.deref_mut.ensures.value
+    taken) in
     let out = c.hand_out-in-Ok.ensures.no_room text told went one in
     (out.0, out.1, told_ended _ _ _ text _ is out.2, out.3 ∙ ap length (replies_ended _ _ text is))

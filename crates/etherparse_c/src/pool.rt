@@ -1,0 +1,202 @@
+//! Messages that come in parts.
+ghost use Rattle.std.specs.Prelude.{◌≡◌, ◌≤◌, ◌<◌, true, false, Option, Some, None, IfOk, IsSome};
+ghost use Rattle.std.specs.Prelude.{length};
+ghost use Rattle.etherparse.specs.defrag.OpenMessages.{IsOpenCount};
+ghost use Rattle.etherparse.specs.defrag.PoolCalls.{Lists, ShowsLists, fault_in, no_lists};
+ghost use Rattle.etherparse.specs.defrag.PoolCalls.{retained_from};
+ghost use Rattle.etherparse.specs.packet.Class.{class_of};
+ghost use Rattle.etherparse.specs.packet.Sliced.{sliced_ethernet};
+ghost use Rattle.etherparse_c.specs.FramePool.{IsAnswered, Kept, added, completed, kept_of};
+ghost use Rattle.etherparse_c.specs.FramePool.{written};
+ghost use Rattle.etherparse_c.specs.Pool.{IsPool, Keeps};
+
+use crate::frame_pool::FramePool;
+use crate::held::Held;
+use crate::{DONE, EpAdded, NO_MEMORY, WRONG_STATE};
+use etherparse::defrag::IpDefragPool;
+use etherparse::laws::defrag::streams::a_new_pool_shows_no_lists;
+use handles::Loose;
+use std::alloc::{AllocError, Global};
+use std::mem::replace;
+
+/// The messages that are on their way in parts. It begins as zeros, and is changed by these calls
+/// alone.
+#[repr(C)]
+#[derive(Drop)]
+pub struct EpPool {
+    /// Whether it was opened and not freed.
+    pub is_open: bool,
+    /// For these calls alone.
+    pub held: Held,
+}
+
+/// Opens a pool with no message.
+///
+/// The result is 0 where it is open, 2 where there is no memory, and 4 where it was open before.
+/// Where it isn't 0 nothing is changed.
+#[unsafe(no_mangle)]
+pub extern "C" fn ep_pool_new(alloc: Global, pool: &mut EpPool) -> u32
+    requires { IsPool pool.old }
+    ensures pool { IsPool pool.new }
+    ensures opened { result ≡ 0 → Keeps pool.new no_lists None }
+    ensures unchanged { 0 < result → pool.new ≡ pool.old }
+    ensures wrong_state { pool.old.is_open ≡ true → result ≡ 4 }
+    ensures codes { pool.old.is_open ≡ false → result ≤ 2 }
+{
+    if pool.is_open {
+        return WRONG_STATE;
+    }
+    let Ok(frames) = new_frames(alloc) else {
+        return NO_MEMORY;
+    };
+    put(pool, frames);
+    DONE
+}
+
+/// Takes an Ethernet II frame, which came at this time on this channel. Messages of other channels
+/// are other messages.
+///
+/// The status is 5 where a message is complete with it: then it stands at the front of the output.
+/// It is 1 where the message has no room: then the pool keeps it until `ep_pool_take` hands it out.
+/// It is 0 where no message is complete, since the frame is no part of one, or its message waits
+/// for others. It is 2 where there is no memory for the part, and 3 where the frame or the part is
+/// refused: then all messages are as they were. It is 4 where the pool isn't open or keeps a
+/// message: then nothing is changed.
+#[unsafe(no_mangle)]
+pub extern "C" fn ep_pool_add(
+    alloc: Global,
+    pool: &mut EpPool,
+    frame: &[u8],
+    time: u64,
+    channel: u32,
+    output: &mut [u8],
+) -> EpAdded
+    requires { IsPool pool.old }
+    ensures pool { IsPool pool.new }
+    ensures answered { (lists : Lists) → Keeps pool.old lists None → IsAnswered (Keeps pool.new)
+        lists (class_of frame.now) time channel (fault_in (sliced_ethernet frame.now))
+        output.old output.new result }
+    ensures keeps { (lists : Lists) (kept : Kept) → Keeps pool.old lists (Some kept)
+        → Keeps pool.new lists (Some kept) × (result ≡ added 4) × (output.new ≡ output.old) }
+    ensures closed { pool.old.is_open ≡ false
+        → (pool.new ≡ pool.old) × (result ≡ added 4) × (output.new ≡ output.old) }
+{
+    if !pool.is_open {
+        return EpAdded::of(WRONG_STATE);
+    }
+    let mut frames = taken(alloc, pool);
+    let added = frames.take_frame(frame, time, channel, output);
+    put(pool, frames);
+    added
+}
+
+/// Hands out the message that a pool keeps.
+///
+/// The status is 5 where it stands at the front of the output, 1 where it has no room, and 4 where
+/// the pool isn't open or keeps none.
+#[unsafe(no_mangle)]
+pub extern "C" fn ep_pool_take(alloc: Global, pool: &mut EpPool, output: &mut [u8]) -> EpAdded
+    requires { IsPool pool.old }
+    ensures pool { IsPool pool.new }
+    ensures taken { (lists : Lists) (kept : Kept) → Keeps pool.old lists (Some kept)
+        → Keeps pool.new lists (kept_of (length output.old) (Some kept.0) kept.1)
+        × (result ≡ completed (length output.old) kept.0 kept.1)
+        × (output.new ≡ written output.old kept.1) }
+    ensures none { (lists : Lists) → Keeps pool.old lists None
+        → Keeps pool.new lists None × (result ≡ added 4) × (output.new ≡ output.old) }
+    ensures closed { pool.old.is_open ≡ false
+        → (pool.new ≡ pool.old) × (result ≡ added 4) × (output.new ≡ output.old) }
+{
+    if !pool.is_open {
+        return EpAdded::of(WRONG_STATE);
+    }
+    let mut frames = taken(alloc, pool);
+    let told = frames.take_kept(output);
+    put(pool, frames);
+    told
+}
+
+/// Drops the messages whose last part came before this time. The result is 0, or 4 where the pool
+/// isn't open.
+#[unsafe(no_mangle)]
+pub extern "C" fn ep_pool_forget_before(alloc: Global, pool: &mut EpPool, time: u64) -> u32
+    requires { IsPool pool.old }
+    ensures pool { IsPool pool.new }
+    ensures retained { (lists : Lists) (kept : Option Kept) → Keeps pool.old lists kept
+        → Keeps pool.new (λ name channel. retained_from time (lists name channel)) kept }
+    ensures result { (pool.old.is_open ≡ true → result ≡ 0)
+        × (pool.old.is_open ≡ false → (result ≡ 4) × (pool.new ≡ pool.old)) }
+{
+    if !pool.is_open {
+        return WRONG_STATE;
+    }
+    let mut frames = taken(alloc, pool);
+    frames.forget_before(time);
+    put(pool, frames);
+    DONE
+}
+
+/// How many messages are on their way, 0 where the pool isn't open. One that is complete isn't
+/// counted.
+#[unsafe(no_mangle)]
+pub extern "C" fn ep_pool_open(alloc: Global, pool: &mut EpPool) -> usize
+    requires { IsPool pool.old }
+    ensures pool { IsPool pool.new }
+    ensures counted { (lists : Lists) (kept : Option Kept) → Keeps pool.old lists kept
+        → Keeps pool.new lists kept × IsOpenCount lists result }
+    ensures closed { pool.old.is_open ≡ false → (result ≡ 0) × (pool.new ≡ pool.old) }
+{
+    if !pool.is_open {
+        return 0;
+    }
+    let frames = taken(alloc, pool);
+    let count = frames.open_len();
+    put(pool, frames);
+    count
+}
+
+/// Frees a pool and all that it holds. One that isn't open stays as it is.
+#[unsafe(no_mangle)]
+pub extern "C" fn ep_pool_free(alloc: Global, pool: &mut EpPool)
+    requires { IsPool pool.old }
+    ensures closed { pool.new.is_open ≡ false }
+{
+    if pool.is_open {
+        drop(taken(alloc, pool));
+    }
+}
+
+fn new_frames(alloc: Global) -> Result<Box<FramePool>, AllocError>
+    ensures lists { IfOk result (λ frames. ShowsLists frames.value.pool no_lists) }
+    ensures kept { IfOk result (λ frames. frames.value.kept ≡ None) }
+{
+    a_new_pool_shows_no_lists();
+    let frames = FramePool {
+        pool: IpDefragPool::new(alloc),
+        kept: None,
+    };
+    match Box::new(alloc, frames) {
+        Ok(frames) => Ok(frames),
+        Err(_) => Err(AllocError),
+    }
+}
+
+// The frames of an open pool, which is closed then.
+fn taken(alloc: Global, pool: &mut EpPool) -> Box<FramePool>
+    requires { IsSome pool.old.held.value }
+    ensures frames { pool.old.held.value ≡ Some result.value }
+    ensures closed { pool.new.is_open ≡ false }
+{
+    pool.is_open = false;
+    replace(&mut pool.held, Held::none())
+        .into_loose(alloc)
+        .into_box()
+}
+
+fn put(pool: &mut EpPool, frames: Box<FramePool>)
+    ensures held { pool.new.held.value ≡ Some frames.value }
+    ensures opened { pool.new.is_open ≡ true }
+{
+    pool.held = Held::of(Loose::of(frames));
+    pool.is_open = true;
+}

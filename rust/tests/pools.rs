@@ -1,0 +1,77 @@
+//! Messages that come in parts.
+
+use etherparse_proved::{AddError, Message, PartRefusal, Pool, slice_ethernet};
+use std::fs;
+use std::net::{IpAddr, Ipv4Addr, Ipv6Addr};
+
+const TABLE: &str = concat!(env!("CARGO_MANIFEST_DIR"), "/../c/tests/pools.txt");
+
+fn bytes(hex: &str) -> Vec<u8> {
+    let hex = hex.trim_matches('-');
+    (0..hex.len() / 2).map(|i| u8::from_str_radix(&hex[2 * i..2 * i + 2], 16).unwrap()).collect()
+}
+
+fn address(hex: &str) -> IpAddr {
+    match <[u8; 4]>::try_from(bytes(hex)) {
+        Ok(address) => Ipv4Addr::from(address).into(),
+        Err(address) => Ipv6Addr::from(<[u8; 16]>::try_from(address).unwrap()).into(),
+    }
+}
+
+/// What the words of an answer in the table ask for.
+fn wanted(frame: &[u8], answer: &[&str]) -> Result<Option<Message>, AddError> {
+    match *answer {
+        ["none"] => Ok(None),
+        ["message", version, number, source, destination, message] => {
+            let (source, destination) = (address(source), address(destination));
+            assert_eq!(source.is_ipv4(), version == "4");
+            Ok(Some(Message { source, destination, number: number.parse().unwrap(), bytes: bytes(message) }))
+        }
+        ["frame", _] => Err(AddError::Frame(slice_ethernet(frame).unwrap_err())),
+        ["part", kind, offset, previous_end, end, len] => {
+            let (offset, len) = (offset.parse().unwrap(), len.parse().unwrap());
+            Err(AddError::Part(match kind {
+                "1" => PartRefusal::Unaligned { offset, len },
+                "2" => PartRefusal::TooLong { offset, len },
+                _ => {
+                    let (previous_end, end) = (previous_end.parse().unwrap(), end.parse().unwrap());
+                    PartRefusal::ConflictingEnd { previous_end, end }
+                }
+            }))
+        }
+        _ => panic!("{answer:?}"),
+    }
+}
+
+#[test]
+fn table() {
+    let mut pool = Pool::new().unwrap();
+    for line in fs::read_to_string(TABLE).unwrap().lines() {
+        match line.split(' ').collect::<Vec<_>>()[..] {
+            ["#", ..] => {}
+            ["pool"] => pool = Pool::new().unwrap(),
+            ["add", time, channel, frame, ref answer @ ..] => {
+                let frame = bytes(frame);
+                let told = pool.add(&frame, time.parse().unwrap(), channel.parse().unwrap());
+                assert_eq!(told, wanted(&frame, answer), "{line}");
+            }
+            ["forget", time] => pool.forget_before(time.parse().unwrap()),
+            ["open", count] => assert_eq!(pool.open_len(), count.parse().unwrap(), "{line}"),
+            _ => panic!("{line}"),
+        }
+    }
+}
+
+#[test]
+fn errors() {
+    let text = |error: AddError| Box::<dyn std::error::Error>::from(error).to_string();
+    let part = |refusal| text(AddError::Part(refusal));
+    assert_eq!(part(PartRefusal::Unaligned { offset: 5, len: 9 }), "a part of 9 bytes at offset 5, and no multiple of 8");
+    let long = PartRefusal::TooLong { offset: 8191, len: 8 };
+    assert_eq!(part(long), "a part of 8 bytes at offset 8191, which ends behind byte 65535");
+    let end = PartRefusal::ConflictingEnd { previous_end: 16, end: 24 };
+    assert_eq!(part(end), "a part that ends at 24, of a message that ends at 16");
+    let frame = slice_ethernet(&[]).unwrap_err();
+    assert_eq!(text(AddError::Frame(frame)), frame.to_string());
+    assert_eq!(text(AddError::OutOfMemory), "out of memory");
+}
