@@ -3,6 +3,7 @@ mod BlockLemmas
 mod BufferLemmas
 mod ByteLemmas
 mod CapturedLemmas
+mod ClockLemmas
 mod ComeBackLemmas
 mod FramedLemmas
 mod KnownLemmas

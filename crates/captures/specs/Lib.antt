@@ -12,5 +12,6 @@ pub mod Runs
 pub mod Skipping
 pub mod Spelling
 pub mod Texts
+pub mod Times
 pub mod Translations
 pub mod Units
