@@ -5,6 +5,7 @@ mod ByteLemmas
 mod CapturedLemmas
 mod ClockLemmas
 mod ComeBackLemmas
+mod ForgetLemmas
 mod FramedLemmas
 mod KnownLemmas
 mod LengthLemmas

@@ -1,11 +1,12 @@
 //! Laws of captures: the contract of each function is the law, and its body is empty.
 
-ghost use Rattle.std.specs.Prelude.{◌≡◌, ◌≢◌, ◌⊎◌, ◌≤◌, ◌<◌, ◌+◌, ◌%◌, ◌^◌, ℕ, List, [], ◌∷◌};
+ghost use Rattle.std.specs.Prelude.{◌≡◌, ◌≢◌, ◌⊎◌, ◌≤◌, ◌<◌, ◌+◌, ◌*◌, ◌%◌, ◌^◌, ℕ, List, [], ◌∷◌};
 ghost use Rattle.std.specs.Prelude.{codes, length, Option};
 ghost use Rattle.std.specs.List.{AllByRecursion};
 ghost use Rattle.ep_base.specs.Traits.{IsPlainData};
 ghost use Rattle.hex.specs.Hex.{IsBytes};
 ghost use Rattle.captures.specs.ComeBack.{CapturedPacketsHaveLines, LinesComeBack, TimedLinesComeBack};
+ghost use Rattle.captures.specs.Forgetting.{ForgetDrops, ForgetKeeps, forgets};
 ghost use Rattle.captures.specs.Lines.{Packet, blank, line_of};
 ghost use Rattle.captures.specs.Numbers.{half, word};
 ghost use Rattle.captures.specs.Pcapng.{Content, HasOrder, RefusesBlock, Says};
@@ -26,6 +27,7 @@ ghost use Rattle.captures.specs.declared.translation.skipped.Skipped.{Skipped};
 ghost use Rattle.captures.specs.declared.unfit.Unfit.{Unfit};
 ghost use Rattle.captures.specs.Spelling.{IsWritable, TimedFrame, capture_of, packets_in};
 ghost use Rattle.captures.specs.declared.extra.Extra.{Extra};
+ghost use Rattle.captures.specs.declared.extra.Extra.TheVariants.{Forget};
 ghost use Rattle.captures.specs.declared.text.ledger.Ledger.{Ledger};
 ghost use Rattle.captures.specs.declared.time.time_unit.TimeUnit.{TimeUnit};
 
@@ -69,6 +71,27 @@ pub fn told_is_alone()
 pub fn text_is_alone()
     ensures { (bytes : List ℕ) (frames frames' : List TimedFrame) → IsText bytes frames
         → IsText bytes frames' → frames ≡ frames' }
+{}
+
+/// While all packets behind a packet come less than so many seconds after it, by their times, no
+/// line has its message dropped.
+pub fn forget_keeps()
+    ensures { ForgetKeeps }
+{}
+
+/// Where no packet before it is later, its message is dropped in time: let a packet come so many
+/// seconds after it, and then one that comes so many seconds after each up to that one. A line with
+/// a greater number than its own stands before that packet's line, or earlier.
+pub fn forget_drops()
+    ensures { ForgetDrops }
+{}
+
+/// The lines of six packets, with spans of ten seconds: at 100, 105, 110, 119, 90 and 121 seconds.
+pub fn worked_spans()
+    ensures { (packet : ℕ → Packet)
+        → ((second : ℕ) → (packet second).origin.time ≡ 1_000_000_000 * second)
+        → forgets 10 (blank (Forget 10)) (packet 100 ∷ packet 105 ∷ packet 110 ∷ packet 119
+        ∷ packet 90 ∷ packet 121 ∷ []) ≡ 1 ∷ 3 ∷ [] }
 {}
 
 /// Each packet of a capture has a byte at least, no more than a line can hold, and a channel of 32
