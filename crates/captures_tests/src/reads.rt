@@ -79,7 +79,12 @@ fn each_read_of_lines(rt: HostRuntime) -> Result<(), Fail> {
         for before in [0, 14, 15, 31, 32] {
             let mut reader = FaultReader::failing(TIMED_LINES, 1, before, fault);
             let mut capture = Vec::new(rt.alloc());
-            let result = write_capture(rt.alloc(), TimeUnit::Microseconds, &mut reader, &mut capture);
+            let result = write_capture(
+                rt.alloc(),
+                TimeUnit::Microseconds,
+                &mut reader,
+                &mut capture,
+            );
             assert!(rt; result == Err(RunError::Read));
             assert!(rt; reader.calls == before.saturating_add(1));
             assert!(rt; capture.as_slice() == capture_of(before));
