@@ -18,5 +18,6 @@ mod Telling
 mod TextAloneLemmas
 mod TextLemmas
 mod Translating
+mod UnfitLemmas
 mod UnitLemmas
 mod Writing

@@ -25,6 +25,7 @@ ghost use Rattle.captures.specs.declared.translation.state.State.{State};
 ghost use Rattle.captures.specs.declared.translation.state.State.TheVariants.{Start};
 ghost use Rattle.captures.specs.declared.translation.skipped.Skipped.{Skipped};
 ghost use Rattle.captures.specs.declared.unfit.Unfit.{Unfit};
+ghost use Rattle.captures.specs.declared.unfit.Unfit.TheVariants.{Refuse, Skip};
 ghost use Rattle.captures.specs.Spelling.{IsWritable, TimedFrame, capture_of, packets_in};
 ghost use Rattle.captures.specs.declared.extra.Extra.{Extra};
 ghost use Rattle.captures.specs.declared.extra.Extra.TheVariants.{Forget};
@@ -54,6 +55,13 @@ pub fn capture_is_alone()
         (skipped skipped' : Skipped) → IsBytes bytes
         → IsCapture unfit bytes packets skipped → IsCapture unfit bytes packets' skipped'
         → (packets ≡ packets') × (skipped ≡ skipped') }
+{}
+
+/// A capture that is told whole where packets that can't be told are refused is told the same where
+/// they are passed over.
+pub fn told_whole_by_both()
+    ensures { (bytes : List ℕ) (packets : List Packet) (skipped : Skipped)
+        → IsCapture Refuse bytes packets skipped → IsCapture Skip bytes packets skipped }
 {}
 
 /// What is told of any bytes, whether more are wanted behind them or they are refused, is known by
