@@ -184,6 +184,7 @@ fn is_magic(number: u32) -> bool
     number == 0xa1b2_c3d4 || number == 0xa1b2_3c4d
 }
 
+#[inline(always)]
 fn packet_record<'a>(
     order: ByteOrder,
     time_unit: TimeUnit,

@@ -58,6 +58,7 @@ pub(crate) struct Reading<'a> {
 }
 
 /// Reads a block, and what is known of the section after it.
+#[inline(always)]
 pub(crate) fn read_block<'a>(
     section: &mut Section,
     order: ByteOrder,
@@ -222,6 +223,7 @@ struct Held<'a> {
     packet: &'a [u8],
 }
 
+#[inline(always)]
 fn read_packet<'a>(
     section: &mut Section,
     order: ByteOrder,
@@ -250,6 +252,7 @@ fn read_packet<'a>(
     })
 }
 
+#[inline(always)]
 fn held_packet<'a>(section: &Section, order: ByteOrder, block: &'a [u8]) -> Option<Held<'a>>
     requires size { 12 ≤ length block.now }
     requires kind { HoldsPacket order block.now }
@@ -266,6 +269,7 @@ fn held_packet<'a>(section: &Section, order: ByteOrder, block: &'a [u8]) -> Opti
     }
 }
 
+#[inline(always)]
 fn timed_packet<'a>(
     section: &Section,
     order: ByteOrder,

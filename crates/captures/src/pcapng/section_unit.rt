@@ -18,6 +18,7 @@ pub(crate) const BLOCK_MIN_LEN: usize = 12;
 
 /// The block at the front of the bytes, and what is known of the section after it. There is none
 /// where more bytes are wanted.
+#[inline(always)]
 pub(crate) fn section_unit<'a>(
     section: &mut Section,
     bytes: &'a [u8],

@@ -37,6 +37,7 @@ impl Ledger {
     }
 
     /// Puts the lines of a packet behind the first `used` bytes, and tells how many are used then.
+    #[inline(always)]
     pub(crate) fn tell(
         &mut self,
         out: &mut [u8],
