@@ -1,5 +1,6 @@
 -- The packets of a capture are known by its bytes.
-use Rattle.std.proofs.Common.{◌≡◌, ◌∙◌, sym, ap, ap₂, refl, subst, ℕ, ◌+◌, ◌*◌, ◌/◌, ◌%◌, ◌<◌, ◌≤◌}
+use Rattle.std.proofs.Common.{◌≡◌, ◌∙◌, sym, ap, ap₂, refl, subst, ℕ, ◌+◌, ◌-◌, ◌*◌, ◌/◌, ◌%◌, ◌<◌}
+use Rattle.std.proofs.Common.{◌≤◌}
 use Rattle.std.proofs.Common.{◌==◌, arith, List, [], ◌++◌, length, take, drop, append_assoc}
 use Rattle.std.proofs.Common.{inl, inr, eqb-true, Some}
 use Rattle.std.specs.Prelude.{◌⊎◌, IsTrue, slice_index, if◌then◌else◌}
@@ -13,7 +14,9 @@ use Rattle.captures.specs.Numbers.{half, word}
 use Rattle.captures.specs.Pcap.{is_magic, link_type}
 use Rattle.captures.specs.Pcapng.{Content, HasOrder, Says, Becomes, captured_len, section_header}
 use Rattle.captures.specs.Pcapng.{byte_order_magic, enhanced_packet, interface_description}
-use Rattle.captures.specs.Pcapng.{obsolete_packet, simple_packet, link_at}
+use Rattle.captures.specs.Pcapng.{obsolete_packet, simple_packet, link_at, clock_at, clocks_with}
+use Rattle.captures.specs.Times.{clock_of, clock_time, unit_of}
+use Rattle.captures.specs.Units.{record_origin}
 use Rattle.captures.specs.Pcapng.Content.{Opens, Describes, Holds, Nothing}
 use Rattle.captures.specs.Skipping.{counted, passing_from}
 use Rattle.captures.specs.Units.{IsUnit, IsBlockUnit, IsRecordUnit, OpensFile, no_section}
@@ -26,6 +29,9 @@ use Rattle.captures.specs.declared.translation.state.State.{State}
 use Rattle.captures.specs.declared.unfit.Unfit.{Unfit}
 use Rattle.captures.specs.declared.translation.state.State.TheVariants.{Start, Classic, Pcapng}
 use Rattle.captures.proofs.BlockLemmas.{word_of}
+use Rattle.captures.specs.declared.origin.Origin.{Origin}
+use Rattle.captures.specs.declared.time.time_unit.TimeUnit.{TimeUnit}
+use Rattle.captures.specs.declared.time.clock.Clock.{Clock}
 
 -- ---- parts of the same bytes
 
@@ -133,45 +139,64 @@ no_section_in Little bytes all m big = absurd (elim (is_one (word Little bytes 0
 
 -- ---- what a block says
 
-no_packets : (channel channel' : ℕ) (frame frame' : List ℕ) → frame ≡ [] → frame' ≡ []
-    → packets_of channel frame ≡ packets_of channel' frame'
-no_packets channel channel' frame frame' none none' =
-    ap (packets_of channel) none ∙ ap (packets_of channel') (sym none')
+no_packets : (origin origin' : Origin) (frame frame' : List ℕ) → frame ≡ [] → frame' ≡ []
+    → packets_of origin frame ≡ packets_of origin' frame'
+no_packets origin origin' frame frame' none none' =
+    ap (packets_of origin) none ∙ ap (packets_of origin') (sym none')
+
+-- where and when a packet was captured, in a block that tells the time, and in one that doesn't
+abbrev pub timed_origin : Section → ByteOrder → List ℕ → ℕ → Origin
+timed_origin section order block interface = record {
+  channel = section.first + interface;
+  time = clock_time (clock_at section interface) (word order block 12) (word order block 16);
+}
+
+abbrev pub untimed_origin : Section → Origin
+untimed_origin section = record { channel = section.first; time = 0 }
+
+origin_is : (n t : ℕ) (origin : Origin) → n ≡ origin.channel → t ≡ origin.time
+    → record { channel = n; time = t } ≡ origin
+origin_is n t origin number time = λ i. record { channel = number i; time = time i }
 
 -- a block says one thing at most
 abbrev pub content_at : Section → ByteOrder → List ℕ → ℕ → Content
 content_at section order block kind =
     if kind == section_header then Opens (section.first + section.interfaces)
     else (if kind == interface_description then Describes (half order block 8) (word order block 12)
-    else (if kind == enhanced_packet then Holds (section.first + word order block 8)
+    (clock_of order (take (length block - 20) (drop 16 block)))
+    else (if kind == enhanced_packet then Holds (timed_origin section order block (word order block 8))
     (link_at section (word order block 8)) (take (word order block 20) (drop 28 block))
-    else (if kind == obsolete_packet then Holds (section.first + half order block 8)
+    else (if kind == obsolete_packet then Holds (timed_origin section order block (half order block 8))
     (link_at section (half order block 8)) (take (word order block 20) (drop 28 block))
-    else (if kind == simple_packet then Holds section.first (link_at section 0)
+    else (if kind == simple_packet then Holds (untimed_origin section) (link_at section 0)
     (take (captured_len section.snap_len (word order block 8)) (drop 12 block)) else Nothing))))
 
-holds_same : {n n' : ℕ} {link link' : Link} {packet packet' : List ℕ} → n ≡ n' → link ≡ link'
+holds_same : {n n' : Origin} {link link' : Link} {packet packet' : List ℕ} → n ≡ n' → link ≡ link'
     → packet ≡ packet' → Holds n link packet ≡ Holds n' link' packet'
 holds_same number over bytes = λ i. Holds (number i) (over i) (bytes i)
+
+describes_same : {l l' s s' : ℕ} {c c' : Clock} → l ≡ l' → s ≡ s' → c ≡ c'
+    → Describes l s c ≡ Describes l' s' c'
+describes_same link snap clock = λ i. Describes (link i) (snap i) (clock i)
 
 pub content_is : (section : Section) (order : ByteOrder) (block : List ℕ) (content : Content)
     → Says section order block content
     → content_at section order block (word order block 0) ≡ content
 content_is section order block (Opens first) says =
     ap (content_at section order block) says.0 ∙ ap Opens says.3
-content_is section order block (Describes link snap) says =
-    ap (content_at section order block) says.0 ∙ ap₂ Describes says.2 says.3
+content_is section order block (Describes link snap clock) says =
+    ap (content_at section order block) says.0 ∙ describes_same says.2 says.3 says.4
 content_is section order block (Holds number link bytes) (inl says) =
     ap (content_at section order block) says.0
-    ∙ holds_same says.1.number says.1.over
+    ∙ holds_same (origin_is _ _ number says.1.number says.1.time) says.1.over
     (ap (λ n. take n (drop 28 block)) says.1.captured ∙ sym says.1.bytes)
 content_is section order block (Holds number link bytes) (inr (inl says)) =
     ap (content_at section order block) says.0
-    ∙ holds_same says.1.number says.1.over
+    ∙ holds_same (origin_is _ _ number says.1.number says.1.time) says.1.over
     (ap (λ n. take n (drop 28 block)) says.1.captured ∙ sym says.1.bytes)
 content_is section order block (Holds number link bytes) (inr (inr says)) =
     ap (content_at section order block) says.kind
-    ∙ holds_same says.number says.over
+    ∙ holds_same (origin_is _ _ number says.number says.time) says.over
     (ap (λ n. take n (drop 12 block)) says.captured ∙ sym says.bytes)
 content_is section order block Nothing says =
     rw (
@@ -184,60 +209,62 @@ content_is section order block Nothing says =
 
 pub becomes_as : (section : Section) (order : ByteOrder) (block : List ℕ)
     (content content' : Content) → Says section order block content
-    → Says section order block content' → (after : Section) (channel : ℕ) (frame : List ℕ)
-    → Becomes section order content after channel frame
-    → Becomes section order content' after channel frame
-becomes_as section order block content content' says says' after channel frame =
-    subst (λ (k : Content). Becomes section order k after channel frame)
+    → Says section order block content' → (after : Section) (origin : Origin) (frame : List ℕ)
+    → Becomes section order content after origin frame
+    → Becomes section order content' after origin frame
+becomes_as section order block content content' says says' after origin frame =
+    subst (λ (k : Content). Becomes section order k after origin frame)
     (sym (content_is section order block content says) ∙ content_is section order block content'
     says')
 
 some_same : {A : Type 0} {x y : A} → Some x ≡ Some y → x ≡ y
 some_same same = cc
 
-abbrev with_interface : Section → ℕ → List Link → Section
-with_interface section snap links = record section {
+abbrev with_interface : Section → ℕ → Clock → List Link → Section
+with_interface section snap clock links = record section {
   interfaces = section.interfaces + 1;
   snap_len = (if section.interfaces == 0 then snap else section.snap_len);
   links = links;
+  clocks = clocks_with section clock;
 }
 
 -- the section and the packet after a block are known by what it says
 becomes_once : (section : Section) (order : ByteOrder) (content : Content)
-    (after after' : Section) (channel channel' : ℕ) (frame frame' : List ℕ)
-    → Becomes section order content after channel frame
-    → Becomes section order content after' channel' frame'
-    → (after ≡ after') × (packets_of channel frame ≡ packets_of channel' frame')
-becomes_once section order (Opens first) after after' channel channel' frame frame' b b' =
-    (b.0 ∙ sym b'.0, no_packets channel channel' frame frame' b.1 b'.1)
-becomes_once section order (Describes link snap) after after' channel channel' frame frame' b b' =
+    (after after' : Section) (origin origin' : Origin) (frame frame' : List ℕ)
+    → Becomes section order content after origin frame
+    → Becomes section order content after' origin' frame'
+    → (after ≡ after') × (packets_of origin frame ≡ packets_of origin' frame')
+becomes_once section order (Opens first) after after' origin origin' frame frame' b b' =
+    (b.0 ∙ sym b'.0, no_packets origin origin' frame frame' b.1 b'.1)
+becomes_once section order (Describes link snap clock) after after' origin origin' frame frame' b b' =
     let links : b.0 ≡ b'.0 = some_same (sym b.1 ∙ b'.1) in (
       b.2
-          ∙ ap (λ (l : List Link). with_interface section snap l) links
+          ∙ ap (λ (l : List Link). with_interface section snap clock l) links
           ∙ sym b'.2,
-      no_packets channel channel' frame frame' b.3 b'.3,
+      no_packets origin origin' frame frame' b.3 b'.3,
     )
-becomes_once section order (Holds number link bytes) after after' channel channel' frame frame'
+becomes_once section order (Holds number link bytes) after after' origin origin' frame frame'
     b b' =
     (b.0 ∙ sym b'.0, ap₂ packets_of (b.1 ∙ sym b'.1) (some_same (sym b.2 ∙ b'.2)))
-becomes_once section order Nothing after after' channel channel' frame frame' b b' =
-    (b.0 ∙ sym b'.0, no_packets channel channel' frame frame' b.1 b'.1)
+becomes_once section order Nothing after after' origin origin' frame frame' b b' =
+    (b.0 ∙ sym b'.0, no_packets origin origin' frame frame' b.1 b'.1)
 
 -- ---- units
 
-classic_same : (passing : Passing) {order order' : ByteOrder} {link link' : Link} → order ≡ order'
-    → link ≡ link' → Classic order link passing ≡ Classic order' link' passing
-classic_same passing order link = λ i. Classic (order i) (link i) passing
+classic_same : (passing : Passing) {order order' : ByteOrder} {unit unit' : TimeUnit}
+    {link link' : Link} → order ≡ order' → unit ≡ unit' → link ≡ link'
+    → Classic order unit link passing ≡ Classic order' unit' link' passing
+classic_same passing order unit link = λ i. Classic (order i) (unit i) (link i) passing
 
 -- two readings of bytes as a unit and what follows it are one
 module _ (bytes u r u' r' : List ℕ) (all : IsBytes bytes) (parts : bytes ≡ u ++ r)
-    (parts' : bytes ≡ u' ++ r') (after after' : State) (channel channel' : ℕ)
+    (parts' : bytes ≡ u' ++ r') (after after' : State) (origin origin' : Origin)
     (frame frame' : List ℕ) where
   abbrev One : Type 0
-  One = (u ≡ u') × (after ≡ after') × (packets_of channel frame ≡ packets_of channel' frame')
+  One = (u ≡ u') × (after ≡ after') × (packets_of origin frame ≡ packets_of origin' frame')
 
-  block_alone : (section : Section) → IsBlockUnit section u after channel frame
-      → IsBlockUnit section u' after' channel' frame' → One
+  block_alone : (section : Section) → IsBlockUnit section u after origin frame
+      → IsBlockUnit section u' after' origin' frame' → One
   block_alone section b b' =
       let long = b.block.size in
       let long' = b'.block.size in
@@ -253,11 +280,11 @@ module _ (bytes u r u' r' : List ℕ) (all : IsBytes bytes) (parts : bytes ≡ u
       (subst (λ (l : List ℕ). Says section b'.order l b'.reads.content)
       (sym same) b'.reads.says) in
       let becomes' =
-      subst (λ (o : ByteOrder). Becomes section o b'.reads.content b'.next channel' frame')
+      subst (λ (o : ByteOrder). Becomes section o b'.reads.content b'.next origin' frame')
       (sym order) b'.reads.becomes in
-      let once = becomes_once section b.order b.reads.content b.next b'.next channel channel' frame
+      let once = becomes_once section b.order b.reads.content b.next b'.next origin origin' frame
       frame' b.reads.becomes (becomes_as section b.order u b'.reads.content b.reads.content
-      says' b.reads.says b'.next channel' frame' becomes') in
+      says' b.reads.says b'.next origin' frame' becomes') in
       (same, b.becomes ∙ ap Pcapng once.0 ∙ sym b'.becomes, once.1)
 
   file_alone : (unfit : Unfit) → OpensFile unfit u after → frame ≡ [] → OpensFile unfit u' after'
@@ -276,15 +303,17 @@ module _ (bytes u r u' r' : List ℕ) (all : IsBytes bytes) (parts : bytes ≡ u
       ∙ o'.known) in (
         unit,
         o.next
-            ∙ classic_same (passing_from unfit) order link
+            ∙ classic_same (passing_from unfit) order
+            (ap₂ (λ (p : ByteOrder) (l : List ℕ). unit_of (word p l 0)) order unit) link
             ∙ sym o'.next,
-        no_packets channel channel' frame frame' none none',
+        no_packets origin origin' frame frame' none none',
       )
 
-  record_alone : (order : ByteOrder) (link : Link) (passing : Passing)
-      → IsRecordUnit order link passing u after frame
-      → IsRecordUnit order link passing u' after' frame' → channel ≡ channel' → One
-  record_alone order link passing i i' same_channel =
+  record_alone : (order : ByteOrder) (time_unit : TimeUnit) (link : Link) (passing : Passing)
+      → IsRecordUnit order time_unit link passing u after frame
+      → IsRecordUnit order time_unit link passing u' after' frame'
+      → origin ≡ record_origin order time_unit u → origin' ≡ record_origin order time_unit u' → One
+  record_alone order time_unit link passing i i' from from' =
       let p = i.is_record in
       let p' = i'.is_record in
       let packet = i.packet in
@@ -301,13 +330,13 @@ module _ (bytes u r u' r' : List ℕ) (all : IsBytes bytes) (parts : bytes ≡ u
       sym p.captured ∙ ap (λ (l : List ℕ). word order l 8) head ∙ p'.captured in
       let packets = front_same (packet ++ r) packet r packet' r' refl behind count in
       let frames = some_same (sym i.is_told ∙ ap (told_frame passing.unfit link) packets
-      ∙ i'.is_told) in (
-        p.parts ∙ ap₂ (λ (a b : List ℕ). a ++ b) head packets
-            ∙ sym p'.parts,
+      ∙ i'.is_told) in
+      let unit = p.parts ∙ ap₂ (λ (a b : List ℕ). a ++ b) head packets ∙ sym p'.parts in (
+        unit,
         i.next
-            ∙ ap (λ (held : List ℕ). Classic order link (counted passing link held)) packets
+            ∙ ap (λ (held : List ℕ). Classic order time_unit link (counted passing link held)) packets
             ∙ sym i'.next,
-        ap₂ packets_of same_channel frames,
+        ap₂ packets_of (from ∙ ap (record_origin order time_unit) unit ∙ sym from') frames,
       )
 
   -- a file header doesn't begin a section
@@ -322,30 +351,30 @@ module _ (bytes u r u' r' : List ℕ) (all : IsBytes bytes) (parts : bytes ≡ u
 
 pub unit_alone : (state : State) (bytes u r u' r' : List ℕ) (all : IsBytes bytes)
     (parts : bytes ≡ u ++ r) (parts' : bytes ≡ u' ++ r') (after after' : State)
-    (channel channel' : ℕ) (frame frame' : List ℕ)
-    → IsUnit state u after channel frame → IsUnit state u' after' channel' frame'
-    → (u ≡ u') × (after ≡ after') × (packets_of channel frame ≡ packets_of channel' frame')
-unit_alone (Start unfit) bytes u r u' r' all parts parts' after after' channel channel' frame frame'
+    (origin origin' : Origin) (frame frame' : List ℕ)
+    → IsUnit state u after origin frame → IsUnit state u' after' origin' frame'
+    → (u ≡ u') × (after ≡ after') × (packets_of origin frame ≡ packets_of origin' frame')
+unit_alone (Start unfit) bytes u r u' r' all parts parts' after after' origin origin' frame frame'
     (inl i) (inl i') =
-    file_alone bytes u r u' r' all parts parts' after after' channel channel' frame
+    file_alone bytes u r u' r' all parts parts' after after' origin origin' frame
     frame' unfit i.0 i.1 i'.0 i'.1
-unit_alone (Start unfit) bytes u r u' r' all parts parts' after after' channel channel' frame frame'
+unit_alone (Start unfit) bytes u r u' r' all parts parts' after after' origin origin' frame frame'
     (inl i) (inr i') =
-    absurd (file_no_section bytes u r u' r' all parts parts' after after' channel channel' frame
+    absurd (file_no_section bytes u r u' r' all parts parts' after after' origin origin' frame
     frame' unfit i.0 i'.1.block.size i'.0)
-unit_alone (Start unfit) bytes u r u' r' all parts parts' after after' channel channel' frame frame'
+unit_alone (Start unfit) bytes u r u' r' all parts parts' after after' origin origin' frame frame'
     (inr i) (inl i') =
-    absurd (file_no_section bytes u' r' u r all parts' parts after' after channel' channel frame'
+    absurd (file_no_section bytes u' r' u r all parts' parts after' after origin' origin frame'
     frame unfit i'.0 i.1.block.size i.0)
-unit_alone (Start unfit) bytes u r u' r' all parts parts' after after' channel channel' frame frame'
+unit_alone (Start unfit) bytes u r u' r' all parts parts' after after' origin origin' frame frame'
     (inr i) (inr i') =
-    block_alone bytes u r u' r' all parts parts' after after' channel channel' frame
+    block_alone bytes u r u' r' all parts parts' after after' origin origin' frame
     frame' (no_section unfit) i.1 i'.1
-unit_alone (Classic order link passing) bytes u r u' r' all parts parts' after after' channel
-    channel' frame frame' i i' =
-    record_alone bytes u r u' r' all parts parts' after after' channel channel' frame frame' order
-    link passing i.0 i'.0 (i.1 ∙ sym i'.1)
-unit_alone (Pcapng section) bytes u r u' r' all parts parts' after after' channel
-    channel' frame frame' i i' =
-    block_alone bytes u r u' r' all parts parts' after after' channel channel'
+unit_alone (Classic order time_unit link passing) bytes u r u' r' all parts parts' after after' origin
+    origin' frame frame' i i' =
+    record_alone bytes u r u' r' all parts parts' after after' origin origin' frame frame' order
+    time_unit link passing i.0 i'.0 i.1 i'.1
+unit_alone (Pcapng section) bytes u r u' r' all parts parts' after after' origin
+    origin' frame frame' i i' =
+    block_alone bytes u r u' r' all parts parts' after after' origin origin'
     frame frame' section i i'

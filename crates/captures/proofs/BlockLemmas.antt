@@ -1,13 +1,16 @@
 -- What a block can't say.
-use Rattle.std.proofs.Common.{◌≡◌, ◌∙◌, sym, ap, refl, ℕ, ◌+◌, ◌≤◌, List, ◌++◌, length, inl, inr}
+use Rattle.std.proofs.Common.{◌≡◌, ◌∙◌, sym, ap, ap₂, refl, ℕ, ◌+◌, ◌==◌, ◌≤◌, List, ◌++◌, length, inl, inr}
 use Rattle.std.proofs.Common.{arith}
-use Rattle.std.specs.Prelude.{slice_index, Option, Some, None, MatchOption}
+use Rattle.std.specs.Prelude.{slice_index, if◌then◌else◌, Option, Some, None, MatchOption}
 use Rattle.std.proofs.lemmas.List.{get_or_append_left, get_or-append-add}
 use Rattle.captures.specs.Numbers.{half, word}
 use Rattle.captures.specs.Pcapng.{Content, Says, IsTimedPacket, IsSimplePacket, HasOrder}
 use Rattle.captures.specs.Pcapng.{enhanced_packet, obsolete_packet, simple_packet}
-use Rattle.captures.specs.Pcapng.{IsBlock, IsSkipped, IsTaken, RefusesBlock}
-use Rattle.captures.specs.Units.{HasRefusedBlock, RefusesAt}
+use Rattle.captures.specs.Pcapng.{IsBlock, IsSkipped, IsTaken, RefusesBlock, clocks_with}
+use Rattle.captures.specs.declared.time.clock.Clock.{Clock}
+use Rattle.captures.specs.Units.{HasRefusedBlock, RefusesAt, record_origin}
+use Rattle.captures.specs.Times.{record_time}
+use Rattle.captures.specs.declared.time.time_unit.TimeUnit.{TimeUnit}
 use Rattle.captures.specs.declared.byte_order.ByteOrder.TheVariants.{Big, Little}
 use Rattle.captures.specs.declared.capture_error.CaptureError.{CaptureError}
 use Rattle.captures.specs.declared.capture_error.CaptureError.TheVariants.{NotCapture, LinkType}
@@ -18,6 +21,10 @@ use Rattle.captures.specs.declared.link.kind.Link.{Link}
 use Rattle.captures.specs.Pcapng.Content.{Opens, Describes, Holds, Nothing}
 use Rattle.captures.specs.declared.byte_order.ByteOrder.{ByteOrder}
 use Rattle.captures.specs.declared.pcapng.section.Section.{Section}
+use Rattle.captures.specs.declared.origin.Origin.{Origin}
+
+abbrev origin_at : ℕ → Origin
+origin_at time = record { channel = 0; time = time }
 
 pub match_as : {A : Type 0} (found : Option A) (P P' : Type 0) (Q Q' : A → Type 0) → (P → P')
     → ((x : A) → Q x → Q' x) → MatchOption found P Q → MatchOption found P' Q'
@@ -27,53 +34,53 @@ match_as (Some x) P P' Q Q' none some m = some x m
 -- where it is of a kind that holds packets, and holds none
 pub no_enhanced : (section : Section) (order : ByteOrder) (block : List ℕ)
     → word order block 0 ≡ enhanced_packet
-    → ((channel : ℕ) (link : Link) (packet : List ℕ)
-    → IsTimedPacket (word order block 8) section order block channel link packet → ⊥)
+    → ((origin : Origin) (link : Link) (packet : List ℕ)
+    → IsTimedPacket (word order block 8) section order block origin link packet → ⊥)
     → (content : Content) → Says section order block content → ⊥
 no_enhanced section order block kind none (Opens first) says = let other =
     says.0 in absurd (omega arith)
-no_enhanced section order block kind none (Describes link_type snap_len) says = let other =
+no_enhanced section order block kind none (Describes link_type snap_len clock) says = let other =
     says.0 in absurd (omega arith)
-no_enhanced section order block kind none (Holds channel link packet) (inl says) =
-    none channel link packet says.1
-no_enhanced section order block kind none (Holds channel link packet) (inr (inl says)) = let other =
+no_enhanced section order block kind none (Holds origin link packet) (inl says) =
+    none origin link packet says.1
+no_enhanced section order block kind none (Holds origin link packet) (inr (inl says)) = let other =
     says.0 in absurd (omega arith)
-no_enhanced section order block kind none (Holds channel link packet) (inr (inr says)) = let other =
+no_enhanced section order block kind none (Holds origin link packet) (inr (inr says)) = let other =
     says.kind in absurd (omega arith)
 no_enhanced section order block kind none Nothing says = says.2 kind
 
 pub no_obsolete : (section : Section) (order : ByteOrder) (block : List ℕ)
     → word order block 0 ≡ obsolete_packet
-    → ((channel : ℕ) (link : Link) (packet : List ℕ)
-    → IsTimedPacket (half order block 8) section order block channel link packet → ⊥)
+    → ((origin : Origin) (link : Link) (packet : List ℕ)
+    → IsTimedPacket (half order block 8) section order block origin link packet → ⊥)
     → (content : Content) → Says section order block content → ⊥
 no_obsolete section order block kind none (Opens first) says = let other =
     says.0 in absurd (omega arith)
-no_obsolete section order block kind none (Describes link_type snap_len) says = let other =
+no_obsolete section order block kind none (Describes link_type snap_len clock) says = let other =
     says.0 in absurd (omega arith)
-no_obsolete section order block kind none (Holds channel link packet) (inl says) = let other =
+no_obsolete section order block kind none (Holds origin link packet) (inl says) = let other =
     says.0 in absurd (omega arith)
-no_obsolete section order block kind none (Holds channel link packet) (inr (inl says)) =
-    none channel link packet says.1
-no_obsolete section order block kind none (Holds channel link packet) (inr (inr says)) = let other =
+no_obsolete section order block kind none (Holds origin link packet) (inr (inl says)) =
+    none origin link packet says.1
+no_obsolete section order block kind none (Holds origin link packet) (inr (inr says)) = let other =
     says.kind in absurd (omega arith)
 no_obsolete section order block kind none Nothing says = says.3 kind
 
 pub no_simple : (section : Section) (order : ByteOrder) (block : List ℕ)
     → word order block 0 ≡ simple_packet
-    → ((channel : ℕ) (link : Link) (packet : List ℕ)
-    → IsSimplePacket section order block channel link packet → ⊥)
+    → ((origin : Origin) (link : Link) (packet : List ℕ)
+    → IsSimplePacket section order block origin link packet → ⊥)
     → (content : Content) → Says section order block content → ⊥
 no_simple section order block kind none (Opens first) says = let other =
     says.0 in absurd (omega arith)
-no_simple section order block kind none (Describes link_type snap_len) says = let other =
+no_simple section order block kind none (Describes link_type snap_len clock) says = let other =
     says.0 in absurd (omega arith)
-no_simple section order block kind none (Holds channel link packet) (inl says) = let other =
+no_simple section order block kind none (Holds origin link packet) (inl says) = let other =
     says.0 in absurd (omega arith)
-no_simple section order block kind none (Holds channel link packet) (inr (inl says)) = let other =
+no_simple section order block kind none (Holds origin link packet) (inr (inl says)) = let other =
     says.0 in absurd (omega arith)
-no_simple section order block kind none (Holds channel link packet) (inr (inr says)) =
-    none channel link packet says
+no_simple section order block kind none (Holds origin link packet) (inr (inr says)) =
+    none origin link packet says
 no_simple section order block kind none Nothing says = says.4 kind
 
 -- a number of the front
@@ -97,6 +104,14 @@ word_front Little front rest p fits =
           (omega arith),
       get_or_append_left front rest 0 (p + 3) (omega arith),
     ) refl
+
+-- a record's origin stands in its head
+pub origin_front : (order : ByteOrder) (time_unit : TimeUnit) (head packet : List ℕ)
+    → 16 ≤ length head
+    → record_origin order time_unit head ≡ record_origin order time_unit (head ++ packet)
+origin_front order time_unit head packet long =
+    sym (ap₂ (λ (s p : ℕ). origin_at (record_time time_unit s p))
+    (word_front order head packet 0 (omega arith)) (word_front order head packet 4 (omega arith)))
 
 pub word_of : (order : ByteOrder) (bytes front rest : List ℕ) (p : ℕ) → bytes ≡ front ++ rest
     → p + 4 ≤ length front → word order bytes p ≡ word order front p
@@ -202,3 +217,23 @@ refused_at section order bytes block rest error parts fits has_order is_block si
       is_block = is_block;
       refused = refused;
     }) size refused
+
+-- a section after one more interface is described
+pub described : (section : Section) (clock : Clock) (n snap described_snap : ℕ)
+    (links : List Link) {clocks : List Clock} → n ≡ section.interfaces + 1
+    → snap ≡ (if section.interfaces == 0 then described_snap else section.snap_len)
+    → clocks ≡ clocks_with section clock
+    → record section { interfaces = n; snap_len = snap; links = links; clocks = clocks }
+    ≡ record section {
+      interfaces = section.interfaces + 1;
+      snap_len = (if section.interfaces == 0 then described_snap else section.snap_len);
+      links = links;
+      clocks = clocks_with section clock;
+    }
+described section clock n snap described_snap links number size all =
+    λ i. record section {
+      interfaces = number i;
+      snap_len = size i;
+      links = links;
+      clocks = all i;
+    }

@@ -1,6 +1,7 @@
 -- Each packet of a capture has a line.
-use Rattle.std.proofs.Common.{◌≡◌, sym, subst, ℕ, ◌^◌, ◌<◌, ◌≤◌, arith, List, []}
+use Rattle.std.proofs.Common.{◌≡◌, sym, ap, subst, ℕ, ◌+◌, ◌*◌, ◌^◌, ◌<◌, ◌≤◌, arith, List, []}
 use Rattle.std.proofs.Common.{◌∷◌, length, drop, inl, inr}
+use Rattle.std.specs.Prelude.{min}
 use Rattle.std.specs.List.{AllByRecursion}
 use Rattle.captures.proofs.ByteLemmas.{Bytes, bytes_by, bytes_at, bytes_drop, bytes_take, bytes_front}
 use Rattle.captures.proofs.ByteLemmas.{bytes_back}
@@ -8,126 +9,144 @@ use Rattle.captures.proofs.FramedLemmas.{told_bytes, told_fits}
 use Rattle.captures.specs.ComeBack.{HasLine, CapturedPacketsHaveLines}
 use Rattle.captures.specs.Lines.{Packet, packets_of}
 use Rattle.captures.specs.Numbers.{half, word}
-use Rattle.captures.specs.Pcapng.{Content, Says, Becomes, IsTimedPacket}
+use Rattle.captures.specs.Pcapng.{Content, Says, Becomes, IsTimedPacket, clock_at}
 use Rattle.captures.specs.Pcapng.Content.{Opens, Describes, Holds, Nothing}
 use Rattle.captures.specs.Units.{IsUnit, IsBlockUnit, Row, in_a_row, no_section}
 use Rattle.captures.specs.declared.byte_order.ByteOrder.{ByteOrder}
-use Rattle.captures.specs.declared.limits.TheConstants.{FRAME_LIMIT}
+use Rattle.captures.specs.declared.limits.TheConstants.{FRAME_LIMIT, TIME_LIMIT}
+use Rattle.captures.specs.Times.{moved, nanoseconds_in, nanoseconds_of}
 use Rattle.captures.specs.declared.link.kind.Link.{Link}
 use Rattle.captures.specs.declared.pcapng.section.Section.{Section}
 use Rattle.captures.specs.declared.translation.state.State.{State}
 use Rattle.captures.specs.declared.translation.state.State.TheVariants.{Start, Classic, Pcapng}
 use Rattle.runs.proofs.CallLemmas.{AllByRecursion-append}
+use Rattle.captures.specs.declared.origin.Origin.{Origin}
+
+most_time : (n : ℕ) → min n TIME_LIMIT ≤ TIME_LIMIT
+most_time n = omega arith
 
 -- ---- a unit's packet
 
-abbrev Fit : ℕ → List ℕ → Type 0
-Fit channel frame = AllByRecursion HasLine (packets_of channel frame)
+abbrev Fit : Origin → List ℕ → Type 0
+Fit origin frame = AllByRecursion HasLine (packets_of origin frame)
 
-fits_line : (channel : ℕ) (frame : List ℕ) → length frame ≤ FRAME_LIMIT → Bytes frame
-    → channel < 2 ^ 32 → Fit channel frame
-fits_line channel [] short bytes number = tt
-fits_line channel (b ∷ frame) short bytes number = (
+fits_line : (origin : Origin) (frame : List ℕ) → length frame ≤ FRAME_LIMIT → Bytes frame
+    → origin.channel < 2 ^ 32 → origin.time ≤ TIME_LIMIT → Fit origin frame
+fits_line origin [] short bytes number time = tt
+fits_line origin (b ∷ frame) short bytes number time = (
   record {
     some = omega arith;
     short = short;
     bytes = bytes_at (b ∷ frame) bytes;
     number = number;
+    time = time;
   },
   tt,
 )
 
-none_fits : (channel : ℕ) (frame : List ℕ) → frame ≡ [] → Fit channel frame
-none_fits channel frame none = subst (λ (f : List ℕ). Fit channel f) (sym none) tt
+none_fits : (origin : Origin) (frame : List ℕ) → frame ≡ [] → Fit origin frame
+none_fits origin frame none = subst (λ (f : List ℕ). Fit origin f) (sym none) tt
 
 -- the numbers of a section's interfaces begin with one of 32 bits
 abbrev InRange : State → Type 0
 InRange (Start unfit) = Unit {0}
-InRange (Classic order link passing) = Unit {0}
+InRange (Classic order time_unit link passing) = Unit {0}
 InRange (Pcapng section) = section.first < 2 ^ 32
 
 timed_fits : (interface : ℕ) (section : Section) (order : ByteOrder) (block : List ℕ)
-    (after : Section) (channel : ℕ) (frame : List ℕ) → section.first < 2 ^ 32 → Bytes block
-    → (number : ℕ) (link : Link) (held : List ℕ)
+    (after : Section) (origin : Origin) (frame : List ℕ) → section.first < 2 ^ 32 → Bytes block
+    → (number : Origin) (link : Link) (held : List ℕ)
     → IsTimedPacket interface section order block number link held
-    → Becomes section order (Holds number link held) after channel frame
-    → (after.first < 2 ^ 32) × Fit channel frame
-timed_fits interface section order block after channel frame range bytes number link held says
+    → Becomes section order (Holds number link held) after origin frame
+    → (after.first < 2 ^ 32) × Fit origin frame
+timed_fits interface section order block after origin frame range bytes number link held says
     becomes =
-    let number' = becomes.1 in
+    let number' = ap (λ (o : Origin). o.channel) becomes.1 in
     let in' = says.fits in
+    let time = ap (λ (o : Origin). o.time) becomes.1 in
+    let told_time = says.time in
+    let most = most_time (moved (clock_at section interface).offset
+    (nanoseconds_of (clock_at section interface).resolution
+    (2 ^ 32 * word order block 12 + word order block 16))) in
     let held' : Bytes held = subst Bytes (sym says.bytes)
     (bytes_take (length held) (drop 28 block) (bytes_drop 28 block bytes)) in (
       subst (λ (s : Section). s.first < 2 ^ 32) (sym becomes.0) range,
-      fits_line channel frame (told_fits section.passing.unfit link held frame becomes.2)
-          (told_bytes section.passing.unfit link held frame held' becomes.2) (omega arith),
+      fits_line origin frame (told_fits section.passing.unfit link held frame becomes.2)
+          (told_bytes section.passing.unfit link held frame held' becomes.2) (omega arith) (omega arith),
     )
 
 block_fits : (section : Section) (order : ByteOrder) (block : List ℕ) (after : Section)
-    (channel : ℕ) (frame : List ℕ) → section.first < 2 ^ 32 → Bytes block
+    (origin : Origin) (frame : List ℕ) → section.first < 2 ^ 32 → Bytes block
     → (content : Content) → Says section order block content
-    → Becomes section order content after channel frame → (after.first < 2 ^ 32) × Fit channel frame
-block_fits section order block after channel frame range bytes (Opens first) says becomes = (
+    → Becomes section order content after origin frame → (after.first < 2 ^ 32) × Fit origin frame
+block_fits section order block after origin frame range bytes (Opens first) says becomes = (
   subst (λ (s : Section). s.first < 2 ^ 32)
       (sym becomes.0) says.4,
-  none_fits channel frame becomes.1,
+  none_fits origin frame becomes.1,
 )
-block_fits section order block after channel frame range bytes
-    (Describes link_type snap_len) says becomes = (
+block_fits section order block after origin frame range bytes
+    (Describes link_type snap_len clock) says becomes = (
       subst (λ (s : Section). s.first < 2 ^ 32)
           (sym becomes.2) range,
-      none_fits channel frame becomes.3,
+      none_fits origin frame becomes.3,
     )
-block_fits section order block after channel frame range bytes
+block_fits section order block after origin frame range bytes
     (Holds number link held) (inl says) becomes =
-    timed_fits (word order block 8) section order block after channel frame range bytes number
+    timed_fits (word order block 8) section order block after origin frame range bytes number
     link held says.1 becomes
-block_fits section order block after channel frame range bytes
+block_fits section order block after origin frame range bytes
     (Holds number link held) (inr (inl says)) becomes =
-    timed_fits (half order block 8) section order block after channel frame range bytes number
+    timed_fits (half order block 8) section order block after origin frame range bytes number
     link held says.1 becomes
-block_fits section order block after channel frame range bytes
+block_fits section order block after origin frame range bytes
     (Holds number link held) (inr (inr says)) becomes =
-    let number' = becomes.1 in
+    let number' = ap (λ (o : Origin). o.channel) becomes.1 in
     let first = says.number in
+    let time = ap (λ (o : Origin). o.time) becomes.1 in
+    let told_time = says.time in
     let held' : Bytes held = subst Bytes (sym says.bytes)
     (bytes_take (length held) (drop 12 block) (bytes_drop 12 block bytes)) in (
       subst (λ (s : Section). s.first < 2 ^ 32) (sym becomes.0) range,
-      fits_line channel frame (told_fits section.passing.unfit link held frame becomes.2)
-          (told_bytes section.passing.unfit link held frame held' becomes.2) (omega arith),
+      fits_line origin frame (told_fits section.passing.unfit link held frame becomes.2)
+          (told_bytes section.passing.unfit link held frame held' becomes.2) (omega arith)
+          (omega arith),
     )
-block_fits section order block after channel frame range bytes Nothing says becomes = (
+block_fits section order block after origin frame range bytes Nothing says becomes = (
   subst (λ (s : Section). s.first < 2 ^ 32)
       (sym becomes.0) range,
-  none_fits channel frame becomes.1,
+  none_fits origin frame becomes.1,
 )
 
-block_unit_fits : (section : Section) (unit : List ℕ) (after : State) (channel : ℕ) (frame : List ℕ)
+block_unit_fits : (section : Section) (unit : List ℕ) (after : State) (origin : Origin) (frame : List ℕ)
     → section.first < 2 ^ 32 → Bytes unit
-    → IsBlockUnit section unit after channel frame → InRange after × Fit channel frame
-block_unit_fits section unit after channel frame range bytes b =
-    let both = block_fits section b.order unit b.next channel frame range bytes b.reads.content
+    → IsBlockUnit section unit after origin frame → InRange after × Fit origin frame
+block_unit_fits section unit after origin frame range bytes b =
+    let both = block_fits section b.order unit b.next origin frame range bytes b.reads.content
     b.reads.says b.reads.becomes in
     (subst InRange (sym b.becomes) both.0, both.1)
 
-unit_fits : (state : State) (unit : List ℕ) (after : State) (channel : ℕ) (frame : List ℕ)
-    → InRange state → Bytes unit → IsUnit state unit after channel frame
-    → InRange after × Fit channel frame
-unit_fits (Start unfit) unit after channel frame range bytes (inl is) =
-    (subst InRange (sym is.0.next) tt, none_fits channel frame is.1)
-unit_fits (Start unfit) unit after channel frame range bytes (inr is) =
-    block_unit_fits (no_section unfit) unit after channel frame (omega arith) bytes is.1
-unit_fits (Classic order link passing) unit after channel frame range bytes is =
-    let zero' = is.1 in
+unit_fits : (state : State) (unit : List ℕ) (after : State) (origin : Origin) (frame : List ℕ)
+    → InRange state → Bytes unit → IsUnit state unit after origin frame
+    → InRange after × Fit origin frame
+unit_fits (Start unfit) unit after origin frame range bytes (inl is) =
+    (subst InRange (sym is.0.next) tt, none_fits origin frame is.1)
+unit_fits (Start unfit) unit after origin frame range bytes (inr is) =
+    block_unit_fits (no_section unfit) unit after origin frame (omega arith) bytes is.1
+unit_fits (Classic order time_unit link passing) unit after origin frame range bytes is =
+    let zero' = ap (λ (o : Origin). o.channel) is.1 in
     let i = is.0 in
+    let time = ap (λ (o : Origin). o.time) is.1 in
+    let most = most_time (1000000000 * word order unit 0
+    + nanoseconds_in time_unit * word order unit 4) in
     let p = i.is_record in (
       subst InRange (sym i.next) tt,
-      fits_line channel frame (told_fits passing.unfit link i.packet frame i.is_told)
+      fits_line origin frame (told_fits passing.unfit link i.packet frame i.is_told)
           (told_bytes passing.unfit link i.packet frame
-          (bytes_back p.head i.packet (subst Bytes p.parts bytes)) i.is_told) (omega arith),
+          (bytes_back p.head i.packet (subst Bytes p.parts bytes)) i.is_told) (omega arith)
+          (omega arith),
     )
-unit_fits (Pcapng section) unit after channel frame range bytes is =
-    block_unit_fits section unit after channel frame range bytes is
+unit_fits (Pcapng section) unit after origin frame range bytes is =
+    block_unit_fits section unit after origin frame range bytes is
 
 row_fits : (state : State) (units : List (List ℕ)) (packets : List Packet) (after : State)
     → InRange state → Bytes (in_a_row units) → Row state units packets after

@@ -12,24 +12,26 @@ use Rattle.captures.specs.Lines.{Packet, lines_of}
 use Rattle.captures.specs.Runs.{IsCapture, Runs, capture_to_lines}
 use Rattle.captures.specs.Spelling.{TimedFrame, capture_of}
 use Rattle.captures.specs.Texts.{IsText, WritesCapture, lines_to_capture}
+use Rattle.captures.specs.declared.extra.Extra.{Extra}
+use Rattle.captures.specs.declared.time.time_unit.TimeUnit.{TimeUnit}
 
-pub runs_ok : (unfit : Unfit) (skipped : Skipped) (limit : ℕ) (a b : Known)
-    (result : Result Unit RunError) → Runs unfit skipped KnownCall limit a b result
+pub runs_ok : (extra : Extra) (unfit : Unfit) (skipped : Skipped) (limit : ℕ) (a b : Known)
+    (result : Result Unit RunError) → Runs extra unfit skipped KnownCall limit a b result
     → OnOk result (IfSome a.input (λ bytes. (packets : List Packet)
-    × IsCapture unfit bytes packets skipped × Appends a.output b.output (lines_of packets)))
-runs_ok unfit skipped limit a b result runs =
-    goes_ok (capture_to_lines unfit skipped) cause limit a b (λ bytes. (packets : List Packet)
-    × IsCapture unfit bytes packets skipped × Appends a.output b.output (lines_of packets))
+    × IsCapture unfit bytes packets skipped × Appends a.output b.output (lines_of extra packets)))
+runs_ok extra unfit skipped limit a b result runs =
+    goes_ok (capture_to_lines extra unfit skipped) cause limit a b (λ bytes. (packets : List Packet)
+    × IsCapture unfit bytes packets skipped × Appends a.output b.output (lines_of extra packets))
     (λ read written whole appended.
     (whole.0, whole.1, subst (Appends a.output b.output) whole.2 appended)) result runs
 
-pub writes_ok : (limit : ℕ) (a b : Known) (result : Result Unit RunError)
-    → WritesCapture KnownCall limit a b result
+pub writes_ok : (time_unit : TimeUnit) (limit : ℕ) (a b : Known) (result : Result Unit RunError)
+    → WritesCapture time_unit KnownCall limit a b result
     → OnOk result (IfSome a.input (λ bytes. (frames : List TimedFrame) × IsText bytes frames
-    × Appends a.output b.output (capture_of frames)))
-writes_ok limit a b result runs =
-    goes_ok lines_to_capture cause limit a b (λ bytes. (frames : List TimedFrame) × IsText bytes
+    × Appends a.output b.output (capture_of time_unit frames)))
+writes_ok time_unit limit a b result runs =
+    goes_ok (lines_to_capture time_unit) cause limit a b (λ bytes. (frames : List TimedFrame) × IsText bytes
     frames
-    × Appends a.output b.output (capture_of frames))
+    × Appends a.output b.output (capture_of time_unit frames))
     (λ read written whole appended.
     (whole.0, whole.1, subst (Appends a.output b.output) whole.2 appended)) result runs

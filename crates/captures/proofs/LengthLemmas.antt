@@ -14,26 +14,26 @@ module _ (section : Section) (order : ByteOrder) (block : List ℕ) where
   pub short_header : (content : Content) → word order block 0 ≡ section_header
       → length block < 28 → Says section order block content → ⊥
   short_header (Opens first) kind short says = let long = says.1 in absurd (omega arith)
-  short_header (Describes link_type snap_len) kind short says =
+  short_header (Describes link_type snap_len clock) kind short says =
       let other = says.0 in absurd (omega arith)
-  short_header (Holds channel link packet) kind short (inl says) =
+  short_header (Holds origin link packet) kind short (inl says) =
       let other = says.0 in absurd (omega arith)
-  short_header (Holds channel link packet) kind short (inr (inl says)) =
+  short_header (Holds origin link packet) kind short (inr (inl says)) =
       let other = says.0 in absurd (omega arith)
-  short_header (Holds channel link packet) kind short (inr (inr says)) =
+  short_header (Holds origin link packet) kind short (inr (inr says)) =
       let other = says.kind in absurd (omega arith)
   short_header Nothing kind short says = says.0 kind
 
   short_description : (content : Content) → word order block 0 ≡ interface_description
       → length block < 20 → Says section order block content → ⊥
   short_description (Opens first) kind short says = let other = says.0 in absurd (omega arith)
-  short_description (Describes link_type snap_len) kind short says =
+  short_description (Describes link_type snap_len clock) kind short says =
       let long = says.1 in absurd (omega arith)
-  short_description (Holds channel link packet) kind short (inl says) =
+  short_description (Holds origin link packet) kind short (inl says) =
       let other = says.0 in absurd (omega arith)
-  short_description (Holds channel link packet) kind short (inr (inl says)) =
+  short_description (Holds origin link packet) kind short (inr (inl says)) =
       let other = says.0 in absurd (omega arith)
-  short_description (Holds channel link packet) kind short (inr (inr says)) =
+  short_description (Holds origin link packet) kind short (inr (inr says)) =
       let other = says.kind in absurd (omega arith)
   short_description Nothing kind short says = says.1 kind
 
@@ -42,7 +42,7 @@ module _ (section : Section) (order : ByteOrder) (block : List ℕ) where
       × ((number : ℕ) → RefusesBlock section order block (LinkType number) → ⊥)
   description_is_short kind short = (
     λ content says. short_description content kind short says,
-    λ number refused. short_description (Describes number refused.0) kind short refused.1,
+    λ number refused. short_description (Describes number refused.0 refused.1) kind short refused.2,
   )
 
   short_packet : (content : Content)
@@ -50,21 +50,21 @@ module _ (section : Section) (order : ByteOrder) (block : List ℕ) where
       → length block < 32 + word order block 20 → Says section order block content → ⊥
   short_packet (Opens first) (inl kind) short says = let other = says.0 in absurd (omega arith)
   short_packet (Opens first) (inr kind) short says = let other = says.0 in absurd (omega arith)
-  short_packet (Describes link_type snap_len) (inl kind) short says =
+  short_packet (Describes link_type snap_len clock) (inl kind) short says =
       let other = says.0 in absurd (omega arith)
-  short_packet (Describes link_type snap_len) (inr kind) short says =
+  short_packet (Describes link_type snap_len clock) (inr kind) short says =
       let other = says.0 in absurd (omega arith)
-  short_packet (Holds channel link packet) kind short (inl says) =
+  short_packet (Holds origin link packet) kind short (inl says) =
       let size = says.1.size in
       let captured = says.1.captured in
       absurd (omega arith)
-  short_packet (Holds channel link packet) kind short (inr (inl says)) =
+  short_packet (Holds origin link packet) kind short (inr (inl says)) =
       let size = says.1.size in
       let captured = says.1.captured in
       absurd (omega arith)
-  short_packet (Holds channel link packet) (inl kind) short (inr (inr says)) =
+  short_packet (Holds origin link packet) (inl kind) short (inr (inr says)) =
       let other = says.kind in absurd (omega arith)
-  short_packet (Holds channel link packet) (inr kind) short (inr (inr says)) =
+  short_packet (Holds origin link packet) (inr kind) short (inr (inr says)) =
       let other = says.kind in absurd (omega arith)
   short_packet Nothing (inl kind) short says = says.2 kind
   short_packet Nothing (inr kind) short says = says.3 kind

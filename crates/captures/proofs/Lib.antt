@@ -3,7 +3,9 @@ mod BlockLemmas
 mod BufferLemmas
 mod ByteLemmas
 mod CapturedLemmas
+mod ClockLemmas
 mod ComeBackLemmas
+mod ForgetLemmas
 mod FramedLemmas
 mod KnownLemmas
 mod LengthLemmas
@@ -16,5 +18,6 @@ mod Telling
 mod TextAloneLemmas
 mod TextLemmas
 mod Translating
+mod UnfitLemmas
 mod UnitLemmas
 mod Writing

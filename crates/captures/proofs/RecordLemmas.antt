@@ -12,9 +12,10 @@ use Rattle.hex.specs.Hex.{decode_of, decode_sized}
 use Rattle.hex.specs.declared.error.FromHexError.{FromHexError}
 use Rattle.hex.proofs.HexLemmas.{decode_of-ok, decode_sized-ok, decode_sized-twice}
 use Rattle.captures.specs.FrameLines.{frame_at, frame_in, frame_of}
-use Rattle.captures.specs.Spelling.{record_head, record_of}
+use Rattle.captures.specs.Spelling.{parts_in, record_head, record_of}
 use Rattle.captures.specs.declared.text.frame_line.Time.{Time}
 use Rattle.captures.specs.declared.limits.TheConstants.{FRAME_LIMIT}
+use Rattle.captures.specs.declared.time.time_unit.TimeUnit.{TimeUnit}
 
 pub frame_of-other : (line : List ℕ) → starts_with nat_eq line (codes "frame ") ≡ false
     → frame_of line ≡ None
@@ -69,7 +70,7 @@ decoded digits new n r told yes' = sized_is digits new n r (decode_sized digits 
 
 pub frame_is : (time : Time) (frame : List ℕ) → 0 < length frame → length frame ≤ FRAME_LIMIT
     → frame_at (Some time) (Ok frame)
-    ≡ Some (record { seconds = time.seconds; microseconds = time.microseconds; frame = frame })
+    ≡ Some (record { seconds = time.seconds; nanoseconds = time.nanoseconds; frame = frame })
 frame_is time frame some short =
     rw (le-leb 1 (length frame) (omega arith), le-leb (length frame) FRAME_LIMIT short) refl
 
@@ -83,13 +84,14 @@ put_front out new a n m fits size same =
     ∙ take-append_seam new (drop m (drop a out)))
 
 -- a record's head, and the frame behind it
-pub record_put : (out out' new head : List ℕ) (used start n m : ℕ) (time : Time)
+pub record_put : (time_unit : TimeUnit) (out out' new head : List ℕ) (used start n m : ℕ) (time : Time)
     → start ≤ length out' → length new ≡ n → m ≡ n → take start out' ≡ take used out ++ head
-    → head ≡ record_head time.seconds time.microseconds n
+    → head ≡ record_head time.seconds (parts_in time_unit time.nanoseconds) n
     → take (start + n) (put_mid start m out' new) ≡ take used out
-    ++ record_of (record { seconds = time.seconds; microseconds = time.microseconds; frame = new })
-record_put out out' new head used start n m time fits size same front is =
+    ++ record_of time_unit
+    (record { seconds = time.seconds; nanoseconds = time.nanoseconds; frame = new })
+record_put time_unit out out' new head used start n m time fits size same front is =
     put_front out' new start n m fits size same ∙ ap (λ l. l ++ new) front
     ∙ append_assoc (take used out) head new
     ∙ ap (λ l. take used out ++ (l ++ new))
-    (is ∙ ap (record_head time.seconds time.microseconds) (sym size))
+    (is ∙ ap (record_head time.seconds (parts_in time_unit time.nanoseconds)) (sym size))

@@ -18,6 +18,12 @@ use Rattle.captures.specs.declared.translation.state.State.{State}
 use Rattle.captures.specs.declared.translation.state.State.TheVariants.{Pcapng}
 use Rattle.captures.proofs.BlockLemmas.{word_of, word_back, skipped_front}
 use Rattle.captures.proofs.UnitLemmas.{passes_start}
+use Rattle.captures.specs.declared.origin.Origin.{Origin}
+use Rattle.captures.specs.declared.text.ledger.Ledger.{Ledger}
+
+-- of no packet
+no_origin : Origin
+no_origin = record { channel = 0; time = 0 }
 
 -- after so many more bytes
 abbrev pub behind : LongBlock → ℕ → LongBlock
@@ -122,7 +128,7 @@ module _ (block : LongBlock) (section : Section) (dropped back later : List ℕ)
 
   -- the block is a unit without a packet
   passed_back : word block.order (back ++ later) 0 ≡ block.len
-      → HasUnit (Pcapng section) (dropped ++ (back ++ later)) (Pcapng section) 0 [] later
+      → HasUnit (Pcapng section) (dropped ++ (back ++ later)) (Pcapng section) no_origin [] later
   unfolding whole
   passed_back same =
       let long = f.size in
@@ -153,32 +159,37 @@ module _ (block : LongBlock) (section : Section) (dropped back later : List ℕ)
       }
 
 -- a unit without a packet in front of others
-takes_behind : (state mid after : State) (bytes rest rest' : List ℕ) (count : ℕ) (text : List ℕ)
-    (channel : ℕ) (refusal : Option CaptureError) → HasUnit state bytes mid channel [] rest
-    → Takes mid rest after rest' count text refusal → Takes state bytes after rest' count text refusal
-takes_behind state mid after bytes rest rest' count text channel refusal h t = record {
+takes_behind : (ledger noted : Ledger) (state mid after : State) (bytes rest rest' : List ℕ)
+    (count : ℕ) (text : List ℕ)
+    (origin : Origin) (refusal : Option CaptureError) → HasUnit state bytes mid origin [] rest
+    → Takes ledger mid rest after rest' count text refusal noted
+    → Takes ledger state bytes after rest' count text refusal noted
+takes_behind ledger noted state mid after bytes rest rest' count text origin refusal h t = record {
   packets = t.packets;
   number = t.number;
   passes = record {
     units = h.unit ∷ t.passes.units;
-    row = (mid, channel, [], t.packets, h.is_unit, t.passes.row, refl);
+    row = (mid, origin, [], t.packets, h.is_unit, t.passes.row, refl);
     parts = h.parts ∙ ap (λ l. h.unit ++ l) t.passes.parts ∙ sym (append_assoc h.unit _ rest');
   };
   told = t.told;
   left = t.left;
+  come = t.come;
 }
 
 -- fewer bytes than a second length are left
-pub held_behind : (state : State) (block : LongBlock) (n : ℕ) (dropped bytes front rest : List ℕ)
+pub held_behind : (ledger : Ledger) (state : State) (block : LongBlock) (n : ℕ) (dropped bytes front rest : List ℕ)
     → IsDropped state (Some block) dropped → bytes ≡ front ++ rest
     → length front ≡ n → n ≤ block.left
-    → length rest < 4 → Leaves state (dropped ++ bytes) state (Some (behind block n)) rest 0 [] None
-held_behind state block n dropped bytes front rest d parts size few short =
+    → length rest < 4 → Leaves ledger state (dropped ++ bytes) state (Some (behind block n)) rest 0 [] None
+    ledger
+held_behind ledger state block n dropped bytes front rest d parts size few short =
     let f = front_more block d.0 dropped front n d.2 size few in
     rw (d.1, parts) (record {
       dropped = dropped ++ front;
       is_dropped = (d.0, refl, f);
-      takes = subst (λ l. Takes (Pcapng d.0) l (Pcapng d.0) ((dropped ++ front) ++ rest) 0 [] None)
+      takes = subst (λ l. Takes ledger (Pcapng d.0) l (Pcapng d.0) ((dropped ++ front) ++ rest)
+          0 [] None ledger)
           (append_assoc dropped front rest)
           (record {
             packets = [];
@@ -186,23 +197,24 @@ held_behind state block n dropped bytes front rest d parts size few short =
             passes = passes_start (Pcapng d.0) ((dropped ++ front) ++ rest);
             told = refl;
             left = front_begun (behind block n) d.0 (dropped ++ front) rest f short;
+            come = refl;
           });
     })
 
 -- another second length is there
-refused_here : (state : State) (block : LongBlock) (n : ℕ) (dropped bytes front back later : List ℕ)
+refused_here : (ledger : Ledger) (state : State) (block : LongBlock) (n : ℕ) (dropped bytes front back later : List ℕ)
     → IsDropped state (Some block) dropped → bytes ≡ front ++ (back ++ later)
     → length front ≡ n → n ≡ block.left
     → length back ≡ 4 → word block.order (back ++ later) 0 ≢ block.len
-    → Leaves state (dropped ++ bytes) state (Some (behind block n))
-    (back ++ later) 0 [] (Some BadBlock)
-refused_here state block n dropped bytes front back later d parts size all four other =
+    → Leaves ledger state (dropped ++ bytes) state (Some (behind block n))
+    (back ++ later) 0 [] (Some BadBlock) ledger
+refused_here ledger state block n dropped bytes front back later d parts size all four other =
     let f = front_more block d.0 dropped front n d.2 size (omega arith) in
     rw (d.1, parts) (record {
       dropped = dropped ++ front;
       is_dropped = (d.0, refl, f);
-      takes = subst (λ l. Takes (Pcapng d.0) l (Pcapng d.0) ((dropped ++ front) ++ (back ++ later))
-          0 [] (Some BadBlock)) (append_assoc dropped front (back ++ later))
+      takes = subst (λ l. Takes ledger (Pcapng d.0) l (Pcapng d.0)
+          ((dropped ++ front) ++ (back ++ later)) 0 [] (Some BadBlock) ledger) (append_assoc dropped front (back ++ later))
           (record {
             packets = [];
             number = refl;
@@ -210,56 +222,62 @@ refused_here state block n dropped bytes front back later d parts size all four 
             told = refl;
             left = refused_back (behind block n) d.0 (dropped ++ front) back later f
                 (omega arith) four other;
+            come = refl;
           });
     })
 
-pub refused_behind : (state : State) (block : LongBlock) (n : ℕ) (dropped bytes front rest : List ℕ)
+pub refused_behind : (ledger : Ledger) (state : State) (block : LongBlock) (n : ℕ) (dropped bytes front rest : List ℕ)
     → IsDropped state (Some block) dropped → bytes ≡ front ++ rest
     → length front ≡ n → n ≡ block.left
     → 4 ≤ length rest → word block.order rest 0 ≢ block.len
-    → Leaves state (dropped ++ bytes) state (Some (behind block n)) rest 0 [] (Some BadBlock)
-refused_behind state block n dropped bytes front rest d parts size all four other =
+    → Leaves ledger state (dropped ++ bytes) state (Some (behind block n)) rest 0 [] (Some BadBlock)
+    ledger
+refused_behind ledger state block n dropped bytes front rest d parts size all four other =
     let split = take-append-drop 4 rest in
-    subst (λ (r : List ℕ). Leaves state (dropped ++ bytes) state (Some (behind block n)) r
-    0 [] (Some BadBlock)) split
-    (refused_here state block n dropped bytes front (take 4 rest) (drop 4 rest) d
+    subst (λ (r : List ℕ). Leaves ledger state (dropped ++ bytes) state (Some (behind block n)) r
+    0 [] (Some BadBlock) ledger) split
+    (refused_here ledger state block n dropped bytes front (take 4 rest) (drop 4 rest) d
     (parts ∙ ap (λ l. front ++ l) (sym split)) size all (length-take-le 4 rest four)
     (λ e. other (ap (λ (r : List ℕ). word block.order r 0) (sym split) ∙ e)))
 
 -- its own is, and units may follow
-pub passed_behind : (state : State) (block : LongBlock) (n : ℕ)
+pub passed_behind : (ledger noted : Ledger) (state : State) (block : LongBlock) (n : ℕ)
     (dropped bytes front back later : List ℕ) → IsDropped state (Some block) dropped
     → bytes ≡ front ++ (back ++ later) → length front ≡ n → n ≡ block.left
     → length back ≡ 4 → word block.order (back ++ later) 0 ≡ block.len
     → (after : State) (begun : Option LongBlock) (rest : List ℕ) (count : ℕ)
     (text : List ℕ) (refusal : Option CaptureError)
-    → Leaves state later after begun rest count text refusal
-    → Leaves state (dropped ++ bytes) after begun rest count text refusal
-passed_behind state block n dropped bytes front back later d parts size all four same after begun
+    → Leaves ledger state later after begun rest count text refusal noted
+    → Leaves ledger state (dropped ++ bytes) after begun rest count text refusal noted
+passed_behind ledger noted state block n dropped bytes front back later d parts size all four same after begun
     rest count text refusal leaves =
     let f = front_more block d.0 dropped front n d.2 size (omega arith) in
     let unit = passed_back (behind block n) d.0 (dropped ++ front) back later f
     (omega arith) four same in
-    let takes' : Takes (Pcapng d.0) later after (leaves.dropped ++ rest) count text refusal =
-    subst (λ (s : State). Takes s later after (leaves.dropped ++ rest) count text refusal)
+    let takes' : Takes ledger (Pcapng d.0) later after (leaves.dropped ++ rest) count text refusal
+    noted = subst (λ (s : State). Takes ledger s later after (leaves.dropped ++ rest) count text
+    refusal noted)
     d.1 leaves.takes in
     rw (d.1, parts) (record {
       dropped = leaves.dropped;
       is_dropped = leaves.is_dropped;
-      takes = subst (λ l. Takes (Pcapng d.0) l after (leaves.dropped ++ rest) count text refusal)
+      takes = subst (λ l. Takes ledger (Pcapng d.0) l after (leaves.dropped ++ rest) count text
+          refusal noted)
           (append_assoc dropped front (back ++ later))
-          (takes_behind (Pcapng d.0) (Pcapng d.0) after
+          (takes_behind ledger noted (Pcapng d.0) (Pcapng d.0) after
           ((dropped ++ front) ++ (back ++ later)) later
-          (leaves.dropped ++ rest) count text 0 refusal unit takes');
+          (leaves.dropped ++ rest) count text no_origin refusal unit takes');
     })
 
 -- what is taken of a piece that was read behind what is held
-pub takes_piece : (state after : State) (dropped held piece : List ℕ) (begun : Option LongBlock)
+pub takes_piece : (ledger noted : Ledger) (state after : State) (dropped held piece : List ℕ) (begun : Option LongBlock)
     (rest : List ℕ) (count : ℕ) (text : List ℕ) (refusal : Option CaptureError)
-    → (l : Leaves state (dropped ++ (held ++ piece)) after begun rest count text refusal)
-    → Takes state ((dropped ++ held) ++ piece) after (l.dropped ++ rest) count text refusal
-takes_piece state after dropped held piece begun rest count text refusal l =
-    subst (λ (bytes : List ℕ). Takes state bytes after (l.dropped ++ rest) count text refusal)
+    → (l : Leaves ledger state (dropped ++ (held ++ piece)) after begun rest count text refusal noted)
+    → Takes ledger state ((dropped ++ held) ++ piece) after (l.dropped ++ rest) count text refusal
+    noted
+takes_piece ledger noted state after dropped held piece begun rest count text refusal l =
+    subst (λ (bytes : List ℕ). Takes ledger state bytes after (l.dropped ++ rest) count text
+    refusal noted)
     (sym (append_assoc dropped held piece)) l.takes
 
 -- how many bytes are dropped, and of which block

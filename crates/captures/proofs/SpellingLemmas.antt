@@ -1,5 +1,5 @@
 -- What is written is read again.
-use Rattle.std.proofs.Common.{◌≡◌, ◌∙◌, sym, ap, refl, ℕ, ◌+◌, ◌*◌, ◌/◌, ◌%◌, ◌^◌, ◌<◌, ◌≤◌}
+use Rattle.std.proofs.Common.{◌≡◌, ◌∙◌, sym, ap, ap₂, refl, ℕ, ◌+◌, ◌*◌, ◌/◌, ◌%◌, ◌^◌, ◌<◌, ◌≤◌}
 use Rattle.std.proofs.Common.{arith, ◌==◌, Bool, true, false}
 use Rattle.std.proofs.Common.{List, [], ◌∷◌, ◌++◌, length, inl, append-nil, Some, le-ltb}
 use Rattle.std.proofs.Common.{Result, Ok}
@@ -16,22 +16,30 @@ use Rattle.captures.specs.declared.unfit.Unfit.{Unfit}
 use Rattle.captures.specs.Pcap.{IsPacketRecord}
 use Rattle.captures.specs.Runs.{IsCapture}
 use Rattle.captures.specs.Spelling.{TimedFrame, file_header, record_head, record_of, capture_of}
-use Rattle.captures.specs.Spelling.{packets_in}
-use Rattle.captures.specs.Units.{Row, in_a_row, IsRecordUnit, OpensFile}
+use Rattle.captures.specs.Spelling.{packets_in, parts_in, origin_of, IsWritable}
+use Rattle.captures.specs.Numbers.{word}
+use Rattle.captures.specs.Times.{record_time}
+use Rattle.captures.specs.declared.time.time_unit.TimeUnit.TheVariants.{Microseconds, Nanoseconds}
+use Rattle.captures.specs.Units.{Row, in_a_row, IsRecordUnit, OpensFile, record_origin}
 use Rattle.captures.specs.declared.byte_order.ByteOrder.TheVariants.{Little}
 use Rattle.captures.specs.declared.limits.TheConstants.{FRAME_LIMIT}
 use Rattle.captures.specs.declared.link.kind.Link.TheVariants.{Ethernet}
 use Rattle.captures.specs.declared.translation.state.State.TheVariants.{Classic}
+use Rattle.captures.specs.declared.time.time_unit.TimeUnit.{TimeUnit}
+use Rattle.captures.specs.declared.origin.Origin.{Origin}
+
+abbrev origin_at : ℕ → Origin
+origin_at time = record { channel = 0; time = time }
 
 -- the bytes of a number spell it
 spelled : (n : ℕ) → n < 2 ^ 32
     → n % 256 + 256 * (n / 256 % 256 + 256 * (n / 65536 % 256 + 256 * (n / 16777216 % 256))) ≡ n
 spelled n fits = omega arith
 
-record_is : (timed : TimedFrame) → length timed.frame ≤ FRAME_LIMIT
-    → IsPacketRecord Little (record_of timed) timed.frame
-record_is timed fits = record {
-  head = record_head timed.seconds timed.microseconds (length timed.frame);
+record_is : (time_unit : TimeUnit) (timed : TimedFrame) → length timed.frame ≤ FRAME_LIMIT
+    → IsPacketRecord Little (record_of time_unit timed) timed.frame
+record_is time_unit timed fits = record {
+  head = record_head timed.seconds (parts_in time_unit timed.nanoseconds) (length timed.frame);
   parts = refl;
   size = refl;
   captured = spelled (length timed.frame) (omega arith);
@@ -53,42 +61,60 @@ own_fits : (unfit : Unfit) (frame : List ℕ) → length frame ≤ FRAME_LIMIT
 own_fits Refuse frame short = omega arith
 own_fits Skip frame short = omega arith
 
-abbrev at_frames : Passing → State
-at_frames passing = Classic Little Ethernet passing
+abbrev at_frames : TimeUnit → Passing → State
+at_frames time_unit passing = Classic Little time_unit Ethernet passing
 
-is_unit : (passing : Passing) (timed : TimedFrame) → length timed.frame ≤ FRAME_LIMIT
-    → IsRecordUnit Little Ethernet passing (record_of timed) (at_frames passing) timed.frame
-is_unit passing timed fits = record {
+is_unit : (time_unit : TimeUnit) (passing : Passing) (timed : TimedFrame) → length timed.frame ≤ FRAME_LIMIT
+    → IsRecordUnit Little time_unit Ethernet passing (record_of time_unit timed)
+    (at_frames time_unit passing) timed.frame
+is_unit time_unit passing timed fits = record {
   packet = timed.frame;
-  is_record = record_is timed fits;
+  is_record = record_is time_unit timed fits;
   fits = own_fits passing.unfit timed.frame fits;
   is_told = ap (frame_by passing.unfit) (own_told timed.frame fits);
-  next = ap (λ (told : Result (List ℕ) Reason). at_frames (counted_by passing told))
+  next = ap (λ (told : Result (List ℕ) Reason). at_frames time_unit (counted_by passing told))
       (sym (own_told timed.frame fits));
 }
 
-units_of : List TimedFrame → List (List ℕ)
-units_of [] = []
-units_of (timed ∷ frames) = record_of timed ∷ units_of frames
+units_of : TimeUnit → List TimedFrame → List (List ℕ)
+units_of time_unit [] = []
+units_of time_unit (timed ∷ frames) = record_of time_unit timed ∷ units_of time_unit frames
 
-in_a_row-units_of : (frames : List TimedFrame) → in_a_row (units_of frames) ≡ flat_map record_of
-    frames
+in_a_row-units_of : (time_unit : TimeUnit) (frames : List TimedFrame)
+    → in_a_row (units_of time_unit frames) ≡ flat_map (record_of time_unit) frames
 unfolding units_of
-in_a_row-units_of [] = refl
-in_a_row-units_of (timed ∷ frames) = ap (λ l. record_of timed ++ l) (in_a_row-units_of frames)
+in_a_row-units_of time_unit [] = refl
+in_a_row-units_of time_unit (timed ∷ frames) =
+    ap (λ l. record_of time_unit timed ++ l) (in_a_row-units_of time_unit frames)
 
-row_of : (passing : Passing) (frames : List TimedFrame)
-    → AllByRecursion (λ timed. length timed.frame ≤ FRAME_LIMIT) frames
-    → Row (at_frames passing) (units_of frames) (packets_in frames) (at_frames passing)
+-- the time that a record tells
+parts_few : (time_unit : TimeUnit) (n : ℕ) → n < 1000000000 → parts_in time_unit n < 2 ^ 32
+parts_few Microseconds n few = omega arith
+parts_few Nanoseconds n few = omega arith
+
+its_origin : (time_unit : TimeUnit) (timed : TimedFrame) → IsWritable timed
+    → origin_of time_unit timed ≡ record_origin Little time_unit (record_of time_unit timed)
+its_origin time_unit timed fits =
+    let seconds : word Little (record_of time_unit timed) 0 ≡ timed.seconds =
+    spelled timed.seconds fits.seconds in
+    let parts : word Little (record_of time_unit timed) 4 ≡ parts_in time_unit timed.nanoseconds =
+    spelled (parts_in time_unit timed.nanoseconds)
+    (parts_few time_unit timed.nanoseconds fits.nanoseconds) in
+    sym (ap₂ (λ (s p : ℕ). origin_at (record_time time_unit s p)) seconds parts)
+
+row_of : (time_unit : TimeUnit) (passing : Passing) (frames : List TimedFrame)
+    → AllByRecursion IsWritable frames
+    → Row (at_frames time_unit passing) (units_of time_unit frames) (packets_in time_unit frames)
+    (at_frames time_unit passing)
 unfolding units_of
-row_of passing [] all = (refl, refl)
-row_of passing (timed ∷ frames) all = (
-  at_frames passing,
-  0,
+row_of time_unit passing [] all = (refl, refl)
+row_of time_unit passing (timed ∷ frames) all = (
+  at_frames time_unit passing,
+  origin_of time_unit timed,
   timed.frame,
-  packets_in frames,
-  (is_unit passing timed all.0, refl),
-  row_of passing frames all.1,
+  packets_in time_unit frames,
+  (is_unit time_unit passing timed all.0.short, its_origin time_unit timed all.0),
+  row_of time_unit passing frames all.1,
   refl,
 )
 
@@ -96,8 +122,16 @@ known_link : (unfit : Unfit) → link_for unfit 1 ≡ Some Ethernet
 known_link Refuse = refl
 known_link Skip = refl
 
-header_is : (unfit : Unfit) → OpensFile unfit file_header (at_frames (passing_from unfit))
-header_is unfit = record {
+header_is : (unfit : Unfit) (time_unit : TimeUnit)
+    → OpensFile unfit (file_header time_unit) (at_frames time_unit (passing_from unfit))
+header_is unfit Microseconds = record {
+  order = Little;
+  link = Ethernet;
+  header = record { size = refl; magic = refl; major = refl; minor = refl };
+  known = known_link unfit;
+  next = refl;
+}
+header_is unfit Nanoseconds = record {
   order = Little;
   link = Ethernet;
   header = record { size = refl; magic = refl; major = refl; minor = refl };
@@ -105,24 +139,24 @@ header_is unfit = record {
   next = refl;
 }
 
-pub capture_is : (unfit : Unfit) (frames : List TimedFrame)
-    → AllByRecursion (λ timed. length timed.frame ≤ FRAME_LIMIT) frames
-    → IsCapture unfit (capture_of frames) (packets_in frames) none_skipped
-capture_is unfit frames all = record {
-  state = at_frames (passing_from unfit);
+pub capture_is : (unfit : Unfit) (time_unit : TimeUnit) (frames : List TimedFrame)
+    → AllByRecursion IsWritable frames
+    → IsCapture unfit (capture_of time_unit frames) (packets_in time_unit frames) none_skipped
+capture_is unfit time_unit frames all = record {
+  state = at_frames time_unit (passing_from unfit);
   passes = record {
-    units = file_header ∷ units_of frames;
+    units = file_header time_unit ∷ units_of time_unit frames;
     row = (
-      at_frames (passing_from unfit),
-      0,
+      at_frames time_unit (passing_from unfit),
+      origin_at 0,
       [],
-      packets_in frames,
-      inl (header_is unfit, refl),
-      row_of (passing_from unfit) frames all,
+      packets_in time_unit frames,
+      inl (header_is unfit time_unit, refl),
+      row_of time_unit (passing_from unfit) frames all,
       refl,
     );
-    parts = ap (λ l. file_header ++ l) (sym (in_a_row-units_of frames))
-        ∙ sym (append-nil (file_header ++ in_a_row (units_of frames)));
+    parts = ap (λ l. file_header time_unit ++ l) (sym (in_a_row-units_of time_unit frames))
+        ∙ sym (append-nil (file_header time_unit ++ in_a_row (units_of time_unit frames)));
   };
   known = λ e. cc e;
   counts = refl;

@@ -5,7 +5,7 @@ use Rattle.std.proofs.Common.{inr, Option, Some, None}
 use Rattle.std.specs.Prelude.{IsTrue, slice_index}
 use Rattle.hex.specs.Hex.{IsBytes}
 use Rattle.captures.specs.Framed.{told_frame, link_for}
-use Rattle.captures.specs.Lines.{Packet, lines_of}
+use Rattle.captures.specs.Lines.{Packet, blank, lines_of}
 use Rattle.captures.specs.Numbers.{word}
 use Rattle.captures.specs.Pcap.{is_magic, link_type}
 use Rattle.captures.specs.Pcapng.{Content, HasOrder, Says, Reads, IsSkipped, RefusesBlock}
@@ -35,6 +35,10 @@ use Rattle.captures.proofs.AloneLemmas.{becomes_as, content_at, content_is, fron
 use Rattle.captures.proofs.AloneLemmas.{bytes_behind, order_alone}
 use Rattle.captures.proofs.AloneLemmas.{order_more, file_order, no_section_in, unit_alone}
 use Rattle.captures.proofs.BlockLemmas.{word_of, skipped_front}
+use Rattle.captures.specs.declared.extra.Extra.{Extra}
+use Rattle.captures.specs.declared.text.ledger.Ledger.{Ledger}
+use Rattle.captures.specs.declared.origin.Origin.{Origin}
+use Rattle.captures.specs.declared.time.time_unit.TimeUnit.{TimeUnit}
 
 -- ---- a section header's kind reads the same in both byte orders
 
@@ -65,37 +69,37 @@ some_and_none found x some none = let same : Some x ≡ None = sym some ∙ none
 -- ---- a block that is refused says nothing that is read
 
 refused_says : (section : Section) (order : ByteOrder) (block : List ℕ) (error : CaptureError)
-    → RefusesBlock section order block error → (after : Section) (channel : ℕ) (frame : List ℕ)
-    → Reads section order block after channel frame → ⊥
-refused_says section order block NotCapture refused after channel frame reads = refused
-refused_says section order block (LinkType number) refused after channel frame reads =
-    some_and_none _ _ (becomes_as section order block reads.content (Describes number refused.0)
-    reads.says refused.1 after channel frame reads.becomes).1 refused.2
-refused_says section order block (FrameTooLong captured) refused after channel frame reads =
+    → RefusesBlock section order block error → (after : Section) (origin : Origin) (frame : List ℕ)
+    → Reads section order block after origin frame → ⊥
+refused_says section order block NotCapture refused after origin frame reads = refused
+refused_says section order block (LinkType number) refused after origin frame reads =
+    some_and_none _ _ (becomes_as section order block reads.content (Describes number refused.0 refused.1)
+    reads.says refused.2 after origin frame reads.becomes).1 refused.3
+refused_says section order block (FrameTooLong captured) refused after origin frame reads =
     let most = (becomes_as section order block reads.content
     (Holds refused.0 refused.1 refused.2) reads.says
-    refused.3 after channel frame reads.becomes).3 in
+    refused.3 after origin frame reads.becomes).3 in
     let size = refused.4 in
     let long = refused.5 in
     absurd (omega arith)
-refused_says section order block NoFrame refused after channel frame reads =
+refused_says section order block NoFrame refused after origin frame reads =
     some_and_none _ _ (becomes_as section order block reads.content
     (Holds refused.0 refused.1 refused.2) reads.says
-    refused.3 after channel frame reads.becomes).2 refused.5
-refused_says section order block CutOff refused after channel frame reads = refused
-refused_says section order block (BlockTooLong len) refused after channel frame reads = refused
-refused_says section order block BadBlock refused after channel frame reads =
+    refused.3 after origin frame reads.becomes).2 refused.5
+refused_says section order block CutOff refused after origin frame reads = refused
+refused_says section order block (BlockTooLong len) refused after origin frame reads = refused
+refused_says section order block BadBlock refused after origin frame reads =
     refused reads.content reads.says
 
 -- ---- where a unit is the front of the bytes
 
 module _ (bytes u r : List ℕ) (all : IsBytes bytes) (parts : bytes ≡ u ++ r) (after : State)
-    (channel : ℕ) (frame : List ℕ) where
+    (origin : Origin) (frame : List ℕ) where
   fits : length u ≤ length bytes
   fits = let sizes = ap length parts in omega (arith, length-append u r)
 
   -- a block
-  module _ (section : Section) (b : IsBlockUnit section u after channel frame) where
+  module _ (section : Section) (b : IsBlockUnit section u after origin frame) where
     long : 12 ≤ length u
     long = b.block.size
 
@@ -132,7 +136,7 @@ module _ (bytes u r : List ℕ) (all : IsBytes bytes) (parts : bytes ≡ u ++ r)
         (sym same) h.refused in
         refused_says section b.order u error
         (subst (λ (o : ByteOrder). RefusesBlock section o u error)
-        (its_order h.order has) refused) b.next channel frame b.reads
+        (its_order h.order has) refused) b.next origin frame b.reads
 
     not_bad : HasBadLength section bytes → ⊥
     not_bad h =
@@ -209,7 +213,7 @@ module _ (bytes u r : List ℕ) (all : IsBytes bytes) (parts : bytes ≡ u ++ r)
 
   -- a section header
   module _ (kind : word Big u 0 ≡ section_header)
-      (unfit : Unfit) (b : IsBlockUnit (no_section unfit) u after channel frame) where
+      (unfit : Unfit) (b : IsBlockUnit (no_section unfit) u after origin frame) where
     kind_in : word Big bytes 0 ≡ section_header
     kind_in = let l = b.block.size in word_of Big bytes u r 0 parts (omega arith) ∙ kind
 
@@ -248,8 +252,8 @@ module _ (bytes u r : List ℕ) (all : IsBytes bytes) (parts : bytes ≡ u ++ r)
     not_section BadBlock refuses = not_at (no_section unfit) b BadBlock refuses.1
 
   -- a packet record
-  module _ (order : ByteOrder) (link : Link) (passing : Passing)
-      (i : IsRecordUnit order link passing u after frame) where
+  module _ (order : ByteOrder) (time_unit : TimeUnit) (link : Link) (passing : Passing)
+      (i : IsRecordUnit order time_unit link passing u after frame) where
     long_record : 16 ≤ length u
     long_record =
         let p = i.is_record in
@@ -306,53 +310,53 @@ module _ (bytes u r : List ℕ) (all : IsBytes bytes) (parts : bytes ≡ u ++ r)
 -- ---- so none is the front of what is left
 
 left_no_unit : (state : State) (bytes u r : List ℕ) → IsBytes bytes → bytes ≡ u ++ r
-    → (after : State) (channel : ℕ) (frame : List ℕ) → IsUnit state u after channel frame
+    → (after : State) (origin : Origin) (frame : List ℕ) → IsUnit state u after origin frame
     → (refusal : Option CaptureError) → IsLeft state bytes refusal → ⊥
-left_no_unit (Start unfit) bytes u r all parts after channel frame (inl i) None (inl few) =
+left_no_unit (Start unfit) bytes u r all parts after origin frame (inl i) None (inl few) =
     let size = i.0.header.size in
-    let f = fits bytes u r all parts after channel frame in
+    let f = fits bytes u r all parts after origin frame in
     absurd (omega arith)
-left_no_unit (Start unfit) bytes u r all parts after channel frame (inl i) None (inr h) =
-    no_kind bytes u r all parts after channel frame unfit i.0 h.0
-left_no_unit (Start unfit) bytes u r all parts after channel frame (inr i) None (inl few) =
-    let l = long_enough bytes u r all parts after channel frame i.0 unfit i.1
+left_no_unit (Start unfit) bytes u r all parts after origin frame (inl i) None (inr h) =
+    no_kind bytes u r all parts after origin frame unfit i.0 h.0
+left_no_unit (Start unfit) bytes u r all parts after origin frame (inr i) None (inl few) =
+    let l = long_enough bytes u r all parts after origin frame i.0 unfit i.1
     i.1.reads.content i.1.reads.says in
-    let f = fits bytes u r all parts after channel frame in
+    let f = fits bytes u r all parts after origin frame in
     absurd (omega arith)
-left_no_unit (Start unfit) bytes u r all parts after channel frame (inr i) None (inr h) =
-    not_short bytes u r all parts after channel frame (no_section unfit) i.1 h.1
-left_no_unit (Start unfit) bytes u r all parts after channel frame (inl i) (Some error) refuses =
-    not_first bytes u r all parts after channel frame unfit i.0 error refuses.1
-left_no_unit (Start unfit) bytes u r all parts after channel frame (inr i) (Some error) refuses =
-    not_section bytes u r all parts after channel frame i.0 unfit i.1 error refuses.1
-left_no_unit (Classic order link passing) bytes u r all parts after channel frame i None (inl few) =
-    let l = long_record bytes u r all parts after channel frame order link passing i.0 in
-    let f = fits bytes u r all parts after channel frame in
+left_no_unit (Start unfit) bytes u r all parts after origin frame (inr i) None (inr h) =
+    not_short bytes u r all parts after origin frame (no_section unfit) i.1 h.1
+left_no_unit (Start unfit) bytes u r all parts after origin frame (inl i) (Some error) refuses =
+    not_first bytes u r all parts after origin frame unfit i.0 error refuses.1
+left_no_unit (Start unfit) bytes u r all parts after origin frame (inr i) (Some error) refuses =
+    not_section bytes u r all parts after origin frame i.0 unfit i.1 error refuses.1
+left_no_unit (Classic order time_unit link passing) bytes u r all parts after origin frame i None (inl few) =
+    let l = long_record bytes u r all parts after origin frame order time_unit link passing i.0 in
+    let f = fits bytes u r all parts after origin frame in
     absurd (omega arith)
-left_no_unit (Classic order link passing) bytes u r all parts after channel frame i None (inr h) =
-    not_cut bytes u r all parts after channel frame order link passing i.0 h
-left_no_unit (Classic order link passing) bytes u r all parts after channel frame i
+left_no_unit (Classic order time_unit link passing) bytes u r all parts after origin frame i None (inr h) =
+    not_cut bytes u r all parts after origin frame order time_unit link passing i.0 h
+left_no_unit (Classic order time_unit link passing) bytes u r all parts after origin frame i
     (Some NotCapture) refuses = refuses
-left_no_unit (Classic order link passing) bytes u r all parts after channel frame i
+left_no_unit (Classic order time_unit link passing) bytes u r all parts after origin frame i
     (Some (LinkType number)) refuses = refuses
-left_no_unit (Classic order link passing) bytes u r all parts after channel frame i
+left_no_unit (Classic order time_unit link passing) bytes u r all parts after origin frame i
     (Some (FrameTooLong captured)) refuses =
-    not_long bytes u r all parts after channel frame order link passing i.0 captured refuses
-left_no_unit (Classic order link passing) bytes u r all parts after channel frame i
+    not_long bytes u r all parts after origin frame order time_unit link passing i.0 captured refuses
+left_no_unit (Classic order time_unit link passing) bytes u r all parts after origin frame i
     (Some NoFrame) refuses =
-    not_unframed bytes u r all parts after channel frame order link passing i.0 refuses
-left_no_unit (Classic order link passing) bytes u r all parts after channel frame i
+    not_unframed bytes u r all parts after origin frame order time_unit link passing i.0 refuses
+left_no_unit (Classic order time_unit link passing) bytes u r all parts after origin frame i
     (Some CutOff) refuses = refuses
-left_no_unit (Classic order link passing) bytes u r all parts after channel frame i
+left_no_unit (Classic order time_unit link passing) bytes u r all parts after origin frame i
     (Some (BlockTooLong len)) refuses = refuses
-left_no_unit (Classic order link passing) bytes u r all parts after channel frame i
+left_no_unit (Classic order time_unit link passing) bytes u r all parts after origin frame i
     (Some BadBlock) refuses = refuses
-left_no_unit (Pcapng section) bytes u r all parts after channel frame i None (inl few) = let size =
-    i.block.size in let f = fits bytes u r all parts after channel frame in absurd (omega arith)
-left_no_unit (Pcapng section) bytes u r all parts after channel frame i None (inr h) =
-    not_short bytes u r all parts after channel frame section i h
-left_no_unit (Pcapng section) bytes u r all parts after channel frame i (Some error) refuses =
-    not_at bytes u r all parts after channel frame section i error refuses
+left_no_unit (Pcapng section) bytes u r all parts after origin frame i None (inl few) = let size =
+    i.block.size in let f = fits bytes u r all parts after origin frame in absurd (omega arith)
+left_no_unit (Pcapng section) bytes u r all parts after origin frame i None (inr h) =
+    not_short bytes u r all parts after origin frame section i h
+left_no_unit (Pcapng section) bytes u r all parts after origin frame i (Some error) refuses =
+    not_at bytes u r all parts after origin frame section i error refuses
 
 rows_alone : (state : State) (us vs : List (List ℕ)) (ps qs : List Packet) (after after' : State)
     (rest rest' : List ℕ) (refusal refusal' : Option CaptureError)
@@ -388,21 +392,24 @@ rows_alone state (u ∷ us) (v ∷ vs) ps qs after after' rest rest' refusal ref
     (bytes_behind u (in_a_row us ++ rest) bytes') behind row.5 later' left left' in
     (row.6 ∙ ap₂ (λ (a b : List Packet). a ++ b) one.2 later.0 ∙ sym row'.6, later.1)
 
-pub told_alone : (unfit : Unfit) (bytes rest rest' text text' : List ℕ) (count count' : ℕ)
-    (state state' : State) (refusal refusal' : Option CaptureError) → IsBytes bytes
-    → Takes (Start unfit) bytes state rest count text refusal
-    → Takes (Start unfit) bytes state' rest' count' text' refusal' → text ≡ text'
-told_alone unfit bytes rest rest' text text' count count' state state' refusal refusal' all t t' =
+pub told_alone : (extra : Extra) (unfit : Unfit) (bytes rest rest' text text' : List ℕ) (count count' : ℕ)
+    (state state' : State) (refusal refusal' : Option CaptureError) (noted noted' : Ledger)
+    → IsBytes bytes
+    → Takes (blank extra) (Start unfit) bytes state rest count text refusal noted
+    → Takes (blank extra) (Start unfit) bytes state' rest' count' text' refusal' noted'
+    → text ≡ text'
+told_alone extra unfit bytes rest rest' text text' count count' state state' refusal refusal' noted
+    noted' all t t' =
     let p = t.passes in
     let p' = t'.passes in
     let same = rows_alone (Start unfit) p.units p'.units t.packets t'.packets state state'
     rest rest' refusal refusal' (subst IsBytes p.parts all)
     (sym p.parts ∙ p'.parts) p.row p'.row t.left t'.left in
-    t.told ∙ ap lines_of same.0 ∙ sym t'.told
+    t.told ∙ ap (lines_of extra) same.0 ∙ sym t'.told
 
 nothing_left : (state : State) → IsLeft state [] None
 nothing_left (Start unfit) = inl (omega arith)
-nothing_left (Classic order link passing) = inl (omega arith)
+nothing_left (Classic order time_unit link passing) = inl (omega arith)
 nothing_left (Pcapng section) = inl (omega arith)
 
 pub capture_alone : (unfit : Unfit) (bytes : List ℕ) (packets packets' : List Packet)

@@ -15,6 +15,7 @@ use Rattle.captures.specs.Spelling.{TimedFrame, record_of}
 use Rattle.captures.specs.Texts.{is_newline, HasNoNewline, with_line_ends, HandIn, Hands, ends_line}
 use Rattle.captures.specs.Texts.{with_last_line_end}
 use Rattle.captures.specs.Texts.{IsLeftLine}
+use Rattle.captures.specs.declared.time.time_unit.TimeUnit.{TimeUnit}
 
 -- what comes behind a begun line: what a read gave, or at the end the 0a that a begun line lacks
 abbrev pub coming : Bool → (begun piece : List ℕ) → List ℕ
@@ -199,27 +200,31 @@ pub left_bad : (rest line rest' : List ℕ) → rest ≡ line ++ 10 ∷ rest' �
 left_bad rest line rest' parts whole none =
     inl (record { line = line; rest = rest'; parts = parts; whole = whole; none = none })
 
-pub records-append : (fs gs : List TimedFrame)
-    → flat_map record_of (fs ++ gs) ≡ flat_map record_of fs ++ flat_map record_of gs
-records-append fs gs = flat_map-append record_of fs gs
+pub records-append : (time_unit : TimeUnit) (fs gs : List TimedFrame)
+    → flat_map (record_of time_unit) (fs ++ gs)
+    ≡ flat_map (record_of time_unit) fs ++ flat_map (record_of time_unit) gs
+records-append time_unit fs gs = flat_map-append (record_of time_unit) fs gs
 
 -- so many lines are taken, and their records written
-pub record Taking (bytes : List ℕ) (count : ℕ) (rest written : List ℕ) : Type 0 where
+pub record Taking (time_unit : TimeUnit) (bytes : List ℕ) (count : ℕ) (rest written : List ℕ) : Type 0 where
   pub frames : List TimedFrame
   pub hands : Hands bytes count frames rest
-  pub spelled : written ≡ flat_map record_of frames
+  pub spelled : written ≡ flat_map (record_of time_unit) frames
 
-pub taking_start : (bytes written : List ℕ) → written ≡ [] → Taking bytes 0 bytes written
-taking_start bytes written none = record { frames = []; hands = hands_start bytes; spelled = none }
+pub taking_start : (time_unit : TimeUnit) (bytes written : List ℕ) → written ≡ []
+    → Taking time_unit bytes 0 bytes written
+taking_start time_unit bytes written none =
+    record { frames = []; hands = hands_start bytes; spelled = none }
 
-pub taking_line : (bytes rest line rest' written written' : List ℕ) (n : ℕ) (timed : TimedFrame)
-    → Taking bytes n rest written → rest ≡ line ++ 10 ∷ rest' → HasNoNewline line
+pub taking_line : (time_unit : TimeUnit) (bytes rest line rest' written written' : List ℕ) (n : ℕ) (timed : TimedFrame)
+    → Taking time_unit bytes n rest written → rest ≡ line ++ 10 ∷ rest' → HasNoNewline line
     → frame_of line ≡ Some timed
-    → written' ≡ written ++ record_of timed → Taking bytes (n + 1) rest' written'
-taking_line bytes rest line rest' written written' n timed t parts whole is more = record {
+    → written' ≡ written ++ record_of time_unit timed → Taking time_unit bytes (n + 1) rest' written'
+taking_line time_unit bytes rest line rest' written written' n timed t parts whole is more = record {
   frames = t.frames ++ timed ∷ [];
   hands = hands_line bytes rest line rest' n t.frames timed t.hands parts whole is;
-  spelled = more ∙ ap (λ l. l ++ record_of timed) t.spelled
-      ∙ ap (λ l. flat_map record_of t.frames ++ l) (sym (append-nil (record_of timed)))
-      ∙ sym (records-append t.frames (timed ∷ []));
+  spelled = more ∙ ap (λ l. l ++ record_of time_unit timed) t.spelled
+      ∙ ap (λ l. flat_map (record_of time_unit) t.frames ++ l)
+      (sym (append-nil (record_of time_unit timed)))
+      ∙ sym (records-append time_unit t.frames (timed ∷ []));
 }

@@ -4,14 +4,15 @@ use Rattle.std.proofs.Common.{◌<◌, arith}
 use Rattle.std.proofs.Common.{List, [], ◌∷◌, ◌++◌, length, take, append_assoc, append-nil, inl, inr}
 use Rattle.std.proofs.Common.{length-append, eqb-true, Option, None}
 use Rattle.std.proofs.Math.Seq.{take-append_seam}
-use Rattle.std.proofs.lemmas.List.Concat.{flat_map-append}
-use Rattle.captures.specs.Lines.{Packet, packets_of, line_of, lines_of}
+use Rattle.captures.specs.Lines.{Packet, packets_of, told, noted, lines_from, noted_all}
 use Rattle.captures.specs.Units.{IsUnit, Row, in_a_row, Passes, HasUnit, IsNoCapture, Takes}
 use Rattle.captures.specs.declared.capture_error.CaptureError.{CaptureError}
 use Rattle.captures.specs.declared.translation.state.State.{State}
 use Rattle.captures.specs.declared.unfit.Unfit.{Unfit}
 use Rattle.captures.specs.declared.translation.state.State.TheVariants.{Start, Classic, Pcapng}
 use Rattle.captures.specs.declared.limits.TheConstants.{FIRST_UNIT_LEN}
+use Rattle.captures.specs.declared.origin.Origin.{Origin}
+use Rattle.captures.specs.declared.text.ledger.Ledger.{Ledger}
 
 -- bytes with so many in front have that front
 pub front_is : (bytes header rest front : List ℕ) (n : ℕ) → bytes ≡ header ++ rest
@@ -20,8 +21,18 @@ front_is bytes header rest front n parts is size =
     is ∙ ap (λ l. take n l) parts ∙ ap (λ m. take m (header ++ rest)) (sym size)
     ∙ take-append_seam header rest
 
-pub lines_of-append : (ps qs : List Packet) → lines_of (ps ++ qs) ≡ lines_of ps ++ lines_of qs
-lines_of-append ps qs = flat_map-append line_of ps qs
+pub lines_from-append : (ledger : Ledger) (ps qs : List Packet)
+    → lines_from ledger (ps ++ qs) ≡ lines_from ledger ps ++ lines_from (noted_all ledger ps) qs
+lines_from-append ledger [] qs = refl
+lines_from-append ledger (p ∷ ps) qs =
+    ap (λ l. told ledger p ++ l) (lines_from-append (noted ledger p) ps qs)
+    ∙ sym (append_assoc (told ledger p) (lines_from (noted ledger p) ps)
+    (lines_from (noted_all (noted ledger p) ps) qs))
+
+pub noted_all-append : (ledger : Ledger) (ps qs : List Packet)
+    → noted_all ledger (ps ++ qs) ≡ noted_all (noted_all ledger ps) qs
+noted_all-append ledger [] qs = refl
+noted_all-append ledger (p ∷ ps) qs = noted_all-append (noted ledger p) ps qs
 
 in_a_row-append : (us vs : List (List ℕ)) → in_a_row (us ++ vs) ≡ in_a_row us ++ in_a_row vs
 in_a_row-append [] vs = refl
@@ -47,20 +58,20 @@ passes_start state bytes = record { units = []; row = (refl, refl); parts = refl
 
 -- one more unit
 pub passes_unit : (state mid after : State) (bytes rest rest' : List ℕ) (packets : List Packet)
-    (channel : ℕ) (frame : List ℕ) → Passes state bytes packets mid rest
-    → HasUnit mid rest after channel frame rest'
-    → Passes state bytes (packets ++ packets_of channel frame) after rest'
-passes_unit state mid after bytes rest rest' packets channel frame p h = record {
+    (origin : Origin) (frame : List ℕ) → Passes state bytes packets mid rest
+    → HasUnit mid rest after origin frame rest'
+    → Passes state bytes (packets ++ packets_of origin frame) after rest'
+passes_unit state mid after bytes rest rest' packets origin frame p h = record {
   units = p.units ++ h.unit ∷ [];
-  row = Row-append state mid after p.units (h.unit ∷ []) packets (packets_of channel frame) p.row (
+  row = Row-append state mid after p.units (h.unit ∷ []) packets (packets_of origin frame) p.row (
     after,
-    channel,
+    origin,
     frame,
     [],
     h.is_unit,
     (refl, refl),
     sym
-        (append-nil (packets_of channel frame)),
+        (append-nil (packets_of origin frame)),
   );
   parts =
       p.parts ∙ ap (λ l. in_a_row p.units ++ l) h.parts
@@ -84,65 +95,79 @@ passes_more state mid after bytes piece rest rest' ps qs p q = record {
 }
 
 -- units are passed, and their packets are told
-pub record Told (state : State) (bytes : List ℕ) (after : State) (rest : List ℕ) (count : ℕ)
-    (text : List ℕ) : Type 0 where
+pub record Told (ledger : Ledger) (state : State) (bytes : List ℕ) (after : State) (rest : List ℕ)
+    (count : ℕ) (text : List ℕ) (noted : Ledger) : Type 0 where
   pub packets : List Packet
   pub number : length packets ≡ count
   pub passes : Passes state bytes packets after rest
-  pub lines : text ≡ lines_of packets
+  pub lines : text ≡ lines_from ledger packets
+  pub come : noted ≡ noted_all ledger packets
 
-pub told_start : (state : State) (bytes text : List ℕ) → text ≡ []
-    → Told state bytes state bytes 0 text
-told_start state bytes text none =
-    record { packets = []; number = refl; passes = passes_start state bytes; lines = none }
+pub told_start : (ledger : Ledger) (state : State) (bytes text : List ℕ) → text ≡ []
+    → Told ledger state bytes state bytes 0 text ledger
+told_start ledger state bytes text none = record {
+  packets = [];
+  number = refl;
+  passes = passes_start state bytes;
+  lines = none;
+  come = refl;
+}
 
 -- one more unit, of which this is the text
-pub told_unit : (state mid after : State) (bytes rest rest' text more text' : List ℕ) (channel : ℕ)
-    (frame : List ℕ) (count count' : ℕ) → Told state bytes mid rest count text
-    → HasUnit mid rest after channel frame rest' → more ≡ lines_of (packets_of channel frame)
-    → text' ≡ text ++ more → count' ≡ count + length (packets_of channel frame)
-    → Told state bytes after rest' count' text'
-told_unit state mid after bytes rest rest' text more text' channel frame count count' t h is all
-    more_packets = record {
-      packets = t.packets ++ packets_of channel frame;
-      number = length-append t.packets (packets_of channel frame)
-          ∙ ap (λ n. n + length (packets_of channel frame)) t.number ∙ sym more_packets;
-      passes = passes_unit state mid after bytes rest rest' t.packets channel frame t.passes h;
-      lines = all ∙ ap (λ l. l ++ more) t.lines ∙ ap (λ l. lines_of t.packets ++ l) is
-          ∙ sym (lines_of-append t.packets (packets_of channel frame));
+pub told_unit : (ledger come come' : Ledger) (state mid after : State)
+    (bytes rest rest' text more text' : List ℕ) (origin : Origin)
+    (frame : List ℕ) (count count' : ℕ) → Told ledger state bytes mid rest count text come
+    → HasUnit mid rest after origin frame rest' → more ≡ lines_from come (packets_of origin frame)
+    → come' ≡ noted_all come (packets_of origin frame)
+    → text' ≡ text ++ more → count' ≡ count + length (packets_of origin frame)
+    → Told ledger state bytes after rest' count' text' come'
+told_unit ledger come come' state mid after bytes rest rest' text more text' origin frame count
+    count' t h is next all more_packets = record {
+      packets = t.packets ++ packets_of origin frame;
+      number = length-append t.packets (packets_of origin frame)
+          ∙ ap (λ n. n + length (packets_of origin frame)) t.number ∙ sym more_packets;
+      passes = passes_unit state mid after bytes rest rest' t.packets origin frame t.passes h;
+      lines = all ∙ ap (λ l. l ++ more) t.lines
+          ∙ ap (λ l. lines_from ledger t.packets ++ l)
+          (is ∙ ap (λ l. lines_from l (packets_of origin frame)) t.come)
+          ∙ sym (lines_from-append ledger t.packets (packets_of origin frame));
+      come = next ∙ ap (λ l. noted_all l (packets_of origin frame)) t.come
+          ∙ sym (noted_all-append ledger t.packets (packets_of origin frame));
     }
 
 -- the lines of a packet that has bytes, and of none
-pub some_frame : (channel : ℕ) (frame : List ℕ) → (length frame == 0) ≡ false
-    → line_of (record { channel = channel; frame = frame }) ≡ lines_of (packets_of channel frame)
-some_frame channel [] some = absurd (cc)
-some_frame channel (b ∷ bytes) some =
-    sym (append-nil (line_of (record { channel = channel; frame = b ∷ bytes })))
+pub some_frame : (ledger : Ledger) (origin : Origin) (frame : List ℕ) → (length frame == 0) ≡ false
+    → told ledger (record { origin = origin; frame = frame })
+    ≡ lines_from ledger (packets_of origin frame)
+some_frame ledger origin [] some = absurd (cc)
+some_frame ledger origin (b ∷ bytes) some =
+    sym (append-nil (told ledger (record { origin = origin; frame = b ∷ bytes })))
 
-pub no_frame : (channel : ℕ) (frame : List ℕ) → (length frame == 0) ≡ true
-    → [] ≡ lines_of (packets_of channel frame)
-no_frame channel [] none = refl
-no_frame channel (b ∷ bytes) none =
+pub some_noted : (ledger : Ledger) (origin : Origin) (frame : List ℕ) → (length frame == 0) ≡ false
+    → noted ledger (record { origin = origin; frame = frame })
+    ≡ noted_all ledger (packets_of origin frame)
+some_noted ledger origin [] some = absurd (cc)
+some_noted ledger origin (b ∷ bytes) some = refl
+
+-- bytes that are none are no packet
+pub no_packets_of : (origin : Origin) (frame : List ℕ) → (length frame == 0) ≡ true
+    → packets_of origin frame ≡ []
+no_packets_of origin [] none = refl
+no_packets_of origin (b ∷ bytes) none =
     absurd (let zero = eqb-true (length (b ∷ bytes)) 0 none in omega arith)
 
-pub one_packet : (channel : ℕ) (frame : List ℕ) → (length frame == 0) ≡ false
-    → length (packets_of channel frame) ≡ 1
-one_packet channel [] some = absurd (cc)
-one_packet channel (b ∷ bytes) some = refl
-
-pub no_packet : (channel : ℕ) (frame : List ℕ) → (length frame == 0) ≡ true
-    → length (packets_of channel frame) ≡ 0
-no_packet channel [] none = refl
-no_packet channel (b ∷ bytes) none =
-    absurd (let zero = eqb-true (length (b ∷ bytes)) 0 none in omega arith)
+pub one_packet : (origin : Origin) (frame : List ℕ) → (length frame == 0) ≡ false
+    → length (packets_of origin frame) ≡ 1
+one_packet origin [] some = absurd (cc)
+one_packet origin (b ∷ bytes) some = refl
 
 -- after a unit something is known
-known_after : (state : State) (unit : List ℕ) (after : State) (channel : ℕ) (frame : List ℕ)
-    → IsUnit state unit after channel frame → (unfit : Unfit) → after ≡ Start unfit → ⊥
-known_after (Start u) unit after channel frame (inl h) unfit is = let next = h.0.next in cc
-known_after (Start u) unit after channel frame (inr h) unfit is = let next = h.1.becomes in cc
-known_after (Classic order link u) unit after channel frame h unfit is = let next = h.0.next in cc
-known_after (Pcapng section) unit after channel frame h unfit is = let next = h.becomes in cc
+known_after : (state : State) (unit : List ℕ) (after : State) (origin : Origin) (frame : List ℕ)
+    → IsUnit state unit after origin frame → (unfit : Unfit) → after ≡ Start unfit → ⊥
+known_after (Start u) unit after origin frame (inl h) unfit is = let next = h.0.next in cc
+known_after (Start u) unit after origin frame (inr h) unfit is = let next = h.1.becomes in cc
+known_after (Classic order time_unit link u) unit after origin frame h unfit is = let next = h.0.next in cc
+known_after (Pcapng section) unit after origin frame h unfit is = let next = h.becomes in cc
 
 row_known : (state after : State) (units : List (List ℕ)) (packets : List Packet)
     → Row state units packets after → ((unfit : Unfit) → state ≡ Start unfit → ⊥)
@@ -178,15 +203,21 @@ no_capture_begun bytes begun = (
 )
 
 -- the units of what was left and of what came then
-pub takes_more : (state mid after : State) (bytes piece rest rest' text text' : List ℕ)
-    (count count' : ℕ) (refusal : Option CaptureError) → Takes state bytes mid rest count text None
-    → Takes mid (rest ++ piece) after rest' count' text' refusal
-    → Takes state (bytes ++ piece) after rest' (count + count') (text ++ text') refusal
-takes_more state mid after bytes piece rest rest' text text' count count' refusal p q = record {
-  packets = p.packets ++ q.packets;
-  number = length-append p.packets q.packets ∙ ap₂ (λ (m n : ℕ). m + n) p.number q.number;
-  passes = passes_more state mid after bytes piece rest rest' p.packets q.packets p.passes q.passes;
-  told = ap (λ l. l ++ text') p.told ∙ ap (λ l. lines_of p.packets ++ l) q.told
-      ∙ sym (lines_of-append p.packets q.packets);
-  left = q.left;
-}
+pub takes_more : (ledger come noted : Ledger) (state mid after : State)
+    (bytes piece rest rest' text text' : List ℕ) (count count' : ℕ) (refusal : Option CaptureError)
+    → Takes ledger state bytes mid rest count text None come
+    → Takes come mid (rest ++ piece) after rest' count' text' refusal noted
+    → Takes ledger state (bytes ++ piece) after rest' (count + count') (text ++ text') refusal noted
+takes_more ledger come noted state mid after bytes piece rest rest' text text' count count' refusal
+    p q = record {
+      packets = p.packets ++ q.packets;
+      number = length-append p.packets q.packets ∙ ap₂ (λ (m n : ℕ). m + n) p.number q.number;
+      passes = passes_more state mid after bytes piece rest rest' p.packets q.packets p.passes
+          q.passes;
+      told = ap (λ l. l ++ text') p.told ∙ ap (λ l. lines_from ledger p.packets ++ l)
+          (q.told ∙ ap (λ l. lines_from l q.packets) p.come)
+          ∙ sym (lines_from-append ledger p.packets q.packets);
+      left = q.left;
+      come = q.come ∙ ap (λ l. noted_all l q.packets) p.come
+          ∙ sym (noted_all-append ledger p.packets q.packets);
+    }

@@ -12,6 +12,7 @@ use Rattle.captures.specs.Texts.{lines_to_capture}
 use Rattle.captures.specs.Translations.{Begins, Translates, Finishes}
 use Rattle.captures.proofs.TextLemmas.{hands_start, hands_more, closed_is, coming, ended_rest}
 use Rattle.captures.proofs.TextLemmas.{records-append}
+use Rattle.captures.specs.declared.time.time_unit.TimeUnit.{TimeUnit}
 
 ended_count : (lines : List (List ℕ)) → length lines ≤ length (with_line_ends lines)
 ended_count [] = omega arith
@@ -31,31 +32,33 @@ hands_count bytes rest n fs p =
     omega arith
 
 -- the frames of so many lines are written, and a line is begun
-abbrev pub Writes : ℕ → (held read written : List ℕ) → Type 0
-Writes count held read written = (frames : List TimedFrame) × Hands read count frames held
-    × IsBegunLine held × (written ≡ capture_of frames)
+abbrev pub Writes : TimeUnit → ℕ → (held read written : List ℕ) → Type 0
+Writes time_unit count held read written = (frames : List TimedFrame) × Hands read count frames held
+    × IsBegunLine held × (written ≡ capture_of time_unit frames)
 
-pub writes_start : Begins lines_to_capture (Writes 0) file_header
-writes_start = record {
+pub writes_start : (time_unit : TimeUnit)
+    → Begins (lines_to_capture time_unit) (Writes time_unit 0) (file_header time_unit)
+writes_start time_unit = record {
   room = refl;
   starved = (refl, refl);
-  full = (0, [], [], hands_start [], refl);
-  due = (0, [], [], hands_start [], (tt, omega arith), refl);
-  shows = ([], hands_start [], (tt, omega arith), refl);
+  full = (0, [], [], hands_start [], sym (append-nil (file_header time_unit)));
+  due = (0, [], [], hands_start [], (tt, omega arith), sym (append-nil (file_header time_unit)));
+  shows = ([], hands_start [], (tt, omega arith), sym (append-nil (file_header time_unit)));
 }
 
-module _ (count n : ℕ) (held more bytes rest read written text : List ℕ) (bad : Bool)
-    (writes : Writes count held read written) (parts : bytes ≡ held ++ more)
-    (t : TakesLines bytes n rest text bad) where
+module _ (time_unit : TimeUnit) (count n : ℕ) (held more bytes rest read written text : List ℕ) (bad : Bool)
+    (writes : Writes time_unit count held read written) (parts : bytes ≡ held ++ more)
+    (t : TakesLines time_unit bytes n rest text bad) where
   lines : Hands (read ++ more) (count + n) (writes.0 ++ t.frames) rest
   lines = hands_more read more held rest count n writes.0 t.frames writes.1
       (subst (λ l. Hands l n t.frames rest) parts t.hands)
 
-  whole : written ++ text ≡ capture_of (writes.0 ++ t.frames)
+  whole : written ++ text ≡ capture_of time_unit (writes.0 ++ t.frames)
   whole =
-      ap (λ l. l ++ text) writes.3 ∙ ap (λ l. capture_of writes.0 ++ l) t.spelled
-      ∙ append_assoc file_header (flat_map record_of writes.0) (flat_map record_of t.frames)
-      ∙ ap (λ l. file_header ++ l) (sym (records-append writes.0 t.frames))
+      ap (λ l. l ++ text) writes.3 ∙ ap (λ l. capture_of time_unit writes.0 ++ l) t.spelled
+      ∙ append_assoc (file_header time_unit) (flat_map (record_of time_unit) writes.0)
+      (flat_map (record_of time_unit) t.frames)
+      ∙ ap (λ l. file_header time_unit ++ l) (sym (records-append time_unit writes.0 t.frames))
 
 -- the lines are counted
 counted : (count n count' : ℕ) (read : List ℕ) → count + n ≤ length read
@@ -63,19 +66,19 @@ counted : (count n count' : ℕ) (read : List ℕ) → count + n ≤ length read
     → count' ≡ u64_saturate (count + n) → count' ≡ count + n
 counted count n count' read few fits is = omega arith
 
-module _ (count n count' : ℕ) (held piece bytes rest read written text : List ℕ)
-    (writes : Writes count held read written) (parts : bytes ≡ held ++ piece)
+module _ (time_unit : TimeUnit) (count n count' : ℕ) (held piece bytes rest read written text : List ℕ)
+    (writes : Writes time_unit count held read written) (parts : bytes ≡ held ++ piece)
     (fits : length (read ++ piece) ≤ INPUT_ROOM * READ_COUNT_LIMIT)
     (is : count' ≡ u64_saturate (count + n)) where
   -- a piece is read,
-  pub writes_more : TakesLines bytes n rest text false
-      → Translates lines_to_capture (Writes count') rest (read ++ piece) (written ++ text) None
+  pub writes_more : TakesLines time_unit bytes n rest text false
+      → Translates (lines_to_capture time_unit) (Writes time_unit count') rest (read ++ piece) (written ++ text) None
   writes_more t =
       let frames = writes.0 ++ t.frames in
-      let hands = lines count n held piece bytes rest read written text false writes parts t in
+      let hands = lines time_unit count n held piece bytes rest read written text false writes parts t in
       let same = counted count n count' (read ++ piece)
       (hands_count (read ++ piece) rest (count + n) frames hands) fits is in
-      let all = whole count n held piece bytes rest read written text false writes parts t in
+      let all = whole time_unit count n held piece bytes rest read written text false writes parts t in
       record {
         full = (count + n, frames, rest, hands, all);
         follows = (
@@ -92,24 +95,24 @@ module _ (count n count' : ℕ) (held piece bytes rest read written text : List 
 
   -- in which a line hands no frame in
   pub writes_bad : (shown : List ℕ → List ℕ → List ℕ → Type 0) (number : ℕ)
-      → number ≡ u64_saturate (count' + 1) → TakesLines bytes n rest text true
-      → Translates lines_to_capture shown rest (read ++ piece) (written ++ text) (Some (InLine
+      → number ≡ u64_saturate (count' + 1) → TakesLines time_unit bytes n rest text true
+      → Translates (lines_to_capture time_unit) shown rest (read ++ piece) (written ++ text) (Some (InLine
       number))
   writes_bad shown number next t =
       let frames = writes.0 ++ t.frames in
-      let hands = lines count n held piece bytes rest read written text true writes parts t in
+      let hands = lines time_unit count n held piece bytes rest read written text true writes parts t in
       let few = hands_count (read ++ piece) rest (count + n) frames hands in
       let same = counted count n count' (read ++ piece) few fits is in
-      let all = whole count n held piece bytes rest read written text true writes parts t in
+      let all = whole time_unit count n held piece bytes rest read written text true writes parts t in
       record {
         full = (count + n, frames, rest, hands, all);
         follows = (count + n, frames, rest, hands, t.left, omega arith, all);
       }
 
 -- the end is told, and no line is begun,
-pub writes_nothing_more : (count : ℕ) (read written : List ℕ) → Writes count [] read written
-    → Finishes lines_to_capture read written (Ok tt)
-writes_nothing_more count read written writes =
+pub writes_nothing_more : (time_unit : TimeUnit) (count : ℕ) (read written : List ℕ) → Writes time_unit count [] read written
+    → Finishes (lines_to_capture time_unit) read written (Ok tt)
+writes_nothing_more time_unit count read written writes =
     let same : with_last_line_end read ≡ read = closed_is read [] count writes.0 writes.1 tt
     ∙ append-nil read in
     let hands = subst (λ l. Hands l count writes.0 []) (sym same) writes.1 in
@@ -123,20 +126,20 @@ ends_some : (held : List ℕ) → 0 < length held → coming true held [] ≡ 10
 ends_some [] some = absurd (omega arith)
 ends_some (b ∷ held) some = refl
 
-module _ (count n count' : ℕ) (held bytes rest read written text : List ℕ)
-    (writes : Writes count held read written) (some : 0 < length held)
+module _ (time_unit : TimeUnit) (count n count' : ℕ) (held bytes rest read written text : List ℕ)
+    (writes : Writes time_unit count held read written) (some : 0 < length held)
     (parts : bytes ≡ held ++ 10 ∷ []) where
   all_known : with_last_line_end read ≡ read ++ 10 ∷ []
   all_known = closed_is read held count writes.0 writes.1 writes.2.0
       ∙ ap (λ l. read ++ l) (ends_some held some)
 
-  pub writes_last : TakesLines bytes n rest text false
-      → Finishes lines_to_capture read (written ++ text) (Ok tt)
+  pub writes_last : TakesLines time_unit bytes n rest text false
+      → Finishes (lines_to_capture time_unit) read (written ++ text) (Ok tt)
   writes_last t =
       let frames = writes.0 ++ t.frames in
       let hands = subst (λ l. Hands l (count + n) frames rest) (sym all_known)
-      (lines count n held (10 ∷ []) bytes rest read written text false writes parts t) in
-      let all = whole count n held (10 ∷ []) bytes rest read written text false writes parts t in
+      (lines time_unit count n held (10 ∷ []) bytes rest read written text false writes parts t) in
+      let all = whole time_unit count n held (10 ∷ []) bytes rest read written text false writes parts t in
       let none = ended_rest held [] bytes rest n t.frames
       (parts ∙ ap (λ l. held ++ l) (sym (ends_some held some))) t.hands t.left.0 in
       record {
@@ -154,15 +157,15 @@ module _ (count n count' : ℕ) (held bytes rest read written text : List ℕ)
 
   pub writes_last_bad : length read ≤ INPUT_ROOM * READ_COUNT_LIMIT
       → count' ≡ u64_saturate (count + n) → (number : ℕ) → number ≡ u64_saturate (count' + 1)
-      → TakesLines bytes n rest text true
-      → Finishes lines_to_capture read (written ++ text) (Err (InLine number))
+      → TakesLines time_unit bytes n rest text true
+      → Finishes (lines_to_capture time_unit) read (written ++ text) (Err (InLine number))
   writes_last_bad fits is number next t =
       let frames = writes.0 ++ t.frames in
-      let known = lines count n held (10 ∷ []) bytes rest read written text true writes parts t in
+      let known = lines time_unit count n held (10 ∷ []) bytes rest read written text true writes parts t in
       let few = hands_count (read ++ 10 ∷ []) rest (count + n) frames known in
       let size = length-append read (10 ∷ []) in
       let hands = subst (λ l. Hands l (count + n) frames rest) (sym all_known) known in
-      let all = whole count n held (10 ∷ []) bytes rest read written text true writes parts t in
+      let all = whole time_unit count n held (10 ∷ []) bytes rest read written text true writes parts t in
       record {
         full = (count + n, frames, rest, hands, all);
         whole = (count + n, frames, rest, hands, t.left, omega arith, all);

@@ -7,6 +7,7 @@ use Rattle.captures.specs.Units.{Takes}
 use Rattle.captures.specs.declared.capture_error.CaptureError.{CaptureError}
 use Rattle.captures.specs.declared.pcapng.long_block.LongBlock.{LongBlock}
 use Rattle.captures.specs.declared.pcapng.section.Section.{Section}
+use Rattle.captures.specs.declared.text.ledger.Ledger.{Ledger}
 use Rattle.captures.specs.declared.translation.state.State.{State}
 use Rattle.captures.specs.declared.translation.state.State.TheVariants.{Pcapng}
 
@@ -34,8 +35,9 @@ dropped_len (Some block) = block.len - 4 - block.left
 
 -- all whole units of the bytes are taken, their lines are this text, and of what is left some bytes
 -- are dropped and the rest is held
-pub record Leaves (state : State) (bytes : List ℕ) (after : State) (begun : Option LongBlock)
-    (rest : List ℕ) (count : ℕ) (text : List ℕ) (refusal : Option CaptureError) : Type 0 where
+pub record Leaves (ledger : Ledger) (state : State) (bytes : List ℕ) (after : State)
+    (begun : Option LongBlock) (rest : List ℕ) (count : ℕ) (text : List ℕ) (refusal : Option CaptureError)
+    (noted : Ledger) : Type 0 where
   pub dropped : List ℕ
   pub is_dropped : IsDropped after begun dropped
-  pub takes : Takes state bytes after (dropped ++ rest) count text refusal
+  pub takes : Takes ledger state bytes after (dropped ++ rest) count text refusal noted

@@ -1,7 +1,7 @@
 -- The lines that hand frames in, of which a capture is written: `frame CHANNEL HEX`, and behind the
--- digits may stand the time, `SECONDS MICROSECONDS`. A space parts the words. Where no time stands
--- it is 0.
-use Rattle.std.specs.Prelude.{ℕ, ◌+◌, ◌==◌, ◌&&◌, nat_eq, nat_le, nat_lt, Bool, if◌then◌else◌, List}
+-- digits may stand the time, `SECONDS MICROSECONDS` or `SECONDS MICROSECONDS NANOSECONDS`. A space
+-- parts the words. Where no time stands it is 0.
+use Rattle.std.specs.Prelude.{ℕ, ◌+◌, ◌*◌, ◌==◌, ◌&&◌, nat_eq, nat_le, nat_lt, Bool, if◌then◌else◌, List}
 use Rattle.std.specs.Prelude.{length, take, drop, position, codes, Option, Some, None, Result, Ok}
 use Rattle.std.specs.Prelude.{Err}
 use Rattle.std.specs.Char.{is_ascii_digit}
@@ -25,18 +25,40 @@ is_number digits =
 abbrev pub number_of : List ℕ → Option ℕ
 number_of digits = if is_number digits then Some (digits_value 10 digits) else None
 
--- less than a million microseconds belong to a second
-abbrev pub time_with : Option ℕ → Option ℕ → Option Time
-time_with (Some seconds) (Some microseconds) =
-    if nat_lt microseconds 1000000
-    then Some (record { seconds = seconds; microseconds = microseconds }) else None
-time_with (Some seconds) None = None
-time_with None microseconds = None
+abbrev pub below : ℕ → Option ℕ → Option ℕ
+below limit (Some n) = if nat_lt n limit then Some n else None
+below limit None = None
 
--- a time's two numbers, with the first space here
+-- less than so many
+abbrev pub number_below : ℕ → List ℕ → Option ℕ
+number_below limit digits = below limit (number_of digits)
+
+-- microseconds, and nanoseconds behind them
+abbrev pub parts_with : Option ℕ → Option ℕ → Option ℕ
+parts_with (Some microseconds) (Some nanoseconds) = Some (1000 * microseconds + nanoseconds)
+parts_with (Some microseconds) None = None
+parts_with None nanoseconds = None
+
+-- the parts of a second, less than a million microseconds and a thousand nanoseconds, with the first
+-- space here
+abbrev pub parts_at : Option ℕ → List ℕ → Option ℕ
+parts_at (Some space) text = parts_with (number_below 1000000 (take space text))
+    (number_below 1000 (drop (space + 1) text))
+parts_at None text = parts_with (number_below 1000000 text) (Some 0)
+
+abbrev pub parts_of : List ℕ → Option ℕ
+parts_of text = parts_at (position is_space text) text
+
+abbrev pub time_with : Option ℕ → Option ℕ → Option Time
+time_with (Some seconds) (Some nanoseconds) =
+    Some (record { seconds = seconds; nanoseconds = nanoseconds })
+time_with (Some seconds) None = None
+time_with None nanoseconds = None
+
+-- a time's seconds and their parts, with the first space here
 abbrev pub time_at : Option ℕ → List ℕ → Option Time
 time_at (Some space) text = time_with (number_of (take space text))
-    (number_of (drop (space + 1) text))
+    (parts_of (drop (space + 1) text))
 time_at None text = None
 
 abbrev pub time_of : List ℕ → Option Time
@@ -46,13 +68,13 @@ time_of text = time_at (position is_space text) text
 abbrev pub frame_at : Option Time → Result (List ℕ) FromHexError → Option TimedFrame
 frame_at (Some time) (Ok frame) =
     if nat_le 1 (length frame) && nat_le (length frame) FRAME_LIMIT
-    then Some (record { seconds = time.seconds; microseconds = time.microseconds; frame = frame })
+    then Some (record { seconds = time.seconds; nanoseconds = time.nanoseconds; frame = frame })
     else None
 frame_at (Some time) (Err e) = None
 frame_at None digits = None
 
 abbrev pub no_time : Time
-no_time = record { seconds = 0; microseconds = 0 }
+no_time = record { seconds = 0; nanoseconds = 0 }
 
 -- hex digits, and behind the first space, if there is one, the time
 abbrev pub frame_before : Option ℕ → List ℕ → Option TimedFrame

@@ -1,6 +1,7 @@
 pub mod ComeBack
 pub mod Dropped
 pub mod Endings
+pub mod Forgetting
 pub mod Framed
 pub mod FrameLines
 pub mod Lines
@@ -12,5 +13,6 @@ pub mod Runs
 pub mod Skipping
 pub mod Spelling
 pub mod Texts
+pub mod Times
 pub mod Translations
 pub mod Units

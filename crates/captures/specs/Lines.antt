@@ -1,23 +1,104 @@
--- The packets of a capture, and the lines that hand their frames in.
-use Rattle.std.specs.Prelude.{ℕ, List, [], ◌∷◌, ◌++◌, codes, decimal}
-use Rattle.std.specs.List.{flat_map}
+-- The packets of a capture, and the lines that are written of them.
+use Rattle.std.specs.Prelude.{ℕ, ◌+◌, ◌*◌, ◌/◌, ◌%◌, ◌==◌, ◌&&◌, nat_le, nat_lt, Bool}
+use Rattle.std.specs.Prelude.{if◌then◌else◌, List, [], ◌∷◌, ◌++◌, codes, decimal}
 use Rattle.hex.specs.Hex.{encode_lower}
+use Rattle.captures.specs.Numbers.{capped}
+use Rattle.captures.specs.declared.extra.Extra.{Extra}
+use Rattle.captures.specs.declared.extra.Extra.TheVariants.{Nothing, Times, Forget}
+use Rattle.captures.specs.declared.origin.Origin.{Origin}
+use Rattle.captures.specs.declared.text.ledger.Ledger.{Ledger}
 
--- a packet, of which at least one byte was captured: the number of its interface, and its bytes
+-- a packet, of which at least one byte was captured: the number of its interface and its time, and
+-- its bytes
 pub record Packet : Type 0 where
-  pub channel : ℕ
+  pub origin : Origin
   pub frame : List ℕ
 
 -- the packet whose bytes these are, and none where there are none
-abbrev pub packets_of : ℕ → List ℕ → List Packet
-packets_of channel [] = []
-packets_of channel (byte ∷ bytes) = record { channel = channel; frame = byte ∷ bytes } ∷ []
+abbrev pub packets_of : Origin → List ℕ → List Packet
+packets_of origin [] = []
+packets_of origin (byte ∷ bytes) = record { origin = origin; frame = byte ∷ bytes } ∷ []
 
 -- the line that hands a packet's frame in
 abbrev pub line_of : Packet → List ℕ
-line_of packet = codes "frame " ++ decimal packet.channel ++ codes " "
+line_of packet = codes "frame " ++ decimal packet.origin.channel ++ codes " "
     ++ encode_lower packet.frame ++ 10 ∷ []
 
--- the lines of some packets, in their order
-abbrev pub lines_of : List Packet → List ℕ
-lines_of packets = flat_map line_of packets
+-- nanoseconds behind a time's microseconds, where there are any
+abbrev pub nanoseconds_text : ℕ → List ℕ
+nanoseconds_text n = if n == 0 then [] else codes " " ++ decimal n
+
+-- a time behind the digits of a frame: its seconds and microseconds
+abbrev pub time_text : ℕ → List ℕ
+time_text time = codes " " ++ decimal (time / 1000000000) ++ codes " "
+    ++ decimal (time / 1000 % 1000000) ++ nanoseconds_text (time % 1000)
+
+-- the same line with the packet's time
+abbrev pub timed_line_of : Packet → List ℕ
+timed_line_of packet = codes "frame " ++ decimal packet.origin.channel ++ codes " "
+    ++ encode_lower packet.frame ++ time_text packet.origin.time ++ 10 ∷ []
+
+-- the line that has all messages dropped of which no fragment came on this line or after it
+abbrev pub forget_line : ℕ → List ℕ
+forget_line number = codes "forget " ++ decimal number ++ 10 ∷ []
+
+-- before the first line
+abbrev pub blank : Extra → Ledger
+blank extra = record { extra = extra; lines = 0; begin = 0; line = 0 }
+
+-- whether with a packet of this time so many seconds have passed since the span began that is
+-- running: with a time before it none have
+abbrev pub has_passed : ℕ → Ledger → ℕ → Bool
+has_passed seconds ledger time =
+    nat_lt 0 ledger.lines && nat_le (ledger.begin + 1000000000 * seconds) time
+
+-- the line before a packet's where a span has passed: what came before that span is dropped
+abbrev pub forget_text : Bool → Ledger → List ℕ
+forget_text passed ledger = if passed then forget_line ledger.line else []
+
+-- the lines of a packet
+abbrev pub told_as : Extra → Ledger → Packet → List ℕ
+told_as Nothing ledger packet = line_of packet
+told_as Times ledger packet = timed_line_of packet
+told_as (Forget seconds) ledger packet =
+    forget_text (has_passed seconds ledger packet.origin.time) ledger ++ line_of packet
+
+abbrev pub told : Ledger → Packet → List ℕ
+told ledger packet = told_as ledger.extra ledger packet
+
+-- a span begins with the first packet of all, and with each at which the one before has passed:
+-- there with the line that drops what came before that one
+abbrev pub counted_by : Bool → Ledger → ℕ → Ledger
+counted_by passed ledger time =
+    if ledger.lines == 0 then record ledger { lines = 1; begin = time; line = 1 }
+    else if passed then record ledger {
+      lines = capped (ledger.lines + 2);
+      begin = time;
+      line = capped (ledger.lines + 1);
+    }
+    else record ledger { lines = capped (ledger.lines + 1) }
+
+-- after the lines of a packet. Lines are counted where spans are
+abbrev pub noted_as : Extra → Ledger → Packet → Ledger
+noted_as Nothing ledger packet = ledger
+noted_as Times ledger packet = ledger
+noted_as (Forget seconds) ledger packet =
+    counted_by (has_passed seconds ledger packet.origin.time) ledger packet.origin.time
+
+abbrev pub noted : Ledger → Packet → Ledger
+noted ledger packet = noted_as ledger.extra ledger packet
+
+-- the lines of some packets, in their order, after the lines of others
+abbrev pub lines_from : Ledger → List Packet → List ℕ
+lines_from ledger [] = []
+lines_from ledger (packet ∷ packets) = told ledger packet
+    ++ lines_from (noted ledger packet) packets
+
+-- after the lines of some packets
+abbrev pub noted_all : Ledger → List Packet → Ledger
+noted_all ledger [] = ledger
+noted_all ledger (packet ∷ packets) = noted_all (noted ledger packet) packets
+
+-- the lines of all packets of a capture
+abbrev pub lines_of : Extra → List Packet → List ℕ
+lines_of extra packets = lines_from (blank extra) packets

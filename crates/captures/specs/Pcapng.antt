@@ -7,6 +7,9 @@ use Rattle.std.specs.Prelude.{slice_set, Option, Some, None}
 use Rattle.captures.specs.Framed.{link_for, taken_limit, told_frame}
 use Rattle.captures.specs.Numbers.{half, word}
 use Rattle.captures.specs.Skipping.{counted}
+use Rattle.captures.specs.Times.{clock_of, clock_time, usual_clock}
+use Rattle.captures.specs.declared.origin.Origin.{Origin}
+use Rattle.captures.specs.declared.time.clock.Clock.{Clock}
 use Rattle.captures.specs.declared.byte_order.ByteOrder.{ByteOrder}
 use Rattle.captures.specs.declared.byte_order.ByteOrder.TheVariants.{Big}
 use Rattle.captures.specs.declared.capture_error.CaptureError.{CaptureError}
@@ -55,12 +58,12 @@ pub record IsBlock (order : ByteOrder) (block : List ℕ) : Type 0 where
   pub back : word order block (length block - 4) ≡ length block
 
 -- what a block says in a section: a section begins, its first interface having this number; an
--- interface is described, with its link type and snap length; a packet was captured on an interface
--- of such a link; or nothing that is read here
+-- interface is described, with its link type, snap length and clock; a packet was captured on an
+-- interface of such a link; or nothing that is read here
 pub data Content : Type 0 where
   Opens : ℕ → Content
-  Describes : (link_type : ℕ) → (snap_len : ℕ) → Content
-  Holds : (channel : ℕ) → (link : Link) → (packet : List ℕ) → Content
+  Describes : (link_type : ℕ) → (snap_len : ℕ) → (clock : Clock) → Content
+  Holds : (origin : Origin) → (link : Link) → (packet : List ℕ) → Content
   Nothing : Content
 
 -- the bytes of a packet that a simple packet block holds, where this is the snap length of the
@@ -88,33 +91,45 @@ links_with section link_type =
     then with_link section (link_for section.passing.unfit link_type)
     else later_links section link_type
 
+-- the clocks of the first interfaces, and of those behind them that of the last one described
+abbrev pub clock_at : Section → ℕ → Clock
+clock_at section interface = slice_index_or section.clocks (min interface 32) usual_clock
+
+-- after one more is described
+abbrev pub clocks_with : Section → Clock → List Clock
+clocks_with section clock = slice_set section.clocks (min section.interfaces 32) clock
+
 -- a packet of this interface of the section, in a block of one of the two kinds that tell its time
 pub record IsTimedPacket (interface : ℕ) (section : Section) (order : ByteOrder) (block : List ℕ)
-    (channel : ℕ) (link : Link) (packet : List ℕ) : Type 0 where
+    (origin : Origin) (link : Link) (packet : List ℕ) : Type 0 where
   pub size : 32 + length packet ≤ length block
   pub described : interface < section.interfaces
-  pub number : section.first + interface ≡ channel
-  pub fits : channel < 2 ^ 32
+  pub number : section.first + interface ≡ origin.channel
+  pub fits : origin.channel < 2 ^ 32
+  pub time : clock_time (clock_at section interface) (word order block 12) (word order block 16)
+      ≡ origin.time
   pub over : link_at section interface ≡ link
   pub captured : word order block 20 ≡ length packet
   pub bytes : packet ≡ take (length packet) (drop 28 block)
 
 -- the number of its interface has 32 bits
-abbrev pub IsEnhancedPacket : Section → ByteOrder → List ℕ → ℕ → Link → List ℕ → Type 0
-IsEnhancedPacket section order block channel link packet = (word order block 0 ≡ enhanced_packet)
-    × IsTimedPacket (word order block 8) section order block channel link packet
+abbrev pub IsEnhancedPacket : Section → ByteOrder → List ℕ → Origin → Link → List ℕ → Type 0
+IsEnhancedPacket section order block origin link packet = (word order block 0 ≡ enhanced_packet)
+    × IsTimedPacket (word order block 8) section order block origin link packet
 
 -- it has 16, and a number of dropped packets follows, which is not read
-abbrev pub IsObsoletePacket : Section → ByteOrder → List ℕ → ℕ → Link → List ℕ → Type 0
-IsObsoletePacket section order block channel link packet = (word order block 0 ≡ obsolete_packet)
-    × IsTimedPacket (half order block 8) section order block channel link packet
+abbrev pub IsObsoletePacket : Section → ByteOrder → List ℕ → Origin → Link → List ℕ → Type 0
+IsObsoletePacket section order block origin link packet = (word order block 0 ≡ obsolete_packet)
+    × IsTimedPacket (half order block 8) section order block origin link packet
 
-pub record IsSimplePacket (section : Section) (order : ByteOrder) (block : List ℕ) (channel : ℕ)
+-- it tells no time
+pub record IsSimplePacket (section : Section) (order : ByteOrder) (block : List ℕ) (origin : Origin)
     (link : Link) (packet : List ℕ) : Type 0 where
   pub kind : word order block 0 ≡ simple_packet
   pub size : 16 + length packet ≤ length block
   pub interface : 0 < section.interfaces
-  pub number : section.first ≡ channel
+  pub number : section.first ≡ origin.channel
+  pub time : 0 ≡ origin.time
   pub over : link_at section 0 ≡ link
   pub captured : captured_len section.snap_len (word order block 8) ≡ length packet
   pub bytes : packet ≡ take (length packet) (drop 12 block)
@@ -145,62 +160,66 @@ abbrev pub Says : Section → ByteOrder → List ℕ → Content → Type 0
 Says section order block (Opens first) =
     (word order block 0 ≡ section_header) × (28 ≤ length block) × (half order block 12 ≡ 1)
     × (section.first + section.interfaces ≡ first) × (first < 2 ^ 32)
-Says section order block (Describes link_type snap_len) =
+Says section order block (Describes link_type snap_len clock) =
     (word order block 0 ≡ interface_description) × (20 ≤ length block)
     × (half order block 8 ≡ link_type)
-    × (word order block 12 ≡ snap_len) × (section.interfaces + 1 < 2 ^ 32)
-Says section order block (Holds channel link packet) =
-    IsEnhancedPacket section order block channel link packet
-    ⊎ (IsObsoletePacket section order block channel link packet
-    ⊎ IsSimplePacket section order block channel link packet)
+    × (word order block 12 ≡ snap_len)
+    × (clock_of order (take (length block - 20) (drop 16 block)) ≡ clock)
+    × (section.interfaces + 1 < 2 ^ 32)
+Says section order block (Holds origin link packet) =
+    IsEnhancedPacket section order block origin link packet
+    ⊎ (IsObsoletePacket section order block origin link packet
+    ⊎ IsSimplePacket section order block origin link packet)
 Says section order block Nothing = IsOther order block
 
 -- the section, and the bytes that are told, after a block that says this: links are taken, and so
 -- is the packet
-abbrev pub Becomes : Section → ByteOrder → Content → Section → ℕ → List ℕ → Type 0
-Becomes section order (Opens first) after channel frame =
+abbrev pub Becomes : Section → ByteOrder → Content → Section → Origin → List ℕ → Type 0
+Becomes section order (Opens first) after origin frame =
     (after ≡ record {
       order = order;
       first = first;
       interfaces = 0;
       snap_len = 0;
       links = section.links;
+      clocks = section.clocks;
       passing = section.passing;
     })
     × (frame ≡ [])
-Becomes section order (Describes link_type snap_len) after channel frame =
+Becomes section order (Describes link_type snap_len clock) after origin frame =
     (links : List Link) × (links_with section link_type ≡ Some links)
     × (after ≡ record section {
       interfaces = section.interfaces + 1;
       snap_len = (if section.interfaces == 0 then snap_len else section.snap_len);
       links = links;
+      clocks = clocks_with section clock;
     })
     × (frame ≡ [])
-Becomes section order (Holds number link packet) after channel frame =
+Becomes section order (Holds origin' link packet) after origin frame =
     (after ≡ record section { passing = counted section.passing link packet })
-    × (channel ≡ number) × (told_frame section.passing.unfit link packet ≡ Some frame)
+    × (origin ≡ origin') × (told_frame section.passing.unfit link packet ≡ Some frame)
     × (length packet ≤ taken_limit section.passing.unfit link)
-Becomes section order Nothing after channel frame = (after ≡ section) × (frame ≡ [])
+Becomes section order Nothing after origin frame = (after ≡ section) × (frame ≡ [])
 
 -- a block that says something, and what comes of it
 pub record Reads (section : Section) (order : ByteOrder) (block : List ℕ) (after : Section)
-    (channel : ℕ) (frame : List ℕ) : Type 0 where
+    (origin : Origin) (frame : List ℕ) : Type 0 where
   pub content : Content
   pub says : Says section order block content
-  pub becomes : Becomes section order content after channel frame
+  pub becomes : Becomes section order content after origin frame
 
 -- why a whole block is refused
 abbrev pub RefusesBlock : Section → ByteOrder → List ℕ → CaptureError → Type 0
 RefusesBlock section order block NotCapture = ⊥
-RefusesBlock section order block (LinkType number) = (snap_len : ℕ)
-    × Says section order block (Describes number snap_len) × (links_with section number ≡ None)
+RefusesBlock section order block (LinkType number) = (snap_len : ℕ) × (clock : Clock)
+    × Says section order block (Describes number snap_len clock) × (links_with section number ≡ None)
 RefusesBlock section order block (FrameTooLong captured) =
-    (channel : ℕ) × (link : Link) × (packet : List ℕ)
-    × Says section order block (Holds channel link packet)
+    (origin : Origin) × (link : Link) × (packet : List ℕ)
+    × Says section order block (Holds origin link packet)
     × (captured ≡ length packet) × (taken_limit section.passing.unfit link < captured)
 RefusesBlock section order block NoFrame =
-    (channel : ℕ) × (link : Link) × (packet : List ℕ)
-    × Says section order block (Holds channel link packet)
+    (origin : Origin) × (link : Link) × (packet : List ℕ)
+    × Says section order block (Holds origin link packet)
     × (length packet ≤ taken_limit section.passing.unfit link)
     × (told_frame section.passing.unfit link packet ≡ None)
 RefusesBlock section order block CutOff = ⊥

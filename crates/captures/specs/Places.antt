@@ -14,7 +14,7 @@ abbrev pub block_type : State → List ℕ → Option ℕ
 block_type (Start unfit) bytes =
     if nat_le 4 (length bytes) && (word Big bytes 0 == section_header)
     then Some section_header else None
-block_type (Classic order link passing) bytes = None
+block_type (Classic order time_unit link passing) bytes = None
 block_type (Pcapng section) bytes =
     if nat_le 4 (length bytes) then Some (word section.order bytes 0) else None
 

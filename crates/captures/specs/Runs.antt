@@ -16,11 +16,13 @@ use Rattle.captures.specs.declared.limits.TheConstants.{FIRST_UNIT_LEN, INPUT_RO
 use Rattle.captures.specs.declared.translation.state.State.{State}
 use Rattle.captures.specs.declared.translation.state.State.TheVariants.{Start, Classic, Pcapng}
 use Rattle.captures.specs.Endings.{ending_of}
-use Rattle.captures.specs.Lines.{Packet, lines_of}
+use Rattle.captures.specs.Lines.{Packet, blank, lines_of}
 use Rattle.captures.specs.Places.{IsPlace}
 use Rattle.captures.specs.Skipping.{none_skipped}
 use Rattle.captures.specs.Units.{Passes, Takes, IsNoCapture, skipped_in}
+use Rattle.captures.specs.declared.extra.Extra.{Extra}
 use Rattle.captures.specs.declared.place.Place.{Place}
+use Rattle.captures.specs.declared.text.ledger.Ledger.{Ledger}
 use Rattle.captures.specs.declared.translation.skipped.Skipped.{Skipped}
 use Rattle.captures.specs.declared.unfit.Unfit.{Unfit}
 
@@ -33,62 +35,65 @@ pub record IsCapture (unfit : Unfit) (bytes : List ℕ) (packets : List Packet) 
   pub counts : skipped_in state ≡ skipped
 
 -- the text is the lines of all whole packets in bytes after which nothing is refused
-abbrev pub AreTold : Unfit → List ℕ → List ℕ → Type 0
-AreTold unfit bytes text = (state : State) × (rest : List ℕ) × (count : ℕ)
-    × Takes (Start unfit) bytes state rest count text None
+abbrev pub AreTold : Extra → Unfit → List ℕ → List ℕ → Type 0
+AreTold extra unfit bytes text = (state : State) × (rest : List ℕ) × (count : ℕ)
+    × (noted : Ledger) × Takes (blank extra) (Start unfit) bytes state rest count text None noted
 
 -- the text is the lines of all whole packets in bytes, so many others were passed over, and then a
 -- capture can't go on, for this reason and at this place
-abbrev pub AreToldBefore : Unfit → Skipped → CaptureError → Place → List ℕ → List ℕ → Type 0
-AreToldBefore unfit skipped error place bytes text = (state : State) × (rest : List ℕ) × (count : ℕ)
-    × Takes (Start unfit) bytes state rest count text (Some error)
+abbrev pub AreToldBefore : Extra → Unfit → Skipped → CaptureError → Place → List ℕ → List ℕ → Type 0
+AreToldBefore extra unfit skipped error place bytes text = (state : State) × (rest : List ℕ) × (count : ℕ)
+    × (noted : Ledger) × Takes (blank extra) (Start unfit) bytes state rest count text (Some error)
+    noted
     × IsPlace state count bytes rest place × (skipped_in state ≡ skipped)
 
 -- the bytes end within a packet or a block at this place, a section header at the front among them,
 -- the text is the lines of all packets before it, and so many others were passed over
-pub record EndsWithinPacket (unfit : Unfit) (skipped : Skipped) (place : Place)
+pub record EndsWithinPacket (extra : Extra) (unfit : Unfit) (skipped : Skipped) (place : Place)
     (bytes text : List ℕ) : Type 0 where
   pub state : State
   pub rest : List ℕ
   pub count : ℕ
   pub some : 0 < length rest
   pub known : (state ≢ Start unfit) ⊎ (FIRST_UNIT_LEN ≤ length rest)
-  pub takes : Takes (Start unfit) bytes state rest count text None
+  pub noted : Ledger
+  pub takes : Takes (blank extra) (Start unfit) bytes state rest count text None noted
   pub is_place : IsPlace state count bytes rest place
   pub counts : skipped_in state ≡ skipped
 
 -- what is written where the input is refused: as no capture only when a header would be whole, or
 -- at the end
-abbrev pub IsRefused : Unfit → Skipped → Refusal → Bool → List ℕ → List ℕ → Type 0
-IsRefused unfit skipped (InCapture NotCapture place) told read written =
+abbrev pub IsRefused : Extra → Unfit → Skipped → Refusal → Bool → List ℕ → List ℕ → Type 0
+IsRefused extra unfit skipped (InCapture NotCapture place) told read written =
     ((told ≡ true) ⊎ (FIRST_UNIT_LEN ≤ length read)) × IsNoCapture read × (written ≡ [])
     × IsPlace (Start unfit) 0 read read place × (none_skipped ≡ skipped)
-IsRefused unfit skipped (InCapture CutOff place) told read written = (told ≡ true)
-    × EndsWithinPacket unfit skipped place read written
-IsRefused unfit skipped (InCapture (LinkType number) place) told read written =
-    AreToldBefore unfit skipped (LinkType number) place read written
-IsRefused unfit skipped (InCapture (FrameTooLong captured) place) told read written =
-    AreToldBefore unfit skipped (FrameTooLong captured) place read written
-IsRefused unfit skipped (InCapture NoFrame place) told read written =
-    AreToldBefore unfit skipped NoFrame place read written
-IsRefused unfit skipped (InCapture (BlockTooLong len) place) told read written =
-    AreToldBefore unfit skipped (BlockTooLong len) place read written
-IsRefused unfit skipped (InCapture BadBlock place) told read written =
-    AreToldBefore unfit skipped BadBlock place read written
-IsRefused unfit skipped (InLine number) told read written = ⊥
+IsRefused extra unfit skipped (InCapture CutOff place) told read written = (told ≡ true)
+    × EndsWithinPacket extra unfit skipped place read written
+IsRefused extra unfit skipped (InCapture (LinkType number) place) told read written =
+    AreToldBefore extra unfit skipped (LinkType number) place read written
+IsRefused extra unfit skipped (InCapture (FrameTooLong captured) place) told read written =
+    AreToldBefore extra unfit skipped (FrameTooLong captured) place read written
+IsRefused extra unfit skipped (InCapture NoFrame place) told read written =
+    AreToldBefore extra unfit skipped NoFrame place read written
+IsRefused extra unfit skipped (InCapture (BlockTooLong len) place) told read written =
+    AreToldBefore extra unfit skipped (BlockTooLong len) place read written
+IsRefused extra unfit skipped (InCapture BadBlock place) told read written =
+    AreToldBefore extra unfit skipped BadBlock place read written
+IsRefused extra unfit skipped (InLine number) told read written = ⊥
 
 -- the lines of the packets of a capture, each before the next read. Where the whole capture is
 -- told, or refused at some place, so many packets were passed over
-abbrev pub capture_to_lines : Unfit → Skipped → Task Refusal
-capture_to_lines unfit skipped = record {
+abbrev pub capture_to_lines : Extra → Unfit → Skipped → Task Refusal
+capture_to_lines extra unfit skipped = record {
   room = INPUT_ROOM;
-  due = AreTold unfit;
+  due = AreTold extra unfit;
   full = λ told read text. (state : State) × (rest : List ℕ) × (count : ℕ)
-      × (refusal : Option CaptureError) × Takes (Start unfit) read state rest count text refusal;
+      × (refusal : Option CaptureError) × (noted : Ledger)
+      × Takes (blank extra) (Start unfit) read state rest count text refusal noted;
   whole = λ read written. (packets : List Packet) × IsCapture unfit read packets skipped
-      × (written ≡ lines_of packets);
+      × (written ≡ lines_of extra packets);
   starved = λ told read written. (read ≡ []) × (written ≡ []);
-  refused = IsRefused unfit skipped;
+  refused = IsRefused extra unfit skipped;
 }
 
 -- what the end of the input makes of a capture: what is known of it, how many bytes are left, and
@@ -97,14 +102,14 @@ abbrev pub result_at_end : State → ℕ → Place → Result Unit Refusal
 result_at_end (Start unfit) left place =
     if nat_lt left FIRST_UNIT_LEN then Err (InCapture NotCapture place)
     else Err (InCapture CutOff place)
-result_at_end (Classic order link passing) zero place = Ok tt
-result_at_end (Classic order link passing) (suc left) place = Err (InCapture CutOff place)
+result_at_end (Classic order time_unit link passing) zero place = Ok tt
+result_at_end (Classic order time_unit link passing) (suc left) place = Err (InCapture CutOff place)
 result_at_end (Pcapng section) zero place = Ok tt
 result_at_end (Pcapng section) (suc left) place = Err (InCapture CutOff place)
 
--- a run of at most so many reads from captures to lines took a device from old to new, and ended by
+-- a run of at most so many reads from captures to lines that tell this beside frames took a device from old to new, and ended by
 -- this result, when so many packets were passed over
-abbrev pub Runs : Unfit → Skipped → {D : Type 0} → (D → Call → D → Type 0) → ℕ → D → D
+abbrev pub Runs : Extra → Unfit → Skipped → {D : Type 0} → (D → Call → D → Type 0) → ℕ → D → D
     → Result Unit RunError → Type 0
-Runs unfit skipped transition limit old new result =
-    Goes (capture_to_lines unfit skipped) transition limit old new (ending_of result)
+Runs extra unfit skipped transition limit old new result =
+    Goes (capture_to_lines extra unfit skipped) transition limit old new (ending_of result)

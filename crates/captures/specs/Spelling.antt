@@ -1,36 +1,62 @@
 -- How a classic capture of Ethernet frames is written (draft-ietf-opsawg-pcap, sections 4 and 5):
--- low byte first, with times in microseconds.
-use Rattle.std.specs.Prelude.{ℕ, List, [], ◌∷◌, ◌++◌, length}
+-- low byte first, with times in microseconds or nanoseconds.
+use Rattle.std.specs.Prelude.{ℕ, ◌/◌, ◌^◌, ◌<◌, ◌≤◌, List, [], ◌∷◌, ◌++◌, length}
 use Rattle.std.specs.Int.{to_le_bytes, w32}
 use Rattle.std.specs.List.{flat_map}
 use Rattle.captures.specs.Lines.{Packet, packets_of}
+use Rattle.captures.specs.Times.{nanoseconds_in, record_time}
+use Rattle.captures.specs.declared.limits.TheConstants.{FRAME_LIMIT}
+use Rattle.captures.specs.declared.origin.Origin.{Origin}
+use Rattle.captures.specs.declared.time.time_unit.TimeUnit.{TimeUnit}
+use Rattle.captures.specs.declared.time.time_unit.TimeUnit.TheVariants.{Microseconds, Nanoseconds}
 
 -- a frame, and when it was captured
 pub record TimedFrame : Type 0 where
   pub seconds : ℕ
-  pub microseconds : ℕ
+  pub nanoseconds : ℕ
   pub frame : List ℕ
 
 -- magic number, version 2.4, two numbers that are 0, a snap length of 262,144, link type 1
-abbrev pub file_header : List ℕ
-file_header =
+abbrev pub file_header : TimeUnit → List ℕ
+file_header Microseconds =
     0xd4 ∷ 0xc3 ∷ 0xb2 ∷ 0xa1 ∷ 2 ∷ 0 ∷ 4 ∷ 0 ∷ 0 ∷ 0 ∷ 0 ∷ 0 ∷ 0 ∷ 0 ∷ 0 ∷ 0 ∷ 0 ∷ 0 ∷
+    4 ∷ 0 ∷ 1 ∷ 0 ∷ 0 ∷ 0 ∷ []
+file_header Nanoseconds =
+    0x4d ∷ 0x3c ∷ 0xb2 ∷ 0xa1 ∷ 2 ∷ 0 ∷ 4 ∷ 0 ∷ 0 ∷ 0 ∷ 0 ∷ 0 ∷ 0 ∷ 0 ∷ 0 ∷ 0 ∷ 0 ∷ 0 ∷
     4 ∷ 0 ∷ 1 ∷ 0 ∷ 0 ∷ 0 ∷ []
 
 -- the time, the number of bytes that follow, and the same as the packet's own length
 abbrev pub record_head : ℕ → ℕ → ℕ → List ℕ
-record_head seconds microseconds len = to_le_bytes w32 seconds
-    ++ (to_le_bytes w32 microseconds ++ (to_le_bytes w32 len ++ to_le_bytes w32 len))
+record_head seconds parts len = to_le_bytes w32 seconds
+    ++ (to_le_bytes w32 parts ++ (to_le_bytes w32 len ++ to_le_bytes w32 len))
 
-abbrev pub record_of : TimedFrame → List ℕ
-record_of timed = record_head timed.seconds timed.microseconds (length timed.frame) ++ timed.frame
+-- the parts of a second, of which a capture in microseconds tells whole ones
+abbrev pub parts_in : TimeUnit → ℕ → ℕ
+parts_in time_unit nanoseconds = nanoseconds / nanoseconds_in time_unit
 
-abbrev pub capture_of : List TimedFrame → List ℕ
-capture_of frames = file_header ++ flat_map record_of frames
+abbrev pub record_of : TimeUnit → TimedFrame → List ℕ
+record_of time_unit timed =
+    record_head timed.seconds (parts_in time_unit timed.nanoseconds) (length timed.frame)
+    ++ timed.frame
 
-abbrev pub packet_of : TimedFrame → List Packet
-packet_of timed = packets_of 0 timed.frame
+abbrev pub capture_of : TimeUnit → List TimedFrame → List ℕ
+capture_of time_unit frames = file_header time_unit ++ flat_map (record_of time_unit) frames
+
+abbrev pub origin_of : TimeUnit → TimedFrame → Origin
+origin_of time_unit timed = record {
+  channel = 0;
+  time = record_time time_unit timed.seconds (parts_in time_unit timed.nanoseconds);
+}
+
+abbrev pub packet_of : TimeUnit → TimedFrame → List Packet
+packet_of time_unit timed = packets_of (origin_of time_unit timed) timed.frame
 
 -- the packets that some frames are, on the one interface that a classic capture has
-abbrev pub packets_in : List TimedFrame → List Packet
-packets_in frames = flat_map packet_of frames
+abbrev pub packets_in : TimeUnit → List TimedFrame → List Packet
+packets_in time_unit frames = flat_map (packet_of time_unit) frames
+
+-- a frame that a line can hold, at a time of 32 bits of seconds
+pub record IsWritable (timed : TimedFrame) : Type 0 where
+  pub short : length timed.frame ≤ FRAME_LIMIT
+  pub seconds : timed.seconds < 2 ^ 32
+  pub nanoseconds : timed.nanoseconds < 1000000000

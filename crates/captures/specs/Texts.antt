@@ -10,6 +10,7 @@ use Rattle.captures.specs.Endings.{ending_of}
 use Rattle.captures.specs.declared.translation.refusal.Refusal.{Refusal}
 use Rattle.captures.specs.declared.translation.refusal.Refusal.TheVariants.{InCapture, InLine}
 use Rattle.captures.specs.FrameLines.{frame_of}
+use Rattle.captures.specs.declared.time.time_unit.TimeUnit.{TimeUnit}
 use Rattle.captures.specs.Spelling.{TimedFrame, record_of, capture_of}
 
 abbrev pub is_newline : ℕ → Bool
@@ -62,11 +63,11 @@ IsLeftLine true rest = BeginsBadLine rest
 IsLeftLine false rest = IsBegunLine rest
 
 -- all lines up to a bad one are taken, and this is what is written of their frames
-pub record TakesLines (bytes : List ℕ) (count : ℕ) (rest written : List ℕ)
+pub record TakesLines (time_unit : TimeUnit) (bytes : List ℕ) (count : ℕ) (rest written : List ℕ)
     (bad : Bool) : Type 0 where
   pub frames : List TimedFrame
   pub hands : Hands bytes count frames rest
-  pub spelled : written ≡ flat_map record_of frames
+  pub spelled : written ≡ flat_map (record_of time_unit) frames
   pub left : IsLeftLine bad rest
 
 abbrev pub ends_line : List ℕ → Bool
@@ -88,39 +89,39 @@ abbrev pub IsText : List ℕ → List TimedFrame → Type 0
 IsText bytes frames = (count : ℕ) × Hands (with_last_line_end bytes) count frames []
 
 -- all frames of the whole lines in bytes are written, after the file header, and a line is begun
-abbrev pub AreWritten : List ℕ → List ℕ → Type 0
-AreWritten bytes written =
+abbrev pub AreWritten : TimeUnit → List ℕ → List ℕ → Type 0
+AreWritten time_unit bytes written =
     (count : ℕ) × (frames : List TimedFrame) × (rest : List ℕ) × Hands bytes count frames rest
-    × IsBegunLine rest × (written ≡ capture_of frames)
+    × IsBegunLine rest × (written ≡ capture_of time_unit frames)
 
 -- the frames of all lines before the one with this number are written, and that one hands none in
-abbrev pub AreWrittenBefore : ℕ → List ℕ → List ℕ → Type 0
-AreWrittenBefore number bytes written =
+abbrev pub AreWrittenBefore : TimeUnit → ℕ → List ℕ → List ℕ → Type 0
+AreWrittenBefore time_unit number bytes written =
     (count : ℕ) × (frames : List TimedFrame) × (rest : List ℕ) × Hands bytes count frames rest
-    × BeginsBadLine rest × (number ≡ count + 1) × (written ≡ capture_of frames)
+    × BeginsBadLine rest × (number ≡ count + 1) × (written ≡ capture_of time_unit frames)
 
 -- what is written where the text is refused
-abbrev pub IsRefusedText : Refusal → Bool → List ℕ → List ℕ → Type 0
-IsRefusedText (InCapture error place) told read written = ⊥
-IsRefusedText (InLine number) told read written =
-    AreWrittenBefore number (known_text told read) written
+abbrev pub IsRefusedText : TimeUnit → Refusal → Bool → List ℕ → List ℕ → Type 0
+IsRefusedText time_unit (InCapture error place) told read written = ⊥
+IsRefusedText time_unit (InLine number) told read written =
+    AreWrittenBefore time_unit number (known_text told read) written
 
 -- the capture of the frames that lines hand in, those of all whole lines before the next read
-abbrev pub lines_to_capture : Task Refusal
-lines_to_capture = record {
+abbrev pub lines_to_capture : TimeUnit → Task Refusal
+lines_to_capture time_unit = record {
   room = INPUT_ROOM;
-  due = AreWritten;
+  due = AreWritten time_unit;
   full = λ told read text. (count : ℕ) × (frames : List TimedFrame) × (rest : List ℕ)
-      × Hands (known_text told read) count frames rest × (text ≡ capture_of frames);
+      × Hands (known_text told read) count frames rest × (text ≡ capture_of time_unit frames);
   whole = λ read written. (frames : List TimedFrame) × IsText read frames
-      × (written ≡ capture_of frames);
+      × (written ≡ capture_of time_unit frames);
   starved = λ told read written. (read ≡ []) × (written ≡ []);
-  refused = IsRefusedText;
+  refused = IsRefusedText time_unit;
 }
 
 -- a run of at most so many reads from lines to a capture took a device from old to new, and ended
 -- by this result
-abbrev pub WritesCapture : {D : Type 0} → (D → Call → D → Type 0) → ℕ → D → D
+abbrev pub WritesCapture : TimeUnit → {D : Type 0} → (D → Call → D → Type 0) → ℕ → D → D
     → Result Unit RunError → Type 0
-WritesCapture transition limit old new result =
-    Goes lines_to_capture transition limit old new (ending_of result)
+WritesCapture time_unit transition limit old new result =
+    Goes (lines_to_capture time_unit) transition limit old new (ending_of result)

@@ -4,7 +4,7 @@ use Rattle.std.specs.Prelude.{Option, Some, None, replicate}
 use Rattle.captures.specs.Framed.{link_for, taken_limit, told_frame}
 use Rattle.captures.specs.declared.unfit.Unfit.{Unfit}
 use Rattle.captures.specs.Numbers.{word}
-use Rattle.captures.specs.Lines.{Packet, packets_of, lines_of}
+use Rattle.captures.specs.Lines.{Packet, packets_of, lines_from, noted_all}
 use Rattle.captures.specs.Pcap.{IsFileHeader, IsPacketRecord, link_type}
 use Rattle.captures.specs.Skipping.{counted, none_skipped, passing_from}
 use Rattle.captures.specs.declared.byte_order.ByteOrder.{ByteOrder}
@@ -21,7 +21,11 @@ use Rattle.captures.specs.declared.translation.skipped.Passing.{Passing}
 use Rattle.captures.specs.declared.translation.skipped.Skipped.{Skipped}
 use Rattle.captures.specs.declared.translation.state.State.{State}
 use Rattle.captures.specs.declared.pcapng.section.Section.{Section}
-use Rattle.captures.specs.declared.pcapng.section.TheConstants.{LINKED_INTERFACES}
+use Rattle.captures.specs.declared.pcapng.section.TheConstants.{CLOCK_COUNT, LINKED_INTERFACES}
+use Rattle.captures.specs.declared.origin.Origin.{Origin}
+use Rattle.captures.specs.declared.text.ledger.Ledger.{Ledger}
+use Rattle.captures.specs.declared.time.time_unit.TimeUnit.{TimeUnit}
+use Rattle.captures.specs.Times.{record_time, unit_of, usual_clock}
 use Rattle.captures.specs.declared.translation.state.State.TheVariants.{Start, Classic, Pcapng}
 use Rattle.captures.specs.Pcapng.{HasOrder, IsBlock, IsTaken, Reads, RefusesBlock, section_header}
 use Rattle.captures.specs.Pcapng.{byte_order_magic}
@@ -32,7 +36,7 @@ pub record OpensFile (unfit : Unfit) (unit : List ℕ) (after : State) : Type 0 
   pub link : Link
   pub header : IsFileHeader order unit
   pub known : link_for unfit (link_type order unit) ≡ Some link
-  pub next : after ≡ Classic order link (passing_from unfit)
+  pub next : after ≡ Classic order (unit_of (word order unit 0)) link (passing_from unfit)
 
 -- before the first block of a pcapng file no interface is described, and any byte order serves
 abbrev pub no_section : Unfit → Section
@@ -43,53 +47,60 @@ no_section unfit =
       interfaces = 0;
       snap_len = 0;
       links = replicate LINKED_INTERFACES Ethernet;
+      clocks = replicate CLOCK_COUNT usual_clock;
       passing = passing_from unfit;
     }
 
 -- a block of a section, whole and of a length that is taken, after which the section has come to
 -- this
-pub record IsBlockUnit (section : Section) (unit : List ℕ) (after : State) (channel : ℕ)
+pub record IsBlockUnit (section : Section) (unit : List ℕ) (after : State) (origin : Origin)
     (frame : List ℕ) : Type 0 where
   pub order : ByteOrder
   pub has_order : HasOrder section.order unit order
   pub block : IsBlock order unit
   pub fits : IsTaken order unit (length unit)
   pub next : Section
-  pub reads : Reads section order unit next channel frame
+  pub reads : Reads section order unit next origin frame
   pub becomes : after ≡ Pcapng next
 
+-- a classic capture has one interface. The time is the front of a record
+abbrev pub record_origin : ByteOrder → TimeUnit → List ℕ → Origin
+record_origin order time_unit unit =
+    record { channel = 0; time = record_time time_unit (word order unit 0) (word order unit 4) }
+
 -- a packet record of such a link, of a packet that is told or passed over
-pub record IsRecordUnit (order : ByteOrder) (link : Link) (passing : Passing) (unit : List ℕ)
-    (after : State) (frame : List ℕ) : Type 0 where
+pub record IsRecordUnit (order : ByteOrder) (time_unit : TimeUnit) (link : Link) (passing : Passing)
+    (unit : List ℕ) (after : State) (frame : List ℕ) : Type 0 where
   pub packet : List ℕ
   pub is_record : IsPacketRecord order unit packet
   pub fits : length packet ≤ taken_limit passing.unfit link
   pub is_told : told_frame passing.unfit link packet ≡ Some frame
-  pub next : after ≡ Classic order link (counted passing link packet)
+  pub next : after ≡ Classic order time_unit link (counted passing link packet)
 
 -- bytes that are one unit of a capture, where it has come to this state: the state after it,
 -- and the frame of the packet in it, which is empty where none is told
-abbrev pub IsUnit : State → List ℕ → State → ℕ → List ℕ → Type 0
-IsUnit (Start unfit) unit after channel frame =
+abbrev pub IsUnit : State → List ℕ → State → Origin → List ℕ → Type 0
+IsUnit (Start unfit) unit after origin frame =
     (OpensFile unfit unit after × (frame ≡ []))
-    ⊎ ((word Big unit 0 ≡ section_header) × IsBlockUnit (no_section unfit) unit after channel frame)
-IsUnit (Classic order link passing) unit after channel frame =
-    IsRecordUnit order link passing unit after frame × (channel ≡ 0)
-IsUnit (Pcapng section) unit after channel frame = IsBlockUnit section unit after channel frame
+    ⊎ ((word Big unit 0 ≡ section_header) × IsBlockUnit (no_section unfit) unit after origin frame)
+IsUnit (Classic order time_unit link passing) unit after origin frame =
+    IsRecordUnit order time_unit link passing unit after frame
+    × (origin ≡ record_origin order time_unit unit)
+IsUnit (Pcapng section) unit after origin frame = IsBlockUnit section unit after origin frame
 
 -- the packets that were passed over by then
 abbrev pub skipped_in : State → Skipped
 skipped_in (Start unfit) = none_skipped
-skipped_in (Classic order link passing) = passing.skipped
+skipped_in (Classic order time_unit link passing) = passing.skipped
 skipped_in (Pcapng section) = section.passing.skipped
 
 -- units in a row, and all packets that are told of them
 abbrev pub Row : State → List (List ℕ) → List Packet → State → Type 0
 Row state [] packets after = (packets ≡ []) × (after ≡ state)
 Row state (unit ∷ units) packets after =
-    (mid : State) × (channel : ℕ) × (frame : List ℕ) × (later : List Packet)
-    × IsUnit state unit mid channel frame × Row mid units later after
-    × (packets ≡ packets_of channel frame ++ later)
+    (mid : State) × (origin : Origin) × (frame : List ℕ) × (later : List Packet)
+    × IsUnit state unit mid origin frame × Row mid units later after
+    × (packets ≡ packets_of origin frame ++ later)
 
 -- some byte lists as one
 abbrev pub in_a_row : List (List ℕ) → List ℕ
@@ -135,7 +146,7 @@ pub record HasOtherBack (order : ByteOrder) (bytes : List ℕ) : Type 0 where
 abbrev pub IsBegun : State → List ℕ → Type 0
 IsBegun (Start unfit) bytes = (length bytes < FIRST_UNIT_LEN)
     ⊎ ((word Big bytes 0 ≡ section_header) × IsShortBlock (no_section unfit) bytes)
-IsBegun (Classic order link passing) bytes =
+IsBegun (Classic order time_unit link passing) bytes =
     (length bytes < 16) ⊎ IsShortRecord order link passing.unfit bytes
 IsBegun (Pcapng section) bytes = (length bytes < 12) ⊎ IsShortBlock section bytes
 
@@ -241,22 +252,22 @@ RefusesFirst unfit bytes BadBlock = BeginsSection bytes
 -- why no unit can follow, whatever comes after these bytes
 abbrev pub Refuses : State → List ℕ → CaptureError → Type 0
 Refuses (Start unfit) bytes error = (FIRST_UNIT_LEN ≤ length bytes) × RefusesFirst unfit bytes error
-Refuses (Classic order link passing) bytes NotCapture = ⊥
-Refuses (Classic order link passing) bytes (LinkType number) = ⊥
-Refuses (Classic order link passing) bytes (FrameTooLong captured) =
+Refuses (Classic order time_unit link passing) bytes NotCapture = ⊥
+Refuses (Classic order time_unit link passing) bytes (LinkType number) = ⊥
+Refuses (Classic order time_unit link passing) bytes (FrameTooLong captured) =
     HasLongFrame order link passing.unfit bytes captured
-Refuses (Classic order link passing) bytes NoFrame = HasNoFrame order link passing.unfit bytes
-Refuses (Classic order link passing) bytes CutOff = ⊥
-Refuses (Classic order link passing) bytes (BlockTooLong len) = ⊥
-Refuses (Classic order link passing) bytes BadBlock = ⊥
+Refuses (Classic order time_unit link passing) bytes NoFrame = HasNoFrame order link passing.unfit bytes
+Refuses (Classic order time_unit link passing) bytes CutOff = ⊥
+Refuses (Classic order time_unit link passing) bytes (BlockTooLong len) = ⊥
+Refuses (Classic order time_unit link passing) bytes BadBlock = ⊥
 Refuses (Pcapng section) bytes error = RefusesAt section bytes error
 
 -- a unit with this packet is the front of the bytes
-pub record HasUnit (state : State) (bytes : List ℕ) (after : State) (channel : ℕ)
+pub record HasUnit (state : State) (bytes : List ℕ) (after : State) (origin : Origin)
     (frame rest : List ℕ) : Type 0 where
   pub unit : List ℕ
   pub parts : bytes ≡ unit ++ rest
-  pub is_unit : IsUnit state unit after channel frame
+  pub is_unit : IsUnit state unit after origin frame
 
 -- after all whole units of the bytes: more bytes are wanted, or this is refused
 abbrev pub IsLeft : State → List ℕ → Option CaptureError → Type 0
@@ -264,11 +275,13 @@ IsLeft state rest None = IsBegun state rest
 IsLeft state rest (Some error) = Refuses state rest error
 
 -- all whole units of the bytes are taken, so many packets of them are told, and their lines are
--- this text
-pub record Takes (state : State) (bytes : List ℕ) (after : State) (rest : List ℕ) (count : ℕ)
-    (text : List ℕ) (refusal : Option CaptureError) : Type 0 where
+-- this text. The lines have come to `ledger` before them, and to `noted` then
+pub record Takes (ledger : Ledger) (state : State) (bytes : List ℕ) (after : State)
+    (rest : List ℕ) (count : ℕ) (text : List ℕ) (refusal : Option CaptureError) (noted : Ledger)
+    : Type 0 where
   pub packets : List Packet
   pub number : length packets ≡ count
   pub passes : Passes state bytes packets after rest
-  pub told : text ≡ lines_of packets
+  pub told : text ≡ lines_from ledger packets
   pub left : IsLeft after rest refusal
+  pub come : noted ≡ noted_all ledger packets

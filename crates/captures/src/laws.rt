@@ -1,12 +1,13 @@
 //! Laws of captures: the contract of each function is the law, and its body is empty.
 
-ghost use Rattle.std.specs.Prelude.{◌≡◌, ◌≢◌, ◌⊎◌, ◌≤◌, ◌<◌, ◌+◌, ◌%◌, ◌^◌, ℕ, List, [], ◌∷◌};
+ghost use Rattle.std.specs.Prelude.{◌≡◌, ◌≢◌, ◌⊎◌, ◌≤◌, ◌<◌, ◌+◌, ◌*◌, ◌%◌, ◌^◌, ℕ, List, [], ◌∷◌};
 ghost use Rattle.std.specs.Prelude.{codes, length, Option};
 ghost use Rattle.std.specs.List.{AllByRecursion};
 ghost use Rattle.ep_base.specs.Traits.{IsPlainData};
 ghost use Rattle.hex.specs.Hex.{IsBytes};
-ghost use Rattle.captures.specs.ComeBack.{CapturedPacketsHaveLines, LinesComeBack};
-ghost use Rattle.captures.specs.Lines.{Packet, line_of};
+ghost use Rattle.captures.specs.ComeBack.{CapturedPacketsHaveLines, LinesComeBack, TimedLinesComeBack};
+ghost use Rattle.captures.specs.Forgetting.{ForgetDrops, ForgetKeeps, forgets};
+ghost use Rattle.captures.specs.Lines.{Packet, blank, line_of};
 ghost use Rattle.captures.specs.Numbers.{half, word};
 ghost use Rattle.captures.specs.Pcapng.{Content, HasOrder, RefusesBlock, Says};
 ghost use Rattle.captures.specs.Pcapng.Content.{Opens};
@@ -24,23 +25,28 @@ ghost use Rattle.captures.specs.declared.translation.state.State.{State};
 ghost use Rattle.captures.specs.declared.translation.state.State.TheVariants.{Start};
 ghost use Rattle.captures.specs.declared.translation.skipped.Skipped.{Skipped};
 ghost use Rattle.captures.specs.declared.unfit.Unfit.{Unfit};
-ghost use Rattle.captures.specs.Spelling.{TimedFrame, capture_of, packets_in};
+ghost use Rattle.captures.specs.declared.unfit.Unfit.TheVariants.{Refuse, Skip};
+ghost use Rattle.captures.specs.Spelling.{IsWritable, TimedFrame, capture_of, packets_in};
+ghost use Rattle.captures.specs.declared.extra.Extra.{Extra};
+ghost use Rattle.captures.specs.declared.extra.Extra.TheVariants.{Forget};
+ghost use Rattle.captures.specs.declared.text.ledger.Ledger.{Ledger};
+ghost use Rattle.captures.specs.declared.time.time_unit.TimeUnit.{TimeUnit};
 
 use crate::limits::{
     BLOCK_LIMIT, FIRST_UNIT_LEN, FRAME_LIMIT, INPUT_ROOM, LINE_LIMIT, READ_COUNT_LIMIT,
-    SKIPPED_LIMIT,
+    SKIPPED_LIMIT, TIME_LIMIT,
 };
 use crate::pcapng::section::ETHERNET;
-use crate::{CaptureError, Place, RunError, Skipped, Unfit};
+use crate::{CaptureError, Extra, Place, RunError, Skipped, TimeUnit, Unfit};
 use ep_base::laws::traits::Value;
 use runs::Fault;
 
-/// What is written is read again, as the same frames in the same order.
+/// What is written is read again, as the same frames in the same order, at their times.
 pub fn written_frames_are_read()
-    ensures { (frames : List TimedFrame)
-        → AllByRecursion (λ timed. length timed.frame ≤ FRAME_LIMIT) frames
-        → (unfit : Unfit)
-        → IsCapture unfit (capture_of frames) (packets_in frames) none_skipped }
+    ensures { (frames : List TimedFrame) → AllByRecursion IsWritable frames
+        → (unfit : Unfit) (time_unit : TimeUnit)
+        → IsCapture unfit (capture_of time_unit frames) (packets_in time_unit frames)
+        none_skipped }
 {}
 
 /// The packets of a capture are known by its bytes, and so is how many are passed over.
@@ -51,19 +57,49 @@ pub fn capture_is_alone()
         → (packets ≡ packets') × (skipped ≡ skipped') }
 {}
 
+/// A capture that is told whole where packets that can't be told are refused is told the same where
+/// they are passed over.
+pub fn told_whole_by_both()
+    ensures { (bytes : List ℕ) (packets : List Packet) (skipped : Skipped)
+        → IsCapture Refuse bytes packets skipped → IsCapture Skip bytes packets skipped }
+{}
+
 /// What is told of any bytes, whether more are wanted behind them or they are refused, is known by
 /// them.
 pub fn told_is_alone()
-    ensures { (unfit : Unfit) (bytes rest rest' text text' : List ℕ) (count count' : ℕ)
-        (state state' : State) (refusal refusal' : Option CaptureError) → IsBytes bytes
-        → Takes (Start unfit) bytes state rest count text refusal
-        → Takes (Start unfit) bytes state' rest' count' text' refusal' → text ≡ text' }
+    ensures { (extra : Extra) (unfit : Unfit) (bytes rest rest' text text' : List ℕ)
+        (count count' : ℕ) (state state' : State) (refusal refusal' : Option CaptureError)
+        (noted noted' : Ledger) → IsBytes bytes
+        → Takes (blank extra) (Start unfit) bytes state rest count text refusal noted
+        → Takes (blank extra) (Start unfit) bytes state' rest' count' text' refusal' noted'
+        → text ≡ text' }
 {}
 
 /// The frames that a text of lines hands in are known by its bytes.
 pub fn text_is_alone()
     ensures { (bytes : List ℕ) (frames frames' : List TimedFrame) → IsText bytes frames
         → IsText bytes frames' → frames ≡ frames' }
+{}
+
+/// While all packets behind a packet come less than so many seconds after it, by their times, no
+/// line has its message dropped.
+pub fn forget_keeps()
+    ensures { ForgetKeeps }
+{}
+
+/// Where no packet before it is later, its message is dropped in time: let a packet come so many
+/// seconds after it, and then one that comes so many seconds after each up to that one. A line with
+/// a greater number than its own stands before that packet's line, or earlier.
+pub fn forget_drops()
+    ensures { ForgetDrops }
+{}
+
+/// The lines of six packets, with spans of ten seconds: at 100, 105, 110, 119, 90 and 121 seconds.
+pub fn worked_spans()
+    ensures { (packet : ℕ → Packet)
+        → ((second : ℕ) → (packet second).origin.time ≡ 1_000_000_000 * second)
+        → forgets 10 (blank (Forget 10)) (packet 100 ∷ packet 105 ∷ packet 110 ∷ packet 119
+        ∷ packet 90 ∷ packet 121 ∷ []) ≡ 1 ∷ 3 ∷ [] }
 {}
 
 /// Each packet of a capture has a byte at least, no more than a line can hold, and a channel of 32
@@ -73,21 +109,30 @@ pub fn captured_packets_have_lines()
 {}
 
 /// The lines of packets are a text of which a capture of the same frames in the same order is
-/// written: the same packets where all have channel 0.
+/// written: the same packets where all have channel 0 and no time.
 pub fn lines_come_back()
     ensures { LinesComeBack }
+{}
+
+/// With times the packets of that capture have their times too, in whole microseconds, or in
+/// nanoseconds where the capture is written in these.
+pub fn timed_lines_come_back()
+    ensures { TimedLinesComeBack }
 {}
 
 /// The line of a frame that isn't too long has 200,000 bytes at most before its end, whatever its
 /// channel.
 pub fn lines_are_short()
-    ensures { (packet : Packet) → packet.channel < 2 ^ 32 → length packet.frame ≤ FRAME_LIMIT
+    ensures { (packet : Packet) → packet.origin.channel < 2 ^ 32 → length packet.frame ≤ FRAME_LIMIT
         → length (line_of packet) ≤ 200_001 }
 {}
 
 /// The line of two bytes.
 pub fn worked_line()
-    ensures { line_of (record { channel = 7; frame = 0x0a ∷ 0xff ∷ [] }) ≡ codes "frame 7 0aff\n" }
+    ensures { line_of (record {
+        origin = record { channel = 7; time = 0 };
+        frame = 0x0a ∷ 0xff ∷ [];
+    }) ≡ codes "frame 7 0aff\n" }
 {}
 
 /// A block of the kind of a section header opens a section with 28 bytes at least and major version
@@ -136,6 +181,8 @@ pub fn types_are_plain_data()
     ensures place { IsPlainData ⟦<Place as Value>⟧ }
     ensures run_error { IsPlainData ⟦<RunError as Value>⟧ }
     ensures unfit { IsPlainData ⟦<Unfit as Value>⟧ }
+    ensures extra { IsPlainData ⟦<Extra as Value>⟧ }
+    ensures time_unit { IsPlainData ⟦<TimeUnit as Value>⟧ }
     ensures skipped { IsPlainData ⟦<Skipped as Value>⟧ }
     ensures fault { IsPlainData ⟦<Fault as Value>⟧ }
 {}
@@ -147,7 +194,8 @@ pub fn constants()
     ensures block { BLOCK_LIMIT ≡ 262_144 }
     ensures first { FIRST_UNIT_LEN ≡ 24 }
     ensures input { INPUT_ROOM ≡ 262_144 }
-    ensures line { LINE_LIMIT ≡ 200_021 }
+    ensures line { LINE_LIMIT ≡ 200_032 }
+    ensures time { TIME_LIMIT ≡ 4_294_967_295_999_999_999 }
     ensures reads { READ_COUNT_LIMIT ≡ 2 ^ 40 }
     ensures ethernet { ETHERNET ≡ 1 }
 {}

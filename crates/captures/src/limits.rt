@@ -6,7 +6,7 @@ pub const FRAME_LIMIT: usize = 99_991;
 
 /// The bytes of a line that hands a frame in at most, without the 0a that ends it: those of the
 /// longest frame, channel and time.
-pub const LINE_LIMIT: usize = 200_021;
+pub const LINE_LIMIT: usize = 200_032;
 
 /// The bytes of the shortest capture there is: a file header.
 pub const FIRST_UNIT_LEN: usize = 24;
@@ -22,7 +22,10 @@ pub const INPUT_ROOM: usize = 262_144;
 pub const SKIPPED_LIMIT: usize = INPUT_ROOM - 16;
 
 /// The bytes of lines that come out of so many bytes at most.
-pub const OUTPUT_ROOM: usize = 4 * INPUT_ROOM;
+pub const OUTPUT_ROOM: usize = 5 * INPUT_ROOM;
+
+/// The last nanosecond since the year 1970 began whose seconds fit 32 bits.
+pub const TIME_LIMIT: u64 = 4_294_967_295_999_999_999;
 
 /// The reads of a run at most.
 pub const READ_COUNT_LIMIT: u64 = 1 << 40;

@@ -78,7 +78,7 @@ fn block_type(state: State, bytes: &[u8]) -> Option<u32>
                 None
             }
         }
-        State::Classic(_, _, _) => None,
+        State::Classic(_, _, _, _) => None,
         State::Pcapng(section) => Some(section.order.word(bytes, 0)),
     }
 }

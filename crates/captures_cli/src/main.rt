@@ -1,5 +1,5 @@
-//! Turns a capture file into lines for `netlines`, `captures_cli lines [--skip] [FILE|-]`, and
-//! lines into a capture file, `captures_cli capture [FILE|-]`.
+//! Turns a capture file into lines for `netlines`, `captures_cli lines [FILE|-]`, and lines into a
+//! capture file, `captures_cli capture [FILE|-]`.
 #![tactic(auto)]
 
 ghost use Rattle.std.specs.Prelude.{◌≡◌, List, ℕ, OnOk, IfSome, MatchResult};
@@ -10,6 +10,8 @@ ghost use Rattle.captures.specs.Lines.{Packet, lines_of};
 ghost use Rattle.captures.specs.Runs.{IsCapture};
 ghost use Rattle.captures.specs.Spelling.{TimedFrame, capture_of};
 ghost use Rattle.captures.specs.Texts.{IsText};
+ghost use Rattle.captures.specs.declared.extra.Extra.{Extra};
+ghost use Rattle.captures.specs.declared.time.time_unit.TimeUnit.{TimeUnit};
 ghost use Rattle.captures.specs.declared.unfit.Unfit.{Unfit};
 
 mod looks;
@@ -20,8 +22,8 @@ use crate::looks::{Look, look_at};
 use crate::modes::Mode;
 use crate::notes::{Told, ToldSkipped};
 use anyhow::Context;
-use captures::{RunError, Skipped, Unfit};
-use clap::{Arg, ArgAction, ArgMatches, Command};
+use captures::{Extra, RunError, Skipped, TimeUnit, Unfit};
+use clap::{Arg, ArgAction, ArgMatches, Command, value_parser};
 use std::alloc::Global;
 use std::env;
 use std::fs::File;
@@ -55,9 +57,29 @@ fn command<'a>(alloc: Global) -> Result<Command<'a>, clap::Error> {
                 .help("Passes over packets of other links, without a frame or too long for a line")
                 .action(ArgAction::SetTrue),
         )?
+        .arg(
+            Arg::new(alloc, "times")
+                .long("times")
+                .help("Writes the time of each packet, as `capture` reads it")
+                .action(ArgAction::SetTrue)
+                .conflicts_with("forget")?,
+        )?
+        .arg(
+            Arg::new(alloc, "forget")
+                .long("forget")
+                .value_name("SECONDS")
+                .help("Drops incomplete messages after one to two spans of SECONDS of packet time")
+                .value_parser(value_parser!(u32).range(1..4_294_967_296)),
+        )?
         .arg(file(alloc))?;
     let capture = Command::new(alloc, "capture")
         .about("Writes a capture of the frames of such lines")
+        .arg(
+            Arg::new(alloc, "nanoseconds")
+                .long("nanoseconds")
+                .help("Writes times in nanoseconds, not microseconds")
+                .action(ArgAction::SetTrue),
+        )?
         .arg(file(alloc))?;
     Ok(
         Command::new(alloc, "captures_cli")
@@ -84,8 +106,13 @@ struct Asked<'m> {
 
 fn asked_for<'m>(matches: &'m ArgMatches) -> Option<Asked<'m>> {
     let (mode, words) = match matches.subcommand() {
-        Some(("lines", words)) => (Mode::Lines(unfit_by(words.get_flag("skip"))), words),
-        Some(("capture", words)) => (Mode::Capture, words),
+        Some(("lines", words)) => {
+            let extra = extra_by(words.get_flag("times"), words.get_one::<u32>("forget"));
+            (Mode::Lines(extra, unfit_by(words.get_flag("skip"))), words)
+        }
+        Some(("capture", words)) => {
+            (Mode::Capture(unit_by(words.get_flag("nanoseconds"))), words)
+        }
         _ => return None,
     };
     Some(Asked {
@@ -96,6 +123,23 @@ fn asked_for<'m>(matches: &'m ArgMatches) -> Option<Asked<'m>> {
 
 fn unfit_by(skips: bool) -> Unfit {
     if skips { Unfit::Skip } else { Unfit::Refuse }
+}
+
+// The parser of the words refuses both.
+fn extra_by(times: bool, forget: Option<u32>) -> Extra {
+    match forget {
+        Some(seconds) => Extra::Forget(seconds),
+        None if times => Extra::Times,
+        None => Extra::Nothing,
+    }
+}
+
+fn unit_by(nanoseconds: bool) -> TimeUnit {
+    if nanoseconds {
+        TimeUnit::Nanoseconds
+    } else {
+        TimeUnit::Microseconds
+    }
 }
 
 // So many bytes tell what an input looks like.
@@ -137,24 +181,25 @@ fn make<R: Read, W: Write>(
     writer: &mut W,
     skipped: &mut Skipped,
 ) -> Result<(), RunError>
-    ensures lines { (unfit : Unfit) → mode ≡ Mode.Lines unfit
+    ensures lines { (extra : Extra) (unfit : Unfit) → mode ≡ Mode.Lines extra unfit
         → OnOk result (IfSome (R.remaining reader.old) (λ input. (packets : List Packet)
         × IsCapture unfit input packets skipped.new
-        × Appends (W.contents writer.old) (W.contents writer.new) (lines_of packets))) }
-    ensures capture { mode ≡ Mode.Capture
+        × Appends (W.contents writer.old) (W.contents writer.new) (lines_of extra packets))) }
+    ensures capture { (time_unit : TimeUnit) → mode ≡ Mode.Capture time_unit
         → OnOk result (IfSome (R.remaining reader.old) (λ input. (frames : List TimedFrame)
         × IsText input frames
-        × Appends (W.contents writer.old) (W.contents writer.new) (capture_of frames))) }
+        × Appends (W.contents writer.old) (W.contents writer.new) (capture_of time_unit frames))) }
 {
     match mode {
-        Mode::Lines(unfit) => make_lines(alloc, unfit, reader, writer, skipped),
-        Mode::Capture => make_capture(alloc, reader, writer),
+        Mode::Lines(extra, unfit) => make_lines(alloc, extra, unfit, reader, writer, skipped),
+        Mode::Capture(time_unit) => make_capture(alloc, time_unit, reader, writer),
     }
 }
 
 // What is written is flushed, where the input is refused too.
 fn make_lines<R: Read, W: Write>(
     alloc: Global,
+    extra: Extra,
     unfit: Unfit,
     reader: &mut R,
     writer: &mut W,
@@ -162,9 +207,9 @@ fn make_lines<R: Read, W: Write>(
 ) -> Result<(), RunError>
     ensures { OnOk result (IfSome (R.remaining reader.old) (λ input. (packets : List Packet)
         × IsCapture unfit input packets skipped.new
-        × Appends (W.contents writer.old) (W.contents writer.new) (lines_of packets))) }
+        × Appends (W.contents writer.old) (W.contents writer.new) (lines_of extra packets))) }
 {
-    let made = captures::run(alloc, unfit, reader, writer, skipped);
+    let made = captures::run(alloc, extra, unfit, reader, writer, skipped);
     let flushed = writer.flush();
     made?;
     match flushed {
@@ -175,14 +220,15 @@ fn make_lines<R: Read, W: Write>(
 
 fn make_capture<R: Read, W: Write>(
     alloc: Global,
+    time_unit: TimeUnit,
     reader: &mut R,
     writer: &mut W,
 ) -> Result<(), RunError>
     ensures { OnOk result (IfSome (R.remaining reader.old) (λ input. (frames : List TimedFrame)
         × IsText input frames
-        × Appends (W.contents writer.old) (W.contents writer.new) (capture_of frames))) }
+        × Appends (W.contents writer.old) (W.contents writer.new) (capture_of time_unit frames))) }
 {
-    let made = captures::write_capture(alloc, reader, writer);
+    let made = captures::write_capture(alloc, time_unit, reader, writer);
     let flushed = writer.flush();
     made?;
     match flushed {

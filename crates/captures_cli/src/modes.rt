@@ -1,11 +1,12 @@
 //! What the program makes of its input.
-use captures::Unfit;
+use captures::{Extra, TimeUnit, Unfit};
 
 /// What is made of the input.
 #[derive(Clone, Copy, Debug, PartialEq, Eq)]
 pub enum Mode {
-    /// The lines of the packets of a capture, where this becomes of those that can't be told.
-    Lines(Unfit),
-    /// A capture of the frames of lines.
-    Capture,
+    /// The lines of the packets of a capture: what they tell beside frames, and what becomes of
+    /// packets that can't be told.
+    Lines(Extra, Unfit),
+    /// A capture of the frames of lines, with times in this unit.
+    Capture(TimeUnit),
 }

@@ -3,7 +3,7 @@ use crate::looks::{Look, look_at};
 use crate::modes::Mode;
 use crate::notes::{Told, ToldSkipped};
 use crate::{asked_for, command, exit_code, make, tell_skipped};
-use captures::{CaptureError, Place, RunError, Skipped, Unfit};
+use captures::{CaptureError, Extra, Place, RunError, Skipped, TimeUnit, Unfit};
 use std::alloc::Global;
 use std::io::{self, ErrorKind, Write};
 use std::process::ExitCode;
@@ -41,7 +41,7 @@ fn lines_are_made_a_capture_and_lines_again(rt: HostRuntime) -> Result<(), Fail>
     let mut capture = Vec::new(alloc);
     let mut text = b"frame 0 0aff 1700000000 250000\n".as_slice();
     assert_eq!(rt;
-        make(alloc, Mode::Capture, &mut text, &mut capture, &mut skipped),
+        make(alloc, Mode::Capture(TimeUnit::Microseconds), &mut text, &mut capture, &mut skipped),
         Ok(())
     );
     let mut wanted = Vec::from_slice(alloc, HEADER)?;
@@ -51,7 +51,7 @@ fn lines_are_made_a_capture_and_lines_again(rt: HostRuntime) -> Result<(), Fail>
     assert_eq!(rt;
         make(
             alloc,
-            Mode::Lines(Unfit::Refuse),
+            Mode::Lines(Extra::Nothing, Unfit::Refuse),
             &mut capture.as_slice(),
             &mut lines,
             &mut skipped
@@ -160,13 +160,13 @@ fn packets_that_are_passed_over_are_told(rt: HostRuntime) {
 
 #[test]
 fn a_flush_that_fails_is_a_failed_write(rt: HostRuntime) {
-    for mode in [Mode::Lines(Unfit::Refuse), Mode::Capture] {
+    for mode in [Mode::Lines(Extra::Nothing, Unfit::Refuse), Mode::Capture(TimeUnit::Microseconds)] {
         let mut writer = UnflushableWriter {
             taken: Vec::new(rt.alloc()),
         };
         let input = match mode {
-            Mode::Lines(_) => HEADER.as_slice(),
-            Mode::Capture => b"".as_slice(),
+            Mode::Lines(_, _) => HEADER.as_slice(),
+            Mode::Capture(_) => b"".as_slice(),
         };
         let mut skipped = Skipped::NONE;
         let made = make(rt.alloc(), mode, &mut &*input, &mut writer, &mut skipped);

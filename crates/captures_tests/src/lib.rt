@@ -7,6 +7,8 @@ mod blocks;
 #[cfg(test)]
 mod classic;
 #[cfg(test)]
+mod forgetting;
+#[cfg(test)]
 mod limits;
 #[cfg(test)]
 mod lines;
@@ -22,6 +24,8 @@ mod reads;
 mod skipping;
 #[cfg(test)]
 mod text;
+#[cfg(test)]
+mod times;
 #[cfg(test)]
 mod writes;
 #[cfg(test)]

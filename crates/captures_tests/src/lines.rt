@@ -1,5 +1,5 @@
 //! The lines that the captures of these tests hold, and what a run gives.
-use captures::{CaptureError, Place, RunError, Skipped, Unfit, run};
+use captures::{CaptureError, Extra, Place, RunError, Skipped, Unfit, run};
 use std::alloc::{AllocError, Global};
 use std::io::{Read, Write};
 
@@ -38,7 +38,14 @@ pub fn lines_to<R: Read, W: Write>(
     writer: &mut W,
 ) -> Result<(), RunError> {
     let mut skipped = Skipped::NONE;
-    run(alloc, Unfit::Refuse, reader, writer, &mut skipped)
+    run(
+        alloc,
+        Extra::Nothing,
+        Unfit::Refuse,
+        reader,
+        writer,
+        &mut skipped,
+    )
 }
 
 // How a run ended that passes over packets that can't be told, its lines, and how many it passed
@@ -53,6 +60,13 @@ pub fn lines_skipping(
         too_long: 8,
         without_frame: 9,
     };
-    let result = run(alloc, Unfit::Skip, &mut &*file, &mut lines, &mut skipped);
+    let result = run(
+        alloc,
+        Extra::Nothing,
+        Unfit::Skip,
+        &mut &*file,
+        &mut lines,
+        &mut skipped,
+    );
     Ok((result, lines, skipped))
 }

@@ -2,7 +2,7 @@
 use crate::blocks::{TWO_SECTIONS, TWO_SECTIONS_LINES};
 use crate::classic::LITTLE_NANOSECONDS;
 use crate::lines::{LINES, lines_to};
-use captures::{CaptureError, Place, RunError, write_capture};
+use captures::{CaptureError, Place, RunError, TimeUnit, write_capture};
 use fault_devices::{Fault, FaultReader, FaultWriter};
 use std::io::ErrorKind;
 use std::test::Fail;
@@ -29,7 +29,14 @@ fn reads_that_fail(rt: HostRuntime) -> Result<(), Fail> {
     let mut capture = Vec::new(rt.alloc());
     // The first line, and a byte of the second.
     let mut reader = FaultReader::failing(&LINES[..110], 1, 110, FAILS);
-    assert!(rt; write_capture(rt.alloc(), &mut reader, &mut capture) == Err(RunError::Read));
+    assert!(rt;
+        write_capture(
+            rt.alloc(),
+            TimeUnit::Microseconds,
+            &mut reader,
+            &mut capture
+        ) == Err(RunError::Read)
+    );
     assert!(rt; capture.len() == 90);
     let mut lines = Vec::new(rt.alloc());
     let mut reader = FaultReader::failing(capture.as_slice(), 1, 90, FAILS);
@@ -43,7 +50,12 @@ fn writes_that_fail(rt: HostRuntime) -> Result<(), Fail> {
     // Within the header, and within the second packet's head.
     for room in [0, 23, 100] {
         let mut writer = FaultWriter::failing(rt.alloc(), 1, room, FAILS);
-        let result = write_capture(rt.alloc(), &mut LINES.as_slice(), &mut writer);
+        let result = write_capture(
+            rt.alloc(),
+            TimeUnit::Microseconds,
+            &mut LINES.as_slice(),
+            &mut writer,
+        );
         assert!(rt; result == Err(RunError::Write));
         assert!(rt; writer.taken.len() == room);
     }

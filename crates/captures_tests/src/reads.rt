@@ -3,7 +3,8 @@
 use crate::lines::{lines_to, refused};
 use captures::device::ReaderWriter;
 use captures::{
-    CaptureError, RunError, Skipped, Unfit, run_over, write_capture, write_capture_over,
+    CaptureError, Extra, RunError, Skipped, TimeUnit, Unfit, run_over, write_capture,
+    write_capture_over,
 };
 use fault_devices::{Fault, FaultReader};
 use std::alloc::Global;
@@ -78,7 +79,12 @@ fn each_read_of_lines(rt: HostRuntime) -> Result<(), Fail> {
         for before in [0, 14, 15, 31, 32] {
             let mut reader = FaultReader::failing(TIMED_LINES, 1, before, fault);
             let mut capture = Vec::new(rt.alloc());
-            let result = write_capture(rt.alloc(), &mut reader, &mut capture);
+            let result = write_capture(
+                rt.alloc(),
+                TimeUnit::Microseconds,
+                &mut reader,
+                &mut capture,
+            );
             assert!(rt; result == Err(RunError::Read));
             assert!(rt; reader.calls == before.saturating_add(1));
             assert!(rt; capture.as_slice() == capture_of(before));
@@ -97,6 +103,7 @@ fn run_of(
     let mut skipped = Skipped::NONE;
     run_over(
         alloc,
+        Extra::Nothing,
         Unfit::Refuse,
         &mut device,
         u64::from(reads),
@@ -130,7 +137,7 @@ fn run_of_lines(
     reads: u8,
 ) -> Result<(), RunError> {
     let mut device = ReaderWriter { reader, writer };
-    write_capture_over(alloc, &mut device, u64::from(reads))
+    write_capture_over(alloc, TimeUnit::Microseconds, &mut device, u64::from(reads))
 }
 
 #[test]

@@ -1,6 +1,6 @@
 //! Captures that are written of lines.
 use crate::lines::{LINES, lines_of};
-use captures::{RunError, write_capture};
+use captures::{RunError, TimeUnit, write_capture};
 use fault_devices::{Fault, FaultReader};
 use std::alloc::{AllocError, Global};
 use std::io::{ErrorKind, Read};
@@ -14,7 +14,7 @@ const HEADER: &[u8; 24] = b"\
 fn capture_of(alloc: Global, text: &[u8]) -> Result<(Result<(), RunError>, Vec<u8>), AllocError> {
     let mut capture = Vec::new(alloc);
     let mut reader = text;
-    let result = write_capture(alloc, &mut reader, &mut capture);
+    let result = write_capture(alloc, TimeUnit::Microseconds, &mut reader, &mut capture);
     Ok((result, capture))
 }
 
@@ -130,7 +130,14 @@ fn each_front_of_a_text(rt: HostRuntime) -> Result<(), Fail> {
         assert!(rt; &capture.as_slice()[24..] == packets);
         let mut bytewise = Vec::new(rt.alloc());
         let mut reader = FaultReader::new(&TWO_LINES[..n], 1);
-        assert!(rt; write_capture(rt.alloc(), &mut reader, &mut bytewise) == wanted);
+        assert!(rt;
+            write_capture(
+                rt.alloc(),
+                TimeUnit::Microseconds,
+                &mut reader,
+                &mut bytewise
+            ) == wanted
+        );
         assert!(rt; bytewise.as_slice() == capture.as_slice());
     }
     Ok(())
@@ -142,7 +149,7 @@ fn long_line(alloc: Global, len: usize) -> Result<Vec<u8>, AllocError> {
     for _ in 0..len {
         line.extend_from_slice(b"00")?;
     }
-    line.extend_from_slice(b" 0000000000 0000000000")?;
+    line.extend_from_slice(b" 0000000000 0000000000 0000000000")?;
     Ok(line)
 }
 
@@ -162,17 +169,22 @@ fn longest_frame(rt: HostRuntime) -> Result<(), Fail> {
     Ok(())
 }
 
-// The longest line that hands a frame in has 200,021 bytes. After one more nothing is read.
+// The longest line that hands a frame in has 200,032 bytes. After one more nothing is read.
 #[test]
 fn line_without_end(rt: HostRuntime) -> Result<(), Fail> {
-    for (len, wanted) in [(200_021, RunError::Read), (200_022, RunError::BadLine(1))] {
+    for (len, wanted) in [(200_032, RunError::Read), (200_033, RunError::BadLine(1))] {
         let text = vec![in rt.alloc(); b'0'; len]?;
         let fault = Fault::Fails(ErrorKind::Other);
         let mut reader = text
             .as_slice()
             .chain(FaultReader::failing(b"", 1, 0, fault));
         let mut capture = Vec::new(rt.alloc());
-        let result = write_capture(rt.alloc(), &mut reader, &mut capture);
+        let result = write_capture(
+            rt.alloc(),
+            TimeUnit::Microseconds,
+            &mut reader,
+            &mut capture,
+        );
         assert!(rt; result == Err(wanted));
         assert!(rt; capture.len() == 24);
     }

@@ -3,7 +3,7 @@
 use crate::classic::LITTLE_MICROSECONDS;
 use crate::lines::{LINES, lines_to};
 use captures::device::ReaderWriter;
-use captures::{RunError, write_capture};
+use captures::{RunError, TimeUnit, write_capture};
 use fault_devices::{Fault, FaultReader, FaultWriter};
 use runs::write_whole;
 use std::io::{self, ErrorKind};
@@ -65,12 +65,24 @@ fn each_write_of_a_run(rt: HostRuntime) -> Result<(), Fail> {
 #[test]
 fn each_write_of_a_capture(rt: HostRuntime) -> Result<(), Fail> {
     let mut whole = Vec::new(rt.alloc());
-    assert!(rt; write_capture(rt.alloc(), &mut LINES.as_slice(), &mut whole) == Ok(()));
+    assert!(rt;
+        write_capture(
+            rt.alloc(),
+            TimeUnit::Microseconds,
+            &mut LINES.as_slice(),
+            &mut whole
+        ) == Ok(())
+    );
     assert!(rt; whole.len() == 148);
     for fault in [FAILS, Fault::MovesNone, Fault::MovesOne] {
         for (before, place) in [(0, 0), (1, 24), (2, 74), (3, 124), (4, 148)] {
             let mut writer = FaultWriter::failing(rt.alloc(), 50, before, fault);
-            let result = write_capture(rt.alloc(), &mut LINES.as_slice(), &mut writer);
+            let result = write_capture(
+                rt.alloc(),
+                TimeUnit::Microseconds,
+                &mut LINES.as_slice(),
+                &mut writer,
+            );
             if place == 148 || fault == Fault::MovesOne {
                 assert!(rt; result == Ok(()));
                 assert!(rt; writer.taken.as_slice() == whole.as_slice());

@@ -105,34 +105,30 @@ impl<'a> Frame<'a> {
     }
 }
 
-/// What is told of a packet that isn't refused, and what is known of those passed over then.
-#[derive(Drop)]
-pub(crate) struct Telling<'a> {
-    /// The packet's frame, or no bytes where it is passed over.
-    pub frame: Frame<'a>,
-    pub passing: Passing,
-}
-
-/// What is told of a packet of such a link, if it isn't refused.
-pub(crate) fn tell(passing: Passing, link: Link, packet: &[u8]) -> Option<Telling<'_>>
-    ensures told { MatchOption result (told_frame passing.unfit link packet.now ≡ None)
-        (λ t. (told_frame passing.unfit link packet.now ≡ Some t.frame)
-        × (t.passing ≡ counted passing link packet.now)) }
-    ensures size { IfSome result (λ t. length t.frame ≤ length packet.now + 14) }
+/// What is told of a packet of such a link, if it isn't refused, and what is known of those passed
+/// over then: its frame, or no bytes where it is passed over.
+#[inline(always)]
+pub(crate) fn tell<'a>(passing: &mut Passing, link: Link, packet: &'a [u8]) -> Option<Frame<'a>>
+    ensures told { MatchOption result
+        ((told_frame passing.old.unfit link packet.now ≡ None) × (passing.new ≡ passing.old))
+        (λ frame. (told_frame passing.old.unfit link packet.now ≡ Some frame)
+        × (passing.new ≡ counted passing.old link packet.now)) }
+    ensures size { IfSome result (λ frame. length frame ≤ length packet.now + 14) }
 {
     match told(link, packet) {
-        Ok(frame) => Some(Telling { frame, passing }),
+        Ok(frame) => Some(frame),
         Err(reason) => match passing.unfit {
             Unfit::Refuse => None,
-            Unfit::Skip => Some(Telling {
-                frame: Frame::of(&[]),
-                passing: passing.with_reason(reason),
-            }),
+            Unfit::Skip => {
+                *passing = passing.with_reason(reason);
+                Some(Frame::of(&[]))
+            }
         },
     }
 }
 
 // The frame of a packet of such a link, or why it has none that a line can hold.
+#[inline(always)]
 fn told(link: Link, packet: &[u8]) -> Result<Frame<'_>, Reason>
     ensures told { result ≡ told_of link packet.now }
     ensures size { IfOk result (λ frame. length frame ≤ length packet.now + 14) }
@@ -156,6 +152,7 @@ fn reason_on(link: Link, reason: Reason) -> Reason
 }
 
 // A packet of such a link as an Ethernet II frame, if it has one.
+#[inline(always)]
 fn framed(link: Link, packet: &[u8]) -> Option<Frame<'_>>
     ensures frame { result ≡ framed link packet.now }
     ensures size { IfSome result (λ frame. length frame ≤ length packet.now + 14) }
@@ -163,6 +160,7 @@ fn framed(link: Link, packet: &[u8]) -> Option<Frame<'_>>
     frame_of(link, packet)
 }
 
+#[inline(always)]
 fn frame_of(link: Link, packet: &[u8]) -> Option<Frame<'_>>
     ensures { result ≡ framed link packet.now }
 {

@@ -2,7 +2,7 @@
 ghost use Rattle.std.specs.Prelude.{◌≡◌, ◌≤◌, ◌+◌, ◌*◌, ℕ, List, length, IfOk, IfErr, IfSome};
 ghost use Rattle.std.specs.Prelude.{MatchOption, ◌↔◌, IsTrue};
 ghost use Rattle.captures.specs.Pcap.{IsFileHeader, is_magic};
-ghost use Rattle.captures.specs.Units.{IsBegun, Refuses, HasUnit, BeginsSection};
+ghost use Rattle.captures.specs.Units.{IsBegun, Refuses, HasUnit, BeginsSection, record_origin};
 ghost use Rattle.captures.specs.declared.byte_order.ByteOrder.{ByteOrder};
 ghost use Rattle.captures.specs.declared.translation.state.State.TheVariants.{Start, Classic};
 
@@ -11,9 +11,11 @@ use crate::byte_order::ByteOrder;
 use crate::limits::FIRST_UNIT_LEN;
 use crate::link::frame::{Frame, tell};
 use crate::link::kind::Link;
+use crate::origin::Origin;
 use crate::pcapng::block::{BYTE_ORDER_MAGIC, SECTION_HEADER};
 use crate::pcapng::section::no_section;
 use crate::pcapng::section_unit::section_unit;
+use crate::time::time_unit::TimeUnit;
 use crate::translation::skipped::Passing;
 use crate::translation::state::State;
 use crate::unfit::Unfit;
@@ -23,58 +25,106 @@ const RECORD_HEAD_LEN: usize = 16;
 /// A unit, and what follows it.
 #[derive(Drop)]
 pub(crate) struct Unit<'a> {
-    /// What the capture is known to be after it.
-    pub after: State,
-    /// The interface of the packet in it.
-    pub channel: u32,
+    /// The interface and the time of the packet in it.
+    pub origin: Origin,
     /// The packet's frame: no bytes where the unit has no packet, where none were captured, and
     /// where it is passed over.
     pub frame: Frame<'a>,
     pub rest: &'a [u8],
 }
 
-/// The unit at the front of the bytes. There is none where more bytes are wanted.
-pub(crate) fn front_unit(state: State, bytes: &[u8]) -> Result<Option<Unit<'_>>, CaptureError>
-    ensures found { IfOk result (λ found. MatchOption found (IsBegun state bytes.now)
-        (λ u. HasUnit state bytes.now u.after u.channel u.frame u.rest.now)) }
+/// The unit at the front of the bytes, and what the capture is known to be after it. There is none
+/// where more bytes are wanted.
+pub(crate) fn front_unit<'a>(
+    state: &mut State,
+    bytes: &'a [u8],
+) -> Result<Option<Unit<'a>>, CaptureError>
+    ensures found { IfOk result
+        (λ found. MatchOption found (IsBegun state.old bytes.now × (state.new ≡ state.old))
+        (λ u. HasUnit state.old bytes.now state.new u.origin u.frame u.rest.now)) }
     ensures room { IfOk result
-        (λ found. IfSome found (λ u. 18 + 2 * length u.frame + 4 * length u.rest.now
-        ≤ 4 * length bytes.now)) }
-    ensures refused { IfErr result (λ e. Refuses state bytes.now e) }
+        (λ found. IfSome found (λ u. 46 + 2 * length u.frame + 5 * length u.rest.now
+        ≤ 5 * length bytes.now)) }
+    ensures refused { IfErr result (λ e. Refuses state.old bytes.now e × (state.new ≡ state.old)) }
 {
+    if let State::Start(unfit) = *state {
+        return first_unit(unfit, state, bytes);
+    }
     match state {
-        State::Start(unfit) => first_unit(unfit, bytes),
-        State::Classic(order, link, passing) => packet_record(order, link, passing, bytes),
+        State::Start(_) => Ok(None),
+        State::Classic(order, time_unit, link, passing) => {
+            packet_record(*order, *time_unit, *link, passing, bytes)
+        }
         State::Pcapng(section) => section_unit(section, bytes),
     }
 }
 
-fn first_unit(unfit: Unfit, bytes: &[u8]) -> Result<Option<Unit<'_>>, CaptureError>
-    ensures found { IfOk result (λ found. MatchOption found (IsBegun (Start unfit) bytes.now)
-        (λ u. HasUnit (Start unfit) bytes.now u.after u.channel u.frame u.rest.now)) }
+fn first_unit<'a>(
+    unfit: Unfit,
+    state: &mut State,
+    bytes: &'a [u8],
+) -> Result<Option<Unit<'a>>, CaptureError>
+    requires { state.old ≡ Start unfit }
+    ensures found { IfOk result
+        (λ found. MatchOption found (IsBegun (Start unfit) bytes.now × (state.new ≡ state.old))
+        (λ u. HasUnit (Start unfit) bytes.now state.new u.origin u.frame u.rest.now)) }
     ensures room { IfOk result
-        (λ found. IfSome found (λ u. 18 + 2 * length u.frame + 4 * length u.rest.now
-        ≤ 4 * length bytes.now)) }
-    ensures refused { IfErr result (λ e. Refuses (Start unfit) bytes.now e) }
+        (λ found. IfSome found (λ u. 46 + 2 * length u.frame + 5 * length u.rest.now
+        ≤ 5 * length bytes.now)) }
+    ensures refused { IfErr result
+        (λ e. Refuses (Start unfit) bytes.now e × (state.new ≡ state.old)) }
 {
     if bytes.len() < FIRST_UNIT_LEN {
         return Ok(None);
     }
     if begins_section(bytes) {
-        return section_unit(no_section(unfit), bytes);
+        return first_block(unfit, state, bytes);
     }
-    file_header(unfit, bytes)
+    file_header(unfit, state, bytes)
 }
 
-fn file_header(unfit: Unfit, bytes: &[u8]) -> Result<Option<Unit<'_>>, CaptureError>
+fn first_block<'a>(
+    unfit: Unfit,
+    state: &mut State,
+    bytes: &'a [u8],
+) -> Result<Option<Unit<'a>>, CaptureError>
+    requires size { FIRST_UNIT_LEN ≤ length bytes.now }
+    requires begins { BeginsSection bytes.now }
+    ensures found { IfOk result
+        (λ found. MatchOption found (IsBegun (Start unfit) bytes.now × (state.new ≡ state.old))
+        (λ u. HasUnit (Start unfit) bytes.now state.new u.origin u.frame u.rest.now)) }
+    ensures room { IfOk result
+        (λ found. IfSome found (λ u. 46 + 2 * length u.frame + 5 * length u.rest.now
+        ≤ 5 * length bytes.now)) }
+    ensures refused { IfErr result
+        (λ e. Refuses (Start unfit) bytes.now e × (state.new ≡ state.old)) }
+{
+    let mut section = no_section(unfit);
+    match section_unit(&mut section, bytes) {
+        Ok(Some(unit)) => {
+            *state = State::Pcapng(section);
+            Ok(Some(unit))
+        }
+        Ok(None) => Ok(None),
+        Err(error) => Err(error),
+    }
+}
+
+fn file_header<'a>(
+    unfit: Unfit,
+    state: &mut State,
+    bytes: &'a [u8],
+) -> Result<Option<Unit<'a>>, CaptureError>
     requires size { FIRST_UNIT_LEN ≤ length bytes.now }
     requires other { BeginsSection bytes.now → ⊥ }
-    ensures found { IfOk result (λ found. MatchOption found (IsBegun (Start unfit) bytes.now)
-        (λ u. HasUnit (Start unfit) bytes.now u.after u.channel u.frame u.rest.now)) }
+    ensures found { IfOk result
+        (λ found. MatchOption found (IsBegun (Start unfit) bytes.now × (state.new ≡ state.old))
+        (λ u. HasUnit (Start unfit) bytes.now state.new u.origin u.frame u.rest.now)) }
     ensures room { IfOk result
-        (λ found. IfSome found (λ u. 18 + 2 * length u.frame + 4 * length u.rest.now
-        ≤ 4 * length bytes.now)) }
-    ensures refused { IfErr result (λ e. Refuses (Start unfit) bytes.now e) }
+        (λ found. IfSome found (λ u. 46 + 2 * length u.frame + 5 * length u.rest.now
+        ≤ 5 * length bytes.now)) }
+    ensures refused { IfErr result
+        (λ e. Refuses (Start unfit) bytes.now e × (state.new ≡ state.old)) }
 {
     let (header, rest) = bytes.split_at(FIRST_UNIT_LEN);
     let Some(order) = header_order(header) else {
@@ -84,9 +134,13 @@ fn file_header(unfit: Unfit, bytes: &[u8]) -> Result<Option<Unit<'_>>, CaptureEr
     let Some(link) = Link::taken_as(unfit, link_type) else {
         return Err(CaptureError::LinkType(link_type));
     };
+    let time_unit = TimeUnit::of(order.word(header, 0));
+    *state = State::Classic(order, time_unit, link, Passing::from(unfit));
     Ok(Some(Unit {
-        after: State::Classic(order, link, Passing::from(unfit)),
-        channel: 0,
+        origin: Origin {
+            channel: 0,
+            time: 0,
+        },
         frame: Frame::of(&[]),
         rest,
     }))
@@ -130,20 +184,26 @@ fn is_magic(number: u32) -> bool
     number == 0xa1b2_c3d4 || number == 0xa1b2_3c4d
 }
 
-fn packet_record(
+#[inline(always)]
+fn packet_record<'a>(
     order: ByteOrder,
+    time_unit: TimeUnit,
     link: Link,
-    passing: Passing,
-    bytes: &[u8],
-) -> Result<Option<Unit<'_>>, CaptureError>
+    passing: &mut Passing,
+    bytes: &'a [u8],
+) -> Result<Option<Unit<'a>>, CaptureError>
     ensures found { IfOk result
-        (λ found. MatchOption found (IsBegun (Classic order link passing) bytes.now)
-        (λ u. HasUnit (Classic order link passing) bytes.now
-        u.after u.channel u.frame u.rest.now)) }
+        (λ found. MatchOption found
+        (IsBegun (Classic order time_unit link passing.old) bytes.now
+        × (passing.new ≡ passing.old))
+        (λ u. HasUnit (Classic order time_unit link passing.old) bytes.now
+        (Classic order time_unit link passing.new) u.origin u.frame u.rest.now)) }
     ensures room { IfOk result
-        (λ found. IfSome found (λ u. 18 + 2 * length u.frame + 4 * length u.rest.now
-        ≤ 4 * length bytes.now)) }
-    ensures refused { IfErr result (λ e. Refuses (Classic order link passing) bytes.now e) }
+        (λ found. IfSome found (λ u. 46 + 2 * length u.frame + 5 * length u.rest.now
+        ≤ 5 * length bytes.now)) }
+    ensures refused { IfErr result
+        (λ e. Refuses (Classic order time_unit link passing.old) bytes.now e
+        × (passing.new ≡ passing.old)) }
 {
     if bytes.len() < RECORD_HEAD_LEN {
         return Ok(None);
@@ -157,13 +217,23 @@ fn packet_record(
         return Ok(None);
     }
     let (packet, rest) = body.split_at(captured as usize);
-    let Some(telling) = tell(passing, link, packet) else {
+    let Some(frame) = tell(passing, link, packet) else {
         return Err(CaptureError::NoFrame);
     };
     Ok(Some(Unit {
-        after: State::Classic(order, link, telling.passing),
-        channel: 0,
-        frame: telling.frame,
+        origin: record_origin(order, time_unit, head),
+        frame,
         rest,
     }))
+}
+
+// Where and when the packet of a record was captured.
+fn record_origin(order: ByteOrder, time_unit: TimeUnit, head: &[u8]) -> Origin
+    requires { 16 ≤ length head.now }
+    ensures { result ≡ record_origin order time_unit head.now }
+{
+    Origin {
+        channel: 0,
+        time: time_unit.time(order.word(head, 0), order.word(head, 4)),
+    }
 }

@@ -1,19 +1,30 @@
 //! Classic captures, written.
-ghost use Rattle.std.specs.Prelude.{◌≡◌, ◌≤◌, length};
+ghost use Rattle.std.specs.Prelude.{◌≡◌, ◌≤◌, ◌++◌, length};
 ghost use Rattle.runs.specs.Writes.{Delivers};
 ghost use Rattle.captures.specs.Endings.{ending_of};
-ghost use Rattle.captures.specs.Spelling.{file_header, record_head, record_of};
+ghost use Rattle.captures.specs.Spelling.{file_header, record_head};
+ghost use Rattle.captures.specs.declared.time.time_unit.TimeUnit.TheVariants.{Microseconds};
 
-use crate::{FRAME_LIMIT, RunError};
+use crate::{FRAME_LIMIT, RunError, TimeUnit};
 use runs::{Device, write_whole};
 
-/// The file header: low byte first, with times in microseconds: version 2.4, a snap length of
-/// 262,144, Ethernet.
-pub(crate) const FILE_HEADER: [u8; 24] = [
-    0xd4, 0xc3, 0xb2, 0xa1, 2, 0, 4, 0, 0, 0, 0, 0, 0, 0, 0, 0, 0, 0, 4, 0, 1, 0, 0, 0,
-];
+/// The file header: low byte first, with times in this unit: version 2.4, a snap length of 262,144,
+/// Ethernet.
+pub(crate) fn file_header(time_unit: TimeUnit) -> [u8; 24]
+    ensures { result ≡ file_header time_unit }
+{
+    match time_unit {
+        TimeUnit::Microseconds => [
+            0xd4, 0xc3, 0xb2, 0xa1, 2, 0, 4, 0, 0, 0, 0, 0, 0, 0, 0, 0, 0, 0, 4, 0, 1, 0, 0, 0,
+        ],
+        TimeUnit::Nanoseconds => [
+            0x4d, 0x3c, 0xb2, 0xa1, 2, 0, 4, 0, 0, 0, 0, 0, 0, 0, 0, 0, 0, 0, 4, 0, 1, 0, 0, 0,
+        ],
+    }
+}
 
-/// Writes a classic capture of Ethernet frames: its header once, and then each packet.
+/// Writes a classic capture of Ethernet frames, with times in microseconds: its header once, and
+/// then each packet.
 #[derive(Drop)]
 pub struct Writer<D> {
     /// What is written to.
@@ -23,10 +34,10 @@ pub struct Writer<D> {
 impl<D: Device> Writer<D> {
     /// Writes the file header. Nothing else may come before it.
     pub fn write_header(&mut self) -> Result<(), RunError>
-        ensures { Delivers D.transition self.old.device file_header
+        ensures { Delivers D.transition self.old.device (file_header Microseconds)
             (ending_of result) self.new.device }
     {
-        write_whole(&mut self.device, &FILE_HEADER)?;
+        write_whole(&mut self.device, &file_header(TimeUnit::Microseconds))?;
         Ok(())
     }
 
@@ -40,7 +51,7 @@ impl<D: Device> Writer<D> {
     ) -> Result<(), RunError>
         requires { length frame.now ≤ FRAME_LIMIT }
         ensures { Delivers D.transition self.old.device
-            (record_of (record { seconds = seconds; microseconds = microseconds; frame = frame.now }))
+            (record_head seconds microseconds (length frame.now) ++ frame.now)
             (ending_of result) self.new.device }
     {
         let head = record_head(seconds, microseconds, frame.len() as u32);
@@ -51,11 +62,11 @@ impl<D: Device> Writer<D> {
 }
 
 /// The head of a packet record, for a frame of so many bytes that was captured whole.
-pub(crate) fn record_head(seconds: u32, microseconds: u32, len: u32) -> [u8; 16]
-    ensures { result ≡ record_head seconds microseconds len }
+pub(crate) fn record_head(seconds: u32, parts: u32, len: u32) -> [u8; 16]
+    ensures { result ≡ record_head seconds parts len }
 {
     let [a, b, c, d] = seconds.to_le_bytes();
-    let [e, f, g, h] = microseconds.to_le_bytes();
+    let [e, f, g, h] = parts.to_le_bytes();
     let [i, j, k, l] = len.to_le_bytes();
     [a, b, c, d, e, f, g, h, i, j, k, l, i, j, k, l]
 }

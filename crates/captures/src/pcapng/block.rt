@@ -1,19 +1,22 @@
 //! What a whole block of a pcapng file says.
-ghost use Rattle.std.specs.Prelude.{◌≡◌, ◌≤◌, ◌+◌, ◌*◌, ◌==◌, if◌then◌else◌, ◌↔◌, IsTrue, ℕ, List};
+ghost use Rattle.std.specs.Prelude.{◌≡◌, ◌≤◌, ◌+◌, ◌*◌, ◌==◌, if◌then◌else◌, ◌↔◌, IsTrue, ℕ, List, []};
 ghost use Rattle.std.specs.Prelude.{length, IfOk, IfErr, IfSome, MatchOption};
 ghost use Rattle.captures.specs.Numbers.{word};
 ghost use Rattle.captures.specs.Pcapng.{section_header, interface_description, simple_packet};
 ghost use Rattle.captures.specs.Pcapng.{captured_len, IsOther, IsSkipped, HoldsPacket, Content};
 ghost use Rattle.captures.specs.Pcapng.{Says, IsTimedPacket, IsSimplePacket, Reads, RefusesBlock};
 ghost use Rattle.captures.specs.Pcapng.Content.{Holds};
-ghost use Rattle.captures.specs.Pcapng.{link_at, links_with, later_links};
+ghost use Rattle.captures.specs.Pcapng.{clock_at, clocks_with, link_at, links_with, later_links};
+ghost use Rattle.captures.specs.declared.origin.Origin.{Origin};
 ghost use Rattle.captures.specs.declared.link.kind.Link.{Link};
 
 use crate::CaptureError;
 use crate::byte_order::ByteOrder;
 use crate::link::frame::{Frame, tell};
 use crate::link::kind::Link;
-use crate::pcapng::section::{ETHERNET, LINKED_INTERFACES, Section};
+use crate::origin::Origin;
+use crate::pcapng::section::{CLOCK_COUNT, ETHERNET, LINKED_INTERFACES, Section};
+use crate::time::clock::Clock;
 
 pub(crate) const SECTION_HEADER: u32 = 0x0a0d_0d0a;
 
@@ -47,24 +50,26 @@ fn is_other(order: ByteOrder, front: &[u8]) -> bool
         && kind != SIMPLE_PACKET
 }
 
-/// What is known after a block, and the frame in it: no bytes where there is none.
+/// The frame in a block, no bytes where there is none, and where and when it was captured.
 #[derive(Drop)]
 pub(crate) struct Reading<'a> {
-    pub after: Section,
-    pub channel: u32,
+    pub origin: Origin,
     pub frame: Frame<'a>,
 }
 
-/// Reads a block.
-pub(crate) fn read_block(
-    section: Section,
+/// Reads a block, and what is known of the section after it.
+#[inline(always)]
+pub(crate) fn read_block<'a>(
+    section: &mut Section,
     order: ByteOrder,
-    block: &[u8],
-) -> Result<Reading<'_>, CaptureError>
+    block: &'a [u8],
+) -> Result<Reading<'a>, CaptureError>
     requires { 12 ≤ length block.now }
-    ensures reads { IfOk result (λ r. Reads section order block.now r.after r.channel r.frame) }
-    ensures room { IfOk result (λ r. 18 + 2 * length r.frame ≤ 4 * length block.now) }
-    ensures refused { IfErr result (λ e. RefusesBlock section order block.now e) }
+    ensures reads { IfOk result
+        (λ r. Reads section.old order block.now section.new r.origin r.frame) }
+    ensures room { IfOk result (λ r. 46 + 2 * length r.frame ≤ 5 * length block.now) }
+    ensures refused { IfErr result
+        (λ e. RefusesBlock section.old order block.now e × (section.new ≡ section.old)) }
 {
     match order.word(block, 0) {
         SECTION_HEADER => begin_section(section, order, block),
@@ -72,24 +77,35 @@ pub(crate) fn read_block(
         ENHANCED_PACKET => read_packet(section, order, block),
         OBSOLETE_PACKET => read_packet(section, order, block),
         SIMPLE_PACKET => read_packet(section, order, block),
-        _ => Ok(Reading {
-            after: section,
-            channel: 0,
-            frame: Frame::of(&[]),
-        }),
+        _ => Ok(nothing()),
     }
 }
 
-fn begin_section(
-    section: Section,
+// No packet.
+fn nothing<'a>() -> Reading<'a>
+    ensures { result.frame ≡ [] }
+{
+    Reading {
+        origin: Origin {
+            channel: 0,
+            time: 0,
+        },
+        frame: Frame::of(&[]),
+    }
+}
+
+fn begin_section<'a>(
+    section: &mut Section,
     order: ByteOrder,
-    block: &[u8],
-) -> Result<Reading<'_>, CaptureError>
+    block: &'a [u8],
+) -> Result<Reading<'a>, CaptureError>
     requires size { 12 ≤ length block.now }
     requires kind { word order block.now 0 ≡ section_header }
-    ensures reads { IfOk result (λ r. Reads section order block.now r.after r.channel r.frame) }
-    ensures room { IfOk result (λ r. 18 + 2 * length r.frame ≤ 4 * length block.now) }
-    ensures refused { IfErr result (λ e. RefusesBlock section order block.now e) }
+    ensures reads { IfOk result
+        (λ r. Reads section.old order block.now section.new r.origin r.frame) }
+    ensures room { IfOk result (λ r. 46 + 2 * length r.frame ≤ 5 * length block.now) }
+    ensures refused { IfErr result
+        (λ e. RefusesBlock section.old order block.now e × (section.new ≡ section.old)) }
 {
     if block.len() < 28 || order.half(block, 12) != 1 {
         return Err(CaptureError::BadBlock);
@@ -97,31 +113,25 @@ fn begin_section(
     let Some(first) = section.first.checked_add(section.interfaces) else {
         return Err(CaptureError::BadBlock);
     };
-    let links = section.links;
-    Ok(Reading {
-        after: Section {
-            order,
-            first,
-            interfaces: 0,
-            snap_len: 0,
-            links,
-            passing: section.passing,
-        },
-        channel: 0,
-        frame: Frame::of(&[]),
-    })
+    section.order = order;
+    section.first = first;
+    section.interfaces = 0;
+    section.snap_len = 0;
+    Ok(nothing())
 }
 
-fn describe_interface(
-    section: Section,
+fn describe_interface<'a>(
+    section: &mut Section,
     order: ByteOrder,
-    block: &[u8],
-) -> Result<Reading<'_>, CaptureError>
+    block: &'a [u8],
+) -> Result<Reading<'a>, CaptureError>
     requires size { 12 ≤ length block.now }
     requires kind { word order block.now 0 ≡ interface_description }
-    ensures reads { IfOk result (λ r. Reads section order block.now r.after r.channel r.frame) }
-    ensures room { IfOk result (λ r. 18 + 2 * length r.frame ≤ 4 * length block.now) }
-    ensures refused { IfErr result (λ e. RefusesBlock section order block.now e) }
+    ensures reads { IfOk result
+        (λ r. Reads section.old order block.now section.new r.origin r.frame) }
+    ensures room { IfOk result (λ r. 46 + 2 * length r.frame ≤ 5 * length block.now) }
+    ensures refused { IfErr result
+        (λ e. RefusesBlock section.old order block.now e × (section.new ≡ section.old)) }
 {
     if block.len() < 20 {
         return Err(CaptureError::BadBlock);
@@ -133,24 +143,18 @@ fn describe_interface(
     let Some(links) = links_with(section, link_type) else {
         return Err(CaptureError::LinkType(link_type));
     };
+    let clock = Clock::of(order, &block[16..block.len() - 4]);
     let snap_len = first_snap_len(section, order.word(block, 12));
-    Ok(Reading {
-        after: Section {
-            order: section.order,
-            first: section.first,
-            interfaces,
-            snap_len,
-            links,
-            passing: section.passing,
-        },
-        channel: 0,
-        frame: Frame::of(&[]),
-    })
+    section.clocks = clocks_with(section, clock);
+    section.interfaces = interfaces;
+    section.snap_len = snap_len;
+    section.links = links;
+    Ok(nothing())
 }
 
 // The links of the first interfaces, after one more of this link type was described.
-fn links_with(section: Section, link_type: u16) -> Option<[Link; LINKED_INTERFACES]>
-    ensures { result ≡ links_with section link_type }
+fn links_with(section: &Section, link_type: u16) -> Option<[Link; LINKED_INTERFACES]>
+    ensures { result ≡ links_with section.now link_type }
 {
     let interface = section.interfaces as usize;
     if interface >= LINKED_INTERFACES {
@@ -162,8 +166,8 @@ fn links_with(section: Section, link_type: u16) -> Option<[Link; LINKED_INTERFAC
     Some(links)
 }
 
-fn later_links(section: Section, link_type: u16) -> Option<[Link; LINKED_INTERFACES]>
-    ensures { result ≡ later_links section link_type }
+fn later_links(section: &Section, link_type: u16) -> Option<[Link; LINKED_INTERFACES]>
+    ensures { result ≡ later_links section.now link_type }
 {
     if link_type == ETHERNET {
         Some(section.links)
@@ -172,9 +176,25 @@ fn later_links(section: Section, link_type: u16) -> Option<[Link; LINKED_INTERFA
     }
 }
 
+// The clocks, after one more interface was described.
+fn clocks_with(section: &Section, clock: Clock) -> [Clock; CLOCK_COUNT]
+    ensures { result ≡ clocks_with section.now clock }
+{
+    let mut clocks = section.clocks;
+    clocks[(section.interfaces as usize).min(LINKED_INTERFACES)] = clock;
+    clocks
+}
+
+// The clock of an interface that is described.
+fn clock_at(section: &Section, interface: u32) -> Clock
+    ensures { result ≡ clock_at section.now interface }
+{
+    section.clocks[(interface as usize).min(LINKED_INTERFACES)]
+}
+
 // The link of an interface that is described.
-fn link_at(section: Section, interface: u32) -> Link
-    ensures { result ≡ link_at section interface }
+fn link_at(section: &Section, interface: u32) -> Link
+    ensures { result ≡ link_at section.now interface }
 {
     if (interface as usize) < LINKED_INTERFACES {
         section.links[interface as usize]
@@ -184,8 +204,8 @@ fn link_at(section: Section, interface: u32) -> Link
 }
 
 // The snap length of the first interface, after one more was described.
-fn first_snap_len(section: Section, described: u32) -> u32
-    ensures { result ≡ (if section.interfaces == 0 then described else section.snap_len) }
+fn first_snap_len(section: &Section, described: u32) -> u32
+    ensures { result ≡ (if section.now.interfaces == 0 then described else section.now.snap_len) }
 {
     if section.interfaces == 0 {
         described
@@ -194,25 +214,28 @@ fn first_snap_len(section: Section, described: u32) -> u32
     }
 }
 
-// A packet's bytes, how many they are, and the number and link of its interface.
+// A packet's bytes, how many they are, where and when it was captured, and on which link.
 #[derive(Drop)]
 struct Held<'a> {
-    channel: u32,
+    origin: Origin,
     link: Link,
     captured: u32,
     packet: &'a [u8],
 }
 
-fn read_packet(
-    section: Section,
+#[inline(always)]
+fn read_packet<'a>(
+    section: &mut Section,
     order: ByteOrder,
-    block: &[u8],
-) -> Result<Reading<'_>, CaptureError>
+    block: &'a [u8],
+) -> Result<Reading<'a>, CaptureError>
     requires size { 12 ≤ length block.now }
     requires kind { HoldsPacket order block.now }
-    ensures reads { IfOk result (λ r. Reads section order block.now r.after r.channel r.frame) }
-    ensures room { IfOk result (λ r. 18 + 2 * length r.frame ≤ 4 * length block.now) }
-    ensures refused { IfErr result (λ e. RefusesBlock section order block.now e) }
+    ensures reads { IfOk result
+        (λ r. Reads section.old order block.now section.new r.origin r.frame) }
+    ensures room { IfOk result (λ r. 46 + 2 * length r.frame ≤ 5 * length block.now) }
+    ensures refused { IfErr result
+        (λ e. RefusesBlock section.old order block.now e × (section.new ≡ section.old)) }
 {
     let Some(held) = held_packet(section, order, block) else {
         return Err(CaptureError::BadBlock);
@@ -220,24 +243,22 @@ fn read_packet(
     if held.captured as usize > held.link.taken_limit(section.passing.unfit) {
         return Err(CaptureError::FrameTooLong(held.captured));
     }
-    let Some(telling) = tell(section.passing, held.link, held.packet) else {
+    let Some(frame) = tell(&mut section.passing, held.link, held.packet) else {
         return Err(CaptureError::NoFrame);
     };
-    let mut after = section;
-    after.passing = telling.passing;
     Ok(Reading {
-        after,
-        channel: held.channel,
-        frame: telling.frame,
+        origin: held.origin,
+        frame,
     })
 }
 
-fn held_packet(section: Section, order: ByteOrder, block: &[u8]) -> Option<Held<'_>>
+#[inline(always)]
+fn held_packet<'a>(section: &Section, order: ByteOrder, block: &'a [u8]) -> Option<Held<'a>>
     requires size { 12 ≤ length block.now }
     requires kind { HoldsPacket order block.now }
     ensures found { MatchOption result
-        ((content : Content) → Says section order block.now content → ⊥)
-        (λ h. Says section order block.now (Holds h.channel h.link h.packet.now)) }
+        ((content : Content) → Says section.now order block.now content → ⊥)
+        (λ h. Says section.now order block.now (Holds h.origin h.link h.packet.now)) }
     ensures captured { IfSome result (λ h. h.captured ≡ length h.packet.now) }
     ensures size { IfSome result (λ h. length h.packet.now + 16 ≤ length block.now) }
 {
@@ -248,16 +269,17 @@ fn held_packet(section: Section, order: ByteOrder, block: &[u8]) -> Option<Held<
     }
 }
 
-fn timed_packet(
-    section: Section,
+#[inline(always)]
+fn timed_packet<'a>(
+    section: &Section,
     order: ByteOrder,
-    block: &[u8],
+    block: &'a [u8],
     interface: u32,
-) -> Option<Held<'_>>
+) -> Option<Held<'a>>
     ensures found { MatchOption result
-        ((channel : ℕ) (link : Link) (packet : List ℕ)
-        → IsTimedPacket interface section order block.now channel link packet → ⊥)
-        (λ h. IsTimedPacket interface section order block.now h.channel h.link h.packet.now) }
+        ((origin : Origin) (link : Link) (packet : List ℕ)
+        → IsTimedPacket interface section.now order block.now origin link packet → ⊥)
+        (λ h. IsTimedPacket interface section.now order block.now h.origin h.link h.packet.now) }
     ensures captured { IfSome result (λ h. h.captured ≡ length h.packet.now) }
     ensures size { IfSome result (λ h. length h.packet.now + 16 ≤ length block.now) }
 {
@@ -269,21 +291,22 @@ fn timed_packet(
     if captured as usize > block.len() - 32 {
         return None;
     }
+    let time = clock_at(section, interface).time(order.word(block, 12), order.word(block, 16));
     Some(Held {
-        channel,
+        origin: Origin { channel, time },
         link: link_at(section, interface),
         captured,
         packet: &block[28..28 + captured as usize],
     })
 }
 
-fn simple_packet(section: Section, order: ByteOrder, block: &[u8]) -> Option<Held<'_>>
+fn simple_packet<'a>(section: &Section, order: ByteOrder, block: &'a [u8]) -> Option<Held<'a>>
     requires size { 12 ≤ length block.now }
     requires kind { word order block.now 0 ≡ simple_packet }
     ensures found { MatchOption result
-        ((channel : ℕ) (link : Link) (packet : List ℕ)
-        → IsSimplePacket section order block.now channel link packet → ⊥)
-        (λ h. IsSimplePacket section order block.now h.channel h.link h.packet.now) }
+        ((origin : Origin) (link : Link) (packet : List ℕ)
+        → IsSimplePacket section.now order block.now origin link packet → ⊥)
+        (λ h. IsSimplePacket section.now order block.now h.origin h.link h.packet.now) }
     ensures captured { IfSome result (λ h. h.captured ≡ length h.packet.now) }
     ensures size { IfSome result (λ h. length h.packet.now + 16 ≤ length block.now) }
 {
@@ -295,7 +318,10 @@ fn simple_packet(section: Section, order: ByteOrder, block: &[u8]) -> Option<Hel
         return None;
     }
     Some(Held {
-        channel: section.first,
+        origin: Origin {
+            channel: section.first,
+            time: 0,
+        },
         link: link_at(section, 0),
         captured,
         packet: &block[12..12 + captured as usize],

@@ -12,19 +12,27 @@ use crate::limits::BLOCK_LIMIT;
 use crate::pcap::unit::Unit;
 use crate::pcapng::block::{BYTE_ORDER_MAGIC, SECTION_HEADER, is_skipped, read_block};
 use crate::pcapng::section::Section;
-use crate::translation::state::State;
 
 /// The bytes of the shortest block.
 pub(crate) const BLOCK_MIN_LEN: usize = 12;
 
-/// The block at the front of the bytes. There is none where more bytes are wanted.
-pub(crate) fn section_unit(section: Section, bytes: &[u8]) -> Result<Option<Unit<'_>>, CaptureError>
-    ensures found { IfOk result (λ found. MatchOption found (IsBegun (Pcapng section) bytes.now)
-        (λ u. HasUnit (Pcapng section) bytes.now u.after u.channel u.frame u.rest.now)) }
+/// The block at the front of the bytes, and what is known of the section after it. There is none
+/// where more bytes are wanted.
+#[inline(always)]
+pub(crate) fn section_unit<'a>(
+    section: &mut Section,
+    bytes: &'a [u8],
+) -> Result<Option<Unit<'a>>, CaptureError>
+    ensures found { IfOk result
+        (λ found. MatchOption found
+        (IsBegun (Pcapng section.old) bytes.now × (section.new ≡ section.old))
+        (λ u. HasUnit (Pcapng section.old) bytes.now (Pcapng section.new) u.origin u.frame
+        u.rest.now)) }
     ensures room { IfOk result
-        (λ found. IfSome found (λ u. 18 + 2 * length u.frame + 4 * length u.rest.now
-        ≤ 4 * length bytes.now)) }
-    ensures refused { IfErr result (λ e. RefusesAt section bytes.now e) }
+        (λ found. IfSome found (λ u. 46 + 2 * length u.frame + 5 * length u.rest.now
+        ≤ 5 * length bytes.now)) }
+    ensures refused { IfErr result
+        (λ e. RefusesAt section.old bytes.now e × (section.new ≡ section.old)) }
 {
     if bytes.len() < BLOCK_MIN_LEN {
         return Ok(None);
@@ -48,8 +56,7 @@ pub(crate) fn section_unit(section: Section, bytes: &[u8]) -> Result<Option<Unit
     }
     match read_block(section, order, block) {
         Ok(reading) => Ok(Some(Unit {
-            after: State::Pcapng(reading.after),
-            channel: reading.channel,
+            origin: reading.origin,
             frame: reading.frame,
             rest,
         })),

@@ -1,10 +1,11 @@
 //! A line that hands a frame in.
-ghost use Rattle.std.specs.Prelude.{◌≡◌, ◌+◌, ◌≤◌, length, position, Some, None, IfSome};
+ghost use Rattle.std.specs.Prelude.{◌≡◌, ◌+◌, ◌<◌, ◌≤◌, length, position, Some, None, IfSome};
 ghost use Rattle.std.specs.Prelude.{MatchOption};
 ghost use Rattle.std.specs.Char.{is_ascii_digit};
 ghost use Rattle.std.specs.List.{list_all};
 ghost use Rattle.hex.specs.Hex.{decode_of};
-ghost use Rattle.captures.specs.FrameLines.{is_space, number_of, time_of, frame_at, frame_behind};
+ghost use Rattle.captures.specs.FrameLines.{is_space, number_below, number_of, parts_of, time_of};
+ghost use Rattle.captures.specs.FrameLines.{frame_at, frame_behind};
 ghost use Rattle.captures.specs.FrameLines.{frame_in, frame_of};
 
 const FRAME: &[u8; 6] = b"frame ";
@@ -13,7 +14,8 @@ const FRAME: &[u8; 6] = b"frame ";
 #[derive(Clone, Copy, Debug, PartialEq, Eq)]
 pub(crate) struct Time {
     pub seconds: u32,
-    pub microseconds: u32,
+    /// The parts of a second, less than one.
+    pub nanoseconds: u32,
 }
 
 /// The digits of a frame, which may not be hex, and its time.
@@ -23,8 +25,8 @@ pub(crate) struct FrameLine<'l> {
     pub digits: &'l [u8],
 }
 
-/// The parts of a line of the form `frame CHANNEL DIGITS` or `frame CHANNEL DIGITS SECONDS
-/// MICROSECONDS`.
+/// The parts of a line of the form `frame CHANNEL DIGITS`, behind which the time may stand, `SECONDS
+/// MICROSECONDS` or `SECONDS MICROSECONDS NANOSECONDS`.
 pub(crate) fn frame_line(line: &[u8]) -> Option<FrameLine<'_>>
     ensures frame { MatchOption result (frame_of line.now ≡ None)
         (λ f. frame_of line.now ≡ frame_at (Some f.time) (decode_of f.digits.now)) }
@@ -55,7 +57,7 @@ fn timed_digits(text: &[u8]) -> Option<FrameLine<'_>>
         return Some(FrameLine {
             time: Time {
                 seconds: 0,
-                microseconds: 0,
+                nanoseconds: 0,
             },
             digits: text,
         });
@@ -72,15 +74,32 @@ fn read_time(text: &[u8]) -> Option<Time>
 {
     let space = space_in(text)?;
     let seconds = number(&text[..space])?;
-    let microseconds = number(&text[space + 1..])?;
-    if microseconds < 1_000_000 {
-        Some(Time {
-            seconds,
-            microseconds,
-        })
-    } else {
-        None
-    }
+    let nanoseconds = read_parts(&text[space + 1..])?;
+    Some(Time {
+        seconds,
+        nanoseconds,
+    })
+}
+
+fn read_parts(text: &[u8]) -> Option<u32>
+    ensures value { result ≡ parts_of text.now }
+    ensures fits { IfSome result (λ n. n < 1_000_000_000) }
+{
+    let Some(space) = space_in(text) else {
+        let microseconds = number_below(1_000_000, text)?;
+        return Some(1000 * microseconds);
+    };
+    let microseconds = number_below(1_000_000, &text[..space])?;
+    let nanoseconds = number_below(1000, &text[space + 1..])?;
+    Some(1000 * microseconds + nanoseconds)
+}
+
+fn number_below(limit: u32, digits: &[u8]) -> Option<u32>
+    ensures value { result ≡ number_below limit digits.now }
+    ensures fits { IfSome result (λ n. n < limit) }
+{
+    let value = number(digits)?;
+    if value < limit { Some(value) } else { None }
 }
 
 fn space_in(text: &[u8]) -> Option<usize>

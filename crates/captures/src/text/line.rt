@@ -1,24 +1,91 @@
 //! The line of a packet.
-ghost use Rattle.std.specs.Prelude.{◌≡◌, ◌+◌, ◌*◌, ◌≤◌, ◌++◌, length, take, decimal};
+ghost use Rattle.std.specs.Prelude.{◌≡◌, ◌+◌, ◌*◌, ◌<◌, ◌≤◌, ◌++◌, codes, length, take, decimal};
 ghost use Rattle.hex.specs.Hex.{encode_lower};
-ghost use Rattle.captures.specs.Lines.{line_of};
+ghost use Rattle.captures.specs.Lines.{forget_line, line_of, nanoseconds_text, time_text};
+ghost use Rattle.captures.specs.Lines.{timed_line_of};
 
 use crate::link::frame::Frame;
+use crate::origin::Origin;
 use itoa::Buffer;
 
 /// Puts the line that hands a frame in behind the first `used` bytes, and tells how many are used
 /// then.
-pub(crate) fn append_line(out: &mut [u8], used: usize, channel: u32, frame: &Frame<'_>) -> usize
+pub(crate) fn append_line(out: &mut [u8], used: usize, origin: Origin, frame: &Frame<'_>) -> usize
     requires { used + 18 + 2 * length frame.now ≤ length out.old }
     ensures end { result ≤ used + 18 + 2 * length frame.now }
     ensures text { take result out.new ≡ take used out.old
-        ++ line_of (record { channel = channel; frame = frame.now }) }
+        ++ line_of (record { origin = origin; frame = frame.now }) }
+{
+    let digits = append_frame(out, used, origin.channel, frame);
+    append(out, digits, b"\n")
+}
+
+/// The same with the packet's time.
+pub(crate) fn append_timed_line(
+    out: &mut [u8],
+    used: usize,
+    origin: Origin,
+    frame: &Frame<'_>,
+) -> usize
+    requires { used + 42 + 2 * length frame.now ≤ length out.old }
+    ensures end { result ≤ used + 42 + 2 * length frame.now }
+    ensures text { take result out.new ≡ take used out.old
+        ++ timed_line_of (record { origin = origin; frame = frame.now }) }
+{
+    let digits = append_frame(out, used, origin.channel, frame);
+    let time = append_time(out, digits, origin.time);
+    append(out, time, b"\n")
+}
+
+/// The same of the line that has messages dropped.
+pub(crate) fn append_forget_line(out: &mut [u8], used: usize, number: u64) -> usize
+    requires { used + 28 ≤ length out.old }
+    ensures end { result ≤ used + 28 }
+    ensures text { take result out.new ≡ take used out.old ++ forget_line number }
+{
+    let command = append(out, used, b"forget ");
+    let digits = append(out, command, Buffer::new().format(number).as_bytes());
+    append(out, digits, b"\n")
+}
+
+// A line up to the digits of its frame.
+fn append_frame(out: &mut [u8], used: usize, channel: u32, frame: &Frame<'_>) -> usize
+    requires { used + 17 + 2 * length frame.now ≤ length out.old }
+    ensures end { result ≤ used + 17 + 2 * length frame.now }
+    ensures text { take result out.new ≡ take used out.old
+        ++ (codes "frame " ++ decimal channel ++ codes " " ++ encode_lower frame.now) }
 {
     let command = append(out, used, b"frame ");
     let number = append(out, command, Buffer::new().format(channel).as_bytes());
     let space = append(out, number, b" ");
-    let digits = frame.append_hex(out, space);
-    append(out, digits, b"\n")
+    frame.append_hex(out, space)
+}
+
+fn append_time(out: &mut [u8], used: usize, time: u64) -> usize
+    requires { used + 24 ≤ length out.old }
+    ensures end { result ≤ used + 24 }
+    ensures text { take result out.new ≡ take used out.old ++ time_text time }
+{
+    let space = append(out, used, b" ");
+    let seconds = time / 1_000_000_000;
+    let second = append(out, space, Buffer::new().format(seconds).as_bytes());
+    let between = append(out, second, b" ");
+    let microseconds = (time / 1000 % 1_000_000) as u32;
+    let parts = append(out, between, Buffer::new().format(microseconds).as_bytes());
+    append_nanoseconds(out, parts, (time % 1000) as u32)
+}
+
+fn append_nanoseconds(out: &mut [u8], used: usize, nanoseconds: u32) -> usize
+    requires few { nanoseconds < 1000 }
+    requires room { used + 4 ≤ length out.old }
+    ensures end { result ≤ used + 4 }
+    ensures text { take result out.new ≡ take used out.old ++ nanoseconds_text nanoseconds }
+{
+    if nanoseconds == 0 {
+        return used;
+    }
+    let space = append(out, used, b" ");
+    append(out, space, Buffer::new().format(nanoseconds).as_bytes())
 }
 
 /// Puts a text behind the first `used` bytes, and tells how many are used then.

@@ -9,6 +9,7 @@ use crate::limits::{FRAME_LIMIT, LINE_LIMIT};
 use crate::pcap::writer::record_head;
 use crate::text::frame_line::frame_line;
 use crate::text::line::append;
+use crate::time::time_unit::TimeUnit;
 
 /// What is known after the lines at the front of some bytes.
 #[derive(Drop)]
@@ -25,11 +26,15 @@ pub(crate) struct TakenLines<'a> {
 
 /// Takes all whole lines of some bytes up to a bad one, and puts the records of their frames into
 /// the front of `out`.
-pub(crate) fn take_lines<'a>(bytes: &'a [u8], out: &mut [u8]) -> TakenLines<'a>
+pub(crate) fn take_lines<'a>(
+    time_unit: TimeUnit,
+    bytes: &'a [u8],
+    out: &mut [u8],
+) -> TakenLines<'a>
     requires { 2 * length bytes.now ≤ length out.old }
     ensures fits { result.used ≤ length out.new }
     ensures count { result.count ≤ length bytes.now }
-    ensures takes { TakesLines bytes.now result.count result.rest.now
+    ensures takes { TakesLines time_unit bytes.now result.count result.rest.now
         (take result.used out.new) result.is_bad }
 {
     let mut count = 0;
@@ -37,7 +42,7 @@ pub(crate) fn take_lines<'a>(bytes: &'a [u8], out: &mut [u8]) -> TakenLines<'a>
     let mut used = 0;
     'lines: while let Some(end) = newline_in(rest) {
         let (line, later) = rest.split_at(end);
-        let Some(used_then) = append_record(out, used, line) else {
+        let Some(used_then) = append_record(time_unit, out, used, line) else {
             return TakenLines {
                 count,
                 rest,
@@ -65,11 +70,16 @@ fn newline_in(bytes: &[u8]) -> Option<usize>
 
 /// Puts the record of a line's frame behind the first `used` bytes, and tells how many are used
 /// then: none where the line hands no frame in.
-fn append_record(out: &mut [u8], used: usize, line: &[u8]) -> Option<usize>
+fn append_record(
+    time_unit: TimeUnit,
+    out: &mut [u8],
+    used: usize,
+    line: &[u8],
+) -> Option<usize>
     requires { used + 2 * length line.now ≤ length out.old }
     ensures record { MatchOption result (frame_of line.now ≡ None)
         (λ end. (timed : TimedFrame) × (frame_of line.now ≡ Some timed)
-        × (take end out.new ≡ take used out.old ++ record_of timed)) }
+        × (take end out.new ≡ take used out.old ++ record_of time_unit timed)) }
     ensures end { IfSome result (λ end. end ≤ used + 2 * length line.now) }
     ensures same { result ≡ None → take used out.new ≡ take used out.old }
 {
@@ -78,7 +88,8 @@ fn append_record(out: &mut [u8], used: usize, line: &[u8]) -> Option<usize>
     if len == 0 || len > FRAME_LIMIT {
         return None;
     }
-    let head = record_head(line.time.seconds, line.time.microseconds, len as u32);
+    let parts = line.time.nanoseconds / time_unit.nanoseconds();
+    let head = record_head(line.time.seconds, parts, len as u32);
     let start = append(out, used, &head);
     let end = start + len;
     if digits::decode(line.digits, &mut out[start..end]) {

@@ -6,6 +6,7 @@ ghost use Rattle.captures.specs.Dropped.{IsDropped, Leaves, dropped_len};
 use crate::CaptureError;
 use crate::limits::INPUT_ROOM;
 use crate::pcapng::long_block::{LongBlock, long_block};
+use crate::text::ledger::Ledger;
 use crate::translation::state::State;
 use crate::translation::units::take_units;
 
@@ -27,6 +28,8 @@ pub(crate) struct Progress<'a> {
     pub count: usize,
     /// How many bytes the lines of the packets have.
     pub used: usize,
+    /// How far the lines have come.
+    pub ledger: Ledger,
     /// Why no unit can follow.
     pub refusal: Option<CaptureError>,
 }
@@ -35,16 +38,18 @@ pub(crate) struct Progress<'a> {
 /// puts the lines of their packets into the front of `out`.
 pub(crate) fn take_piece<'a>(
     state: State,
+    ledger: Ledger,
     begun: Option<LongBlock>,
     bytes: &'a [u8],
     out: &mut [u8],
 ) -> Progress<'a>
     requires size { length bytes.now ≤ INPUT_ROOM }
-    requires out { 4 * length bytes.now ≤ length out.old }
+    requires out { 5 * length bytes.now ≤ length out.old }
     ensures fits { result.used ≤ length out.new }
     ensures takes { (dropped : List ℕ) → IsDropped state begun dropped
-        → Leaves state (dropped ++ bytes.now) result.after result.begun result.rest.now
-        result.count (take result.used out.new) result.refusal }
+        → Leaves ledger state (dropped ++ bytes.now) result.after result.begun result.rest.now
+        result.count (take result.used out.new) result.refusal result.ledger }
+    ensures extra { result.ledger.extra ≡ ledger.extra }
     ensures passed { (dropped : List ℕ) → IsDropped state begun dropped
         → result.passed + dropped_len result.begun + length result.rest.now
         ≡ length dropped + length bytes.now }
@@ -52,24 +57,30 @@ pub(crate) fn take_piece<'a>(
     ensures room { result.refusal ≡ None → length result.rest.now < INPUT_ROOM }
 {
     match begun {
-        Some(block) => take_behind(state, block, bytes, out),
-        None => take_whole(state, bytes, out),
+        Some(block) => take_behind(state, ledger, block, bytes, out),
+        None => take_whole(state, ledger, bytes, out),
     }
 }
 
 // Takes units alone. Where a long block follows them, all that was read of it is dropped.
-fn take_whole<'a>(state: State, bytes: &'a [u8], out: &mut [u8]) -> Progress<'a>
+fn take_whole<'a>(
+    state: State,
+    ledger: Ledger,
+    bytes: &'a [u8],
+    out: &mut [u8],
+) -> Progress<'a>
     requires size { length bytes.now ≤ INPUT_ROOM }
-    requires out { 4 * length bytes.now ≤ length out.old }
+    requires out { 5 * length bytes.now ≤ length out.old }
     ensures fits { result.used ≤ length out.new }
-    ensures takes { Leaves state bytes.now result.after result.begun result.rest.now
-        result.count (take result.used out.new) result.refusal }
+    ensures takes { Leaves ledger state bytes.now result.after result.begun result.rest.now
+        result.count (take result.used out.new) result.refusal result.ledger }
+    ensures extra { result.ledger.extra ≡ ledger.extra }
     ensures passed { result.passed + dropped_len result.begun + length result.rest.now
         ≡ length bytes.now }
     ensures parts { (front : List ℕ) × (bytes.now ≡ front ++ result.rest.now) }
     ensures room { result.refusal ≡ None → length result.rest.now < INPUT_ROOM }
 {
-    let taken = take_units(state, bytes, out);
+    let taken = take_units(state, ledger, bytes, out);
     let passed = (bytes.len() - taken.rest.len()) as u64;
     if taken.refusal.is_some() {
         return Progress {
@@ -79,6 +90,7 @@ fn take_whole<'a>(state: State, bytes: &'a [u8], out: &mut [u8]) -> Progress<'a>
             passed,
             count: taken.count,
             used: taken.used,
+            ledger: taken.ledger,
             refusal: taken.refusal,
         };
     }
@@ -90,6 +102,7 @@ fn take_whole<'a>(state: State, bytes: &'a [u8], out: &mut [u8]) -> Progress<'a>
             passed,
             count: taken.count,
             used: taken.used,
+            ledger: taken.ledger,
             refusal: None,
         },
         None => Progress {
@@ -99,19 +112,27 @@ fn take_whole<'a>(state: State, bytes: &'a [u8], out: &mut [u8]) -> Progress<'a>
             passed,
             count: taken.count,
             used: taken.used,
+            ledger: taken.ledger,
             refusal: None,
         },
     }
 }
 
 // Takes the units behind a long block, once its second length is there.
-fn take_behind<'a>(state: State, block: LongBlock, bytes: &'a [u8], out: &mut [u8]) -> Progress<'a>
+fn take_behind<'a>(
+    state: State,
+    ledger: Ledger,
+    block: LongBlock,
+    bytes: &'a [u8],
+    out: &mut [u8],
+) -> Progress<'a>
     requires size { length bytes.now ≤ INPUT_ROOM }
-    requires out { 4 * length bytes.now ≤ length out.old }
+    requires out { 5 * length bytes.now ≤ length out.old }
     ensures fits { result.used ≤ length out.new }
     ensures takes { (dropped : List ℕ) → IsDropped state (Some block) dropped
-        → Leaves state (dropped ++ bytes.now) result.after result.begun result.rest.now
-        result.count (take result.used out.new) result.refusal }
+        → Leaves ledger state (dropped ++ bytes.now) result.after result.begun result.rest.now
+        result.count (take result.used out.new) result.refusal result.ledger }
+    ensures extra { result.ledger.extra ≡ ledger.extra }
     ensures passed { (dropped : List ℕ) → IsDropped state (Some block) dropped
         → result.passed + dropped_len result.begun + length result.rest.now
         ≡ length dropped + length bytes.now }
@@ -134,6 +155,7 @@ fn take_behind<'a>(state: State, block: LongBlock, bytes: &'a [u8], out: &mut [u
             passed: 0,
             count: 0,
             used: 0,
+            ledger,
             refusal: None,
         };
     }
@@ -145,11 +167,12 @@ fn take_behind<'a>(state: State, block: LongBlock, bytes: &'a [u8], out: &mut [u
             passed: 0,
             count: 0,
             used: 0,
+            ledger,
             refusal: Some(CaptureError::BadBlock),
         };
     }
     let (_, behind) = rest.split_at(SECOND_LEN);
-    let taken = take_whole(state, behind, out);
+    let taken = take_whole(state, ledger, behind, out);
     Progress {
         after: taken.after,
         begun: taken.begun,
@@ -157,6 +180,7 @@ fn take_behind<'a>(state: State, block: LongBlock, bytes: &'a [u8], out: &mut [u
         passed: u64::from(block.len) + taken.passed,
         count: taken.count,
         used: taken.used,
+        ledger: taken.ledger,
         refusal: taken.refusal,
     }
 }

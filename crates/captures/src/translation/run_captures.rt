@@ -3,9 +3,10 @@ ghost use Rattle.std.specs.Prelude.{◌≡◌, ◌≤◌, ◌+◌, ◌-◌, ◌*
 ghost use Rattle.std.specs.Prelude.{OnOk, IfSome, IsErrOf, None};
 ghost use Rattle.std.specs.Io.KnownBytes.{Appends, IsAtEnd};
 ghost use Rattle.runs.specs.Known.{KnownCall, Transfers, known_of};
+ghost use Rattle.captures.specs.declared.extra.Extra.{Extra};
 ghost use Rattle.captures.specs.Dropped.{IsDropped};
 ghost use Rattle.captures.specs.Endings.{ending_of};
-ghost use Rattle.captures.specs.Lines.{Packet, lines_of};
+ghost use Rattle.captures.specs.Lines.{Packet, blank, lines_of};
 ghost use Rattle.captures.specs.Numbers.{capped};
 ghost use Rattle.captures.specs.Places.{block_type};
 ghost use Rattle.captures.specs.Runs.{Runs, IsCapture, capture_to_lines, result_at_end};
@@ -22,20 +23,22 @@ use crate::translation::refusal::Refusal;
 use crate::translation::skipped::Skipped;
 use crate::translation::state::State;
 use crate::translation::translator::{Finished, Translated, Translator, run_translator};
-use crate::{CaptureError, READ_COUNT_LIMIT, RunError, Unfit};
+use crate::text::ledger::Ledger;
+use crate::{CaptureError, Extra, READ_COUNT_LIMIT, RunError, Unfit};
 use runs::{Device, ReaderWriter};
 use std::alloc::Global;
 use std::io::{Read, Write};
 
 /// Writes the line of each packet of a capture, up to the end of the reader.
 ///
-/// The line of a packet is written before the next read. A packet of which no byte was captured has
-/// no line. A packet that can't be told ends the run or is passed over, as `unfit` says, and
+/// What lines tell beside frames, `extra` says. The lines of a packet are written before the next
+/// read. A packet of which no byte was captured has no line. A packet that can't be told ends the run or is passed over, as `unfit` says, and
 /// `skipped` becomes how many are passed over. A read that gives nothing tells the end, and nothing
 /// is read after it. Any fault that a read or a write answers ends the run, an interrupted call
 /// too.
 pub fn run<R: Read, W: Write>(
     alloc: Global,
+    extra: Extra,
     unfit: Unfit,
     reader: &mut R,
     writer: &mut W,
@@ -45,16 +48,16 @@ pub fn run<R: Read, W: Write>(
     ensures ok { OnOk result
         (IfSome (R.remaining reader.old) (λ bytes. (packets : List Packet)
         × IsCapture unfit bytes packets skipped.new
-        × Appends (W.contents writer.old) (W.contents writer.new) (lines_of packets))) }
+        × Appends (W.contents writer.old) (W.contents writer.new) (lines_of extra packets))) }
     ensures end { OnOk result (IsAtEnd (R.remaining reader.new)) }
 
     // However reads and writes cut the bytes, what is written is the output for the bytes read.
-    ensures bytes { Transfers (capture_to_lines unfit skipped.new)
+    ensures bytes { Transfers (capture_to_lines extra unfit skipped.new)
         (R.remaining reader.old) (R.remaining reader.new)
         (W.contents writer.old) (W.contents writer.new) (ending_of result) }
 
     // The calls, one by one, as far as they show in the known bytes.
-    ensures calls { Runs unfit skipped.new KnownCall READ_COUNT_LIMIT
+    ensures calls { Runs extra unfit skipped.new KnownCall READ_COUNT_LIMIT
         (known_of (R.remaining reader.old) (W.contents writer.old))
         (known_of (R.remaining reader.new) (W.contents writer.new)) result }
 
@@ -67,7 +70,7 @@ pub fn run<R: Read, W: Write>(
         → (reader.new ≡ reader.old) × (writer.new ≡ writer.old) }
 {
     let mut device = ReaderWriter { reader, writer };
-    let result = run_over(alloc, unfit, &mut device, READ_COUNT_LIMIT, skipped);
+    let result = run_over(alloc, extra, unfit, &mut device, READ_COUNT_LIMIT, skipped);
     // No effect at run time. The proof reads here what both hold at the end.
     let _ = &*device.reader;
     let _ = &*device.writer;
@@ -78,29 +81,32 @@ pub fn run<R: Read, W: Write>(
 /// these calls end it.
 pub fn run_over<D: Device>(
     alloc: Global,
+    extra: Extra,
     unfit: Unfit,
     device: &mut D,
     reads: u64,
     skipped: &mut Skipped,
 ) -> Result<(), RunError>
-    ensures { Runs unfit skipped.new D.transition reads device.old device.new result }
+    ensures { Runs extra unfit skipped.new D.transition reads device.old device.new result }
 {
     match unfit {
-        Unfit::Refuse => run_by::<false, D>(alloc, device, reads, skipped),
-        Unfit::Skip => run_by::<true, D>(alloc, device, reads, skipped),
+        Unfit::Refuse => run_by::<false, D>(alloc, extra, device, reads, skipped),
+        Unfit::Skip => run_by::<true, D>(alloc, extra, device, reads, skipped),
     }
 }
 
 fn run_by<const SKIPS: bool, D: Device>(
     alloc: Global,
+    extra: Extra,
     device: &mut D,
     reads: u64,
     skipped: &mut Skipped,
 ) -> Result<(), RunError>
-    ensures { Runs (unfit_by SKIPS) skipped.new D.transition reads device.old device.new result }
+    ensures { Runs extra (unfit_by SKIPS) skipped.new D.transition reads device.old device.new result }
 {
     let mut teller: PacketTeller<SKIPS> = PacketTeller {
         state: State::Start(Unfit::by(SKIPS)),
+        ledger: Ledger::blank(extra),
         begun: None,
         count: 0,
         passed: 0,
@@ -114,6 +120,8 @@ fn run_by<const SKIPS: bool, D: Device>(
 #[derive(Drop)]
 struct PacketTeller<const SKIPS: bool> {
     state: State,
+    // How far its lines have come.
+    ledger: Ledger,
     // A long block that is begun, of which nothing is held.
     begun: Option<LongBlock>,
     // How many packets were told.
@@ -139,20 +147,27 @@ impl<const SKIPS: bool> PacketTeller<SKIPS> {
 }
 
 impl<const SKIPS: bool> Translator for PacketTeller<SKIPS> {
-    ghost task = { λ teller. capture_to_lines (unfit_by SKIPS) (skipped_in teller.state) };
+    ghost task = { λ teller. capture_to_lines teller.ledger.extra (unfit_by SKIPS)
+        (skipped_in teller.state) };
+
+    ghost Kept = { Extra };
+
+    ghost kept = { λ teller. teller.ledger.extra };
 
     ghost most = { INPUT_ROOM * 2 ^ 64 };
 
     ghost shows = { λ teller held read written. (dropped : List ℕ)
         × IsDropped teller.state teller.begun dropped
         × (count : ℕ)
-        × Takes (Start (unfit_by SKIPS)) read teller.state (dropped ++ held) count written None
+        × Takes (blank teller.ledger.extra) (Start (unfit_by SKIPS)) read teller.state
+        (dropped ++ held) count written None teller.ledger
         × (teller.count ≡ capped count)
         × (teller.passed ≡ capped (length read - length (dropped ++ held))) };
 
     fn translate<'a>(&mut self, bytes: &'a [u8], out: &mut [u8]) -> Translated<'a> {
-        let progress = take_piece(self.state, self.begun, bytes, out);
+        let progress = take_piece(self.state, self.ledger, self.begun, bytes, out);
         self.state = progress.after;
+        self.ledger = progress.ledger;
         self.begun = progress.begun;
         self.count = self.count.saturating_add(progress.count as u64);
         self.passed = self.passed.saturating_add(progress.passed);

@@ -5,23 +5,25 @@ ghost use Rattle.runs.specs.Known.{KnownCall, Transfers, known_of};
 ghost use Rattle.captures.specs.Endings.{ending_of};
 ghost use Rattle.captures.specs.Spelling.{TimedFrame, capture_of};
 ghost use Rattle.captures.specs.Texts.{Hands, IsBegunLine, IsText, WritesCapture, lines_to_capture};
+ghost use Rattle.captures.specs.declared.time.time_unit.TimeUnit.{TimeUnit};
 ghost use Rattle.captures.specs.declared.limits.TheConstants.{INPUT_ROOM, READ_COUNT_LIMIT};
 
-use crate::pcap::writer::FILE_HEADER;
+use crate::pcap::writer::file_header;
 use crate::text::line_records::take_lines;
 use crate::translation::refusal::Refusal;
 use crate::translation::translator::{Finished, Translated, Translator, run_translator};
-use crate::{READ_COUNT_LIMIT, RunError};
+use crate::{READ_COUNT_LIMIT, RunError, TimeUnit};
 use runs::{Device, ReaderWriter};
 use std::alloc::Global;
 use std::io::{Read, Write};
 
 /// Writes a classic capture of the frames that the lines of the reader hand in, up to its end:
-/// times in microseconds, Ethernet.
+/// Ethernet, with times in this unit.
 ///
 /// A line is `frame CHANNEL HEX`, as [`run`](crate::run) writes it, or `frame CHANNEL HEX SECONDS
-/// MICROSECONDS` with the time since the year 1970 began; without a time it is 0. The hex digits
-/// may be of either case. The channel is a number and isn't written: a classic capture has one
+/// MICROSECONDS` with the time since the year 1970 began, or `frame CHANNEL HEX SECONDS MICROSECONDS
+/// NANOSECONDS`; without a time it is 0. A capture in microseconds has whole ones. The hex digits may
+/// be of either case. The channel is a number and isn't written: a classic capture has one
 /// interface. A line that isn't of this form, or whose frame has no byte or more than
 /// [`FRAME_LIMIT`](crate::FRAME_LIMIT), ends the run, after the packets before it are written.
 ///
@@ -30,21 +32,22 @@ use std::io::{Read, Write};
 /// a read or a write answers ends the run, an interrupted call too.
 pub fn write_capture<R: Read, W: Write>(
     alloc: Global,
+    time_unit: TimeUnit,
     reader: &mut R,
     writer: &mut W,
 ) -> Result<(), RunError>
     // All frames are written, and no byte is left to read.
     ensures ok { OnOk result
         (IfSome (R.remaining reader.old) (λ bytes. (frames : List TimedFrame) × IsText bytes frames
-        × Appends (W.contents writer.old) (W.contents writer.new) (capture_of frames))) }
+        × Appends (W.contents writer.old) (W.contents writer.new) (capture_of time_unit frames))) }
     ensures end { OnOk result (IsAtEnd (R.remaining reader.new)) }
 
     // However reads and writes cut the bytes, what is written is that for the bytes read.
-    ensures bytes { Transfers lines_to_capture (R.remaining reader.old) (R.remaining reader.new)
+    ensures bytes { Transfers (lines_to_capture time_unit) (R.remaining reader.old) (R.remaining reader.new)
         (W.contents writer.old) (W.contents writer.new) (ending_of result) }
 
     // The calls, one by one, as far as they show in the known bytes.
-    ensures calls { WritesCapture KnownCall READ_COUNT_LIMIT
+    ensures calls { WritesCapture time_unit KnownCall READ_COUNT_LIMIT
         (known_of (R.remaining reader.old) (W.contents writer.old))
         (known_of (R.remaining reader.new) (W.contents writer.new)) result }
 
@@ -57,7 +60,7 @@ pub fn write_capture<R: Read, W: Write>(
         → (reader.new ≡ reader.old) × (writer.new ≡ writer.old) }
 {
     let mut device = ReaderWriter { reader, writer };
-    let result = write_capture_over(alloc, &mut device, READ_COUNT_LIMIT);
+    let result = write_capture_over(alloc, time_unit, &mut device, READ_COUNT_LIMIT);
     // No effect at run time. The proof reads here what both hold at the end.
     let _ = &*device.reader;
     let _ = &*device.writer;
@@ -68,34 +71,43 @@ pub fn write_capture<R: Read, W: Write>(
 /// its order, and how these calls end it.
 pub fn write_capture_over<D: Device>(
     alloc: Global,
+    time_unit: TimeUnit,
     device: &mut D,
     reads: u64,
 ) -> Result<(), RunError>
     requires { reads ≤ READ_COUNT_LIMIT }
-    ensures { WritesCapture D.transition reads device.old device.new result }
+    ensures { WritesCapture time_unit D.transition reads device.old device.new result }
 {
-    let mut writer = FrameWriter { count: 0 };
-    run_translator(alloc, &mut writer, &FILE_HEADER, device, reads)
+    let mut writer = FrameWriter {
+        time_unit,
+        count: 0,
+    };
+    run_translator(alloc, &mut writer, &file_header(time_unit), device, reads)
 }
 
 // Writes the frames that lines hand in.
 #[derive(Drop)]
 struct FrameWriter {
+    time_unit: TimeUnit,
     // How many lines handed one in.
     count: u64,
 }
 
 impl Translator for FrameWriter {
-    ghost task = { λ writer. lines_to_capture };
+    ghost task = { λ writer. lines_to_capture writer.time_unit };
+
+    ghost Kept = { TimeUnit };
+
+    ghost kept = { λ writer. writer.time_unit };
 
     ghost most = { INPUT_ROOM * READ_COUNT_LIMIT };
 
     ghost shows = { λ writer held read written. (frames : List TimedFrame)
         × Hands read writer.count frames held
-        × IsBegunLine held × (written ≡ capture_of frames) };
+        × IsBegunLine held × (written ≡ capture_of writer.time_unit frames) };
 
     fn translate<'a>(&mut self, bytes: &'a [u8], out: &mut [u8]) -> Translated<'a> {
-        let taken = take_lines(bytes, out);
+        let taken = take_lines(self.time_unit, bytes, out);
         self.count = self.count.saturating_add(taken.count as u64);
         if taken.is_bad {
             return Translated {
@@ -120,7 +132,7 @@ impl Translator for FrameWriter {
             };
         }
         input[left] = b'\n';
-        let taken = take_lines(&input[..left + 1], out);
+        let taken = take_lines(self.time_unit, &input[..left + 1], out);
         self.count = self.count.saturating_add(taken.count as u64);
         if taken.is_bad {
             return Finished {

@@ -5,6 +5,7 @@ ghost use Rattle.captures.specs.Units.{skipped_in};
 use crate::byte_order::ByteOrder;
 use crate::link::kind::Link;
 use crate::pcapng::section::Section;
+use crate::time::time_unit::TimeUnit;
 use crate::translation::skipped::{Passing, Skipped};
 use crate::unfit::Unfit;
 
@@ -13,8 +14,9 @@ use crate::unfit::Unfit;
 pub(crate) enum State {
     /// Nothing yet.
     Start(Unfit),
-    /// A classic capture of packets of such a link, with its numbers in this order.
-    Classic(ByteOrder, Link, Passing),
+    /// A classic capture of packets of such a link, with its numbers in this order, and times in
+    /// this unit.
+    Classic(ByteOrder, TimeUnit, Link, Passing),
     /// A pcapng file, within this section.
     Pcapng(Section),
 }
@@ -26,7 +28,7 @@ impl State {
     {
         match self {
             State::Start(_) => Skipped::NONE,
-            State::Classic(_, _, passing) => passing.skipped,
+            State::Classic(_, _, _, passing) => passing.skipped,
             State::Pcapng(section) => section.passing.skipped,
         }
     }

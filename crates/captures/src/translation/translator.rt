@@ -37,6 +37,11 @@ pub(crate) trait Translator {
     // What a run is to write, where it ends with such a translator.
     ghost task: { Self → Task Refusal };
 
+    // What stays as it was: the same is due as long as it does.
+    ghost Kept: { Type 0 };
+
+    ghost kept: { Self → Kept };
+
     // How many bytes a run may read.
     ghost most: { ℕ };
 
@@ -51,6 +56,7 @@ pub(crate) trait Translator {
         ensures fits { result.used ≤ length out.new }
         ensures parts { (front : List ℕ) × (bytes.now ≡ front ++ result.rest.now) }
         ensures room { result.refusal ≡ None → length result.rest.now < INPUT_ROOM }
+        ensures kept { kept self.new ≡ kept self.old }
         ensures translates { (held piece read written : List ℕ) → shows self.old held read written
             → bytes.now ≡ held ++ piece → length (read ++ piece) ≤ most
             → Translates (task self.new) (shows self.new) result.rest.now (read ++ piece)
@@ -62,6 +68,7 @@ pub(crate) trait Translator {
         requires size { length input.old ≡ INPUT_ROOM }
         requires out { length out.old ≡ OUTPUT_ROOM }
         ensures fits { result.used ≤ length out.new }
+        ensures kept { kept self.new ≡ kept self.old }
         ensures finishes { (read written : List ℕ)
             → shows self.old (take left input.old) read written → length read ≤ most
             → Finishes (task self.new) read (written ++ take result.used out.new) result.result };
@@ -76,9 +83,10 @@ pub(crate) fn run_translator<T: Translator, D: Device>(
     reads: u64,
 ) -> Result<(), RunError>
     requires begins { Begins (T.task translator.old) (T.shows translator.old) header.now }
-    requires due { (t t' : T) → IsDueBy (T.task t) (T.task t') }
+    requires due { (t t' : T) → T.kept t' ≡ T.kept t → IsDueBy (T.task t) (T.task t') }
     requires most { INPUT_ROOM * reads ≤ T.most }
-    ensures { Goes (T.task translator.new) D.transition reads device.old device.new
+    ensures kept { T.kept translator.new ≡ T.kept translator.old }
+    ensures goes { Goes (T.task translator.new) D.transition reads device.old device.new
         (ending_of result) }
 {
     let Ok((mut input, mut output)) = buffers(alloc) else {
@@ -113,11 +121,12 @@ fn translate_reads<T: Translator, D: Device>(
     reads: u64,
 ) -> Result<(), RunError>
     requires begins { Begins (T.task translator.old) (T.shows translator.old) header.now }
-    requires due { (t t' : T) → IsDueBy (T.task t) (T.task t') }
+    requires due { (t t' : T) → T.kept t' ≡ T.kept t → IsDueBy (T.task t) (T.task t') }
     requires most { INPUT_ROOM * reads ≤ T.most }
     requires input { length input.old ≡ INPUT_ROOM }
     requires output { length output.old ≡ OUTPUT_ROOM }
-    ensures { Goes (T.task translator.new) D.transition reads device.old device.new
+    ensures kept { T.kept translator.new ≡ T.kept translator.old }
+    ensures goes { Goes (T.task translator.new) D.transition reads device.old device.new
         (ending_of result) }
 {
     write_whole(device, header)?;

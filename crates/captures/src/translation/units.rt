@@ -4,7 +4,7 @@ ghost use Rattle.captures.specs.Units.{Takes};
 
 use crate::CaptureError;
 use crate::pcap::unit::front_unit;
-use crate::text::line::append_line;
+use crate::text::ledger::Ledger;
 use crate::translation::state::State;
 
 /// What is known after all whole units of some bytes.
@@ -18,31 +18,39 @@ pub(crate) struct Taken<'a> {
     pub count: usize,
     /// How many bytes the lines of their packets have.
     pub used: usize,
+    /// How far the lines have come.
+    pub ledger: Ledger,
     /// Why no unit can follow.
     pub refusal: Option<CaptureError>,
 }
 
 /// Takes all whole units of some bytes, and puts the lines of their packets into the front of
 /// `out`.
-pub(crate) fn take_units<'a>(state: State, bytes: &'a [u8], out: &mut [u8]) -> Taken<'a>
-    requires { 4 * length bytes.now ≤ length out.old }
+pub(crate) fn take_units<'a>(
+    state: State,
+    ledger: Ledger,
+    bytes: &'a [u8],
+    out: &mut [u8],
+) -> Taken<'a>
+    requires { 5 * length bytes.now ≤ length out.old }
     ensures fits { result.used ≤ length out.new }
     ensures parts { length result.rest.now ≤ length bytes.now }
-    ensures takes { Takes state bytes.now result.after result.rest.now result.count
-        (take result.used out.new) result.refusal }
+    ensures takes { Takes ledger state bytes.now result.after result.rest.now result.count
+        (take result.used out.new) result.refusal result.ledger }
+    ensures extra { result.ledger.extra ≡ ledger.extra }
 {
     let mut after = state;
     let mut rest = bytes;
     let mut count = 0;
     let mut used = 0;
+    let mut noted = ledger;
     'units: loop {
-        match front_unit(after, rest) {
+        match front_unit(&mut after, rest) {
             Ok(Some(unit)) => {
                 if !unit.frame.is_empty() {
-                    used = append_line(out, used, unit.channel, &unit.frame);
+                    used = noted.tell(out, used, unit.origin, &unit.frame);
                     count += 1;
                 }
-                after = unit.after;
                 rest = unit.rest;
             }
             Ok(None) => {
@@ -51,6 +59,7 @@ pub(crate) fn take_units<'a>(state: State, bytes: &'a [u8], out: &mut [u8]) -> T
                     rest,
                     count,
                     used,
+                    ledger: noted,
                     refusal: None,
                 };
             }
@@ -60,6 +69,7 @@ pub(crate) fn take_units<'a>(state: State, bytes: &'a [u8], out: &mut [u8]) -> T
                     rest,
                     count,
                     used,
+                    ledger: noted,
                     refusal: Some(error),
                 };
             }

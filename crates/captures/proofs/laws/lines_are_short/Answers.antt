@@ -7,11 +7,11 @@ use Rattle.captures.proofs.laws.lines_are_short.Goals as goal
 pub returns : goal.returns
 returns c packet channel frame =
     let digits = length-encode_with lower_digits packet.frame in
-    let number = length-decimal-le 10 packet.channel (omega arith) (omega arith) (omega arith) in
-    let a = length-append (codes "frame ") (decimal packet.channel) in
-    let b = length-append (codes "frame " ++ decimal packet.channel) (codes " ") in
-    let c' = length-append ((codes "frame " ++ decimal packet.channel) ++ codes " ")
+    let number = length-decimal-le 10 packet.origin.channel (omega arith) (omega arith) (omega arith) in
+    let a = length-append (codes "frame ") (decimal packet.origin.channel) in
+    let b = length-append (codes "frame " ++ decimal packet.origin.channel) (codes " ") in
+    let c' = length-append ((codes "frame " ++ decimal packet.origin.channel) ++ codes " ")
     (encode_lower packet.frame) in
-    let d = length-append (((codes "frame " ++ decimal packet.channel) ++ codes " ")
+    let d = length-append (((codes "frame " ++ decimal packet.origin.channel) ++ codes " ")
     ++ encode_lower packet.frame) (10 ∷ []) in
     omega arith

@@ -1,10 +1,10 @@
-use Rattle.std.proofs.Common.{◌≡◌, sym, subst, arith, List, ℕ}
+use Rattle.std.proofs.Common.{◌≡◌, refl, sym, subst, arith, List, ℕ}
 use Rattle.captures.specs.Pcap.{IsFileHeader}
 use Rattle.captures.proofs.UnitLemmas.{front_is}
 use Rattle.captures.proofs.pcap.unit.file_header.Goals as goal
 
 pub returns-in_default-clause-refused : goal.returns-in_default-clause-refused
-returns-in_default-clause-refused c = (
+returns-in_default-clause-refused c = ((
   omega arith,
   (
     λ order header rest parts is_header.
@@ -15,4 +15,4 @@ returns-in_default-clause-refused c = (
         (subst (λ (h : List ℕ). IsFileHeader order h) (sym same) is_header),
     λ long begins. c.requires.other begins,
   ),
-)
+), refl)

@@ -1,5 +1,6 @@
 use Rattle.std.proofs.Common.{◌∙◌, ◌++◌, sym, ap, refl, arith, append_assoc, List, ℕ}
 use Rattle.captures.specs.declared.translation.state.State.TheVariants.{Classic}
+use Rattle.captures.proofs.BlockLemmas.{origin_front}
 use Rattle.captures.proofs.pcap.unit.packet_record.Goals as goal
 
 pub returns-clause-found : goal.returns-clause-found
@@ -23,9 +24,11 @@ returns-clause-found c =
           };
           fits = omega arith;
           is_told = c.in-Some.ensures.told.0;
-          next = ap (Classic c.args.order c.args.link) c.in-Some.ensures.told.1;
+          next = ap (Classic c.args.order c.args.time_unit c.args.link)
+              c.in-Some.ensures.told.1;
         },
-        refl,
+        c.record_origin.ensures ∙ origin_front c.args.order c.args.time_unit head packet
+            (omega (arith, c.split_at.ensures.front_len)),
       );
     }
 
@@ -33,7 +36,7 @@ pub returns-in_default-clause-refused : goal.returns-in_default-clause-refused
 returns-in_default-clause-refused c =
     let head = c.split_at.result.0.now in
     let packet = c.split_at-2.result.0.now in
-    record {
+    (record {
       unit = head ++ packet;
       packet = packet;
       rest = c.split_at-2.result.1.now;
@@ -48,5 +51,5 @@ returns-in_default-clause-refused c =
         captured = omega arith;
       };
       fits = omega arith;
-      none = c.in_default.ensures.told;
-    }
+      none = c.in_default.ensures.told.0;
+    }, c.in_default.ensures.told.1)

@@ -7,5 +7,5 @@ returns-clause-reads c =
     record {
       content = Opens c.in-Some.first;
       says = (c.requires.kind, search rules, search rules, search rules, search rules);
-      becomes = (refl, c.of.ensures);
+      becomes = (refl, c.nothing.ensures);
     }

@@ -1,28 +1,29 @@
-use Rattle.std.proofs.Common.{rules, arith, sym, ap₂, ◌≡◌, ◌∙◌, ◌+◌, ℕ}
+use Rattle.std.proofs.Common.{rules, arith, sym, ◌≡◌, ◌∙◌, ◌+◌}
 use Rattle.captures.specs.Pcapng.Content.{Describes}
 use Rattle.captures.specs.declared.pcapng.section.Section.{Section}
+use Rattle.captures.proofs.BlockLemmas.{described}
 use Rattle.captures.proofs.pcapng.block.describe_interface.Goals as goal
 
 pub returns-clause-reads : goal.returns-clause-reads
 returns-clause-reads c =
-    let section = c.args.section in
+    let section = c.args.section.now in
     let links = c.in-Some-links_with.links in
     let interfaces : c.in-Some.interfaces ≡ section.interfaces + 1 = search rules in
     record {
-      content = Describes c.half-link_type.result c.word.result;
-      says = (c.requires.kind, omega arith, search rules, search rules, search rules);
+      content = Describes c.half-link_type.result c.word.result c.of-clock.result;
+      says = (
+        c.requires.kind,
+        omega arith,
+        search rules,
+        search rules,
+        search rules,
+        search rules,
+      );
       becomes = (
         links,
         sym c.links_with.ensures ∙ c.in-Some-links_with.is,
-        ap₂ (λ (n snap : ℕ). let s : Section =
-            record {
-              order = section.order;
-              first = section.first;
-              interfaces = n;
-              snap_len = snap;
-              links = links;
-              passing = section.passing;
-            } in s) interfaces c.first_snap_len-snap_len.ensures,
-        c.of.ensures,
+        described section _ _ _ _ links interfaces c.first_snap_len-snap_len.ensures
+            c.clocks_with-section.ensures,
+        c.nothing.ensures,
       );
     }

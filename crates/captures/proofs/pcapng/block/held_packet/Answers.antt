@@ -6,41 +6,41 @@ use Rattle.captures.proofs.pcapng.block.held_packet.Goals as goal
 
 pub returns-in-6-clause-found : goal.returns-in-6-clause-found
 returns-in-6-clause-found c =
-    let section = c.args.section in
+    let section = c.args.section.now in
     let order = c.args.order in
     let block = c.args.block.now in
     let kind = sym c.word.ensures ∙ c.in-6.is in
     let number : c.word-in-6.result ≡ word order block 8 = c.word-in-6.ensures in
     match_as c.timed_packet.result _ _ _ _
     (λ none. no_enhanced section order block kind
-    (λ channel link packet timed. none channel link packet
-    (subst (λ (n : ℕ). IsTimedPacket n section order block channel link packet) (sym number) timed)))
+    (λ origin link packet timed. none origin link packet
+    (subst (λ (n : ℕ). IsTimedPacket n section order block origin link packet) (sym number) timed)))
     (λ h timed. inl (
       kind,
-      subst (λ (n : ℕ). IsTimedPacket n section order block h.channel h.link h.packet.now) number timed,
+      subst (λ (n : ℕ). IsTimedPacket n section order block h.origin h.link h.packet.now) number timed,
     ))
     c.timed_packet.ensures.found
 
 pub returns-in-2-clause-found : goal.returns-in-2-clause-found
 returns-in-2-clause-found c =
-    let section = c.args.section in
+    let section = c.args.section.now in
     let order = c.args.order in
     let block = c.args.block.now in
     let kind = sym c.word.ensures ∙ c.in-2.is in
     let number : c.from.result ≡ half order block 8 = c.from.ensures ∙ c.half.ensures in
     match_as c.timed_packet-in-2.result _ _ _ _
     (λ none. no_obsolete section order block kind
-    (λ channel link packet timed. none channel link packet
-    (subst (λ (n : ℕ). IsTimedPacket n section order block channel link packet) (sym number) timed)))
+    (λ origin link packet timed. none origin link packet
+    (subst (λ (n : ℕ). IsTimedPacket n section order block origin link packet) (sym number) timed)))
     (λ h timed. inr (inl (
       kind,
-      subst (λ (n : ℕ). IsTimedPacket n section order block h.channel h.link h.packet.now) number timed,
+      subst (λ (n : ℕ). IsTimedPacket n section order block h.origin h.link h.packet.now) number timed,
     )))
     c.timed_packet-in-2.ensures.found
 
 pub returns-in_default-clause-found : goal.returns-in_default-clause-found
 returns-in_default-clause-found c =
-    let section = c.args.section in
+    let section = c.args.section.now in
     let order = c.args.order in
     let block = c.args.block.now in
     let kind : word order block 0 ≡ simple_packet =

@@ -24,11 +24,11 @@ returns-in-Ok-clause-found c =
       parts = parts;
       is_unit = record {
         order = order;
-        has_order = order_of c.args.section.order order bytes block rest parts
+        has_order = order_of c.args.section.now.order order bytes block rest parts
             size c.in-Some.ensures;
         block = is_block;
         fits = taken_of order bytes block rest (word order bytes 4) parts (omega arith) whole taken;
-        next = c.in-Ok.reading.after;
+        next = c.read_block.new.section;
         reads = c.in-Ok.ensures.reads;
         becomes = refl;
       };
@@ -49,7 +49,7 @@ returns-in-Err-clause-refused c =
     rw c.word-len.ensures at c.is_taken.ensures.0 c.if-not-is_taken.false in
     let is_block : IsBlock order block =
     record { size = size; words = omega arith; front = front; back = omega arith } in
-    refused_at c.args.section order bytes block rest c.in-Err.error parts
+    (refused_at c.args.section.now order bytes block rest c.in-Err.error parts
     (taken_of order bytes block rest (word order bytes 4) parts (omega arith) whole taken)
-    (order_of c.args.section.order order bytes block rest parts size c.in-Some.ensures) is_block
-    (omega arith) c.in-Err.ensures.refused
+    (order_of c.args.section.now.order order bytes block rest parts size c.in-Some.ensures) is_block
+    (omega arith) c.in-Err.ensures.refused.0, c.in-Err.ensures.refused.1)

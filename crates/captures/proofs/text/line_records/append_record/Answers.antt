@@ -1,5 +1,6 @@
-use Rattle.std.proofs.Common.{rules, arith, ◌∙◌, ap, Some, length, ◌/◌, inl, inr}
+use Rattle.std.proofs.Common.{rules, arith, ◌∙◌, ap, Some, length, ℕ, ◌/◌, inl, inr}
 use Rattle.captures.specs.FrameLines.{frame_at}
+use Rattle.captures.specs.Spelling.{record_head}
 use Rattle.captures.proofs.RecordLemmas.{no_frame_at, decoded, frame_is, record_put}
 use Rattle.captures.proofs.text.line_records.append_record.Goals as goal
 use Rattle.captures.proofs.text.line_records.append_record.Goals.{then-len-eq0-via-then-len-eq0}
@@ -24,12 +25,14 @@ returns-then-decode-clause-record c =
     let time = line.time in (
       record {
         seconds = time.seconds;
-        microseconds = time.microseconds;
+        nanoseconds = time.nanoseconds;
         frame = c.decode.new.bytes;
       },
       c.in_ok-line.ensures.frame ∙ ap (frame_at (Some time)) found.0
           ∙ frame_is time c.decode.new.bytes (omega arith) (omega arith),
-      record_put c.args.out.now c.append-start.new.out c.decode.new.bytes c.record_head-head.result
+      record_put c.args.time_unit c.args.out.now c.append-start.new.out c.decode.new.bytes c.record_head-head.result
           c.args.used c.append-start.result n _ time (search rules) found.1 (omega arith)
-          c.append-start.ensures.text c.record_head-head.ensures,
+          c.append-start.ensures.text
+          (c.record_head-head.ensures ∙ ap (λ (k : ℕ). record_head time.seconds k n)
+          (search rules)),
     )

@@ -42,7 +42,7 @@ lines-preserved c =
     let sizes = ap length found.1 in
     let left = length-drop (end + 1) rest in
     rw after (record {
-      taking = taking_line c.args.bytes.now rest (take end rest)
+      taking = taking_line c.args.time_unit c.args.bytes.now rest (take end rest)
           (drop (end + 1) rest) _ _ c.lines.count record'.0 taking found.1 found.0 is record'.2;
       room = omega arith;
       few = omega arith;

@@ -4,7 +4,7 @@ use Rattle.captures.proofs.text.line_records.take_lines.Given as goal
 
 abbrev pub invariant-lines : goal.invariant-lines
 invariant-lines l = record {
-  taking : Taking l.bytes l.count l.rest (take l.used l.out);
+  taking : Taking l.fn.time_unit l.bytes l.count l.rest (take l.used l.out);
   room : l.used + 2 * length l.rest ≤ length l.out;
   few : l.count + length l.rest ≤ length l.bytes;
 }

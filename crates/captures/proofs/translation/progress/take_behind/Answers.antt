@@ -6,14 +6,14 @@ use Rattle.captures.proofs.translation.progress.take_behind.Goals as goal
 pub returns-then-rest-lt-SECOND_LEN-clause-takes :
     goal.returns-then-rest-lt-SECOND_LEN-clause-takes
 returns-then-rest-lt-SECOND_LEN-clause-takes c dropped d =
-    held_behind c.args.state c.args.block c.min-dropped.result dropped c.args.bytes.now
+    held_behind c.args.ledger c.args.state c.args.block c.min-dropped.result dropped c.args.bytes.now
     c.split_at.result.0.now c.split_at.result.1.now d c.split_at.ensures.by_index.0
     c.split_at.ensures.front_len
     (search rules) c.if-rest-lt-SECOND_LEN.true
 
 pub returns-then-word-block-clause-takes : goal.returns-then-word-block-clause-takes
 returns-then-word-block-clause-takes c dropped d =
-    refused_behind c.args.state c.args.block c.min-dropped.result dropped c.args.bytes.now
+    refused_behind c.args.ledger c.args.state c.args.block c.min-dropped.result dropped c.args.bytes.now
     c.split_at.result.0.now c.split_at.result.1.now d c.split_at.ensures.by_index.0
     c.split_at.ensures.front_len
     (search rules) c.if-rest-lt-SECOND_LEN.false (λ e. c.if-word-block.true (c.word.ensures ∙ e))
@@ -24,7 +24,7 @@ returns-clause-takes c dropped d =
     let rest = c.split_at-2.ensures.by_index.0 in
     let same = ap (λ (l : List ℕ). word c.args.block.order l 0) (sym rest) ∙ sym c.word.ensures
     ∙ c.if-word-block.false in
-    passed_behind c.args.state c.args.block c.min-dropped.result dropped c.args.bytes.now front
+    passed_behind c.args.ledger _ c.args.state c.args.block c.min-dropped.result dropped c.args.bytes.now front
     c.split_at-2.result.0.now c.split_at-2.result.1.now d
     (c.split_at.ensures.by_index.0 ∙ ap (λ (l : List ℕ). front ++ l) rest)
     c.split_at.ensures.front_len (search rules) c.split_at-2.ensures.front_len same _ _ _ _ _ _

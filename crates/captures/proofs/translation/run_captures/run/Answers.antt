@@ -10,19 +10,19 @@ use Rattle.captures.proofs.translation.run_captures.run.Goals as goal
 pub returns-clause-ok : goal.returns-clause-ok
 returns-clause-ok g c =
     let result = c.run_over-result.result in
-    let task = capture_to_lines c.args.unfit c.run_over-result.new.skipped in
+    let task = capture_to_lines c.args.extra c.args.unfit c.run_over-result.new.skipped in
     let seen = Goes-reader_writer task g.R.Read.remaining g.W.Write.contents
     READ_COUNT_LIMIT _ _ _ c.run_over-result.ensures in
     let reader = seen.0 in
     let writer = seen.1 in
-    let known = runs_ok c.args.unfit c.run_over-result.new.skipped READ_COUNT_LIMIT _ _ result
+    let known = runs_ok c.args.extra c.args.unfit c.run_over-result.new.skipped READ_COUNT_LIMIT _ _ result
     seen.2 in
     search rules
 
 pub returns-clause-end : goal.returns-clause-end
 returns-clause-end g c =
     let result = c.run_over-result.result in
-    let task = capture_to_lines c.args.unfit c.run_over-result.new.skipped in
+    let task = capture_to_lines c.args.extra c.args.unfit c.run_over-result.new.skipped in
     let seen = Goes-reader_writer task g.R.Read.remaining g.W.Write.contents
     READ_COUNT_LIMIT _ _ _ c.run_over-result.ensures in
     let reader = seen.0 in
@@ -33,7 +33,7 @@ returns-clause-end g c =
 pub returns-clause-bytes : goal.returns-clause-bytes
 returns-clause-bytes g c =
     let result = c.run_over-result.result in
-    let task = capture_to_lines c.args.unfit c.run_over-result.new.skipped in
+    let task = capture_to_lines c.args.extra c.args.unfit c.run_over-result.new.skipped in
     let seen = Goes-reader_writer task g.R.Read.remaining g.W.Write.contents
     READ_COUNT_LIMIT _ _ _ c.run_over-result.ensures in
     let reader = seen.0 in
@@ -43,7 +43,7 @@ returns-clause-bytes g c =
 
 pub returns-clause-calls : goal.returns-clause-calls
 returns-clause-calls g c =
-    let task = capture_to_lines c.args.unfit c.run_over-result.new.skipped in
+    let task = capture_to_lines c.args.extra c.args.unfit c.run_over-result.new.skipped in
     let seen = Goes-reader_writer task g.R.Read.remaining g.W.Write.contents
     READ_COUNT_LIMIT _ _ _ c.run_over-result.ensures in
     let reader = seen.0 in
@@ -53,7 +53,7 @@ returns-clause-calls g c =
 
 pub returns-clause-memory : goal.returns-clause-memory
 returns-clause-memory g c is =
-    let task = capture_to_lines c.args.unfit c.run_over-result.new.skipped in
+    let task = capture_to_lines c.args.extra c.args.unfit c.run_over-result.new.skipped in
     let seen = Goes-reader_writer task g.R.Read.remaining g.W.Write.contents
     READ_COUNT_LIMIT _ _ _ c.run_over-result.ensures in
     let reader = seen.0 in
@@ -64,7 +64,7 @@ returns-clause-memory g c is =
 
 pub returns-clause-too_many : goal.returns-clause-too_many
 returns-clause-too_many g c is =
-    let task = capture_to_lines c.args.unfit c.run_over-result.new.skipped in
+    let task = capture_to_lines c.args.extra c.args.unfit c.run_over-result.new.skipped in
     let seen = Goes-reader_writer task g.R.Read.remaining g.W.Write.contents
     READ_COUNT_LIMIT _ _ _ c.run_over-result.ensures in
     let reader = seen.0 in

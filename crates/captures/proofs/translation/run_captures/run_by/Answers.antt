@@ -1,9 +1,18 @@
-use Rattle.captures.proofs.Telling.{tells_start}
+use Rattle.std.proofs.Common.{◌∙◌, ap}
+use Rattle.captures.specs.declared.text.ledger.Ledger.{Ledger}
+use Rattle.captures.proofs.Telling.{tells_start, due_as, goes_as}
 use Rattle.captures.proofs.translation.run_captures.run_by.Goals as goal
 
 pub run_translator-result-requires-clause-begins :
     goal.run_translator-result-requires-clause-begins
-run_translator-result-requires-clause-begins g c = rw c.by.ensures (tells_start _)
+run_translator-result-requires-clause-begins g c =
+    rw (c.by.ensures, c.blank.ensures) (tells_start c.args.extra _)
+
+pub run_translator-result-requires-clause-due : goal.run_translator-result-requires-clause-due
+run_translator-result-requires-clause-due g c t t' same = due_as same
 
 pub returns : goal.returns
-returns g c = rw c.skipped.ensures c.run_translator-result.ensures
+returns g c =
+    rw c.skipped.ensures
+    (goes_as (c.run_translator-result.ensures.kept
+    ∙ ap (λ (l : Ledger). l.extra) c.blank.ensures) c.run_translator-result.ensures.goes)

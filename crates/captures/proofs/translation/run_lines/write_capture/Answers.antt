@@ -10,36 +10,36 @@ use Rattle.captures.proofs.translation.run_lines.write_capture.Goals as goal
 pub returns-clause-ok : goal.returns-clause-ok
 returns-clause-ok g c =
     let result = c.write_capture_over-result.result in
-    let seen = Goes-reader_writer lines_to_capture g.R.Read.remaining g.W.Write.contents
+    let seen = Goes-reader_writer (lines_to_capture c.args.time_unit) g.R.Read.remaining g.W.Write.contents
     READ_COUNT_LIMIT _ _ _ c.write_capture_over-result.ensures in
     let reader = seen.0 in
     let writer = seen.1 in
-    let known = writes_ok READ_COUNT_LIMIT _ _ result seen.2 in
+    let known = writes_ok c.args.time_unit READ_COUNT_LIMIT _ _ result seen.2 in
     search rules
 
 pub returns-clause-end : goal.returns-clause-end
 returns-clause-end g c =
     let result = c.write_capture_over-result.result in
-    let seen = Goes-reader_writer lines_to_capture g.R.Read.remaining g.W.Write.contents
+    let seen = Goes-reader_writer (lines_to_capture c.args.time_unit) g.R.Read.remaining g.W.Write.contents
     READ_COUNT_LIMIT _ _ _ c.write_capture_over-result.ensures in
     let reader = seen.0 in
     let writer = seen.1 in
-    let known = goes_end lines_to_capture cause READ_COUNT_LIMIT _ _ result seen.2 in
+    let known = goes_end (lines_to_capture c.args.time_unit) cause READ_COUNT_LIMIT _ _ result seen.2 in
     search rules
 
 pub returns-clause-bytes : goal.returns-clause-bytes
 returns-clause-bytes g c =
     let result = c.write_capture_over-result.result in
-    let seen = Goes-reader_writer lines_to_capture g.R.Read.remaining g.W.Write.contents
+    let seen = Goes-reader_writer (lines_to_capture c.args.time_unit) g.R.Read.remaining g.W.Write.contents
     READ_COUNT_LIMIT _ _ _ c.write_capture_over-result.ensures in
     let reader = seen.0 in
     let writer = seen.1 in
-    let known = goes_transfer lines_to_capture READ_COUNT_LIMIT _ _ (ending_of result) seen.2 in
+    let known = goes_transfer (lines_to_capture c.args.time_unit) READ_COUNT_LIMIT _ _ (ending_of result) seen.2 in
     search rules
 
 pub returns-clause-calls : goal.returns-clause-calls
 returns-clause-calls g c =
-    let seen = Goes-reader_writer lines_to_capture g.R.Read.remaining g.W.Write.contents
+    let seen = Goes-reader_writer (lines_to_capture c.args.time_unit) g.R.Read.remaining g.W.Write.contents
     READ_COUNT_LIMIT _ _ _ c.write_capture_over-result.ensures in
     let reader = seen.0 in
     let writer = seen.1 in
@@ -48,19 +48,19 @@ returns-clause-calls g c =
 
 pub returns-clause-memory : goal.returns-clause-memory
 returns-clause-memory g c is =
-    let seen = Goes-reader_writer lines_to_capture g.R.Read.remaining g.W.Write.contents
+    let seen = Goes-reader_writer (lines_to_capture c.args.time_unit) g.R.Read.remaining g.W.Write.contents
     READ_COUNT_LIMIT _ _ _ c.write_capture_over-result.ensures in
     let reader = seen.0 in
     let writer = seen.1 in
-    let same = goes_memory lines_to_capture _ READ_COUNT_LIMIT _ _
+    let same = goes_memory (lines_to_capture c.args.time_unit) _ READ_COUNT_LIMIT _ _
     (λ told read written starved. starved.0) (rw is at c.write_capture_over-result.ensures) in
     search rules
 
 pub returns-clause-too_many : goal.returns-clause-too_many
 returns-clause-too_many g c is =
-    let seen = Goes-reader_writer lines_to_capture g.R.Read.remaining g.W.Write.contents
+    let seen = Goes-reader_writer (lines_to_capture c.args.time_unit) g.R.Read.remaining g.W.Write.contents
     READ_COUNT_LIMIT _ _ _ c.write_capture_over-result.ensures in
     let reader = seen.0 in
     let writer = seen.1 in
-    let known = goes_too_many lines_to_capture READ_COUNT_LIMIT _ _ (rw is at seen.2) in
+    let known = goes_too_many (lines_to_capture c.args.time_unit) READ_COUNT_LIMIT _ _ (rw is at seen.2) in
     search rules

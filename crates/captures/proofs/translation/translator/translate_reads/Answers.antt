@@ -1,4 +1,4 @@
-use Rattle.std.proofs.Common.{rules, arith, ◌≡◌, ◌∙◌, ◌<◌, ◌≤◌, ◌+◌, ◌-◌, sym, ap, subst, ℕ, List}
+use Rattle.std.proofs.Common.{rules, arith, ◌≡◌, ◌∙◌, ◌<◌, ◌≤◌, ◌+◌, ◌-◌, sym, ap, refl, subst, ℕ, List}
 use Rattle.std.proofs.Common.{take, drop, length, length-take, length-append}
 use Rattle.std.proofs.lemmas.Result.{err_from_is_err_and}
 use borrow.Rule.Slice.PartMut.{put_mid}
@@ -10,8 +10,8 @@ use Rattle.captures.proofs.Translating.{translating_fails, finish_stops, finish_
 use Rattle.captures.proofs.Translating.{translating_all, translating_by}
 use Rattle.captures.proofs.translation.translator.translate_reads.Goals as goal
 
-pub returns-in_err-write_whole : goal.returns-in_err-write_whole
-returns-in_err-write_whole g c =
+pub returns-in_err-write_whole-clause-goes : goal.returns-in_err-write_whole-clause-goes
+returns-in_err-write_whole-clause-goes g c =
     let exit = err_from_is_err_and c.from_residual.result c.from_residual.ensures.1 in
     rw (exit.1, exit.2)
     (header_stops (g.T.Translator.task c.args.translator.now) g.D.Device.transition _
@@ -24,10 +24,12 @@ reads-init g c = record {
       g.D.Device.transition _ c.args.device.now c.write_whole.new.device c.args.header.now
       c.requires.begins c.in_ok-write_whole.ensures;
   room = let size = c.requires.input in omega arith;
+  size = c.requires.begins.room;
+  kept = refl;
 }
 
-pub returns-in-Err : goal.returns-in-Err
-returns-in-Err g c =
+pub returns-in-Err-clause-goes : goal.returns-in-Err-clause-goes
+returns-in-Err-clause-goes g c =
     let task = g.T.Translator.task c.reads.translator in
     let transition = g.D.Device.transition in
     let t = c.reads.invariant.translating in
@@ -38,12 +40,12 @@ returns-in-Err g c =
     translating_fails task transition t c.reads-test.true c.requires.most
     (c.in-Err.ensures.call some)
 
-pub returns-in_err-write_whole-2 : goal.returns-in_err-write_whole-2
-returns-in_err-write_whole-2 g c =
+pub returns-in_err-write_whole-2-clause-goes : goal.returns-in_err-write_whole-2-clause-goes
+returns-in_err-write_whole-2-clause-goes g c =
     let task = g.T.Translator.task c.finish-finished.new.self in
     let transition = g.D.Device.transition in
     let t = translating_by (c.requires.due c.reads.translator
-    c.finish-finished.new.self) c.reads.invariant.translating in
+    c.finish-finished.new.self c.finish-finished.ensures.kept) c.reads.invariant.translating in
     let room = c.reads.invariant.room in
     let left = c.reads.left in
     let input = c.reads.input in
@@ -57,12 +59,12 @@ returns-in_err-write_whole-2 g c =
     (c.in-Ok.ensures.call some) same c.finish-finished.ensures.finishes
     c.in_err-write_whole-2.field-0.0 c.in_err-write_whole-2.ensures)
 
-pub returns-in-Ok-result : goal.returns-in-Ok-result
-returns-in-Ok-result g c =
+pub returns-in-Ok-result-clause-goes : goal.returns-in-Ok-result-clause-goes
+returns-in-Ok-result-clause-goes g c =
     let task = g.T.Translator.task c.finish-finished.new.self in
     let transition = g.D.Device.transition in
     let t = translating_by (c.requires.due c.reads.translator
-    c.finish-finished.new.self) c.reads.invariant.translating in
+    c.finish-finished.new.self c.finish-finished.ensures.kept) c.reads.invariant.translating in
     let room = c.reads.invariant.room in
     let left = c.reads.left in
     let input = c.reads.input in
@@ -75,12 +77,12 @@ returns-in-Ok-result g c =
     c.in_ok-write_whole-2.ensures in
     rw c.in-Ok-result.is at done
 
-pub returns-in-Err-result : goal.returns-in-Err-result
-returns-in-Err-result g c =
+pub returns-in-Err-result-clause-goes : goal.returns-in-Err-result-clause-goes
+returns-in-Err-result-clause-goes g c =
     let task = g.T.Translator.task c.finish-finished.new.self in
     let transition = g.D.Device.transition in
     let t = translating_by (c.requires.due c.reads.translator
-    c.finish-finished.new.self) c.reads.invariant.translating in
+    c.finish-finished.new.self c.finish-finished.ensures.kept) c.reads.invariant.translating in
     let room = c.reads.invariant.room in
     let left = c.reads.left in
     let input = c.reads.input in
@@ -93,15 +95,15 @@ returns-in-Err-result g c =
     c.in_ok-write_whole-2.ensures in
     rw c.from.ensures (rw c.in-Err-result.is at done)
 
-pub returns-in_err-write_whole-3 : goal.returns-in_err-write_whole-3
-returns-in_err-write_whole-3 g c =
+pub returns-in_err-write_whole-3-clause-goes : goal.returns-in_err-write_whole-3-clause-goes
+returns-in_err-write_whole-3-clause-goes g c =
     let task = g.T.Translator.task c.translate-taken.new.self in
     let transition = g.D.Device.transition in
     let t = translating_by (c.requires.due c.reads.translator
-    c.translate-taken.new.self) c.reads.invariant.translating in
+    c.translate-taken.new.self c.translate-taken.ensures.kept) c.reads.invariant.translating in
     let room = c.reads.invariant.room in
-    let to_read = (c.requires.due c.args.translator.now c.translate-taken.new.self).room
-    ∙ c.requires.begins.room in
+    let to_read = (c.requires.due c.reads.translator c.translate-taken.new.self
+    c.translate-taken.ensures.kept).room ∙ c.reads.invariant.size in
     let left = c.reads.left in
     let input = c.reads.input in
     let buf = c.read_some.new.buf in
@@ -119,15 +121,15 @@ returns-in_err-write_whole-3 g c =
     c.translate-taken.ensures.translates
     c.in_err-write_whole-3.field-0.0 c.in_err-write_whole-3.ensures)
 
-pub returns-in-Some : goal.returns-in-Some
-returns-in-Some g c =
+pub returns-in-Some-clause-goes : goal.returns-in-Some-clause-goes
+returns-in-Some-clause-goes g c =
     let task = g.T.Translator.task c.translate-taken.new.self in
     let transition = g.D.Device.transition in
     let t = translating_by (c.requires.due c.reads.translator
-    c.translate-taken.new.self) c.reads.invariant.translating in
+    c.translate-taken.new.self c.translate-taken.ensures.kept) c.reads.invariant.translating in
     let room = c.reads.invariant.room in
-    let to_read = (c.requires.due c.args.translator.now c.translate-taken.new.self).room
-    ∙ c.requires.begins.room in
+    let to_read = (c.requires.due c.reads.translator c.translate-taken.new.self
+    c.translate-taken.ensures.kept).room ∙ c.reads.invariant.size in
     let left = c.reads.left in
     let input = c.reads.input in
     let buf = c.read_some.new.buf in
@@ -162,10 +164,10 @@ reads-preserved g c =
     let task = g.T.Translator.task c.translate-taken.new.self in
     let transition = g.D.Device.transition in
     let t = translating_by (c.requires.due c.reads.translator
-    c.translate-taken.new.self) c.reads.invariant.translating in
+    c.translate-taken.new.self c.translate-taken.ensures.kept) c.reads.invariant.translating in
     let room = c.reads.invariant.room in
-    let to_read = (c.requires.due c.args.translator.now c.translate-taken.new.self).room
-    ∙ c.requires.begins.room in
+    let to_read = (c.requires.due c.reads.translator c.translate-taken.new.self
+    c.translate-taken.ensures.kept).room ∙ c.reads.invariant.size in
     let left = c.reads.left in
     let input = c.reads.input in
     let buf = c.read_some.new.buf in
@@ -195,10 +197,12 @@ reads-preserved g c =
           c.translate-taken.ensures.translates
           c.in_default.is c.in_ok-write_whole-3.ensures);
       room = let few = c.translate-taken.ensures.room c.in_default.is in omega arith;
+      size = to_read;
+      kept = c.translate-taken.ensures.kept ∙ c.reads.invariant.kept;
     }
 
-pub returns : goal.returns
-returns g c =
+pub returns-clause-goes : goal.returns-clause-goes
+returns-clause-goes g c =
     let all : c.reads.counter ≡ c.args.reads = omega arith in
     let task = g.T.Translator.task c.reads.translator in
     let transition = g.D.Device.transition in

@@ -1,4 +1,5 @@
-use Rattle.std.proofs.Common.{◌<◌, length, take}
+use Rattle.std.proofs.Common.{◌≡◌, ◌<◌, length, take}
+use Rattle.captures.specs.declared.limits.TheConstants.{INPUT_ROOM}
 use Rattle.captures.proofs.Translating.{Translating}
 use Rattle.captures.proofs.translation.translator.translate_reads.Given as goal
 
@@ -8,4 +9,6 @@ invariant-reads g l = record {
   translating : Translating (g.T.Translator.task l.translator) g.D.Device.transition
       (g.T.Translator.shows l.translator) l.counter l.fn.device l.device (take l.left l.input);
   room : l.left < length l.input;
+  size : (g.T.Translator.task l.translator).room ≡ INPUT_ROOM;
+  kept : g.T.Translator.kept l.translator ≡ g.T.Translator.kept l.fn.translator;
 }

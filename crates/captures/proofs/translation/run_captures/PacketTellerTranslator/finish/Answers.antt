@@ -9,7 +9,7 @@ returns-clause-finishes g c read written tells fits =
     let held = take c.args.left c.args.input.now in
     let size : c.args.left ≡ length held =
     omega (arith, length-take-le c.args.left c.args.input.now (omega arith)) in
-    tells_end _ read written c.place-place.result c.args.self.now.state c.args.self.now.begun
+    tells_end c.args.self.now.ledger _ read written c.place-place.result c.args.self.now.state c.args.self.now.begun
     c.args.self.now.count c.args.self.now.passed held c.args.left tells size
     c.place-place.ensures.packet c.place-place.ensures.offset
     (c.place-place.ensures.block tells.0 tells.1) c.end.result (c.end.ensures tells.0 tells.1)

@@ -9,9 +9,9 @@ use Rattle.captures.proofs.translation.run_lines.FrameWriterTranslator.finish.Go
 pub returns-then-left-eq0-clause-finishes : goal.returns-then-left-eq0-clause-finishes
 returns-then-left-eq0-clause-finishes c read written writes fits =
     let none = ap (λ n. take n c.args.input.now) c.if-left-eq0.true in
-    subst (λ (l : List ℕ). Finishes lines_to_capture read l (Ok tt)) (sym (append-nil written))
-    (writes_nothing_more c.args.self.now.count read written
-    (subst (λ (l : List ℕ). Writes c.args.self.now.count l read written) none writes))
+    subst (λ (l : List ℕ). Finishes (lines_to_capture c.args.self.now.time_unit) read l (Ok tt)) (sym (append-nil written))
+    (writes_nothing_more c.args.self.now.time_unit c.args.self.now.count read written
+    (subst (λ (l : List ℕ). Writes c.args.self.now.time_unit c.args.self.now.count l read written) none writes))
 
 pub returns-then-taken-clause-finishes : goal.returns-then-taken-clause-finishes
 returns-then-taken-clause-finishes c read written writes fits =
@@ -24,7 +24,7 @@ returns-then-taken-clause-finishes c read written writes fits =
     omega (arith, length-take-le left input (omega arith)) in
     let parts : take (left + 1) (slice_set input left 10) ≡ take left input ++ 10 ∷ [] =
     take_more_set input left 10 room in
-    writes_last_bad c.args.self.now.count c.take_lines-taken.result.count _ (take left input)
+    writes_last_bad c.args.self.now.time_unit c.args.self.now.count c.take_lines-taken.result.count _ (take left input)
     (take (left + 1) (slice_set input left 10)) _ read written _ writes some parts fits
     c.saturating_add-self.ensures _ c.saturating_add.ensures takes
 
@@ -39,5 +39,5 @@ returns-clause-finishes c read written writes fits =
     omega (arith, length-take-le left input (omega arith)) in
     let parts : take (left + 1) (slice_set input left 10) ≡ take left input ++ 10 ∷ [] =
     take_more_set input left 10 room in
-    writes_last c.args.self.now.count c.take_lines-taken.result.count 0 (take left input)
+    writes_last c.args.self.now.time_unit c.args.self.now.count c.take_lines-taken.result.count 0 (take left input)
     (take (left + 1) (slice_set input left 10)) _ read written _ writes some parts takes

@@ -1,0 +1,15 @@
+//! What lines tell beside frames.
+
+/// What lines tell beside frames.
+#[derive(Clone, Copy, Debug, PartialEq, Eq)]
+pub enum Extra {
+    /// Nothing: each line hands a frame in.
+    Nothing,
+    /// The time of each frame, behind its digits: seconds since the year 1970 began and
+    /// microseconds, and nanoseconds where there are any.
+    Times,
+    /// Which messages may be dropped: whenever so many seconds have passed by the packets' times
+    /// since the last such line, or the first packet, a line `forget NUMBER` stands before the
+    /// packet's, with the number of that last line, or 1. Lines are numbered from 1, these too.
+    Forget(u32),
+}

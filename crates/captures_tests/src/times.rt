@@ -1,0 +1,306 @@
+//! The times of packets, in lines and in captures that are written of them. The files are made by
+//! hand from the formats' descriptions.
+use crate::classic::{BIG_MICROSECONDS, BIG_NANOSECONDS, LITTLE_MICROSECONDS, LITTLE_NANOSECONDS};
+use captures::{Extra, RunError, Skipped, TimeUnit, Unfit, run, write_capture};
+use std::alloc::{AllocError, Global};
+use std::test::Fail;
+
+// How a run ended that tells this beside frames, and its lines.
+pub fn lines_with(
+    alloc: Global,
+    extra: Extra,
+    file: &[u8],
+) -> Result<(Result<(), RunError>, Vec<u8>), AllocError> {
+    let mut lines = Vec::new(alloc);
+    let mut skipped = Skipped::NONE;
+    let result = run(
+        alloc,
+        extra,
+        Unfit::Refuse,
+        &mut &*file,
+        &mut lines,
+        &mut skipped,
+    );
+    Ok((result, lines))
+}
+
+const TIMED_LINES: &[u8; 238] =
+    b"frame 0 02000000000202000000000108004500002400010000401166c60a0000010a000002000100020010dbb40102030405060708 1700000000 250000\n\
+    frame 0 ffffffffffff020000000001080600010800060400010200000000010a0000010000000000000a000002 1700000001 250000\n";
+
+// The files of scapy, of which a capture in either unit is written, and read again.
+#[test]
+fn times_of_scapy(rt: HostRuntime) -> Result<(), Fail> {
+    for file in [
+        LITTLE_MICROSECONDS.as_slice(),
+        BIG_MICROSECONDS.as_slice(),
+        LITTLE_NANOSECONDS.as_slice(),
+        BIG_NANOSECONDS.as_slice(),
+    ] {
+        let (result, lines) = lines_with(rt.alloc(), Extra::Times, file)?;
+        assert!(rt; result == Ok(()));
+        assert!(rt; lines.as_slice() == TIMED_LINES.as_slice());
+    }
+    for time_unit in [TimeUnit::Microseconds, TimeUnit::Nanoseconds] {
+        let mut file = Vec::new(rt.alloc());
+        let made = write_capture(
+            rt.alloc(),
+            time_unit,
+            &mut TIMED_LINES.as_slice(),
+            &mut file,
+        );
+        assert!(rt; made == Ok(()));
+        let (result, lines) = lines_with(rt.alloc(), Extra::Times, file.as_slice())?;
+        assert!(rt; result == Ok(()));
+        assert!(rt; lines.as_slice() == TIMED_LINES.as_slice());
+    }
+    Ok(())
+}
+
+// A classic capture, high byte first, of one packet of one byte.
+fn classic_file(alloc: Global, magic: &[u8], time: &[u8]) -> Result<Vec<u8>, AllocError> {
+    let mut file = Vec::from_slice(alloc, magic)?;
+    file.extend_from_slice(b"\x00\x02\x00\x04\0\0\0\0\0\0\0\0\x00\x04\x00\x00\0\0\0\x01")?;
+    file.extend_from_slice(time)?;
+    file.extend_from_slice(b"\0\0\0\x01\0\0\0\x01\x01")?;
+    Ok(file)
+}
+
+// Parts of a second may be more than one, and no time is later than the last one of 32 bits.
+#[test]
+fn times_of_classic_captures(rt: HostRuntime) -> Result<(), Fail> {
+    let micro = b"\xa1\xb2\xc3\xd4".as_slice();
+    let nano = b"\xa1\xb2\x3c\x4d".as_slice();
+    for (magic, time, line) in [
+        (
+            micro,
+            b"\0\0\0\x05\0\x0f\x42\x3f".as_slice(),
+            "frame 0 01 5 999999\n",
+        ),
+        (micro, b"\0\0\0\x05\0\x1e\x84\x81", "frame 0 01 7 1\n"),
+        (
+            micro,
+            b"\xff\xff\xff\xff\xff\xff\xff\xff",
+            "frame 0 01 4294967295 999999 999\n",
+        ),
+        (
+            nano,
+            b"\0\0\0\x01\x07\x5b\xcd\x15",
+            "frame 0 01 1 123456 789\n",
+        ),
+        (nano, b"\0\0\0\0\0\0\0\x07", "frame 0 01 0 0 7\n"),
+        (nano, b"\0\0\0\x01\x3b\x9a\xca\x00", "frame 0 01 2 0\n"),
+    ] {
+        let file = classic_file(rt.alloc(), magic, time)?;
+        let (result, lines) = lines_with(rt.alloc(), Extra::Times, file.as_slice())?;
+        assert!(rt; result == Ok(()));
+        assert!(rt; lines.as_slice() == line.as_bytes());
+    }
+    Ok(())
+}
+
+// A section header, low byte first.
+const SECTION: &[u8; 28] = b"\
+    \x0a\x0d\x0d\x0a\x1c\0\0\0\x4d\x3c\x2b\x1a\x01\0\0\0\xff\xff\xff\xff\xff\xff\xff\xff\x1c\0\0\0";
+
+// The description of an Ethernet interface with these options.
+fn describe(file: &mut Vec<u8>, options: &[u8]) -> Result<(), AllocError> {
+    let len = 20u8.saturating_add((options.len() % 256) as u8);
+    file.extend_from_slice(&[1, 0, 0, 0, len, 0, 0, 0, 1, 0, 0, 0, 0, 0, 0, 0])?;
+    file.extend_from_slice(options)?;
+    file.extend_from_slice(&[len, 0, 0, 0])
+}
+
+// An enhanced packet of one byte, at this count of its clock's parts.
+fn add_packet(file: &mut Vec<u8>, interface: u8, count: u64) -> Result<(), AllocError> {
+    file.extend_from_slice(&[6, 0, 0, 0, 36, 0, 0, 0, interface, 0, 0, 0])?;
+    file.extend_from_slice(&((count >> 32) as u32).to_le_bytes())?;
+    file.extend_from_slice(&((count % 0x1_0000_0000) as u32).to_le_bytes())?;
+    file.extend_from_slice(b"\x01\0\0\0\x01\0\0\0\x01\0\0\0\x24\0\0\0")
+}
+
+#[test]
+fn clocks_of_interfaces(rt: HostRuntime) -> Result<(), Fail> {
+    for (options, count, line) in [
+        // Microseconds, where no option tells another unit.
+        (
+            b"".as_slice(),
+            1_700_000_000_250_000u64,
+            "frame 0 01 1700000000 250000\n",
+        ),
+        // Powers of ten: a second, a nanosecond, a picosecond, and what no count reaches.
+        (b"\x09\0\x01\0\x00\0\0\0", 5, "frame 0 01 5 0\n"),
+        (
+            b"\x09\0\x01\0\x09\0\0\0",
+            1_700_000_000_123_456_789,
+            "frame 0 01 1700000000 123456 789\n",
+        ),
+        (
+            b"\x09\0\x01\0\x0c\0\0\0",
+            1_500_000_000_999,
+            "frame 0 01 1 500000\n",
+        ),
+        (
+            b"\x09\0\x01\0\x1c\0\0\0",
+            0xffff_ffff_ffff_ffff,
+            "frame 0 01 0 0 1\n",
+        ),
+        (
+            b"\x09\0\x01\0\x1d\0\0\0",
+            0xffff_ffff_ffff_ffff,
+            "frame 0 01 0 0\n",
+        ),
+        (
+            b"\x09\0\x01\0\x7f\0\0\0",
+            0xffff_ffff_ffff_ffff,
+            "frame 0 01 0 0\n",
+        ),
+        // Powers of two: a second, a 1024th of one, and what no count reaches.
+        (b"\x09\0\x01\0\x80\0\0\0", 7, "frame 0 01 7 0\n"),
+        (
+            b"\x09\0\x01\0\x8a\0\0\0",
+            1_740_800_000_512,
+            "frame 0 01 1700000000 500000\n",
+        ),
+        (
+            b"\x09\0\x01\0\x8a\0\0\0",
+            1_740_800_000_001,
+            "frame 0 01 1700000000 976 562\n",
+        ),
+        (
+            b"\x09\0\x01\0\xff\0\0\0",
+            0xffff_ffff_ffff_ffff,
+            "frame 0 01 0 0\n",
+        ),
+        // An offset of an hour, of an hour before, and before 1970; a time after 2106.
+        (
+            b"\x0e\0\x08\0\x10\x0e\0\0\0\0\0\0",
+            1_000_000,
+            "frame 0 01 3601 0\n",
+        ),
+        (
+            b"\x0e\0\x08\0\xf0\xf1\xff\xff\xff\xff\xff\xff",
+            3_601_000_000,
+            "frame 0 01 1 0\n",
+        ),
+        (
+            b"\x0e\0\x08\0\xf0\xf1\xff\xff\xff\xff\xff\xff",
+            3_599_000_000,
+            "frame 0 01 0 0\n",
+        ),
+        (
+            b"\x09\0\x01\0\x00\0\0\0",
+            0x1_0000_0000,
+            "frame 0 01 4294967295 999999 999\n",
+        ),
+        // Behind a comment; behind the end of the options; of another length; cut off.
+        (
+            b"\x01\0\x05\0hello\0\0\0\x09\0\x01\0\x00\0\0\0\0\0\0\0",
+            5,
+            "frame 0 01 5 0\n",
+        ),
+        (b"\0\0\0\0\x09\0\x01\0\x00\0\0\0", 5, "frame 0 01 0 5\n"),
+        (b"\x09\0\x02\0\x00\0\0\0", 5, "frame 0 01 0 5\n"),
+        (b"\x0e\0\x08\0\x10\x0e\0\0", 5, "frame 0 01 0 5\n"),
+    ] {
+        let mut file = Vec::from_slice(rt.alloc(), SECTION)?;
+        describe(&mut file, options)?;
+        add_packet(&mut file, 0, count)?;
+        let (result, lines) = lines_with(rt.alloc(), Extra::Times, file.as_slice())?;
+        assert!(rt; result == Ok(()));
+        assert!(rt; lines.as_slice() == line.as_bytes());
+    }
+    Ok(())
+}
+
+// An obsolete packet of interface 0 at a second, 16 dropped; a simple one, which has no time; and a
+// section in the other byte order, whose interface counts seconds.
+#[test]
+fn times_of_other_blocks(rt: HostRuntime) -> Result<(), Fail> {
+    let mut file = Vec::from_slice(rt.alloc(), SECTION)?;
+    describe(&mut file, b"")?;
+    file.extend_from_slice(
+        b"\x02\0\0\0\x24\0\0\0\0\0\x10\0\0\0\0\0\x40\x42\x0f\0\x01\0\0\0\x01\0\0\0\x02\0\0\0\x24\0\0\0",
+    )?;
+    file.extend_from_slice(b"\x03\0\0\0\x14\0\0\0\x01\0\0\0\x03\0\0\0\x14\0\0\0")?;
+    file.extend_from_slice(
+        b"\x0a\x0d\x0d\x0a\0\0\0\x1c\x1a\x2b\x3c\x4d\0\x01\0\0\xff\xff\xff\xff\xff\xff\xff\xff\0\0\0\x1c",
+    )?;
+    file.extend_from_slice(
+        b"\0\0\0\x01\0\0\0\x28\0\x01\0\0\0\0\0\0\0\x09\0\x01\x00\0\0\0\0\x0e\0\x08\0\0\0\0\0\0\0\x02\0\0\0\x28",
+    )?;
+    file.extend_from_slice(
+        b"\0\0\0\x06\0\0\0\x24\0\0\0\0\0\0\0\0\0\0\0\x05\0\0\0\x01\0\0\0\x01\x04\0\0\0\0\0\0\x24",
+    )?;
+    let (result, lines) = lines_with(rt.alloc(), Extra::Times, file.as_slice())?;
+    assert!(rt; result == Ok(()));
+    let wanted = "frame 0 02 1 0\nframe 0 03 0 0\nframe 1 04 7 0\n";
+    assert!(rt; lines.as_slice() == wanted.as_bytes());
+    Ok(())
+}
+
+// The first 32 interfaces have clocks of their own. Behind them all have that of the last one.
+#[test]
+fn clocks_behind_the_32nd(rt: HostRuntime) -> Result<(), Fail> {
+    let mut file = Vec::from_slice(rt.alloc(), SECTION)?;
+    for _ in 0..31 {
+        describe(&mut file, b"")?;
+    }
+    describe(&mut file, b"\x09\0\x01\0\x03\0\0\0")?;
+    describe(&mut file, b"\x09\0\x01\0\x00\0\0\0")?;
+    add_packet(&mut file, 31, 1)?;
+    add_packet(&mut file, 32, 1)?;
+    describe(&mut file, b"")?;
+    add_packet(&mut file, 32, 1)?;
+    add_packet(&mut file, 31, 1)?;
+    add_packet(&mut file, 0, 1)?;
+    let (result, lines) = lines_with(rt.alloc(), Extra::Times, file.as_slice())?;
+    assert!(rt; result == Ok(()));
+    let wanted =
+        "frame 31 01 0 1000\nframe 32 01 1 0\nframe 32 01 0 1\nframe 31 01 0 1000\nframe 0 01 0 1\n";
+    assert!(rt; lines.as_slice() == wanted.as_bytes());
+    Ok(())
+}
+
+// What follows the file header of a capture in microseconds, and in nanoseconds.
+#[test]
+fn nanoseconds_of_lines(rt: HostRuntime) -> Result<(), Fail> {
+    let bad = Err(RunError::BadLine(1));
+    let none = b"".as_slice();
+    for (text, wanted, micro, nano) in [
+        (
+            "frame 0 01 5 6 7",
+            Ok(()),
+            b"\x05\0\0\0\x06\0\0\0\x01\0\0\0\x01\0\0\0\x01".as_slice(),
+            b"\x05\0\0\0\x77\x17\0\0\x01\0\0\0\x01\0\0\0\x01".as_slice(),
+        ),
+        (
+            "frame 0 01 5 999999 0000000999\n",
+            Ok(()),
+            b"\x05\0\0\0\x3f\x42\x0f\0\x01\0\0\0\x01\0\0\0\x01",
+            b"\x05\0\0\0\xff\xc9\x9a\x3b\x01\0\0\0\x01\0\0\0\x01",
+        ),
+        ("frame 0 01 5 6 1000\n", bad, none, none),
+        ("frame 0 01 5 1000000 0\n", bad, none, none),
+        ("frame 0 01 5 6 \n", bad, none, none),
+        ("frame 0 01 5 6 7 8\n", bad, none, none),
+        ("forget 1\n", bad, none, none),
+    ] {
+        for (time_unit, magic, packets) in [
+            (
+                TimeUnit::Microseconds,
+                b"\xd4\xc3\xb2\xa1".as_slice(),
+                micro,
+            ),
+            (TimeUnit::Nanoseconds, b"\x4d\x3c\xb2\xa1", nano),
+        ] {
+            let mut file = Vec::new(rt.alloc());
+            let result = write_capture(rt.alloc(), time_unit, &mut text.as_bytes(), &mut file);
+            assert!(rt; result == wanted);
+            assert!(rt; file.len() >= 24);
+            assert!(rt; &file.as_slice()[..4] == magic);
+            assert!(rt; &file.as_slice()[24..] == packets);
+        }
+    }
+    Ok(())
+}
