@@ -93,15 +93,16 @@ typedef struct {
 /* Why a part of a message is refused. All fields are 0 where it isn't. */
 typedef struct {
     /* 0 not refused, 1 others follow it and its length is no multiple of 8, 2 it ends behind byte
-       65535, 3 it ends elsewhere than the message. */
+       65535, 3 it ends elsewhere than the message, 4 over IPv6 it overlaps another part: then the
+       message is dropped with all of its parts. */
     uint32_t kind;
-    /* Of kinds 1 and 2: its offset in the message, in units of 8 bytes. */
+    /* Of kinds 1, 2 and 4: its offset in the message, in units of 8 bytes. */
     uint16_t offset;
     /* Of kind 3: the end of the message, in bytes. */
     uint16_t previous_end;
     /* Of kind 3: its own end, in bytes. */
     uint16_t end;
-    /* Of kinds 1 and 2: its length. */
+    /* Of kinds 1, 2 and 4: its length. */
     size_t len;
 } ep_part_refusal;
 
@@ -515,8 +516,9 @@ uint32_t ep_pool_new(ep_pool *pool);
    stands at the front of the output. It is 1 where the message has no room: then the pool keeps
    it until `ep_pool_take` hands it out. It is 0 where no message is complete, since the frame is
    no part of one, or its message waits for others. It is 2 where there is no memory for the
-   part, and 3 where the frame or the part is refused: then all messages are as they were. It is
-   4 where the pool isn't open or keeps a message: then nothing is changed. */
+   part, and 3 where the frame or the part is refused: then all messages are as they were, but
+   that of a part of refusal 4 is dropped. It is 4 where the pool isn't open or keeps a message:
+   then nothing is changed. */
 ep_added ep_pool_add(ep_pool *pool, const uint8_t *frame, size_t frame_len, uint64_t time, uint32_t channel, uint8_t *output, size_t output_len);
 
 /* Hands out the message that a pool keeps. The status is 5 where it stands at the front of the

@@ -428,7 +428,7 @@ class PartRefused(ValueError):
         if self.kind == 3:
             text = f"a part that ends at {self.end}, of a message that ends at {self.previous_end}"
         else:
-            reason = "and no multiple of 8" if self.kind == 1 else "which ends behind byte 65535"
+            reason = {1: "and no multiple of 8", 2: "which ends behind byte 65535"}.get(self.kind, "which overlaps another")
             text = f"a part of {self.len} bytes at offset {self.offset}, {reason}"
         super().__init__(text)
 
@@ -468,7 +468,7 @@ class Pool:
     def add(self, frame: bytes, time: int, channel: int = 0) -> Optional[Message]:
         """Takes an Ethernet II frame, which came at this time on this channel, and gives the message that is complete
         with it. Messages of other channels are other messages. Raises Refused, PartRefused and MemoryError, and leaves
-        all messages as they were then."""
+        all messages as they were then; but a part that overlaps another over IPv6, of kind 4, ends its own (RFC 5722)."""
         pool, time, channel = self._opened(), _number("time", time, 64), _number("channel", channel, 32)
         added = _etherparse.ep_pool_add(pool, frame, len(frame), time, channel, self._room, self._ROOM)
         if added.refusal.kind:

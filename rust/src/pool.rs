@@ -55,9 +55,17 @@ pub enum PartRefusal {
         /// Its own end, in bytes.
         end: u16,
     },
+    /// Over IPv6 it overlaps another part (RFC 5722; RFC 8200, section 4.5): the message is dropped with all of its
+    /// parts.
+    Overlapping {
+        /// Its offset in the message, in units of 8 bytes.
+        offset: u16,
+        /// Its length.
+        len: usize,
+    },
 }
 
-/// Why a frame isn't taken. All messages are as they were.
+/// Why a frame isn't taken. All messages are as they were, but for that of an overlapping part.
 #[derive(Clone, Copy, Debug, PartialEq, Eq)]
 pub enum AddError {
     /// The frame is refused.
@@ -79,6 +87,9 @@ impl fmt::Display for PartRefusal {
             }
             PartRefusal::ConflictingEnd { previous_end, end } => {
                 write!(f, "a part that ends at {end}, of a message that ends at {previous_end}")
+            }
+            PartRefusal::Overlapping { offset, len } => {
+                write!(f, "a part of {len} bytes at offset {offset}, which overlaps another")
             }
         }
     }
@@ -105,7 +116,8 @@ impl PartRefusal {
             0 => None,
             1 => Some(PartRefusal::Unaligned { offset, len }),
             2 => Some(PartRefusal::TooLong { offset, len }),
-            _ => Some(PartRefusal::ConflictingEnd { previous_end, end }),
+            3 => Some(PartRefusal::ConflictingEnd { previous_end, end }),
+            _ => Some(PartRefusal::Overlapping { offset, len }),
         }
     }
 }

@@ -11,6 +11,7 @@ use Rattle.etherparse.specs.defrag.declared.defrag.ip_defrag_error.IpDefragError
 use Rattle.etherparse.specs.defrag.declared.defrag.ip_defrag_error.IpDefragError.TheVariants.{SegmentTooBig}
 use Rattle.etherparse.specs.defrag.declared.defrag.ip_defrag_error.IpDefragError.TheVariants.{ConflictingEnd}
 use Rattle.etherparse.specs.defrag.declared.defrag.ip_defrag_error.IpDefragError.TheVariants.{AllocationFailure}
+use Rattle.etherparse.specs.defrag.declared.defrag.ip_defrag_error.IpDefragError.TheVariants.{OverlappingFragment}
 use Rattle.etherparse.specs.packet.Class.{Class}
 use Rattle.etherparse.specs.packet.Class.Class.{Whole, Cut, Other, Refused as Faulty}
 use Rattle.etherparse.specs.packet.declared.addresses.Addresses.{Addresses}
@@ -77,6 +78,7 @@ error_status (UnalignedFragmentPayloadLen offset len) = 3
 error_status (SegmentTooBig offset len most) = 3
 error_status (ConflictingEnd previous_end end) = 3
 error_status (AllocationFailure len) = 2
+error_status (OverlappingFragment offset len) = 3
 
 abbrev pub part_refused : IpDefragError → EpAdded
 part_refused error = record (added (error_status error)) { part = part_refusal_of error }

@@ -4,6 +4,7 @@ use Rattle.etherparse.specs.defrag.declared.defrag.ip_defrag_error.IpDefragError
 use Rattle.etherparse.specs.defrag.declared.defrag.ip_defrag_error.IpDefragError.TheVariants.{SegmentTooBig}
 use Rattle.etherparse.specs.defrag.declared.defrag.ip_defrag_error.IpDefragError.TheVariants.{ConflictingEnd}
 use Rattle.etherparse.specs.defrag.declared.defrag.ip_defrag_error.IpDefragError.TheVariants.{AllocationFailure}
+use Rattle.etherparse.specs.defrag.declared.defrag.ip_defrag_error.IpDefragError.TheVariants.{OverlappingFragment}
 use Rattle.etherparse_c.specs.declared.part_refusal.EpPartRefusal.{EpPartRefusal}
 
 abbrev pub no_part_refusal : EpPartRefusal
@@ -17,3 +18,5 @@ part_refusal_of (SegmentTooBig offset len most) =
 part_refusal_of (ConflictingEnd previous_end end) =
     record no_part_refusal { kind = 3; previous_end = previous_end; end = end }
 part_refusal_of (AllocationFailure len) = no_part_refusal
+part_refusal_of (OverlappingFragment offset len) =
+    record no_part_refusal { kind = 4; offset = offset; len = len }

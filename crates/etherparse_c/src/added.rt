@@ -63,5 +63,6 @@ fn error_status(error: &IpDefragError) -> u32
         IpDefragError::UnalignedFragmentPayloadLen { .. } => REFUSED,
         IpDefragError::SegmentTooBig { .. } => REFUSED,
         IpDefragError::ConflictingEnd { .. } => REFUSED,
+        IpDefragError::OverlappingFragment { .. } => REFUSED,
     }
 }

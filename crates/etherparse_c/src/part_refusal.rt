@@ -9,15 +9,16 @@ use etherparse::defrag::IpDefragError;
 #[derive(Drop)]
 pub struct EpPartRefusal {
     /// 0 not refused, 1 others follow it and its length is no multiple of 8, 2 it ends behind byte
-    /// 65535, 3 it ends elsewhere than the message.
+    /// 65535, 3 it ends elsewhere than the message, 4 over IPv6 it overlaps another part: then the
+    /// message is dropped with all of its parts.
     pub kind: u32,
-    /// Of kinds 1 and 2: its offset in the message, in units of 8 bytes.
+    /// Of kinds 1, 2 and 4: its offset in the message, in units of 8 bytes.
     pub offset: u16,
     /// Of kind 3: the end of the message, in bytes.
     pub previous_end: u16,
     /// Of kind 3: its own end, in bytes.
     pub end: u16,
-    /// Of kinds 1 and 2: its length.
+    /// Of kinds 1, 2 and 4: its length.
     pub len: usize,
 }
 
@@ -64,6 +65,15 @@ pub(crate) fn part_refusal_of(error: &IpDefragError) -> EpPartRefusal
             kind: 3,
             previous_end: *previous_end,
             end: *conflicting_end,
+            ..no_part_refusal()
+        },
+        IpDefragError::OverlappingFragment {
+            offset,
+            payload_len,
+        } => EpPartRefusal {
+            kind: 4,
+            offset: offset.value(),
+            len: *payload_len,
             ..no_part_refusal()
         },
         IpDefragError::AllocationFailure { len: _ } => no_part_refusal(),

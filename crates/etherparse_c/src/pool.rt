@@ -60,8 +60,8 @@ pub extern "C" fn ep_pool_new(alloc: Global, pool: &mut EpPool) -> u32
 /// It is 1 where the message has no room: then the pool keeps it until `ep_pool_take` hands it out.
 /// It is 0 where no message is complete, since the frame is no part of one, or its message waits
 /// for others. It is 2 where there is no memory for the part, and 3 where the frame or the part is
-/// refused: then all messages are as they were. It is 4 where the pool isn't open or keeps a
-/// message: then nothing is changed.
+/// refused: then all messages are as they were, but that of a part of refusal 4 is dropped. It is 4
+/// where the pool isn't open or keeps a message: then nothing is changed.
 #[unsafe(no_mangle)]
 pub extern "C" fn ep_pool_add(
     alloc: Global,
