@@ -176,10 +176,10 @@ def message_line(sender, protocol, message):
 
 
 class Message:
-    """What has come of a message: its bytes, which of them were there (1), and the end that was named."""
+    """What has come of a message: its bytes, which of them were there (1), the end that was named, and over IPv6 the fragments."""
 
-    def __init__(self):
-        self.text, self.there, self.end, self.line = bytearray(), bytearray(), None, 0
+    def __init__(self, version):
+        self.text, self.there, self.end, self.line, self.parts = bytearray(), bytearray(), None, 0, [] if version == 6 else None
 
     def refusal(self, start, more, part):
         stop = start + len(part)
@@ -189,6 +189,8 @@ class Message:
             return "refused unaligned"
         if self.end is not None and (stop > self.end or (stop != self.end and not more)):
             return "refused end"
+        if self.parts is not None and (start, more, part) not in self.parts and 1 in self.there[start : stop if more else None]:
+            return "refused overlap"
         return None
 
     def add(self, line, start, more, part):
@@ -198,6 +200,8 @@ class Message:
         self.text[start:stop] = part
         self.there[start:stop] = b"\1" * len(part)
         self.line = line
+        if self.parts is not None:
+            self.parts.append((start, more, part))
         if not more:
             self.end = stop
 
@@ -242,8 +246,10 @@ class Answerer:
         return self.of_part((channel, identifiers, sender, identification, protocol), 8 * offset, more, payload)
 
     def of_part(self, name, start, more, part):
-        message = self.messages.get(name) or Message()
+        message = self.messages.get(name) or Message(name[2][0])
         refusal = message.refusal(start, more, part)
+        if refusal == "refused overlap":
+            self.messages.pop(name, None)
         if refusal:
             return refusal
         message.add(self.line, start, more, part)

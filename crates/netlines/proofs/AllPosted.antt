@@ -40,6 +40,13 @@ use Rattle.netlines.proofs.PostedFrames.{frame_is_whole}
 use Rattle.netlines.proofs.PostedPieces.{goes_from_start, is_good, posted_cut}
 use Rattle.netlines.proofs.ReplayLemmas.{waiting_hands_nothing}
 use Rattle.netlines.proofs.UnrefusedLemmas.{carried_whole, unrefused}
+use Rattle.etherparse.specs.defrag.declared.defrag.overlap_rule.OverlapRule.{OverlapRule}
+use Rattle.etherparse.specs.defrag.declared.defrag.overlap_rule.OverlapRule.TheVariants.{Refuses}
+use Rattle.etherparse.specs.defrag.IpFragId.{rule_over}
+use Rattle.etherparse.specs.defrag.Outcome.Outcome.{Clash}
+use Rattle.etherparse.specs.defrag.Fragments.{overlap_of}
+use Rattle.netlines.proofs.InertLemmas.{refuses_if}
+use Rattle.netlines.proofs.ReplayLemmas.{overlap_hands_nothing}
 
 pub is_in : {X : Type 0} (xs : List X) (x : X) → Contains xs x → IsIn x xs
 is_in [] x (k, below, is) = absurd (omega arith)
@@ -219,9 +226,10 @@ module _ (sent : FragmentName → ℕ → List ℕ) where
               let piece = piece_of line posted f hands.1 in
               subst (λ (g : Held). ArePiecesOf own g.fragments)
               (sym (held_with_fragment line name channel f hands.1 number h))
-              (by_outcome h.fragments f
+              (by_outcome (rule_over name.addresses) h.fragments f
               (λ (o : Outcome). ArePiecesOf own (held_after h number o).fragments)
               (λ error is. all)
+              (λ none clash. tt)
               (λ taken open_end. AllByRecursion-push (IsPieceOf own) h.fragments f all piece.0)
               (λ taken complete. tt))
           | inr (inl forgets) ↦
@@ -253,33 +261,42 @@ module _ (sent : FragmentName → ℕ → List ℕ) where
       abbrev held : List Fragment
       held = (lists_after_lines earlier name channel).fragments
 
-      becomes : (outcome held f ≡ Waiting (held ++ f ∷ [])) ⊎ (outcome held f ≡ Completed own)
+      abbrev rule : OverlapRule
+      rule = rule_over name.addresses
+
+      becomes : (outcome rule held f ≡ Waiting (held ++ f ∷ []))
+          ⊎ ((outcome rule held f ≡ Completed own)
+          ⊎ (outcome rule held f ≡ Clash (overlap_of f)) × (rule ≡ Refuses))
       becomes =
           let posted = posted_parts earlier line all in
           let piece = piece_of line posted.1 f hands in
           let before = pieces_after earlier posted.0 in
-          let taken = piece_taken own held f piece.1 before piece.0 in
-          elim (cases_Bool (is_complete (held ++ f ∷ []))) [
-            | inl t ↦ inr (is_completed held f taken t
-                ∙ ap Completed (text_is own (held ++ f ∷ [])
-                (AllByRecursion-push (IsPieceOf own) held f before piece.0) t))
-            | inr t ↦ inl (is_waiting held f taken t)
-          ]
+          let none = piece_taken own held f piece.1 before piece.0 in
+          by_outcome rule held f (λ (o : Outcome). (o ≡ Waiting (held ++ f ∷ []))
+          ⊎ ((o ≡ Completed own) ⊎ (o ≡ Clash (overlap_of f)) × (rule ≡ Refuses)))
+          (λ error refused. let never = sym none ∙ refused in cc)
+          (λ none clash. inr (inr (refl, refuses_if rule held f clash)))
+          (λ taken open_end. inl refl)
+          (λ taken whole. inr (inl (ap Completed (text_is own (held ++ f ∷ [])
+          (AllByRecursion-push (IsPieceOf own) held f before piece.0) whole))))
 
       pub part_answered : (answer_after earlier line ≡ codes "wait")
-          ⊎ (answer_after earlier line ≡ line_of_message name own)
+          ⊎ ((answer_after earlier line ≡ line_of_message name own)
+          ⊎ (answer_after earlier line ≡ codes "refused overlap") × (rule ≡ Refuses))
       part_answered =
           let answer = fragment_answered line name channel f hands earlier in
           elim becomes [
             | inl is ↦ inl (answer ∙ ap (outcome_answer name) is)
-            | inr is ↦ inr (answer ∙ ap (outcome_answer name) is)
+            | inr (inl is) ↦ inr (inl (answer ∙ ap (outcome_answer name) is))
+            | inr (inr is) ↦ inr (inr (answer ∙ ap (outcome_answer name) is.0, is.1))
           ]
 
       pub part_handed_out : HandsOut (answer_after earlier line)
           → answer_after earlier line ≡ line_of_message name own
       part_handed_out out = elim part_answered [
         | inl is ↦ absurd (waiting_hands_nothing (subst HandsOut is out))
-        | inr is ↦ is
+        | inr (inl is) ↦ is
+        | inr (inr is) ↦ absurd (overlap_hands_nothing (subst HandsOut is.0 out))
       ]
 
   -- ---- the line of the uncut frame

@@ -19,6 +19,7 @@ use Rattle.netlines.specs.Arrivals.{held_with_line, lists_after_lines}
 use Rattle.commands.specs.Commands.{Command, command_of}
 use Rattle.commands.specs.Commands.Command.{Frame, Forget, Bad}
 use Rattle.netlines.proofs.AnswerLemmas.{held_after_lines-push}
+use Rattle.etherparse.specs.defrag.IpFragId.{rule_over}
 
 pub not_true : (b : Bool) → not b ≡ true → b ≡ false
 not_true true t = cc
@@ -38,7 +39,8 @@ module _ (same : (a b : FragmentName) → IsTrue (same_name a b) ↔ (a ≡ b)) 
   -- a line that matters is answered by the list of the message
   cut_by_own : (lists : Lists) (own : FragmentName) (other : ℕ) (f : Fragment)
       → (same_name own name && (other == channel)) ≡ true
-      → outcome_at lists own other f ≡ outcome (lists name channel).fragments f
+      → outcome_at lists own other f
+      ≡ outcome (rule_over name.addresses) (lists name channel).fragments f
   cut_by_own lists own other f t =
       let both = and_parts (same_name own name) (other == channel) t in
       ap (λ (n : FragmentName). outcome_at lists n other f) ((same own name).0 both.0)
@@ -48,7 +50,12 @@ module _ (same : (a b : FragmentName) → IsTrue (same_name a b) ↔ (a ≡ b)) 
       → is_part name channel class other ≡ true
       → class_answer lists class other ≡ class_answer (all_hold (lists name channel)) class other
   class_by_own lists (Cut own offset more bytes) other t =
-      ap (outcome_answer own) (cut_by_own lists own other (fragment offset more bytes) t)
+      let f = fragment offset more bytes in
+      let same_own : own ≡ name =
+      (same own name).0 (and_parts (same_name own name) (other == channel) t).0 in
+      ap (outcome_answer own) (cut_by_own lists own other f t
+      ∙ ap (λ (n : FragmentName). outcome (rule_over n.addresses) (lists name channel).fragments f)
+      (sym same_own))
   class_by_own lists (Whole addresses number bytes message) other t = refl
   class_by_own lists Other other t = refl
   class_by_own lists Refused other t = refl
@@ -66,7 +73,7 @@ module _ (same : (a b : FragmentName) → IsTrue (same_name a b) ↔ (a ≡ b)) 
       → after_frame name channel class number other h ≡ h
   class_stays (Cut own offset more bytes) other number h t =
       ap (λ (b : Bool). cond b (held_after h number
-      (outcome h.fragments (fragment offset more bytes))) h) t
+      (outcome (rule_over name.addresses) h.fragments (fragment offset more bytes))) h) t
   class_stays (Whole addresses protocol bytes message) other number h t = refl
   class_stays Other other number h t = refl
   class_stays Refused other number h t = refl

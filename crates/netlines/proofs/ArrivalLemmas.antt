@@ -23,6 +23,7 @@ use Rattle.commands.specs.Commands.{Command, command_of}
 use Rattle.commands.specs.Commands.Command.{Frame, Forget, Bad}
 use Rattle.lines.specs.Replies.{number_after}
 use Rattle.netlines.proofs.AnswerLemmas.{held_after_lines-push, lists_after_lines-nil}
+use Rattle.etherparse.specs.defrag.IpFragId.{rule_over}
 
 -- a name is the same as itself
 same_bytes : (bytes : List ℕ) → pointwise nat_eq bytes bytes ≡ true
@@ -59,11 +60,12 @@ module _ (line : List ℕ) (name : FragmentName) (channel : ℕ) (f : Fragment)
     (hands : HandsInFragment line name channel f) where
   pub held_with_fragment : (number : ℕ) (h : Held)
       → held_with_line name channel number (command_of line) h
-      ≡ held_after h number (outcome h.fragments f)
+      ≡ held_after h number (outcome (rule_over name.addresses) h.fragments f)
   held_with_fragment number h =
       ap (λ (k : Command). held_with_line name channel number k h) hands.frame
       ∙ ap (λ (c : Class). after_frame name channel c number channel h) hands.part
-      ∙ ap (λ (b : Bool). if b then held_after h number (outcome h.fragments f) else h)
+      ∙ ap (λ (b : Bool). if b
+      then held_after h number (outcome (rule_over name.addresses) h.fragments f) else h)
       (same_self name channel)
 
   pub list_with_fragment : (earlier : List (List ℕ))
@@ -116,7 +118,7 @@ module _ (same : (a b : FragmentName) → IsTrue (same_name a b) ↔ (a ≡ b)) 
             (inr (λ number h. ap (λ (k : Command). held_with_line name channel number k h) frame
             ∙ ap (λ (c : Class). after_frame name channel c number other h) part
             ∙ ap (λ (b : Bool). if b then held_after h number
-            (outcome h.fragments (fragment offset more text)) else h) t))
+            (outcome (rule_over name.addresses) h.fragments (fragment offset more text)) else h) t))
       ]
   frame_is other bytes frame (Whole addresses protocol text message) part =
       no_part other bytes _ frame part refl
@@ -201,11 +203,12 @@ module _ (same : (a b : FragmentName) → IsTrue (same_name a b) ↔ (a ≡ b))
   last_with_fragment : (earlier : List (List ℕ)) (line : List ℕ) (f : Fragment)
       → HandsInFragment line name channel f → Last earlier → Last (earlier ++ line ∷ [])
   last_with_fragment earlier line f hands last =
-      by_outcome (lists_after_lines earlier name channel).fragments f
+      by_outcome (rule_over name.addresses) (lists_after_lines earlier name channel).fragments f
       (λ (o : Outcome). lists_after_lines (earlier ++ line ∷ []) name channel
       ≡ held_after (lists_after_lines earlier name channel) (number_after earlier) o
       → Last (earlier ++ line ∷ []))
       (λ error refused is. still_last earlier line last is)
+      (λ none clash is. none_left earlier line (ap (λ (h : Held). h.fragments) is))
       (λ taken open_end is some. record {
         before = earlier;
         line = line;

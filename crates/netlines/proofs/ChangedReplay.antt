@@ -18,12 +18,19 @@ use Rattle.netlines.specs.Arrivals.{HandsInFragment, lists_after_lines}
 use Rattle.netlines.specs.ChangedWord.{DifferAt, IsChangedFragment}
 use Rattle.netlines.specs.Waiting.{HandsOut, HandsOutChanged, line_of_message, lines_for, texts_for}
 use Rattle.netlines.specs.Waiting.{waiting_lines}
+use Rattle.netlines.proofs.AcceptedWaiting.{all_accepted}
 use Rattle.netlines.proofs.ArrivalLemmas.{fragment_answered}
 use Rattle.netlines.proofs.ChangedFragment.{one_changed, texts_differ}
 use Rattle.netlines.proofs.ReplayLemmas.{answered_among, handed_out}
 use Rattle.netlines.proofs.ShapeLemmas.{AllSameShape, SameShape, completes_if, own_shape, same_completed}
 use Rattle.netlines.proofs.ShapeLemmas.{same_wait, waits_if}
 use Rattle.netlines.proofs.WaitingLemmas.{AllWait, HandIn, HandIn-push, are_waiting, none_held}
+use Rattle.etherparse.specs.defrag.declared.defrag.overlap_rule.OverlapRule.{OverlapRule}
+use Rattle.etherparse.specs.defrag.declared.defrag.overlap_rule.OverlapRule.TheVariants.{Overwrites}
+use Rattle.etherparse.specs.defrag.IpFragId.{rule_over}
+use Rattle.etherparse.specs.defrag.Outcome.{outcome}
+use Rattle.etherparse.specs.defrag.Outcome.Outcome.{Completed}
+use Rattle.etherparse.proofs.Found.{accepted_is}
 
 waits_alike : (xs ys : List (List ℕ)) → length xs ≡ length ys
     → map (λ (_ : List ℕ). codes "wait") xs ≡ map (λ (_ : List ℕ). codes "wait") ys
@@ -57,28 +64,6 @@ shaped_last (f ∷ fs) h (k ∷ ks) all =
       fronts = (all.0, rest.fronts);
       lasts = rest.lasts;
     }
-
--- fragments that wait behind one another are accepted
-accepted_waiting : (before fs : List Fragment) → AllWait before fs
-    → with_all_accepted before fs ≡ before ++ fs
-accepted_waiting before [] wait = sym (append-nil before)
-accepted_waiting before (f ∷ fs) wait =
-    let taken = (waits_if before f (before ++ f ∷ []) wait.0).0 in
-    ap (λ (o : Option IpDefragError). with_all_accepted
-    (if is_some o then before else before ++ f ∷ []) fs) taken
-    ∙ accepted_waiting (before ++ f ∷ []) fs wait.1 ∙ append_assoc before (f ∷ []) fs
-
-accepted-append : (before fs gs : List Fragment) → with_all_accepted before (fs ++ gs)
-    ≡ with_all_accepted (with_all_accepted before fs) gs
-accepted-append before [] gs = refl
-accepted-append before (f ∷ fs) gs = accepted-append (with_accepted before f) fs gs
-
-all_accepted : (fs : List Fragment) (h : Fragment) → AllWait [] fs → refusal_of fs h ≡ None
-    → IsAccepted (fs ++ h ∷ [])
-all_accepted fs h wait taken =
-    accepted-append [] fs (h ∷ [])
-    ∙ ap (λ (gs : List Fragment). with_all_accepted gs (h ∷ [])) (accepted_waiting [] fs wait)
-    ∙ ap (λ (o : Option IpDefragError). if is_some o then fs else fs ++ h ∷ []) taken
 
 module _ (same : (a b : FragmentName) → IsTrue (same_name a b) ↔ (a ≡ b)) (name : FragmentName)
     (channel : ℕ) where
@@ -170,7 +155,8 @@ module _ (same : (a b : FragmentName) → IsTrue (same_name a b) ↔ (a ≡ b)) 
       }
 
   pub replayed_with_change : MembersAgree → (earlier others between front rest : List (List ℕ))
-      (last line changed : List ℕ) (f g h : Fragment) → HandsInFragment last name channel h
+      (last line changed : List ℕ) (f g h : Fragment) → rule_over name.addresses ≡ Overwrites
+      → HandsInFragment last name channel h
       → HandsOut (answer_after earlier last)
       → waiting_lines name channel earlier ++ last ∷ [] ≡ front ++ line ∷ rest
       → HandsInFragment line name channel f → HandsInFragment changed name channel g
@@ -179,15 +165,19 @@ module _ (same : (a b : FragmentName) → IsTrue (same_name a b) ↔ (a ≡ b)) 
       → HandsOutChanged name (8 * f.offset + length change.words.front) (answer_after earlier last)
       (waiting_lines name channel earlier) (texts_for name channel between
       (answers_behind others between))
-  replayed_with_change agree earlier others between front rest last line changed f g h hands out
-      lines_are line_hands changed_hands change none is =
+  replayed_with_change agree earlier others between front rest last line changed f g h over hands
+      out lines_are line_hands changed_hands change none is =
       let waiting = waiting_lines name channel earlier in
       let held = are_waiting same name channel earlier in
       let fs = (lists_after_lines earlier name channel).fragments in
       let answer = fragment_answered last name channel h hands earlier in
       let told = handed_out name (outcome_at (lists_after_lines earlier) name channel h)
       (subst HandsOut answer out) in
-      let was = completes_if fs h told.0 told.1 in
+      let old_wait : AllWait Overwrites [] fs =
+      subst (λ (r : OverlapRule). AllWait r [] fs) over held.1 in
+      let completed : outcome Overwrites fs h ≡ Completed told.0 =
+      subst (λ (r : OverlapRule). outcome r fs h ≡ Completed told.0) over told.1 in
+      let was = completes_if Overwrites fs h told.0 completed in
       let all_in : In (front ++ line ∷ rest) (fs ++ h ∷ []) =
       subst (λ (ls : List (List ℕ)). In ls (fs ++ h ∷ [])) lines_are
       (HandIn-push same name channel waiting fs last h held.0 hands) in
@@ -219,14 +209,20 @@ module _ (same : (a b : FragmentName) → IsTrue (same_name a b) ↔ (a ≡ b)) 
         length-append waiting (last ∷ []),
         length-append front (line ∷ rest),
       ) in
-      let wait : AllWait [] n.gs = same_wait [] [] fs n.gs tt n.fronts held.1 in
-      let completes = same_completed fs n.gs h n.last told.0 n.fronts n.lasts told.1 in
+      let wait : AllWait (rule_over name.addresses) [] n.gs =
+      subst (λ (r : OverlapRule). AllWait r [] n.gs) (sym over)
+      (same_wait [] [] fs n.gs tt n.fronts old_wait) in
+      let completes : outcome (rule_over name.addresses) n.gs n.last
+      ≡ Completed (text_of (n.gs ++ n.last ∷ [])) =
+      subst (λ (r : OverlapRule). outcome r n.gs n.last ≡ Completed (text_of (n.gs ++ n.last ∷ [])))
+      (sym over)
+      (same_completed fs n.gs h n.last told.0 n.fronts n.lasts completed) in
       let made = answered_among same name channel others between l.front n.gs l.line n.last
       (text_of (n.gs ++ n.last ∷ [])) (none_held same name channel others none) l.fronts l.here wait
       completes (is ∙ l.is) in
       let agrees : All (AgreesWith (a.before ++ f ∷ a.behind)) (a.before ++ f ∷ a.behind) =
       subst (λ (ks : List Fragment). All (AgreesWith ks) ks) old_are
-      (agree (fs ++ h ∷ []) (all_accepted fs h held.1 was.0)) in
+      (agree Overwrites (fs ++ h ∷ []) (all_accepted Overwrites fs h old_wait was.0)) in
       let differ : DifferAt (8 * f.offset + length change.words.front)
       (text_of (a.before ++ f ∷ a.behind)) (text_of new) =
       texts_differ a.before a.behind f g shape change.words agrees in

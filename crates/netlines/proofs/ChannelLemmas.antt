@@ -6,7 +6,7 @@ use Rattle.std.proofs.lemmas.Bool.{cases_Bool, eqb-true}
 use Rattle.etherparse.specs.defrag.Fragments.{Fragment, fragment}
 use Rattle.etherparse.specs.defrag.IpFragId.{same_name}
 use Rattle.etherparse.specs.defrag.Outcome.{Held, Outcome, held_after, outcome}
-use Rattle.etherparse.specs.defrag.Outcome.Outcome.{Completed, Refusal, Waiting}
+use Rattle.etherparse.specs.defrag.Outcome.Outcome.{Clash, Completed, Refusal, Waiting}
 use Rattle.etherparse.specs.defrag.PoolCalls.{Lists, after_frame}
 use Rattle.etherparse.specs.packet.Class.{Class, FragmentName, class_of}
 use Rattle.etherparse.specs.packet.Class.Class.{Whole, Cut, Other, Refused}
@@ -18,6 +18,8 @@ use Rattle.commands.specs.Commands.Command.{Frame, Forget, Bad}
 use Rattle.lines.specs.Replies.{number_after}
 use Rattle.netlines.proofs.AloneLemmas.{answer_is}
 use Rattle.netlines.proofs.AnswerLemmas.{held_after_lines-push}
+use Rattle.etherparse.specs.defrag.declared.defrag.overlap_rule.OverlapRule.{OverlapRule}
+use Rattle.etherparse.specs.defrag.IpFragId.{rule_over}
 
 abbrev SameFragments : Held → Held → Type 0
 SameFragments h g = h.fragments ≡ g.fragments
@@ -26,23 +28,26 @@ SameFragments h g = h.fragments ≡ g.fragments
 outcome_alike : (o : Outcome) (h g : Held) (n m : ℕ) → SameFragments h g
     → SameFragments (held_after h n o) (held_after g m o)
 outcome_alike (Refusal error) h g n m is = is
+outcome_alike (Clash error) h g n m is = refl
 outcome_alike (Waiting fs) h g n m is = refl
 outcome_alike (Completed text) h g n m is = refl
 
-choice_alike : (b : Bool) (f : Fragment) (h g : Held) (n m : ℕ) → SameFragments h g
-    → SameFragments (cond b (held_after h n (outcome h.fragments f)) h)
-    (cond b (held_after g m (outcome g.fragments f)) g)
-choice_alike true f h g n m is =
-    outcome_alike (outcome h.fragments f) h g n m is
-    ∙ ap (λ (fs : List Fragment). (held_after g m (outcome fs f)).fragments) is
-choice_alike false f h g n m is = is
+choice_alike : (rule : OverlapRule) (b : Bool) (f : Fragment) (h g : Held) (n m : ℕ)
+    → SameFragments h g
+    → SameFragments (cond b (held_after h n (outcome rule h.fragments f)) h)
+    (cond b (held_after g m (outcome rule g.fragments f)) g)
+choice_alike rule true f h g n m is =
+    outcome_alike (outcome rule h.fragments f) h g n m is
+    ∙ ap (λ (fs : List Fragment). (held_after g m (outcome rule fs f)).fragments) is
+choice_alike rule false f h g n m is = is
 
 class_alike : (name : FragmentName) (channel : ℕ) (class : Class) (other : ℕ) (h g : Held)
     (n m : ℕ) → SameFragments h g
     → SameFragments (after_frame name channel class n other h)
     (after_frame name channel class m other g)
 class_alike name channel (Cut own offset more bytes) other h g n m is =
-    choice_alike (same_name own name && (other == channel)) (fragment offset more bytes) h g n m is
+    choice_alike (rule_over name.addresses) (same_name own name && (other == channel))
+    (fragment offset more bytes) h g n m is
 class_alike name channel (Whole addresses number bytes message) other h g n m is = is
 class_alike name channel Other other h g n m is = is
 class_alike name channel Refused other h g n m is = is
@@ -64,7 +69,8 @@ other_stays false h next = refl
 class_stays : (name : FragmentName) (channel : ℕ) (class : Class) (other : ℕ) (h : Held) (n : ℕ)
     → (other == channel) ≡ false → after_frame name channel class n other h ≡ h
 class_stays name channel (Cut own offset more bytes) other h n off =
-    let next = held_after h n (outcome h.fragments (fragment offset more bytes)) in
+    let next = held_after h n
+    (outcome (rule_over name.addresses) h.fragments (fragment offset more bytes)) in
     ap (λ (b : Bool). cond (same_name own name && b) next h) off
     ∙ other_stays (same_name own name) h next
 class_stays name channel (Whole addresses number bytes message) other h n off = refl
@@ -84,7 +90,8 @@ class_told : (channel : ℕ) (lists others : Lists) (class : Class)
     → ((name : FragmentName) → SameFragments (lists name channel) (others name channel))
     → class_answer lists class channel ≡ class_answer others class channel
 class_told channel lists others (Cut own offset more bytes) same =
-    ap (λ (fs : List Fragment). outcome_answer own (outcome fs (fragment offset more bytes)))
+    ap (λ (fs : List Fragment). outcome_answer own
+    (outcome (rule_over own.addresses) fs (fragment offset more bytes)))
     (same own)
 class_told channel lists others (Whole addresses number bytes message) same = refl
 class_told channel lists others Other same = refl

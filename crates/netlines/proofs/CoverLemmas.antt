@@ -1,17 +1,22 @@
 -- When the pieces of one cut of a message cover it: with the last of them, in any order and with
 -- repeats.
 use Rattle.std.proofs.Common.{◌≡◌, ◌∙◌, sym, ap, refl, subst, inl, inr, ℕ, ◌<◌, ◌≤◌, true}
-use Rattle.std.proofs.Common.{false, IsSome, List, [], ◌∷◌, ◌++◌, length}
+use Rattle.std.proofs.Common.{false, None, IsSome, List, [], ◌∷◌, ◌++◌, length}
 use Rattle.std.proofs.Common.{arith}
-use Rattle.std.specs.List.{AllByRecursion}
+use Rattle.std.specs.List.{AllByRecursion, Contains}
 use Rattle.std.proofs.lemmas.Bool.{cases_Bool, false_from_ne_true}
 use Rattle.etherparse.specs.defrag.Fragments.{Fragment, Holds, end_of, is_complete, named_end}
-use Rattle.etherparse.specs.defrag.Fragments.{start_of}
+use Rattle.etherparse.specs.defrag.Fragments.{overlaps, refusal_of, start_of}
+use Rattle.etherparse.specs.defrag.declared.defrag.overlap_rule.OverlapRule.{OverlapRule}
+use Rattle.etherparse.specs.defrag.declared.defrag.overlap_rule.OverlapRule.TheVariants.{Overwrites}
+use Rattle.etherparse.specs.defrag.declared.defrag.overlap_rule.OverlapRule.TheVariants.{Refuses}
 use Rattle.etherparse.specs.defrag.Outcome.{outcome}
 use Rattle.etherparse.specs.defrag.Outcome.Outcome.{Completed}
+use Rattle.etherparse.proofs.Clash.{no_clash}
 use Rattle.etherparse.proofs.Complete.{complete_Decides}
-use Rattle.etherparse.proofs.Members.{AllByRecursion-push, Any-from_AnyOf, AnyOf, AnyOf-push}
-use Rattle.etherparse.proofs.OutcomeLemmas.{is_completed, is_waiting}
+use Rattle.etherparse.proofs.Members.{AllByRecursion-push, Any-from_AnyOf, AnyOf, AnyOf-from_Any}
+use Rattle.etherparse.proofs.Members.{AnyOf-push}
+use Rattle.etherparse.proofs.OutcomeLemmas.{is_completed, is_taken, is_waiting}
 use Rattle.netlines.proofs.PieceLemmas.{ArePiecesOf, IsPieceOf, complete_to_end, greatest_within}
 use Rattle.netlines.proofs.PieceLemmas.{piece_taken, text_is}
 use Rattle.netlines.proofs.WaitingLemmas.{AllWait}
@@ -41,6 +46,9 @@ pub all-each : {X : Type 0} (P : X → Type 0) (xs : List X) → ((x : X) → Is
     → AllByRecursion P xs
 all-each P [] each = tt
 all-each P (x ∷ xs) each = (each x (inl refl), all-each P xs (λ y h. each y (inr h)))
+
+is_in_list : {X : Type 0} (xs : List X) (x : X) → Contains xs x → IsIn x xs
+is_in_list xs x at = AnyOf-from_Any (λ y. y ≡ x) xs (at.0, x, at.1, at.2, refl)
 
 -- ---- one cut of a message
 
@@ -99,39 +107,65 @@ module _ (message : List ℕ) (short : length message ≤ 65535) (parts : List F
             (AnyOf-of (λ f. Holds f p) fs held.0 (each held.0 held.1) held.2);
       })
 
+  -- another one of them overlaps none
+  no_overlap : (rule : OverlapRule) (fs : List Fragment) (f : Fragment) → AreAmong parts fs
+      → IsIn f parts → overlaps rule fs f ≡ false
+  no_overlap Overwrites fs f among part = refl
+  no_overlap Refuses fs f among part = no_clash fs f (λ clash. elim clash [
+    | inl h ↦
+        let g = h.1.2.1 in
+        let at : Contains fs g = (h.1.2.0, h.1.2.2, h.1.2.3) in
+        let in' = is_in_list fs g at in
+        let same : g ≡ f = cut.apart g f h.1.0
+        (all-in (λ k. IsIn k parts) fs g among in') part h.1.2.4 h.1.1 in
+        h.0 (subst (λ (k : Fragment). Contains fs k) same at)
+    | inr h ↦
+        let g = h.1.2.1 in
+        let in' = is_in_list fs g (h.1.2.0, h.1.2.2, h.1.2.3) in
+        let piece = all-in (IsPieceOf message) parts g cut.pieces
+        (all-in (λ k. IsIn k parts) fs g among in') in
+        let own = all-in (IsPieceOf message) parts f cut.pieces part in
+        let end = own.last h.0 in
+        omega (arith, piece.within, end, h.1.1, h.1.2.4.1)
+  ])
+
+  part_taken : (rule : OverlapRule) (fs : List Fragment) (f : Fragment) → AreAmong parts fs
+      → IsIn f parts → refusal_of rule fs f ≡ None
+  part_taken rule fs f among part =
+      is_taken rule fs f
+      (piece_taken message fs f short (are_pieces fs among)
+      (all-in (IsPieceOf message) parts f cut.pieces part))
+      (no_overlap rule fs f among part)
+
   -- so each waits while one is missing,
-  wait_without : (missing : Fragment) → IsIn missing parts → (before fs : List Fragment)
+  wait_without : (rule : OverlapRule) (missing : Fragment) → IsIn missing parts → (before fs : List Fragment)
       → AreAmong parts before → (IsIn missing before → ⊥) → AreAmong parts fs
-      → (IsIn missing fs → ⊥) → AllWait before fs
-  wait_without missing part before [] among_before not_before among none = tt
-  wait_without missing part before (f ∷ fs) among_before not_before among none =
+      → (IsIn missing fs → ⊥) → AllWait rule before fs
+  wait_without rule missing part before [] among_before not_before among none = tt
+  wait_without rule missing part before (f ∷ fs) among_before not_before among none =
       let longer = AllByRecursion-push (λ g. IsIn g parts) before f among_before among.0 in
       let without : IsIn missing (before ++ f ∷ []) → ⊥ = λ h.
       elim (AnyOf-push (λ g. g ≡ missing) before f h) [
         | inl k ↦ not_before k
         | inr k ↦ none (inl k)
       ] in (
-        is_waiting before f
-            (piece_taken message before f short (are_pieces before among_before)
-            (all-in (IsPieceOf message) parts f cut.pieces among.0))
+        is_waiting rule before f (part_taken rule before f among_before among.0)
             (open_without missing part (before ++ f ∷ []) longer without),
-        wait_without missing part (before ++ f ∷ []) fs longer without among.1
+        wait_without rule missing part (before ++ f ∷ []) fs longer without among.1
             (λ h. none (inr h)),
       )
 
-  pub all_wait : (missing : Fragment) → IsIn missing parts → (fs : List Fragment)
-      → AreAmong parts fs → (IsIn missing fs → ⊥) → AllWait [] fs
-  all_wait missing part fs among none =
-      wait_without missing part [] fs tt (λ h. h) among none
+  pub all_wait : (rule : OverlapRule) (missing : Fragment) → IsIn missing parts
+      → (fs : List Fragment) → AreAmong parts fs → (IsIn missing fs → ⊥) → AllWait rule [] fs
+  all_wait rule missing part fs among none =
+      wait_without rule missing part [] fs tt (λ h. h) among none
 
   -- and the last one completes the message
-  pub completes : (fs : List Fragment) (f : Fragment) → AreAmong parts (fs ++ f ∷ [])
+  pub completes : (rule : OverlapRule) (fs : List Fragment) (f : Fragment) → AreAmong parts (fs ++ f ∷ [])
       → ((g : Fragment) → IsIn g parts → IsIn g (fs ++ f ∷ [])) → AreAmong parts fs
-      → IsIn f parts → outcome fs f ≡ Completed message
-  completes fs f among each before part =
-      is_completed fs f
-      (piece_taken message fs f short (are_pieces fs before)
-      (all-in (IsPieceOf message) parts f cut.pieces part))
+      → IsIn f parts → outcome rule fs f ≡ Completed message
+  completes rule fs f among each before part =
+      is_completed rule fs f (part_taken rule fs f before part)
       (whole_with (fs ++ f ∷ []) among each)
       ∙ ap Completed (text_is message (fs ++ f ∷ []) (are_pieces (fs ++ f ∷ []) among)
       (whole_with (fs ++ f ∷ []) among each))

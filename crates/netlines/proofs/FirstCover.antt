@@ -26,6 +26,7 @@ use Rattle.netlines.proofs.PostedCut.{part_of}
 use Rattle.netlines.proofs.PostedFrames.{PartIsRead}
 use Rattle.netlines.proofs.ReplayLemmas.{AllButLast, answered_among}
 use Rattle.netlines.proofs.WaitingLemmas.{HandIn, none_held}
+use Rattle.etherparse.specs.defrag.IpFragId.{rule_over}
 
 contains : {X : Type 0} (xs : List X) (x : X) → IsIn x xs → Contains xs x
 contains [] x h = absurd h
@@ -158,5 +159,6 @@ module _ (letter : Letter) (message cuts : List ℕ) (law : PartIsRead) (fits : 
         (hand_in same lines before.ps before.among
         (subst (HandInFrames channel lines) (sym before.are) handed))
         (hands line p.piece p.is_piece (last_handed ∙ ap (Frame channel) (sym p.frame_is)))
-        (all_wait message short all_parts cut_is f part fs among new)
-        (completes message short all_parts cut_is fs f longer each among part) is
+        (all_wait message short all_parts cut_is (rule_over name.addresses) f part fs among new)
+        (completes message short all_parts cut_is (rule_over name.addresses) fs f longer each among
+        part) is

@@ -11,10 +11,17 @@ use Rattle.std.proofs.lemmas.List.{get_or-append_right, get_or_append_left}
 use Rattle.std.proofs.lemmas.List.FromFn.{fill_by_all}
 use Rattle.etherparse.specs.defrag.declared.defrag.ip_defrag_error.IpDefragError.{IpDefragError}
 use Rattle.etherparse.specs.defrag.Fragments.{Fragment, Holds, end_of, greatest_end, is_complete}
-use Rattle.etherparse.specs.defrag.Fragments.{named_end, refusal_at, refusal_of, start_of}
+use Rattle.etherparse.specs.defrag.Fragments.{named_end, overlaps, refusal_at, refusal_of, start_of}
+use Rattle.etherparse.specs.defrag.Fragments.{Covered}
+use Rattle.etherparse.specs.defrag.declared.defrag.overlap_rule.OverlapRule.{OverlapRule}
+use Rattle.etherparse.specs.defrag.declared.defrag.overlap_rule.OverlapRule.TheVariants.{Overwrites}
+use Rattle.etherparse.specs.defrag.declared.defrag.overlap_rule.OverlapRule.TheVariants.{Refuses}
 use Rattle.etherparse.specs.defrag.Picture.{byte_at, byte_of, text_of}
+use Rattle.etherparse.proofs.Clash.{no_clash}
 use Rattle.etherparse.proofs.Complete.{complete_Decides}
+use Rattle.etherparse.proofs.Disjoint.{greatest_of}
 use Rattle.etherparse.proofs.Members.{Any-from_AnyOf, AnyOf, AnyOf-left, AnyOf-right}
+use Rattle.etherparse.proofs.OutcomeLemmas.{is_taken}
 use Rattle.etherparse.proofs.Push.{byte_at-push, byte_of-here, greatest_end-push, named_end-push}
 use Rattle.etherparse.proofs.Push.{own_end}
 
@@ -112,8 +119,33 @@ aligned true n e is = rw (eq-eqb (n % 8) 0 (is refl)) refl
 aligned false n e is = refl
 
 -- none is refused that fits and is of whole units where more follows
-pub taken_with : (fs : List Fragment) (f : Fragment) → named_end fs ≡ None → end_of f ≤ 65535
-    → (f.more ≡ true → length f.bytes % 8 ≡ 0) → refusal_of fs f ≡ None
-taken_with fs f unended short units =
+unrefused_with : (fs : List Fragment) (f : Fragment) → named_end fs ≡ None → end_of f ≤ 65535
+    → (f.more ≡ true → length f.bytes % 8 ≡ 0) → refusal_at (named_end fs) f ≡ None
+unrefused_with fs f unended short units =
     ap (λ o. refusal_at o f) unended ∙ rw (le-ltb 65535 (end_of f) short)
     (aligned f.more (length f.bytes) _ units)
+
+below_top : (fs : List Fragment) (p : ℕ) → Covered fs p → p < greatest_end fs
+below_top fs p c =
+    let top = greatest_of fs c.1 (c.0, c.2, c.3) in omega (arith, c.4.1, top)
+
+-- one that begins where they end overlaps none
+no_overlap_with : (rule : OverlapRule) (fs : List Fragment) (text : List ℕ) → AreFront fs text
+    → (f : Fragment) → start_of f ≡ length text → overlaps rule fs f ≡ false
+no_overlap_with Overwrites fs text front f follows = refl
+no_overlap_with Refuses fs text front f follows = no_clash fs f (λ clash. elim clash [
+  | inl h ↦
+      let below = below_top fs h.1.0 h.1.2 in
+      let own = h.1.1 in
+      omega (arith, below, own.0, front.top, follows)
+  | inr h ↦
+      let below = below_top fs h.1.0 h.1.2 in
+      omega (arith, below, h.1.1, front.top, follows)
+])
+
+pub taken_with : (rule : OverlapRule) (fs : List Fragment) (text : List ℕ) → AreFront fs text
+    → (f : Fragment) → start_of f ≡ length text → end_of f ≤ 65535
+    → (f.more ≡ true → length f.bytes % 8 ≡ 0) → refusal_of rule fs f ≡ None
+taken_with rule fs text front f follows short units =
+    is_taken rule fs f (unrefused_with fs f front.unended short units)
+    (no_overlap_with rule fs text front f follows)

@@ -7,7 +7,7 @@ use Rattle.std.proofs.lemmas.Bool.{and_parts, cases_Bool, eqb-true}
 use Rattle.etherparse.specs.defrag.Fragments.{Fragment, fragment}
 use Rattle.etherparse.specs.defrag.IpFragId.{same_name}
 use Rattle.etherparse.specs.defrag.Outcome.{Held, Outcome, held_after, outcome}
-use Rattle.etherparse.specs.defrag.Outcome.Outcome.{Completed, Refusal, Waiting}
+use Rattle.etherparse.specs.defrag.Outcome.Outcome.{Clash, Completed, Refusal, Waiting}
 use Rattle.etherparse.specs.defrag.PoolCalls.{Lists, after_frame, outcome_at}
 use Rattle.etherparse.specs.defrag.declared.defrag.ip_defrag_error.IpDefragError.{IpDefragError}
 use Rattle.etherparse.specs.defrag.declared.defrag.ip_defrag_error.IpDefragError.TheVariants.{AllocationFailure}
@@ -30,6 +30,18 @@ use Rattle.lines.specs.Replies.{number_after}
 use Rattle.netlines.proofs.AloneLemmas.{answer_is}
 use Rattle.netlines.proofs.AnswerLemmas.{lists_after_lines-push}
 use Rattle.netlines.proofs.ArrivalLemmas.{fragment_answered, list_with_fragment}
+use Rattle.etherparse.specs.defrag.declared.defrag.overlap_rule.OverlapRule.{OverlapRule}
+use Rattle.etherparse.specs.defrag.declared.defrag.overlap_rule.OverlapRule.TheVariants.{Overwrites}
+use Rattle.etherparse.specs.defrag.declared.defrag.overlap_rule.OverlapRule.TheVariants.{Refuses}
+use Rattle.etherparse.specs.defrag.IpFragId.{rule_over}
+use Rattle.etherparse.specs.defrag.declared.defrag.ip_defrag_error.IpDefragError.TheVariants.{OverlappingFragment}
+use Rattle.etherparse.proofs.OutcomeLemmas.{by_outcome}
+use Rattle.etherparse.specs.defrag.Fragments.{overlaps}
+use Rattle.etherparse.specs.defrag.Fragments.{named_end}
+use Rattle.etherparse.specs.defrag.Picture.{text_of}
+use Rattle.etherparse.specs.defrag.IpDefragError.{is_overlap}
+use Rattle.etherparse.proofs.Found.{no_overlap_at}
+use Rattle.std.specs.Prelude.{IfSome}
 
 -- later lines are answered by the lists and the count of the lines before them
 later_same : (before others later : List (List ℕ))
@@ -147,6 +159,23 @@ completed_other addresses number text (Ok read) =
     (λ e. let r : 109 ≡ 114 = e in absurd (omega (arith, r)))
 completed_other addresses number text (Err error) = refused_message
 
+overlap_other : IsRefused (codes "refused overlap") → ⊥
+overlap_other (inl is) =
+    let e : 114 ≡ 111 = first_byte (codes "refused overlap") (codes "other") is in
+    absurd (omega (arith, e))
+overlap_other (inr (inl is)) =
+    let e : 111 ≡ 102 = ninth_byte (codes "refused overlap") (codes "refused frame") is in
+    absurd (omega (arith, e))
+overlap_other (inr (inr (inl is))) =
+    let e : 111 ≡ 108 = ninth_byte (codes "refused overlap") (codes "refused long") is in
+    absurd (omega (arith, e))
+overlap_other (inr (inr (inr (inl is)))) =
+    let e : 111 ≡ 117 = ninth_byte (codes "refused overlap") (codes "refused unaligned") is in
+    absurd (omega (arith, e))
+overlap_other (inr (inr (inr (inr is)))) =
+    let e : 111 ≡ 101 = ninth_byte (codes "refused overlap") (codes "refused end") is in
+    absurd (omega (arith, e))
+
 -- no refusal is answered as a message that can't be read is
 pub refusal_other : (error : IpDefragError) → refusal_answer error ≡ codes "refused message" → ⊥
 refusal_other (SegmentTooBig offset payload_len max) is =
@@ -157,6 +186,9 @@ refusal_other (UnalignedFragmentPayloadLen offset payload_len) is =
     absurd (omega (arith, e))
 refusal_other (ConflictingEnd previous_end conflicting_end) is =
     let e : 101 ≡ 109 = ninth_byte (codes "refused end") (codes "refused message") is in
+    absurd (omega (arith, e))
+refusal_other (OverlappingFragment offset payload_len) is =
+    let e : 111 ≡ 109 = ninth_byte (codes "refused overlap") (codes "refused message") is in
     absurd (omega (arith, e))
 refusal_other (AllocationFailure len) is =
     let e : 0 ≡ 114 = first_byte [] (codes "refused message") is in absurd (omega (arith, e))
@@ -189,6 +221,7 @@ forgetting_other (inr (inr (inr (inr is)))) =
 refused_stays : (name : FragmentName) (o : Outcome) (h : Held) (number : ℕ)
     → IsRefused (outcome_answer name o) → held_after h number o ≡ h
 refused_stays name (Refusal error) h number is = refl
+refused_stays name (Clash error) h number is = absurd (overlap_other is)
 refused_stays name (Waiting fs) h number is = absurd (waiting_other is)
 refused_stays name (Completed text) h number is =
     absurd (completed_other name.addresses name.number text (message_at name.number text) is)
@@ -199,11 +232,13 @@ module _ (same : (a b : FragmentName) → IsTrue (same_name a b) ↔ (a ≡ b)) 
       → IsRefused (outcome_answer own (outcome_at lists own channel f)) → (name : FragmentName)
       (other : ℕ)
       → cond (same_name own name && (channel == other))
-      (held_after (lists name other) number (outcome (lists name other).fragments f))
+      (held_after (lists name other) number
+      (outcome (rule_over name.addresses) (lists name other).fragments f))
       (lists name other)
       ≡ lists name other
   cut_stays own channel f is name other =
-      let next = held_after (lists name other) number (outcome (lists name other).fragments f) in
+      let next = held_after (lists name other) number
+      (outcome (rule_over name.addresses) (lists name other).fragments f) in
       elim (cases_Bool (same_name own name && (channel == other))) [
         | inl t ↦
             let both = and_parts (same_name own name) (channel == other) t in
@@ -258,6 +293,7 @@ whole_inert earlier line channel bytes addresses protocol text message frame rea
 ends_with : (name : FragmentName) (o : Outcome) (h : Held) (number : ℕ)
     → outcome_answer name o ≡ codes "refused message" → (held_after h number o).fragments ≡ []
 ends_with name (Refusal error) h number is = absurd (refusal_other error is)
+ends_with name (Clash error) h number is = absurd (refusal_other (OverlappingFragment 0 0) is)
 ends_with name (Waiting fs) h number is =
     let e : 119 ≡ 114 = first_byte (codes "wait") (codes "refused message") is in
     absurd (omega (arith, e))
@@ -272,3 +308,70 @@ unread_ends earlier line name channel f hands is =
     ap (λ (h : Held). h.fragments) (list_with_fragment line name channel f hands earlier)
     ∙ ends_with name o (lists_after_lines earlier name channel) (number_after earlier)
     (sym (fragment_answered line name channel f hands earlier) ∙ is)
+
+-- ---- a fragment that overlaps
+
+-- only a clash is answered so, since the first three refusals tell of no overlap
+refusal_no_overlap : (error : IpDefragError) → is_overlap error ≡ false
+    → refusal_answer error ≡ codes "refused overlap" → ⊥
+refusal_no_overlap (SegmentTooBig offset payload_len max) stays is =
+    let e : 108 ≡ 111 = ninth_byte (codes "refused long") (codes "refused overlap") is in
+    absurd (omega (arith, e))
+refusal_no_overlap (UnalignedFragmentPayloadLen offset payload_len) stays is =
+    let e : 117 ≡ 111 = ninth_byte (codes "refused unaligned") (codes "refused overlap") is in
+    absurd (omega (arith, e))
+refusal_no_overlap (ConflictingEnd previous_end conflicting_end) stays is =
+    let e : 101 ≡ 111 = ninth_byte (codes "refused end") (codes "refused overlap") is in
+    absurd (omega (arith, e))
+refusal_no_overlap (AllocationFailure len) stays is =
+    let e : 0 ≡ 114 = first_byte [] (codes "refused overlap") is in absurd (omega (arith, e))
+refusal_no_overlap (OverlappingFragment offset payload_len) stays is = cc
+
+completed_no_overlap : (addresses : Addresses) (number : ℕ) (text : List ℕ)
+    (read : Result ReadMessage SliceError)
+    → completed_answer addresses number text read ≡ codes "refused overlap" → ⊥
+completed_no_overlap addresses number text (Ok read) is =
+    let e : 109 ≡ 114 = first_byte (completed_answer addresses number text (Ok read))
+    (codes "refused overlap") is in
+    absurd (omega (arith, e))
+completed_no_overlap addresses number text (Err error) is =
+    let e : 109 ≡ 111 = ninth_byte (codes "refused message") (codes "refused overlap") is in
+    absurd (omega (arith, e))
+
+-- a rule by which fragments may clash
+pub refuses_if : (rule : OverlapRule) (fs : List Fragment) (f : Fragment) → overlaps rule fs f ≡ true
+    → rule ≡ Refuses
+refuses_if Overwrites fs f is = cc
+refuses_if Refuses fs f is = refl
+
+overlapped : (name : FragmentName) (rule : OverlapRule) (h : Held) (f : Fragment) (number : ℕ)
+    → outcome_answer name (outcome rule h.fragments f) ≡ codes "refused overlap"
+    → ((held_after h number (outcome rule h.fragments f)).fragments ≡ []) × (rule ≡ Refuses)
+overlapped name rule h f number =
+    by_outcome rule h.fragments f
+    (λ (o : Outcome). outcome_answer name o ≡ codes "refused overlap"
+    → ((held_after h number o).fragments ≡ []) × (rule ≡ Refuses))
+    (λ error refused is. absurd (refusal_no_overlap error
+    (subst (λ (o : Option IpDefragError). IfSome o (λ e. is_overlap e ≡ false)) refused
+    (no_overlap_at (named_end h.fragments) f)) is))
+    (λ none clash is. (refl, refuses_if rule h.fragments f clash))
+    (λ taken open_end is.
+    let e : 119 ≡ 114 = first_byte (codes "wait") (codes "refused overlap") is in
+    absurd (omega (arith, e)))
+    (λ taken whole is. absurd (completed_no_overlap name.addresses name.number
+    (text_of (h.fragments ++ f ∷ []))
+    (message_at name.number (text_of (h.fragments ++ f ∷ []))) is))
+
+pub overlap_ends : (earlier : List (List ℕ)) (line : List ℕ) (name : FragmentName) (channel : ℕ)
+    (f : Fragment) → HandsInFragment line name channel f
+    → answer_after earlier line ≡ codes "refused overlap"
+    → ((lists_after_lines (earlier ++ line ∷ []) name channel).fragments ≡ [])
+    × (rule_over name.addresses ≡ Refuses)
+overlap_ends earlier line name channel f hands is =
+    let ends = overlapped name (rule_over name.addresses)
+    (lists_after_lines earlier name channel) f (number_after earlier)
+    (sym (fragment_answered line name channel f hands earlier) ∙ is) in (
+      ap (λ (h : Held). h.fragments) (list_with_fragment line name channel f hands earlier)
+          ∙ ends.0,
+      ends.1,
+    )

@@ -1,3 +1,4 @@
+mod AcceptedWaiting
 mod AllPosted
 mod AloneLemmas
 mod AnswerLemmas
@@ -12,6 +13,7 @@ mod FirstCover
 mod FrameLemmas
 mod InOrder
 mod InertLemmas
+mod JoinedLemmas
 mod LetterLemmas
 mod OnlyPosted
 mod PartLemmas

@@ -24,6 +24,11 @@ use Rattle.netlines.specs.Answers.{outcome_answer, refusal_answer}
 use Rattle.etherparse.specs.packet.declared.addresses.Addresses.{Addresses}
 use Rattle.etherparse.specs.packet.declared.class.Class.TheVariants as class_told
 use Rattle.etherparse.specs.packet.declared.class.CutMessage.{CutMessage}
+use Rattle.etherparse.specs.defrag.declared.defrag.overlap_rule.OverlapRule.{OverlapRule}
+use Rattle.etherparse.specs.defrag.Fragments.{Fragment}
+use Rattle.etherparse.specs.defrag.Outcome.{outcome}
+use Rattle.etherparse.proofs.OutcomeLemmas.{by_outcome}
+use Rattle.etherparse.specs.defrag.IpFragId.{rule_over}
 
 -- what is answered where this is told of a message that goes between these addresses
 abbrev pub told_answer : Addresses → Told → List ℕ
@@ -36,11 +41,13 @@ told_answer addresses (NotSliced error) = []
 told_answer addresses Retained = []
 told_answer addresses NoMemory = []
 
-outcome_told : (name : FragmentName) (channel : ℕ) (o : Outcome)
-    → told_answer name.addresses (told_of (id_named name channel) o) ≡ outcome_answer name o
-outcome_told name channel (Refusal error) = refl
-outcome_told name channel (Waiting fs) = refl
-outcome_told name channel (Completed text) = refl
+outcome_told : (name : FragmentName) (channel : ℕ) (rule : OverlapRule) (fs : List Fragment)
+    (f : Fragment) → told_answer name.addresses
+    (told_of (id_named name channel) (outcome rule fs f)) ≡ outcome_answer name (outcome rule fs f)
+outcome_told name channel rule fs f =
+    by_outcome rule fs f (λ (o : Outcome). told_answer name.addresses
+    (told_of (id_named name channel) o) ≡ outcome_answer name o)
+    (λ error refused. refl) (λ none clash. refl) (λ taken open_end. refl) (λ taken whole. refl)
 
 -- this is a part of a message that goes between these addresses
 pub record IsPart (class : Class) (addresses : Addresses) : Type 0 where
@@ -104,8 +111,8 @@ module _ (answered : PacketsAreAnswered) (tell : WantsAreTold) (old new : Pool (
             (told_of (id_named part.name channel)
             (outcome_at lists part.name channel (fragment part.offset part.more part.bytes))))
             (sym part.between)
-            ∙ outcome_told part.name channel
-            (outcome_at lists part.name channel (fragment part.offset part.more part.bytes))
+            ∙ outcome_told part.name channel (rule_over part.name.addresses)
+            (lists part.name channel).fragments (fragment part.offset part.more part.bytes)
             ∙ ap (λ (c : Class). class_answer lists c channel) (sym part.is),
         told.1,
       )

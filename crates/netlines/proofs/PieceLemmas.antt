@@ -8,7 +8,7 @@ use Rattle.std.proofs.lemmas.Bool.{cases_Bool, eq-eqb, le-ltb, false≢true}
 use Rattle.std.proofs.lemmas.Bool.Decides.{nat_tests}
 use Rattle.std.proofs.lemmas.List.FromFn.{fill_by_all}
 use Rattle.etherparse.specs.defrag.Fragments.{Fragment, Holds, end_of, end_conflict, greatest_end, holds}
-use Rattle.etherparse.specs.defrag.Fragments.{is_complete, named_end, refusal_of, start_of}
+use Rattle.etherparse.specs.defrag.Fragments.{is_complete, named_end, refusal_at, start_of}
 use Rattle.etherparse.specs.defrag.declared.defrag.ip_defrag_error.IpDefragError.{IpDefragError}
 use Rattle.etherparse.specs.defrag.Picture.{byte_at, text_of}
 use Rattle.etherparse.proofs.Complete.{complete_Decides}
@@ -116,9 +116,9 @@ module _ (message : List ℕ) where
         | inr t ↦ rw (t, eq-eqb (end_of f) (length message) (piece.last t)) refl
       ])
 
-  -- one more piece isn't refused
+  -- one more piece isn't refused by the end
   pub piece_taken : (fs : List Fragment) (f : Fragment) → length message ≤ 65535
-      → ArePiecesOf message fs → IsPieceOf message f → refusal_of fs f ≡ None
+      → ArePiecesOf message fs → IsPieceOf message f → refusal_at (named_end fs) f ≡ None
   piece_taken fs f short all piece =
       rw (le-ltb 65535 (end_of f) (omega (arith, piece.within)))
       (aligned f.more (length f.bytes) _ _ piece.units

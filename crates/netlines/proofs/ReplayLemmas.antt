@@ -25,6 +25,9 @@ use Rattle.netlines.proofs.AloneLemmas.{all_hold, answered_by, answers_by}
 use Rattle.netlines.proofs.ArrivalLemmas.{fragment_answered, held_with_fragment}
 use Rattle.netlines.proofs.InertLemmas.{first_byte, refusal_other}
 use Rattle.netlines.proofs.WaitingLemmas.{AllWait, HandIn, are_waiting, none_held}
+use Rattle.etherparse.specs.defrag.IpFragId.{rule_over}
+use Rattle.etherparse.specs.defrag.declared.defrag.ip_defrag_error.IpDefragError.TheVariants.{OverlappingFragment}
+use Rattle.etherparse.specs.defrag.Outcome.Outcome.{Clash}
 
 -- what is answered where a message is completed, and where it isn't
 pub not_message : (answer : List ℕ) → (get_or answer 0 0 ≡ 109 → ⊥)
@@ -44,6 +47,9 @@ refusal_hands_nothing (UnalignedFragmentPayloadLen offset payload_len) =
 refusal_hands_nothing (ConflictingEnd previous_end conflicting_end) =
     not_message (codes "refused end") (λ e. let r : 114 ≡ 109 = e in absurd (omega (arith, r)))
     (refusal_other (ConflictingEnd previous_end conflicting_end))
+refusal_hands_nothing (OverlappingFragment offset payload_len) =
+    not_message (codes "refused overlap") (λ e. let r : 114 ≡ 109 = e in absurd (omega (arith, r)))
+    (refusal_other (OverlappingFragment offset payload_len))
 refusal_hands_nothing (AllocationFailure len) =
     not_message [] (λ e. let r : 0 ≡ 109 = e in absurd (omega (arith, r)))
     (refusal_other (AllocationFailure len))
@@ -54,9 +60,13 @@ waiting_hands_nothing =
     (λ e. let w : 119 ≡ 114 = first_byte (codes "wait") (codes "refused message") e in
     absurd (omega (arith, w)))
 
+pub overlap_hands_nothing : HandsOut (codes "refused overlap") → ⊥
+overlap_hands_nothing = refusal_hands_nothing (OverlappingFragment 0 0)
+
 pub handed_out : (name : FragmentName) (o : Outcome) → HandsOut (outcome_answer name o)
     → (text : List ℕ) × (o ≡ Completed text)
 handed_out name (Refusal error) is = absurd (refusal_hands_nothing error is)
+handed_out name (Clash error) is = absurd (refusal_hands_nothing (OverlappingFragment 0 0) is)
 handed_out name (Waiting fs) is = absurd (waiting_hands_nothing is)
 handed_out name (Completed text) is = (text, refl)
 
@@ -79,7 +89,7 @@ module _ (same : (a b : FragmentName) → IsTrue (same_name a b) ↔ (a ≡ b)) 
     (channel : ℕ) where
   answered_alone : (line : List ℕ) (f : Fragment) → HandsInFragment line name channel f → (h : Held)
       → command_answer (all_hold same name channel h) (command_of line)
-      ≡ outcome_answer name (outcome h.fragments f)
+      ≡ outcome_answer name (outcome (rule_over name.addresses) h.fragments f)
   answered_alone line f hands h =
       ap (command_answer (all_hold same name channel h)) hands.frame
       ∙ ap (λ (c : Class). class_answer (all_hold same name channel h) c channel) hands.part
@@ -90,8 +100,8 @@ module _ (same : (a b : FragmentName) → IsTrue (same_name a b) ↔ (a ≡ b)) 
   run_of : (lines : List (List ℕ)) (fs before : List Fragment) (line : List ℕ) (f : Fragment)
       (text : List ℕ) (pairs : List (ℕ × List ℕ)) (h : Held)
       → h.fragments ≡ before → HandIn same name channel lines fs
-      → HandsInFragment line name channel f → AllWait before fs
-      → outcome (before ++ fs) f ≡ Completed text → map (λ p. p.1) pairs ≡ lines ++ line ∷ []
+      → HandsInFragment line name channel f → AllWait (rule_over name.addresses) before fs
+      → outcome (rule_over name.addresses) (before ++ fs) f ≡ Completed text → map (λ p. p.1) pairs ≡ lines ++ line ∷ []
       → map (λ p. p.1) (answers_by same name channel h pairs)
       ≡ AllButLast lines (outcome_answer name (Completed text))
   run_of [] [] before line f text [] h held all hands wait whole is = cc
@@ -100,7 +110,7 @@ module _ (same : (a b : FragmentName) → IsTrue (same_name a b) ↔ (a ≡ b)) 
       ap (λ (a : List ℕ). a ∷ [])
       (ap (λ (l : List ℕ). command_answer (all_hold same name channel h) (command_of l)) here
       ∙ answered_alone line f hands h
-      ∙ ap (outcome_answer name) (ap (λ (gs : List Fragment). outcome gs f)
+      ∙ ap (outcome_answer name) (ap (λ (gs : List Fragment). outcome (rule_over name.addresses) gs f)
       (held ∙ sym (append-nil before)) ∙ whole))
   run_of [] [] before line f text (pair ∷ other ∷ pairs) h held all hands wait whole is = cc
   run_of [] (g ∷ fs) before line f text pairs h held all hands wait whole is = absurd all
@@ -109,8 +119,8 @@ module _ (same : (a b : FragmentName) → IsTrue (same_name a b) ↔ (a ≡ b)) 
   run_of (l ∷ lines) (g ∷ fs) before line f text (pair ∷ pairs) h held all hands wait whole is =
       let here : pair.1 ≡ l = cc in
       let later : map (λ p. p.1) pairs ≡ lines ++ line ∷ [] = cc in
-      let becomes : outcome h.fragments g ≡ Waiting (before ++ g ∷ []) =
-      ap (λ (gs : List Fragment). outcome gs g) held ∙ wait.0 in
+      let becomes : outcome (rule_over name.addresses) h.fragments g ≡ Waiting (before ++ g ∷ []) =
+      ap (λ (gs : List Fragment). outcome (rule_over name.addresses) gs g) held ∙ wait.0 in
       let answer = ap (λ (x : List ℕ). command_answer (all_hold same name channel h) (command_of x))
       here ∙ answered_alone l g all.0 h ∙ ap (outcome_answer name) becomes in
       let next = ap (λ (x : List ℕ). held_with_line name channel pair.0 (command_of x) h) here
@@ -119,14 +129,15 @@ module _ (same : (a b : FragmentName) → IsTrue (same_name a b) ↔ (a ≡ b)) 
       let rest = run_of lines fs (before ++ g ∷ []) line f text pairs
       (held_with_line name channel pair.0 (command_of pair.1) h)
       (ap (λ (k : Held). k.fragments) next) all.1 hands wait.1
-      (subst (λ (gs : List Fragment). outcome gs f ≡ Completed text)
+      (subst (λ (gs : List Fragment). outcome (rule_over name.addresses) gs f ≡ Completed text)
       (sym (append_assoc before (g ∷ []) fs)) whole) later in
       λ i. answer i ∷ rest i
 
   pub answered_among : (others between lines : List (List ℕ)) (fs : List Fragment) (line : List ℕ)
       (f : Fragment) (text : List ℕ)
       → (lists_after_lines others name channel).fragments ≡ [] → HandIn same name channel lines fs
-      → HandsInFragment line name channel f → AllWait [] fs → outcome fs f ≡ Completed text
+      → HandsInFragment line name channel f → AllWait (rule_over name.addresses) [] fs
+      → outcome (rule_over name.addresses) fs f ≡ Completed text
       → lines_for name channel between ≡ lines ++ line ∷ []
       → texts_for name channel between (answers_behind others between)
       ≡ AllButLast lines (outcome_answer name (Completed text))

@@ -14,6 +14,11 @@ use Rattle.etherparse.specs.defrag.Outcome.Outcome.{Completed, Waiting}
 use Rattle.etherparse.specs.defrag.Picture.{text_of}
 use Rattle.etherparse.proofs.OutcomeLemmas.{by_outcome, is_completed, is_waiting}
 use Rattle.netlines.proofs.WaitingLemmas.{AllWait}
+use Rattle.etherparse.specs.defrag.declared.defrag.overlap_rule.OverlapRule.{OverlapRule}
+use Rattle.etherparse.specs.defrag.declared.defrag.overlap_rule.OverlapRule.TheVariants.{Overwrites}
+use Rattle.etherparse.specs.defrag.Fragments.{refusal_at}
+use Rattle.etherparse.proofs.OutcomeLemmas.{is_taken}
+use Rattle.etherparse.proofs.OutcomeLemmas.{unrefused}
 
 pub record SameShape (f g : Fragment) : Type 0 where
   pub offset : f.offset ≡ g.offset
@@ -78,7 +83,7 @@ same_complete fs gs all =
     λ i. is_some (named i) && all_below (λ p. same_covered fs gs all p i) (greatest i)
 
 pub same_refusal : (fs gs : List Fragment) (f g : Fragment) → AllSameShape fs gs → SameShape f g
-    → refusal_of fs f ≡ refusal_of gs g
+    → refusal_at (named_end fs) f ≡ refusal_at (named_end gs) g
 same_refusal fs gs f g all same =
     let conflict : end_conflict (named_end fs) f ≡ end_conflict (named_end gs) g =
     same_conflict f g same (named_end fs)
@@ -90,24 +95,25 @@ same_refusal fs gs f g all same =
 
 -- ---- what becomes of them
 
-pub waits_if : (fs : List Fragment) (f : Fragment) (gs : List Fragment)
-    → outcome fs f ≡ Waiting gs
-    → (refusal_of fs f ≡ None) × (is_complete (fs ++ f ∷ []) ≡ false)
-waits_if fs f gs =
-    by_outcome fs f
-    (λ (o : Outcome). o ≡ Waiting gs → (refusal_of fs f ≡ None)
+pub waits_if : (rule : OverlapRule) (fs : List Fragment) (f : Fragment) (gs : List Fragment)
+    → outcome rule fs f ≡ Waiting gs
+    → (refusal_of rule fs f ≡ None) × (is_complete (fs ++ f ∷ []) ≡ false)
+waits_if rule fs f gs =
+    by_outcome rule fs f
+    (λ (o : Outcome). o ≡ Waiting gs → (refusal_of rule fs f ≡ None)
     × (is_complete (fs ++ f ∷ []) ≡ false))
-    (λ error refused is. cc) (λ taken open_end is. (taken, open_end)) (λ taken whole is. cc)
+    (λ error refused is. cc) (λ none clash is. cc)
+    (λ taken open_end is. (taken, open_end)) (λ taken whole is. cc)
 
-pub completes_if : (fs : List Fragment) (f : Fragment) (text : List ℕ)
-    → outcome fs f ≡ Completed text
-    → (refusal_of fs f ≡ None) × (is_complete (fs ++ f ∷ []) ≡ true)
+pub completes_if : (rule : OverlapRule) (fs : List Fragment) (f : Fragment) (text : List ℕ)
+    → outcome rule fs f ≡ Completed text
+    → (refusal_of rule fs f ≡ None) × (is_complete (fs ++ f ∷ []) ≡ true)
     × (text ≡ text_of (fs ++ f ∷ []))
-completes_if fs f text =
-    by_outcome fs f
-    (λ (o : Outcome). o ≡ Completed text → (refusal_of fs f ≡ None)
+completes_if rule fs f text =
+    by_outcome rule fs f
+    (λ (o : Outcome). o ≡ Completed text → (refusal_of rule fs f ≡ None)
     × (is_complete (fs ++ f ∷ []) ≡ true) × (text ≡ text_of (fs ++ f ∷ [])))
-    (λ error refused is. cc) (λ taken open_end is. cc)
+    (λ error refused is. cc) (λ none clash is. cc) (λ taken open_end is. cc)
     (λ taken whole is. let same : text_of (fs ++ f ∷ []) ≡ text = cc in (taken, whole, sym same))
 
 pub same-push : (fs gs : List Fragment) (f g : Fragment) → AllSameShape fs gs → SameShape f g
@@ -117,23 +123,30 @@ same-push [] (h ∷ gs) f g all same = absurd all
 same-push (h ∷ fs) [] f g all same = absurd all
 same-push (h ∷ fs) (k ∷ gs) f g all same = (all.0, same-push fs gs f g all.1 same)
 
+-- over IPv4 nothing but the end refuses a fragment of the same shape
+same_taken : (fs gs : List Fragment) (f g : Fragment) → AllSameShape fs gs → SameShape f g
+    → refusal_of Overwrites fs f ≡ None → refusal_of Overwrites gs g ≡ None
+same_taken fs gs f g all same taken =
+    is_taken Overwrites gs g
+    (sym (same_refusal fs gs f g all same) ∙ (unrefused Overwrites fs f taken).0) refl
+
 pub same_wait : (before others fs gs : List Fragment) → AllSameShape before others
-    → AllSameShape fs gs → AllWait before fs → AllWait others gs
+    → AllSameShape fs gs → AllWait Overwrites before fs → AllWait Overwrites others gs
 same_wait before others [] [] front all wait = tt
 same_wait before others [] (g ∷ gs) front all wait = absurd all
 same_wait before others (f ∷ fs) [] front all wait = absurd all
 same_wait before others (f ∷ fs) (g ∷ gs) front all wait =
-    let was = waits_if before f (before ++ f ∷ []) wait.0 in
+    let was = waits_if Overwrites before f (before ++ f ∷ []) wait.0 in
     let longer = same-push before others f g front all.0 in (
-      is_waiting others g (sym (same_refusal before others f g front all.0) ∙ was.0)
+      is_waiting Overwrites others g (same_taken before others f g front all.0 was.0)
           (sym (same_complete (before ++ f ∷ []) (others ++ g ∷ []) longer) ∙ was.1),
       same_wait (before ++ f ∷ []) (others ++ g ∷ []) fs gs longer all.1 wait.1,
     )
 
 pub same_completed : (fs gs : List Fragment) (f g : Fragment) (text : List ℕ)
-    → AllSameShape fs gs → SameShape f g → outcome fs f ≡ Completed text
-    → outcome gs g ≡ Completed (text_of (gs ++ g ∷ []))
+    → AllSameShape fs gs → SameShape f g → outcome Overwrites fs f ≡ Completed text
+    → outcome Overwrites gs g ≡ Completed (text_of (gs ++ g ∷ []))
 same_completed fs gs f g text all same is =
-    let was = completes_if fs f text is in
-    is_completed gs g (sym (same_refusal fs gs f g all same) ∙ was.0)
+    let was = completes_if Overwrites fs f text is in
+    is_completed Overwrites gs g (same_taken fs gs f g all same was.0)
     (sym (same_complete (fs ++ f ∷ []) (gs ++ g ∷ []) (same-push fs gs f g all same)) ∙ was.1)

@@ -18,23 +18,28 @@ use Rattle.commands.specs.Commands.Command.{Frame, Forget, Bad}
 use Rattle.netlines.specs.Arrivals.{HandsInFragment, held_behind, held_with_line, lists_after_lines}
 use Rattle.netlines.specs.Waiting.{waiting_behind, waiting_lines, waiting_with, waiting_with_line}
 use Rattle.netlines.specs.Waiting.{waiting_with_part}
+use Rattle.etherparse.specs.defrag.declared.defrag.overlap_rule.OverlapRule.{OverlapRule}
+use Rattle.etherparse.specs.defrag.IpFragId.{rule_over}
 
 -- each is accepted behind those before it, and none completes the message
-abbrev pub AllWait : (before fs : List Fragment) → Type 0
-AllWait before [] = Unit {0}
-AllWait before (f ∷ fs) =
-    (outcome before f ≡ Waiting (before ++ f ∷ [])) × AllWait (before ++ f ∷ []) fs
+abbrev pub AllWait : OverlapRule → (before fs : List Fragment) → Type 0
+AllWait rule before [] = Unit {0}
+AllWait rule before (f ∷ fs) =
+    (outcome rule before f ≡ Waiting (before ++ f ∷ [])) × AllWait rule (before ++ f ∷ []) fs
 
-pub AllWait-push : (before fs : List Fragment) (f : Fragment) → AllWait before fs
-    → outcome (before ++ fs) f ≡ Waiting ((before ++ fs) ++ f ∷ []) → AllWait before (fs ++ f ∷ [])
-AllWait-push before [] f all is = (
-  subst (λ (gs : List Fragment). outcome gs f ≡ Waiting (gs ++ f ∷ [])) (append-nil before) is,
+pub AllWait-push : (rule : OverlapRule) (before fs : List Fragment) (f : Fragment)
+    → AllWait rule before fs
+    → outcome rule (before ++ fs) f ≡ Waiting ((before ++ fs) ++ f ∷ [])
+    → AllWait rule before (fs ++ f ∷ [])
+AllWait-push rule before [] f all is = (
+  subst (λ (gs : List Fragment). outcome rule gs f ≡ Waiting (gs ++ f ∷ []))
+      (append-nil before) is,
   tt,
 )
-AllWait-push before (g ∷ fs) f all is = (
+AllWait-push rule before (g ∷ fs) f all is = (
   all.0,
-  AllWait-push (before ++ g ∷ []) fs f all.1
-      (subst (λ (gs : List Fragment). outcome gs f ≡ Waiting (gs ++ f ∷ []))
+  AllWait-push rule (before ++ g ∷ []) fs f all.1
+      (subst (λ (gs : List Fragment). outcome rule gs f ≡ Waiting (gs ++ f ∷ []))
       (sym (append_assoc before (g ∷ []) fs)) is),
 )
 
@@ -54,21 +59,24 @@ module _ (same : (a b : FragmentName) → IsTrue (same_name a b) ↔ (a ≡ b)) 
       (all.0, HandIn-push lines fs line f all.1 hands)
 
   abbrev pub AreWaiting : List (List ℕ) → Held → Type 0
-  AreWaiting waiting h = HandIn waiting h.fragments × AllWait [] h.fragments
+  AreWaiting waiting h =
+      HandIn waiting h.fragments × AllWait (rule_over name.addresses) [] h.fragments
 
   -- one line more
   module _ (line : List ℕ) (number : ℕ) (h : Held) (waiting : List (List ℕ))
       (are : AreWaiting waiting h) where
     with_part : (f : Fragment) → HandsInFragment line name channel f
-        → AreWaiting (waiting_with waiting line (outcome h.fragments f))
-        (held_after h number (outcome h.fragments f))
+        → AreWaiting (waiting_with waiting line (outcome (rule_over name.addresses) h.fragments f))
+        (held_after h number (outcome (rule_over name.addresses) h.fragments f))
     with_part f hands =
-        by_outcome h.fragments f
+        by_outcome (rule_over name.addresses) h.fragments f
         (λ (o : Outcome). AreWaiting (waiting_with waiting line o) (held_after h number o))
         (λ error refused. are)
+        (λ none clash. (tt, tt))
         (λ taken open_end. (
           HandIn-push waiting h.fragments line f are.0 hands,
-          AllWait-push [] h.fragments f are.1 (is_waiting h.fragments f taken open_end),
+          AllWait-push (rule_over name.addresses) [] h.fragments f are.1
+              (is_waiting (rule_over name.addresses) h.fragments f taken open_end),
         ))
         (λ taken whole. (tt, tt))
 
@@ -78,7 +86,7 @@ module _ (same : (a b : FragmentName) → IsTrue (same_name a b) ↔ (a ≡ b)) 
         (after_frame name channel class number other h)
     with_class other bytes frame (Cut own offset more text) part =
         let f = fragment offset more text in
-        let o = outcome h.fragments f in
+        let o = outcome (rule_over name.addresses) h.fragments f in
         elim (cases_Bool (same_name own name && (other == channel))) [
           | inl t ↦
               let both = and_parts (same_name own name) (other == channel) t in

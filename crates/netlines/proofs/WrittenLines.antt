@@ -9,12 +9,13 @@ use Rattle.std.proofs.lemmas.Bool.{and_parts}
 use Rattle.std.proofs.lemmas.Bool.Decides.{nat_tests}
 use Rattle.hex.specs.Hex.{encode_lower, encode_with, lower_digits}
 use Rattle.etherparse.specs.defrag.Outcome.{Outcome}
-use Rattle.etherparse.specs.defrag.Outcome.Outcome.{Completed, Refusal, Waiting}
+use Rattle.etherparse.specs.defrag.Outcome.Outcome.{Clash, Completed, Refusal, Waiting}
 use Rattle.etherparse.specs.defrag.Fragments.{fragment}
 use Rattle.etherparse.specs.defrag.PoolCalls.{Lists, outcome_at}
 use Rattle.etherparse.specs.defrag.declared.defrag.ip_defrag_error.IpDefragError.{IpDefragError}
 use Rattle.etherparse.specs.defrag.declared.defrag.ip_defrag_error.IpDefragError.TheVariants.{AllocationFailure}
 use Rattle.etherparse.specs.defrag.declared.defrag.ip_defrag_error.IpDefragError.TheVariants.{ConflictingEnd}
+use Rattle.etherparse.specs.defrag.declared.defrag.ip_defrag_error.IpDefragError.TheVariants.{OverlappingFragment}
 use Rattle.etherparse.specs.defrag.declared.defrag.ip_defrag_error.IpDefragError.TheVariants.{SegmentTooBig}
 use Rattle.etherparse.specs.defrag.declared.defrag.ip_defrag_error.IpDefragError.TheVariants.{UnalignedFragmentPayloadLen}
 use Rattle.etherparse.specs.packet.Class.{Class, FragmentName, class_of}
@@ -122,9 +123,11 @@ refusal_told (UnalignedFragmentPayloadLen offset payload_len) =
     by_test (codes "refused unaligned") refl
 refusal_told (ConflictingEnd previous_end conflicting_end) = by_test (codes "refused end") refl
 refusal_told (AllocationFailure len) = tt
+refusal_told (OverlappingFragment offset payload_len) = by_test (codes "refused overlap") refl
 
 outcome_told : (name : FragmentName) (o : Outcome) → HasNoNewline (outcome_answer name o)
 outcome_told name (Refusal error) = refusal_told error
+outcome_told name (Clash error) = by_test (codes "refused overlap") refl
 outcome_told name (Waiting fs) = by_test (codes "wait") refl
 outcome_told name (Completed text) =
     completed_told name.addresses name.number text (message_at name.number text)

@@ -4,11 +4,12 @@ use Rattle.std.specs.Prelude.{[], ◌∷◌, ◌++◌, codes, decimal}
 use Rattle.hex.specs.Hex.{encode_lower}
 use Rattle.etherparse.specs.defrag.Fragments.{fragment}
 use Rattle.etherparse.specs.defrag.Outcome.{Outcome}
-use Rattle.etherparse.specs.defrag.Outcome.Outcome.{Completed, Refusal, Waiting}
+use Rattle.etherparse.specs.defrag.Outcome.Outcome.{Clash, Completed, Refusal, Waiting}
 use Rattle.etherparse.specs.defrag.PoolCalls.{Lists, outcome_at, want_at_frame}
 use Rattle.etherparse.specs.defrag.declared.defrag.ip_defrag_error.IpDefragError.{IpDefragError}
 use Rattle.etherparse.specs.defrag.declared.defrag.ip_defrag_error.IpDefragError.TheVariants.{AllocationFailure}
 use Rattle.etherparse.specs.defrag.declared.defrag.ip_defrag_error.IpDefragError.TheVariants.{ConflictingEnd}
+use Rattle.etherparse.specs.defrag.declared.defrag.ip_defrag_error.IpDefragError.TheVariants.{OverlappingFragment}
 use Rattle.etherparse.specs.defrag.declared.defrag.ip_defrag_error.IpDefragError.TheVariants.{SegmentTooBig}
 use Rattle.etherparse.specs.defrag.declared.defrag.ip_defrag_error.IpDefragError.TheVariants.{UnalignedFragmentPayloadLen}
 use Rattle.etherparse.specs.packet.Class.{Class, FragmentName, class_of}
@@ -51,10 +52,12 @@ refusal_answer (SegmentTooBig offset payload_len max) = codes "refused long"
 refusal_answer (UnalignedFragmentPayloadLen offset payload_len) = codes "refused unaligned"
 refusal_answer (ConflictingEnd previous_end conflicting_end) = codes "refused end"
 refusal_answer (AllocationFailure len) = []
+refusal_answer (OverlappingFragment offset payload_len) = codes "refused overlap"
 
 -- what is answered to a fragment of the message with this name, by what becomes of it
 abbrev pub outcome_answer : FragmentName → Outcome → List ℕ
 outcome_answer name (Refusal error) = refusal_answer error
+outcome_answer name (Clash error) = codes "refused overlap"
 outcome_answer name (Waiting fs) = codes "wait"
 outcome_answer name (Completed text) =
     completed_answer name.addresses name.number text (message_at name.number text)

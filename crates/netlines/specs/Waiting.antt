@@ -2,9 +2,10 @@
 use Rattle.std.specs.Prelude.{◌≡◌, ◌⊎◌, ℕ, ◌+◌, ◌&&◌, ◌==◌, nat_lt, if◌then◌else◌, Option, Some}
 use Rattle.std.specs.Prelude.{None, List, [], ◌∷◌, ◌++◌, codes, map}
 use Rattle.etherparse.specs.defrag.Fragments.{Fragment}
-use Rattle.etherparse.specs.defrag.IpFragId.{fragment_in, same_name}
+use Rattle.etherparse.specs.defrag.IpFragId.{fragment_in, rule_over, same_name}
+use Rattle.etherparse.specs.defrag.Joined.{IsJoined}
 use Rattle.etherparse.specs.defrag.Outcome.{Held, Outcome, outcome}
-use Rattle.etherparse.specs.defrag.Outcome.Outcome.{Completed, Refusal, Waiting}
+use Rattle.etherparse.specs.defrag.Outcome.Outcome.{Clash, Completed, Refusal, Waiting}
 use Rattle.etherparse.specs.defrag.PoolCalls.{no_lists, outcome_at}
 use Rattle.etherparse.specs.packet.Class.{FragmentName, class_of}
 use Rattle.etherparse.specs.packet.Readable.{message_at}
@@ -47,10 +48,11 @@ pub record Completes (earlier : List (List ℕ)) (line : List ℕ) (name : Fragm
   pub becomes : outcome_at (lists_after_lines earlier) name channel fragment ≡ Completed text
 
 -- the lines whose fragments wait for the rest of a message, after a line with a fragment of it: a
--- refused one leaves them, a complete message leaves none
+-- refused one leaves them, a complete message leaves none, and neither does one that overlaps
 abbrev pub waiting_with : (waiting : List (List ℕ)) → (line : List ℕ) → Outcome
     → List (List ℕ)
 waiting_with waiting line (Refusal error) = waiting
+waiting_with waiting line (Clash error) = []
 waiting_with waiting line (Waiting fs) = waiting ++ line ∷ []
 waiting_with waiting line (Completed text) = []
 
@@ -59,7 +61,8 @@ abbrev pub waiting_with_part : FragmentName → (channel : ℕ) → Option (Frag
 waiting_with_part name channel None other h line waiting = waiting
 waiting_with_part name channel (Some told) other h line waiting =
     if same_name told.0 name && (other == channel)
-    then waiting_with waiting line (outcome h.fragments told.1) else waiting
+    then waiting_with waiting line (outcome (rule_over name.addresses) h.fragments told.1)
+    else waiting
 
 -- after a line that asks for this, where this is held of the message before it
 abbrev pub waiting_with_line : FragmentName → (channel : ℕ) → Held → (line : List ℕ)
@@ -95,3 +98,11 @@ pub record HandsOutChanged (name : FragmentName) (place : ℕ) (answer : List �
   pub was : answer ≡ line_of_message name old
   pub is : answers ≡ map (λ _. codes "wait") waiting ++ line_of_message name new ∷ []
   pub differ : DifferAt place old new
+
+-- a message is handed out, which is joined from some of these fragments, no two of which hold the
+-- same place
+pub record HandsOutJoined (name : FragmentName) (fs : List Fragment) (answer : List ℕ)
+    : Type 0 where
+  pub text : List ℕ
+  pub told : answer ≡ line_of_message name text
+  pub joined : IsJoined fs text

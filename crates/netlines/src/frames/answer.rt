@@ -54,5 +54,6 @@ pub fn refusal_text(error: &IpDefragError) -> Option<&'static [u8]>
         IpDefragError::UnalignedFragmentPayloadLen { .. } => Some(b"refused unaligned"),
         IpDefragError::ConflictingEnd { .. } => Some(b"refused end"),
         IpDefragError::AllocationFailure { .. } => None,
+        IpDefragError::OverlappingFragment { .. } => Some(b"refused overlap"),
     }
 }

@@ -1,6 +1,8 @@
 //! Laws of one message among others.
 ghost use Rattle.std.specs.Prelude.{◌≡◌, ℕ, List, [], ◌∷◌, ◌++◌, codes, IfSome, OnOk};
 ghost use Rattle.etherparse.specs.defrag.Fragments.{Fragment};
+ghost use Rattle.etherparse.specs.defrag.IpFragId.{rule_over};
+ghost use Rattle.etherparse.specs.defrag.declared.defrag.overlap_rule.OverlapRule.TheVariants.{Refuses};
 ghost use Rattle.etherparse.specs.packet.Class.{FragmentName, class_of};
 ghost use Rattle.etherparse.specs.packet.Class.Class.{Whole};
 ghost use Rattle.etherparse.specs.packet.Readable.{ReadMessage};
@@ -50,6 +52,12 @@ pub fn refused_lines_are_inert()
         (f : Fragment) → HandsInFragment line name channel f
         → answer_after earlier line ≡ codes "refused message"
         → (lists_after_lines (earlier ++ line ∷ []) name channel).fragments ≡ [] }
+    // So does one that is answered `refused overlap`, which comes over IPv6 alone (RFC 5722).
+    ensures overlap { (earlier : List (List ℕ)) (line : List ℕ) (name : FragmentName) (channel : ℕ)
+        (f : Fragment) → HandsInFragment line name channel f
+        → answer_after earlier line ≡ codes "refused overlap"
+        → ((lists_after_lines (earlier ++ line ∷ []) name channel).fragments ≡ [])
+        × (rule_over name.addresses ≡ Refuses) }
 {
     equal_names::<u32>();
 }

@@ -6,6 +6,8 @@ ghost use Rattle.netlines.specs.Answers.{answer_after, message_answer};
 ghost use Rattle.netlines.specs.Arrivals.{HandsInFragment};
 ghost use Rattle.netlines.specs.ChangedWord.{DifferInOneWord, IsChangedFragment, verdict_after};
 ghost use Rattle.etherparse.specs.defrag.Fragments.{Fragment};
+ghost use Rattle.etherparse.specs.defrag.IpFragId.{rule_over};
+ghost use Rattle.etherparse.specs.defrag.declared.defrag.overlap_rule.OverlapRule.TheVariants.{Overwrites};
 ghost use Rattle.etherparse.specs.packet.Class.{FragmentName};
 ghost use Rattle.etherparse.specs.packet.Readable.{ReadMessage, message_at, udp as udp_number};
 ghost use Rattle.etherparse.specs.build.Built.{with_message_checksum as built_header};
@@ -105,13 +107,13 @@ pub fn one_changed_word()
         → answer_after others changed_line ≡ message_answer name.number
         (verdict_after words.old_word words.new_word (summed_text name.addresses changed))
         (new ++ behind) }
-    // The lines of a message that came, one of them with a fragment in which one word is changed,
-    // make a message that differs from it in this word at most: a later fragment may cover the word,
-    // or the message end before it.
+    // The lines of a message that came over IPv4, one of them with a fragment in which one word is
+    // changed, make a message that differs from it in this word at most: a later fragment may cover
+    // the word, or the message end before it. (Over IPv6 the changed fragment overlaps its repeats.)
     ensures fragment { (name : FragmentName) (channel : ℕ)
         (earlier others between front rest : List (List ℕ)) (last line changed : List ℕ)
-        (f g h : Fragment) → HandsInFragment last name channel h
-        → HandsOut (answer_after earlier last)
+        (f g h : Fragment) → rule_over name.addresses ≡ Overwrites
+        → HandsInFragment last name channel h → HandsOut (answer_after earlier last)
         → waiting_lines name channel earlier ++ last ∷ [] ≡ front ++ line ∷ rest
         → HandsInFragment line name channel f → HandsInFragment changed name channel g
         → (change : IsChangedFragment f g) → waiting_lines name channel others ≡ []

@@ -1,18 +1,22 @@
 //! Laws of messages that are put together from fragments.
 ghost use Rattle.std.specs.Prelude.{◌≡◌, ◌⊎◌, ℕ, true, List, [], ◌∷◌, ◌++◌, codes, map, None};
+ghost use Rattle.std.specs.List.{AllZip};
 ghost use Rattle.etherparse.specs.defrag.Fragments.{Fragment};
+ghost use Rattle.etherparse.specs.defrag.IpFragId.{rule_over};
+ghost use Rattle.etherparse.specs.defrag.declared.defrag.overlap_rule.OverlapRule.TheVariants.{Refuses};
 ghost use Rattle.etherparse.specs.packet.Class.{FragmentName};
 ghost use Rattle.commands.specs.Commands.{command_of};
 ghost use Rattle.commands.specs.Commands.Command.{Frame};
 ghost use Rattle.netlines.specs.Alone.{answers_behind};
 ghost use Rattle.netlines.specs.Answers.{answer_after, message_answer};
-ghost use Rattle.netlines.specs.Arrivals.{HandsInFragment};
+ghost use Rattle.netlines.specs.Arrivals.{HandsInFragment, lists_after_lines};
 ghost use Rattle.netlines.specs.Letter.{LetterFits, name_of};
 ghost use Rattle.netlines.specs.Posted.{is_cut, posted_frames};
 ghost use Rattle.netlines.specs.PostedInput.{AnswersAgree, AreAllPosted, HandInFrames};
 ghost use Rattle.netlines.specs.PostedInput.{HandsOutPosted, IsFirstCover, IsPostedFrame};
 ghost use Rattle.netlines.specs.PostRefusal.{post_refusal};
-ghost use Rattle.netlines.specs.Waiting.{HandsOut, line_of_message, lines_for, texts_for};
+ghost use Rattle.netlines.specs.Waiting.{HandsOut, HandsOutJoined, line_of_message, lines_for};
+ghost use Rattle.netlines.specs.Waiting.{texts_for};
 ghost use Rattle.netlines.specs.Waiting.{waiting_lines};
 ghost use Rattle.netlines.specs.declared.frames.verdict.Verdict.{Verdict};
 ghost use Rattle.netlines.specs.declared.messages.letter.Letter.{Letter};
@@ -52,12 +56,15 @@ pub fn only_posted()
 /// in fragments is answered by the line of its uncut frame. It may have been cut in several ways,
 /// and its fragments may be mixed with others, in any order and repeated.
 pub fn cut_and_uncut_agree()
-    // A fragment waits for the rest of the message of its name, or is answered with all of it.
+    // A fragment waits for the rest of the message of its name, or is answered with all of it; or
+    // over IPv6, where it was cut in several ways, two of its fragments overlap, and it begins anew.
     ensures message { (sent : FragmentName → ℕ → List ℕ) (earlier : List (List ℕ))
         (line : List ℕ) (name : FragmentName) (channel : ℕ) (f : Fragment)
         → AreAllPosted sent (earlier ++ line ∷ []) → HandsInFragment line name channel f
         → (answer_after earlier line ≡ codes "wait")
-        ⊎ (answer_after earlier line ≡ line_of_message name (sent name channel)) }
+        ⊎ ((answer_after earlier line ≡ line_of_message name (sent name channel))
+        ⊎ (answer_after earlier line ≡ codes "refused overlap")
+        × (rule_over name.addresses ≡ Refuses)) }
     // Then the uncut frame of the message, if it has one, is answered so too, behind any lines and
     // on any channel. Where the message can't be read, both are refused.
     ensures agree { (sent : FragmentName → ℕ → List ℕ) (earlier others : List (List ℕ))
@@ -80,5 +87,22 @@ pub fn cut_and_uncut_agree()
         ≡ map (λ _. codes "wait") lines ++ line_of_message (name_of letter) message ∷ [] }
 {
     built_frames_are_read();
+    equal_names::<u32>();
+}
+
+/// Over IPv6 a message that comes out of fragments is joined, by their offsets, from accepted
+/// fragments of its name, no two of which hold the same place (RFC 5722; RFC 8200, section 4.5).
+pub fn no_overlap()
+    ensures joined { (earlier : List (List ℕ)) (line : List ℕ) (name : FragmentName) (channel : ℕ)
+        (f : Fragment) → rule_over name.addresses ≡ Refuses → HandsInFragment line name channel f
+        → HandsOut (answer_after earlier line)
+        → HandsOutJoined name ((lists_after_lines earlier name channel).fragments ++ f ∷ [])
+        (answer_after earlier line) }
+    // These are the fragment of the line itself and those of the lines that wait with it.
+    ensures fragments { (earlier : List (List ℕ)) (name : FragmentName) (channel : ℕ)
+        → AllZip (λ line f. HandsInFragment line name channel f)
+        (waiting_lines name channel earlier) (lists_after_lines earlier name channel).fragments }
+{
+    etherparse::laws::defrag::no_overlap();
     equal_names::<u32>();
 }

@@ -1,4 +1,4 @@
-use Rattle.netlines.proofs.InertLemmas.{refused_inert, unread_ends}
+use Rattle.netlines.proofs.InertLemmas.{overlap_ends, refused_inert, unread_ends}
 use Rattle.netlines.proofs.laws.apart.refused_lines_are_inert.Goals as goal
 
 pub returns-clause-inert : goal.returns-clause-inert
@@ -8,3 +8,7 @@ returns-clause-inert c earlier line is =
 pub returns-clause-ends : goal.returns-clause-ends
 returns-clause-ends c earlier line name channel f hands is =
     unread_ends earlier line name channel f hands is
+
+pub returns-clause-overlap : goal.returns-clause-overlap
+returns-clause-overlap c earlier line name channel f hands is =
+    overlap_ends earlier line name channel f hands is

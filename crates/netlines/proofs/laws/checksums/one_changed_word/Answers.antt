@@ -23,7 +23,7 @@ returns-clause-reassembled c name channel other earlier others line changed_line
 
 pub returns-clause-fragment : goal.returns-clause-fragment
 returns-clause-fragment c name channel earlier others between front rest last line changed f g h
-    hands out lines_are line_hands changed_hands change none is =
+    over hands out lines_are line_hands changed_hands change none is =
     replayed_with_change c.equal_names.ensures.same name channel c.members_agree.ensures earlier
-    others between front rest last line changed f g h hands out lines_are line_hands changed_hands
-    change none is
+    others between front rest last line changed f g h over hands out lines_are line_hands
+    changed_hands change none is
