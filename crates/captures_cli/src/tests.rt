@@ -41,7 +41,13 @@ fn lines_are_made_a_capture_and_lines_again(rt: HostRuntime) -> Result<(), Fail>
     let mut capture = Vec::new(alloc);
     let mut text = b"frame 0 0aff 1700000000 250000\n".as_slice();
     assert_eq!(rt;
-        make(alloc, Mode::Capture(TimeUnit::Microseconds), &mut text, &mut capture, &mut skipped),
+        make(
+            alloc,
+            Mode::Capture(TimeUnit::Microseconds),
+            &mut text,
+            &mut capture,
+            &mut skipped
+        ),
         Ok(())
     );
     let mut wanted = Vec::from_slice(alloc, HEADER)?;
@@ -143,6 +149,42 @@ fn the_word_skip_passes_packets_over(rt: HostRuntime) -> Result<(), Fail> {
     Ok(())
 }
 
+// SECONDS is a whole number of 32 bits that isn't 0, and no run has times and `forget` lines.
+#[test]
+fn words_of_options(rt: HostRuntime) -> Result<(), Fail> {
+    for (words, wanted) in [
+        (
+            ["captures_cli", "lines", "--times"].as_slice(),
+            Some(Mode::Lines(Extra::Times, Unfit::Refuse)),
+        ),
+        (
+            &["captures_cli", "lines", "--forget", "30", "--skip"],
+            Some(Mode::Lines(Extra::Forget(30), Unfit::Skip)),
+        ),
+        (
+            &["captures_cli", "lines", "--forget", "4294967295"],
+            Some(Mode::Lines(Extra::Forget(4_294_967_295), Unfit::Refuse)),
+        ),
+        (
+            &["captures_cli", "capture", "--nanoseconds"],
+            Some(Mode::Capture(TimeUnit::Nanoseconds)),
+        ),
+        (&["captures_cli", "lines", "--forget", "0"], None),
+        (&["captures_cli", "lines", "--forget", "4294967296"], None),
+        (&["captures_cli", "lines", "--forget", "1", "--times"], None),
+    ] {
+        let asked = match command(rt.alloc())?.try_get_matches_from(words) {
+            Ok(matches) => match asked_for(&matches) {
+                Some(asked) => Some(asked.mode),
+                None => None,
+            },
+            Err(_) => None,
+        };
+        assert!(rt; asked == wanted);
+    }
+    Ok(())
+}
+
 #[test]
 #[should_panic(expected = "captures_cli: passed over: 1 of other links, 2 too long")]
 fn packets_that_are_passed_over_are_told(rt: HostRuntime) {
@@ -160,7 +202,10 @@ fn packets_that_are_passed_over_are_told(rt: HostRuntime) {
 
 #[test]
 fn a_flush_that_fails_is_a_failed_write(rt: HostRuntime) {
-    for mode in [Mode::Lines(Extra::Nothing, Unfit::Refuse), Mode::Capture(TimeUnit::Microseconds)] {
+    for mode in [
+        Mode::Lines(Extra::Nothing, Unfit::Refuse),
+        Mode::Capture(TimeUnit::Microseconds),
+    ] {
         let mut writer = UnflushableWriter {
             taken: Vec::new(rt.alloc()),
         };

@@ -1,5 +1,7 @@
 //! Runs that pass over packets that can't be told. The files are made by hand from the formats'
 //! descriptions.
+use crate::blocks::TWO_SECTIONS;
+use crate::classic::{BIG_NANOSECONDS, LITTLE_MICROSECONDS};
 use crate::lines::{lines_of, lines_skipping, refused};
 use crate::links::{capture, describe};
 use captures::{CaptureError, Skipped};
@@ -80,6 +82,24 @@ fn packets_of_each_kind(rt: HostRuntime) -> Result<(), Fail> {
         assert!(rt; result == Ok(()));
         assert!(rt; told.as_slice() == lines.as_bytes());
         assert!(rt; passed == skipped);
+    }
+    Ok(())
+}
+
+// Captures of which every packet is told are told the same, whatever would become of another.
+#[test]
+fn captures_that_are_told_whole(rt: HostRuntime) -> Result<(), Fail> {
+    for file in [
+        LITTLE_MICROSECONDS.as_slice(),
+        BIG_NANOSECONDS.as_slice(),
+        TWO_SECTIONS.as_slice(),
+    ] {
+        let (refusing, lines) = lines_of(rt.alloc(), file)?;
+        let (skipping, told, passed) = lines_skipping(rt.alloc(), file)?;
+        assert!(rt; refusing == Ok(()));
+        assert!(rt; skipping == Ok(()));
+        assert!(rt; told.as_slice() == lines.as_slice());
+        assert!(rt; passed == Skipped::NONE);
     }
     Ok(())
 }
