@@ -1,7 +1,7 @@
 -- What is known of the messages of a pool when they are taken, and when they are put back.
 use Rattle.std.proofs.Common.{inl, inr, ◌≡◌, ◌∙◌, sym, ap, subst, refl, ℕ, List, Option, Some, None}
 use Rattle.std.proofs.Common.{IsSome, true, length}
-use Rattle.std.specs.Prelude.{◌⊎◌, unwrap_or}
+use Rattle.std.specs.Prelude.{unwrap_or}
 use Rattle.etherparse.specs.defrag.IpDefragPool.{payload_told}
 use Rattle.etherparse.specs.defrag.PoolCalls.{FrameAnswered, GoesOn, Lists, ShowsLists, Told}
 use Rattle.etherparse.specs.defrag.PoolCalls.{answer_to_frame, lists_with_frame, want_at_frame}

@@ -3,7 +3,7 @@ use Rattle.std.specs.Prelude.{◌≡◌, ⊤, ℕ, nat_lt, if◌then◌else◌, 
 use Rattle.std.specs.Prelude.{Option, Some, None}
 use Rattle.std.specs.Option.{option_map}
 use Rattle.etherparse.specs.defrag.IpDefragPool.{Payload, payload_told}
-use Rattle.etherparse.specs.defrag.PoolCalls.{FrameAnswered, Lists, ShowsLists, Told}
+use Rattle.etherparse.specs.defrag.PoolCalls.{FrameAnswered, Lists, Told}
 use Rattle.etherparse.specs.defrag.PoolCalls.Told.{Delivered, NoMemory, NotSliced, Nothing, Refused}
 use Rattle.etherparse.specs.defrag.PoolCalls.Told.{Retained}
 use Rattle.etherparse.specs.defrag.declared.defrag.ip_defrag_error.IpDefragError.{IpDefragError}
