@@ -146,6 +146,7 @@ type Packets<'a> = (
     etherparse::defrag::IpFragId,
     etherparse::defrag::IpFragRange,
     etherparse::defrag::IpFragVersionSpecId,
+    etherparse::defrag::OverlapRule,
     etherparse::defrag::PoolCall<'a>,
     etherparse::defrag::PoolReply,
     etherparse::PacketBuilder,

@@ -17,6 +17,8 @@ mod memory;
 #[cfg(test)]
 mod messages;
 #[cfg(test)]
+mod overlaps;
+#[cfg(test)]
 mod post;
 #[cfg(test)]
 mod post_refusals;
