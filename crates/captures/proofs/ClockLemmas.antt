@@ -67,10 +67,9 @@ pub options_more : (n : ℕ) (order : ByteOrder) (rest later : List ℕ) (clock 
     → 4 ≤ length rest → later ≡ drop (min (option_len order rest) (length rest)) rest → length later + 4 ≤ length rest
     → (m : ℕ) × (length later ≤ m) × (clock_by m order later (with_option order rest clock) ≡ told)
 options_more zero order rest later clock told few is more long here shorter = absurd (omega arith)
-options_more (suc n) order rest later clock told few is more long here shorter =
-    (
-      n,
-      omega arith,
-      ap (λ (l : List ℕ). clock_by n order l (with_option order rest clock))
-          (here ∙ drop_min (option_len order rest) rest) ∙ (rw more at is),
-    )
+options_more (suc n) order rest later clock told few is more long here shorter = (
+  n,
+  omega arith,
+  ap (λ (l : List ℕ). clock_by n order l (with_option order rest clock))
+      (here ∙ drop_min (option_len order rest) rest) ∙ (rw more at is),
+)

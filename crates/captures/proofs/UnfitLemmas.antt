@@ -186,13 +186,16 @@ unit_kept : (state : State) (unit : List ℕ) (after : State) (origin : Origin) 
     × (after ≡ state_by Refuse after)
 unit_kept (Start u) unit after origin frame (inl i) =
     let o = i.0 in (
-      inl (record {
-        order = o.order;
-        link = o.link;
-        header = o.header;
-        known = known_more (link_type o.order unit) o.link o.known;
-        next = ap (state_by Skip) o.next;
-      }, i.1),
+      inl (
+        record {
+          order = o.order;
+          link = o.link;
+          header = o.header;
+          known = known_more (link_type o.order unit) o.link o.known;
+          next = ap (state_by Skip) o.next;
+        },
+        i.1,
+      ),
       o.next ∙ sym (ap (state_by Refuse) o.next),
     )
 unit_kept (Start u) unit after origin frame (inr i) =

@@ -130,8 +130,8 @@ pub fn lines_are_short()
 /// The line of two bytes.
 pub fn worked_line()
     ensures { line_of (record {
-        origin = record { channel = 7; time = 0 };
-        frame = 0x0a ∷ 0xff ∷ [];
+      origin = record { channel = 7; time = 0 };
+      frame = 0x0a ∷ 0xff ∷ [];
     }) ≡ codes "frame 7 0aff\n" }
 {}
 

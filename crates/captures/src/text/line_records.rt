@@ -26,11 +26,7 @@ pub(crate) struct TakenLines<'a> {
 
 /// Takes all whole lines of some bytes up to a bad one, and puts the records of their frames into
 /// the front of `out`.
-pub(crate) fn take_lines<'a>(
-    time_unit: TimeUnit,
-    bytes: &'a [u8],
-    out: &mut [u8],
-) -> TakenLines<'a>
+pub(crate) fn take_lines<'a>(time_unit: TimeUnit, bytes: &'a [u8], out: &mut [u8]) -> TakenLines<'a>
     requires { 2 * length bytes.now ≤ length out.old }
     ensures fits { result.used ≤ length out.new }
     ensures count { result.count ≤ length bytes.now }
@@ -70,12 +66,7 @@ fn newline_in(bytes: &[u8]) -> Option<usize>
 
 /// Puts the record of a line's frame behind the first `used` bytes, and tells how many are used
 /// then: none where the line hands no frame in.
-fn append_record(
-    time_unit: TimeUnit,
-    out: &mut [u8],
-    used: usize,
-    line: &[u8],
-) -> Option<usize>
+fn append_record(time_unit: TimeUnit, out: &mut [u8], used: usize, line: &[u8]) -> Option<usize>
     requires { used + 2 * length line.now ≤ length out.old }
     ensures record { MatchOption result (frame_of line.now ≡ None)
         (λ end. (timed : TimedFrame) × (frame_of line.now ≡ Some timed)

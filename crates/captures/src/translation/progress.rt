@@ -63,12 +63,7 @@ pub(crate) fn take_piece<'a>(
 }
 
 // Takes units alone. Where a long block follows them, all that was read of it is dropped.
-fn take_whole<'a>(
-    state: State,
-    ledger: Ledger,
-    bytes: &'a [u8],
-    out: &mut [u8],
-) -> Progress<'a>
+fn take_whole<'a>(state: State, ledger: Ledger, bytes: &'a [u8], out: &mut [u8]) -> Progress<'a>
     requires size { length bytes.now ≤ INPUT_ROOM }
     requires out { 5 * length bytes.now ≤ length out.old }
     ensures fits { result.used ≤ length out.new }

@@ -18,12 +18,12 @@ ghost use Rattle.captures.specs.declared.translation.state.State.TheVariants.{St
 use crate::limits::FIRST_UNIT_LEN;
 use crate::pcapng::long_block::LongBlock;
 use crate::place::{Place, begun_type};
+use crate::text::ledger::Ledger;
 use crate::translation::progress::take_piece;
 use crate::translation::refusal::Refusal;
 use crate::translation::skipped::Skipped;
 use crate::translation::state::State;
 use crate::translation::translator::{Finished, Translated, Translator, run_translator};
-use crate::text::ledger::Ledger;
 use crate::{CaptureError, Extra, READ_COUNT_LIMIT, RunError, Unfit};
 use runs::{Device, ReaderWriter};
 use std::alloc::Global;

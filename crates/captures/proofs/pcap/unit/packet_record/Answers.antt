@@ -35,21 +35,23 @@ returns-clause-found c =
 pub returns-in_default-clause-refused : goal.returns-in_default-clause-refused
 returns-in_default-clause-refused c =
     let head = c.split_at.result.0.now in
-    let packet = c.split_at-2.result.0.now in
-    (record {
-      unit = head ++ packet;
-      packet = packet;
-      rest = c.split_at-2.result.1.now;
-      parts =
-          c.split_at.ensures.by_index.0
-          ∙ ap (λ (l : List ℕ). head ++ l) c.split_at-2.ensures.by_index.0
-          ∙ sym (append_assoc head packet c.split_at-2.result.1.now);
-      is_record = record {
-        head = head;
-        parts = refl;
-        size = c.split_at.ensures.front_len;
-        captured = omega arith;
-      };
-      fits = omega arith;
-      none = c.in_default.ensures.told.0;
-    }, c.in_default.ensures.told.1)
+    let packet = c.split_at-2.result.0.now in (
+      record {
+        unit = head ++ packet;
+        packet = packet;
+        rest = c.split_at-2.result.1.now;
+        parts =
+            c.split_at.ensures.by_index.0
+            ∙ ap (λ (l : List ℕ). head ++ l) c.split_at-2.ensures.by_index.0
+            ∙ sym (append_assoc head packet c.split_at-2.result.1.now);
+        is_record = record {
+          head = head;
+          parts = refl;
+          size = c.split_at.ensures.front_len;
+          captured = omega arith;
+        };
+        fits = omega arith;
+        none = c.in_default.ensures.told.0;
+      },
+      c.in_default.ensures.told.1,
+    )

@@ -48,8 +48,10 @@ returns-in-Err-clause-refused c =
     let taken : IsTaken order bytes (word order bytes 4) =
     rw c.word-len.ensures at c.is_taken.ensures.0 c.if-not-is_taken.false in
     let is_block : IsBlock order block =
-    record { size = size; words = omega arith; front = front; back = omega arith } in
-    (refused_at c.args.section.now order bytes block rest c.in-Err.error parts
-    (taken_of order bytes block rest (word order bytes 4) parts (omega arith) whole taken)
-    (order_of c.args.section.now.order order bytes block rest parts size c.in-Some.ensures) is_block
-    (omega arith) c.in-Err.ensures.refused.0, c.in-Err.ensures.refused.1)
+    record { size = size; words = omega arith; front = front; back = omega arith } in (
+      refused_at c.args.section.now order bytes block rest c.in-Err.error parts
+          (taken_of order bytes block rest (word order bytes 4) parts (omega arith) whole taken)
+          (order_of c.args.section.now.order order bytes block rest parts size c.in-Some.ensures) is_block
+          (omega arith) c.in-Err.ensures.refused.0,
+      c.in-Err.ensures.refused.1,
+    )
