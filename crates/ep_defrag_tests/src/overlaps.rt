@@ -52,7 +52,7 @@ fn each_overlap_empties_the_buffer(rt: HostRuntime) {
         assert!(rt; add_units(&rt, &mut buf, 1, 3, true).is_ok());
         let overlap = IpDefragError::OverlappingFragment {
             offset: offset(&rt, from),
-            payload_len: 8 * usize::from(to - from),
+            payload_len: 8 * usize::from(to.saturating_sub(from)),
         };
         assert!(rt; add_units(&rt, &mut buf, from, to, more_fragments) == Err(overlap));
         assert!(rt; is_new(&rt, &buf));
