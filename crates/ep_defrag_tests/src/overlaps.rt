@@ -34,7 +34,7 @@ fn is_new(rt: &HostRuntime, buf: &IpDefragBuf) -> bool {
 /// units inside, across the front, across the end and around, each with `true` for more fragments.
 #[test]
 fn each_overlap_empties_the_buffer(rt: HostRuntime) {
-    let ranges = [
+    let ranges: [(u16, u16, bool); 11] = [
         (1, 2, true),
         (2, 3, true),
         (0, 2, true),
