@@ -107,7 +107,8 @@ const LATE_END: &str =
 
 #[test]
 fn overlap_rule_leaves_ipv4(rt: HostRuntime) -> Result<(), Fail> {
-    let message = "message 253 none 000102030405060708090a0b0c0d0e0f101112131415161718191a1b1c1d1e1fffffffffffffffffffffffffffffffff\n";
+    let message =
+        "message 253 none 000102030405060708090a0b0c0d0e0f101112131415161718191a1b1c1d1e1fffffffffffffffffffffffffffffffff\n";
     let lines = [(LONG, WAIT), (LATE_END, message)];
     assert!(rt; are_answered(&rt, &lines)?);
     Ok(())
