@@ -299,6 +299,7 @@ fn answer_part<'a>(
         Err(Refusal::TooLong) => Answer::Text("refused long"),
         Err(Refusal::Unaligned) => Answer::Text("refused unaligned"),
         Err(Refusal::ConflictingEnd) => Answer::Text("refused end"),
+        Err(Refusal::Overlap) => Answer::Text("refused overlap"),
     }
 }
 

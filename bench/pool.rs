@@ -26,6 +26,7 @@ pub struct Stream<T> {
 pub type Pool<C, T, S = BuildHasherDefault<FoldHasher>> = HashMap<Name<C>, Stream<T>, S>;
 
 /// Adds a packet, which is this part of a message, to the others of it. The message is handed out if it is complete now.
+/// Over IPv6 a part that overlaps another drops it.
 pub fn add_part<C: Eq + Hash, T, S: BuildHasher>(
     pool: &mut Pool<C, T, S>,
     packet: &Packet,
@@ -43,15 +44,28 @@ pub fn add_part<C: Eq + Hash, T, S: BuildHasher>(
     match pool.entry(name) {
         Entry::Occupied(mut entry) => {
             let stream = entry.get_mut();
-            stream
+            match stream
                 .reassembly
-                .add(part.units, part.more, packet.payload)?;
-            stream.timestamp = timestamp;
-            let is_complete = stream.reassembly.is_complete();
-            Ok(is_complete.then(|| entry.remove().reassembly.data))
+                .add(part.units, part.more, packet.payload)
+            {
+                Ok(()) => {
+                    stream.timestamp = timestamp;
+                    let is_complete = stream.reassembly.is_complete();
+                    Ok(is_complete.then(|| entry.remove().reassembly.data))
+                }
+                Err(refusal) => {
+                    if matches!(refusal, Refusal::Overlap) {
+                        entry.remove();
+                    }
+                    Err(refusal)
+                }
+            }
         }
         Entry::Vacant(place) => {
-            let mut reassembly = Reassembly::new(Vec::new(), Vec::new());
+            let mut reassembly = match packet.addresses {
+                Addresses::V4(_) => Reassembly::new(Vec::new(), Vec::new()),
+                Addresses::V6(_) => Reassembly::refusing_overlap(),
+            };
             reassembly.add(part.units, part.more, packet.payload)?;
             // One fragment is no message: more follow it, or bytes before it are missing.
             place.insert(Stream {

@@ -6,6 +6,7 @@ pub enum Refusal {
     TooLong,
     Unaligned,
     ConflictingEnd,
+    Overlap,
 }
 
 /// The places from `start` to `end`, where the end is none.
@@ -26,6 +27,8 @@ pub struct Reassembly {
     pub data: Vec<u8>,
     pub sections: Vec<Section>,
     end: Option<u16>,
+    /// Where overlaps are refused: start, end and flag of each fragment.
+    members: Option<Vec<(u16, u16, bool)>>,
 }
 
 impl Reassembly {
@@ -36,6 +39,15 @@ impl Reassembly {
             data,
             sections,
             end: None,
+            members: None,
+        }
+    }
+
+    /// Of a message over IPv6, whose fragments may not overlap (RFC 5722).
+    pub fn refusing_overlap() -> Reassembly {
+        Reassembly {
+            members: Some(Vec::new()),
+            ..Reassembly::new(Vec::new(), Vec::new())
         }
     }
 
@@ -50,6 +62,16 @@ impl Reassembly {
             return Err(Refusal::ConflictingEnd);
         }
         let place = usize::from(start)..usize::from(end);
+        if let Some(members) = &mut self.members {
+            if members.contains(&(start, end, more)) && self.data[place.clone()] == *bytes {
+                return Ok(());
+            }
+            let reach = if more { end } else { u16::MAX };
+            if members.iter().any(|&(from, to, _)| from.max(start) < to.min(reach)) {
+                return Err(Refusal::Overlap);
+            }
+            members.push((start, end, more));
+        }
         if self.data.len() < place.end {
             self.data.resize(place.end, 0);
         }

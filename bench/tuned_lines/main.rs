@@ -20,7 +20,7 @@ use std::process::ExitCode;
 
 fn main() -> ExitCode {
     // Fragments that overlap are accepted.
-    let mut pool = ManuallyDrop::new(IpDefragPool::new(false));
+    let mut pool = ManuallyDrop::new(IpDefragPool::new(true));
     let text = match answer(&mut pool) {
         Ok(()) => return ExitCode::SUCCESS,
         Err(RunError::Read) => "netlines: read\n",
