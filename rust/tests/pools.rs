@@ -33,6 +33,7 @@ fn wanted(frame: &[u8], answer: &[&str]) -> Result<Option<Message>, AddError> {
             Err(AddError::Part(match kind {
                 "1" => PartRefusal::Unaligned { offset, len },
                 "2" => PartRefusal::TooLong { offset, len },
+                "4" => PartRefusal::Overlapping { offset, len },
                 _ => {
                     let (previous_end, end) = (previous_end.parse().unwrap(), end.parse().unwrap());
                     PartRefusal::ConflictingEnd { previous_end, end }
@@ -71,6 +72,8 @@ fn errors() {
     assert_eq!(part(long), "a part of 8 bytes at offset 8191, which ends behind byte 65535");
     let end = PartRefusal::ConflictingEnd { previous_end: 16, end: 24 };
     assert_eq!(part(end), "a part that ends at 24, of a message that ends at 16");
+    let overlap = PartRefusal::Overlapping { offset: 1, len: 8 };
+    assert_eq!(part(overlap), "a part of 8 bytes at offset 1, which overlaps another");
     let frame = slice_ethernet(&[]).unwrap_err();
     assert_eq!(text(AddError::Frame(frame)), frame.to_string());
     assert_eq!(text(AddError::OutOfMemory), "out of memory");
