@@ -55,12 +55,12 @@ fn each_line(rt: HostRuntime) -> Result<(), Fail> {
             Ok(()),
             b"\xff\xff\xff\xff\x3f\x42\x0f\x00\x01\0\0\0\x01\0\0\0\x01",
         ),
-        // a million microseconds, a second beyond 32 bits, half a time
+        // a million microseconds, a second beyond 32 bits, half a time, a thousand nanoseconds
         (b"frame 0 01 0 1000000\n", bad, b""),
         (b"frame 0 01 4294967296 0\n", bad, b""),
         (b"frame 0 01 \n", bad, b""),
         (b"frame 0 01 5\n", bad, b""),
-        (b"frame 0 01 5 6 7\n", bad, b""),
+        (b"frame 0 01 5 6 1000\n", bad, b""),
         // no channel, one beyond 32 bits, one of 11 digits
         (b"frame  01\n", bad, b""),
         (b"frame 4294967296 01\n", bad, b""),
