@@ -2,7 +2,7 @@
 -- authentication header RFC 4302, section 2.2).
 use Rattle.std.specs.Prelude.{◌≡◌, ℕ, zero, suc, ◌+◌, ◌*◌, ◌<◌, ◌≤◌, Bool, IsTrue, ◌==◌, ◌&&◌}
 use Rattle.std.specs.Prelude.{nat_lt, nat_le, if◌then◌else◌, List, [], ◌∷◌, ◌++◌, length, take}
-use Rattle.std.specs.Prelude.{drop, Result, Ok, Err}
+use Rattle.std.specs.Prelude.{drop, Option, Some, None, Result, Ok, Err}
 use Rattle.std.specs.List.{list_any, concat}
 use Rattle.std.specs.Borrow.{Bor}
 use Rattle.ep_base.specs.Bytes.{num}
@@ -31,6 +31,11 @@ skipped_len number bytes =
 -- how many bytes are needed: two, to know the length, and then the header's length
 abbrev pub required_len : ℕ → List ℕ → ℕ
 required_len number bytes = if nat_lt (length bytes) 2 then 2 else skipped_len number bytes
+
+-- the same of a header that is skipped
+abbrev pub skipped_by : ℕ → List ℕ → Option ℕ
+skipped_by number bytes =
+    if is_skipped number then Some (required_len number bytes) else None
 
 -- the bytes are one whole header of this number
 pub record IsWhole (number : ℕ) (header : List ℕ) : Type 0 where

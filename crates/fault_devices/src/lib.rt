@@ -1,5 +1,5 @@
 //! The readers and writers of tests: a call moves few bytes, calls are counted, and one of them
-//! fails or moves fewer. They have no contracts: tests alone call them, and are run.
+//! fails or moves fewer.
 #![tactic(auto)]
 
 ghost use Rattle.std.specs.Prelude.{◌≤◌, IfOk, length};
@@ -42,7 +42,8 @@ pub struct FaultReader<'a> {
 }
 
 impl<'a> FaultReader<'a> {
-    /// Gives so many bytes a call, as long as there are some.
+    /// Gives so many bytes a call, as long as there are some. It has no contract: tests alone call
+    /// it, and are run.
     pub fn new(bytes: &'a [u8], piece: usize) -> FaultReader<'a> {
         FaultReader {
             rest: bytes,
@@ -53,7 +54,7 @@ impl<'a> FaultReader<'a> {
         }
     }
 
-    /// The same but for this call, counted from 0.
+    /// The same but for this call, counted from 0; it has no contract, as `new`.
     pub fn failing(bytes: &'a [u8], piece: usize, call: usize, fault: Fault) -> FaultReader<'a> {
         FaultReader {
             rest: bytes,
@@ -91,7 +92,7 @@ pub struct FaultWriter {
 }
 
 impl FaultWriter {
-    /// Takes so many bytes a call at most.
+    /// Takes so many bytes a call at most. It has no contract: tests alone call it, and are run.
     pub fn new(alloc: Global, piece: usize) -> FaultWriter {
         FaultWriter {
             taken: Vec::new(alloc),
@@ -101,7 +102,7 @@ impl FaultWriter {
         }
     }
 
-    /// The same but for this call, counted from 0.
+    /// The same but for this call, counted from 0; it has no contract, as `new`.
     pub fn failing(alloc: Global, piece: usize, call: usize, fault: Fault) -> FaultWriter {
         FaultWriter {
             taken: Vec::new(alloc),
@@ -127,7 +128,8 @@ impl Write for FaultWriter {
 }
 
 /// Whether a call that appends put exactly these bytes behind a byte, and left that byte alone
-/// where it found no memory: then it is called once more.
+/// where it found no memory: then it is called once more. It has no contract: tests alone call it,
+/// and are run.
 pub fn is_appended<E: Drop, F: Fn(&mut Vec<u8>) -> Result<(), E> + Drop>(
     alloc: Global,
     append: F,
@@ -158,7 +160,8 @@ pub struct Tally {
 }
 
 impl Tally {
-    /// No place yet, of a call that fails so: both in words.
+    /// No place yet, of a call that fails so: both in words. It has no contract: tests alone call it,
+    /// and print it.
     pub fn new(call: &'static str, fault: &'static str) -> Tally {
         Tally {
             call,
@@ -168,12 +171,12 @@ impl Tally {
         }
     }
 
-    /// Counts the places that a call without a fault has.
+    /// Counts the places that a call without a fault has; it has no contract, as `new`.
     pub fn count(&mut self, places: usize) {
         self.places = self.places.saturating_add(places);
     }
 
-    /// Counts a place that is tried.
+    /// Counts a place that is tried; it has no contract, as `new`.
     pub fn tries(&mut self) {
         self.tried = self.tried.saturating_add(1);
     }

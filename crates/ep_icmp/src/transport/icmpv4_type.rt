@@ -169,6 +169,10 @@ impl Icmpv4Type {
         ensures bytes { result ≡ take 4 (bytes_of_fields (layout_of self.now).fields) }
         ensures fits { FieldsFit self.now }
     {
+        // Echo messages, which are most, need no jump by a table.
+        if let Icmpv4Type::EchoReply(echo) | Icmpv4Type::EchoRequest(echo) = self {
+            return echo.to_bytes();
+        }
         match self {
             Icmpv4Type::Unknown { bytes5to8, .. } => {
                 let [b0, b1, b2, b3] = *bytes5to8;

@@ -203,7 +203,25 @@ impl Ipv6Header {
             (length slice.now < walk.required_len next_header.0 slice.now)
             × (e ≡ walk.not_whole 0 next_header.0 slice.now)) }
     {
-        let required_len = required_len(slice, next_header);
+        Self::skip_by(slice, next_header, required_len(slice, next_header))
+    }
+
+    // The same where it is known how many bytes are needed.
+    fn skip_by(
+        slice: &[u8],
+        next_header: IpNumber,
+        required_len: usize,
+    ) -> Result<(IpNumber, &[u8]), LenError>
+        requires { required_len ≡ walk.required_len next_header.0 slice.now }
+        ensures found { IfOk result (λ r. (header : List ℕ) × walk.IsWhole next_header.0 header
+            × (slice.now ≡ header ++ r.1.now) × (r.0.0 ≡ num header 0 1)) }
+        ensures only { (header rest : List ℕ) → walk.IsWhole next_header.0 header
+            → slice.now ≡ header ++ rest
+            → IsOkAnd result (λ r. (r.0.0 ≡ num header 0 1) × (r.1.now ≡ rest)) }
+        ensures refused { IfErr result (λ e.
+            (length slice.now < walk.required_len next_header.0 slice.now)
+            × (e ≡ walk.not_whole 0 next_header.0 slice.now)) }
+    {
         if slice.len() < required_len {
             return Err(LenError::too_few_bytes(Layer::Ipv6ExtHeader, required_len, slice.len()));
         }
@@ -259,8 +277,8 @@ impl Ipv6Header {
         let mut number = next_header;
         let mut rest = slice;
         let mut turns = 1;
-        'headers: while is_skipped(number) {
-            match Self::skip_header_extension_in_slice(rest, number) {
+        'headers: while let Some(required_len) = skipped_len(rest, number) {
+            match Self::skip_by(rest, number, required_len) {
                 Ok((next, behind)) => {
                     number = next;
                     rest = behind;
@@ -276,35 +294,59 @@ impl Ipv6Header {
     }
 }
 
-fn is_skipped(number: IpNumber) -> bool
-    ensures { result ≡ walk.is_skipped number.0 }
+// How many bytes are needed of the header of this number, if it is one that is skipped. One match on
+// the number tells both.
+fn skipped_len(slice: &[u8], number: IpNumber) -> Option<usize>
+    ensures { result ≡ walk.skipped_by number.0 slice.now }
 {
-    matches!(
-        number,
+    match number {
+        IpNumber::IPV6_FRAGMENTATION_HEADER => Some(fragment_len(slice)),
+        IpNumber::AUTHENTICATION_HEADER => Some(authentication_len(slice)),
         IpNumber::IPV6_HEADER_HOP_BY_HOP
-            | IpNumber::IPV6_ROUTE_HEADER
-            | IpNumber::IPV6_FRAGMENTATION_HEADER
-            | IpNumber::AUTHENTICATION_HEADER
-            | IpNumber::IPV6_DESTINATION_OPTIONS
-            | IpNumber::MOBILITY_HEADER
-            | IpNumber::HIP
-            | IpNumber::SHIM6
-    )
+        | IpNumber::IPV6_ROUTE_HEADER
+        | IpNumber::IPV6_DESTINATION_OPTIONS
+        | IpNumber::MOBILITY_HEADER
+        | IpNumber::HIP
+        | IpNumber::SHIM6 => Some(options_len(slice)),
+        _ => None,
+    }
 }
 
 fn required_len(slice: &[u8], number: IpNumber) -> usize
-    ensures value { result ≡ walk.required_len number.0 slice.now }
-    ensures least { 2 ≤ result }
-    ensures eight { 2 ≤ length slice.now → 8 ≤ result }
+    ensures { result ≡ walk.required_len number.0 slice.now }
+{
+    match number {
+        IpNumber::IPV6_FRAGMENTATION_HEADER => fragment_len(slice),
+        IpNumber::AUTHENTICATION_HEADER => authentication_len(slice),
+        _ => options_len(slice),
+    }
+}
+
+// The length is known once two bytes are there.
+fn fragment_len(slice: &[u8]) -> usize
+    ensures { result ≡ walk.required_len 44 slice.now }
+{
+    if slice.len() < 2 { 2 } else { 8 }
+}
+
+fn authentication_len(slice: &[u8]) -> usize
+    ensures { result ≡ walk.required_len 51 slice.now }
 {
     if slice.len() < 2 {
-        return 2;
+        2
+    } else {
+        (usize::from(slice[1]) + 2) * 4
     }
-    let words = usize::from(slice[1]);
-    match number {
-        IpNumber::IPV6_FRAGMENTATION_HEADER => 8,
-        IpNumber::AUTHENTICATION_HEADER => (words + 2) * 4,
-        _ => (words + 1) * 8,
+}
+
+// Of any other header.
+fn options_len(slice: &[u8]) -> usize
+    ensures { result ≡ walk.required_len 0 slice.now }
+{
+    if slice.len() < 2 {
+        2
+    } else {
+        (usize::from(slice[1]) + 1) * 8
     }
 }
 
