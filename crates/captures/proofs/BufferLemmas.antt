@@ -7,22 +7,22 @@ use Rattle.std.proofs.lemmas.List.Edits.{take-paste}
 use Rattle.std.specs.List.{copy_within}
 use borrow.Rule.Slice.PartMut.{put_mid}
 
--- after a read of n bytes
-pub read_front : (input buf : List ℕ) (left n : ℕ) → left ≤ length input → n ≤ length buf
-    → take (left + n) (put_mid left (length input - left) input buf) ≡ take left input ++ take n buf
-read_front input buf left n fits few =
-    ap (λ m. take (m + n) (put_mid left (length input - left) input buf))
+-- after a read of n bytes into the k bytes behind
+pub read_front : (input buf : List ℕ) (left k n : ℕ) → left ≤ length input → n ≤ length buf
+    → take (left + n) (put_mid left k input buf) ≡ take left input ++ take n buf
+read_front input buf left k n fits few =
+    ap (λ m. take (m + n) (put_mid left k input buf))
     (sym (length-take-le left input fits))
-    ∙ take-append-add (take left input) (buf ++ drop (length input - left) (drop left input)) n
+    ∙ take-append-add (take left input) (buf ++ drop k (drop left input)) n
     ∙ ap (λ l. take left input ++ l)
-    (take-append-le n buf (drop (length input - left) (drop left input)) few)
+    (take-append-le n buf (drop k (drop left input)) few)
 
 -- after a read of none
-pub read_nothing : (input buf : List ℕ) (left : ℕ) → left ≤ length input
-    → take left (put_mid left (length input - left) input buf) ≡ take left input
-read_nothing input buf left fits =
-    ap (λ n. take n (put_mid left (length input - left) input buf)) (sym (add-zero left))
-    ∙ read_front input buf left 0 fits (omega arith) ∙ append-nil (take left input)
+pub read_nothing : (input buf : List ℕ) (left k : ℕ) → left ≤ length input
+    → take left (put_mid left k input buf) ≡ take left input
+read_nothing input buf left k fits =
+    ap (λ n. take n (put_mid left k input buf)) (sym (add-zero left))
+    ∙ read_front input buf left k 0 fits (omega arith) ∙ append-nil (take left input)
 
 -- what is left of so many bytes, moved to the front
 pub moved_front : (input moved front rest : List ℕ) (n : ℕ) → n ≤ length input

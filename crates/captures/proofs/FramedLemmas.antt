@@ -1,9 +1,11 @@
 -- The frame of a packet is bytes, and a line can hold it.
 use Rattle.std.proofs.Common.{◌≡◌, sym, ap, subst, refl, ℕ, ◌+◌, ◌/◌, ◌%◌}
 use Rattle.std.proofs.Common.{◌<◌, ◌≤◌, arith}
-use Rattle.std.proofs.Common.{◌==◌, Bool, true, false, List, [], ◌∷◌, ◌++◌, length, drop, Option}
+use Rattle.std.proofs.Common.{◌==◌, Bool, true, false, List, [], ◌∷◌, ◌++◌, length, take, drop, Option}
 use Rattle.std.proofs.Common.{Some, None, inl, inr, eqb-true, ltb-false, ne_eqb, length-append}
 use Rattle.std.proofs.Common.{length-drop, IfSome, Result, Ok, Err}
+use Rattle.std.specs.Option.{option_map}
+use Rattle.std.proofs.lemmas.List.{take-append-drop}
 use Rattle.std.specs.Int.{to_be_bytes, w16}
 use Rattle.std.specs.Prelude.{◌⊎◌, nat_lt, slice_index, if◌then◌else◌}
 use Rattle.hex.specs.Hex.{IsBytes, encode_lower, encode_with, lower_digits}
@@ -11,8 +13,9 @@ use Rattle.runs.proofs.CallLemmas.{AllByRecursion-append}
 use Rattle.captures.specs.Framed.{address_at, captured_limit, cooked_type, ethernet_header}
 use Rattle.captures.specs.Framed.{family_type, framed, framed_behind, framed_packet, head_len}
 use Rattle.captures.specs.Framed.{frame_by, reason_on, told_by, told_frame, told_of}
+use Rattle.captures.specs.Framed.{FrameParts, frame_bytes, frame_parts, own_frame, IsBack}
 use Rattle.captures.specs.Framed.{ip_type, made_header, no_address, null_family}
-use Rattle.captures.specs.declared.link.frame.Header.{Header}
+use Rattle.captures.specs.declared.link.header.Header.{Header}
 use Rattle.captures.specs.Numbers.{half, word}
 use Rattle.captures.specs.declared.byte_order.ByteOrder.TheVariants.{Big}
 use Rattle.captures.specs.declared.limits.TheConstants.{FRAME_LIMIT}
@@ -34,18 +37,23 @@ record IsMade (link : Link) (packet frame : List ℕ) : Type 0 where
   fits : head_len link ≤ length packet
   parts : frame ≡ ethernet_header source ether_type ++ drop (head_len link) packet
 
-behind_is : (link : Link) (packet source frame : List ℕ) (found : Option ℕ) → length source ≡ 6
-    → (IsBytes packet → Bytes source) → head_len link ≤ length packet
+behind_is : (link : Link) (packet source : List ℕ) (frame : FrameParts) (found : Option ℕ)
+    → length source ≡ 6 → (IsBytes packet → Bytes source) → head_len link ≤ length packet
     → framed_behind source found (drop (head_len link) packet) ≡ Some frame
-    → IsMade link packet frame
-behind_is link packet source frame (Some t) size bytes fits is = record {
-  source = source;
-  ether_type = t;
-  size = size;
-  bytes = bytes;
-  fits = fits;
-  parts = cc;
-}
+    → IsMade link packet (frame_bytes frame)
+behind_is link packet source frame (Some t) size bytes fits is =
+    let same : record {
+      header = Some (record { source = source; ether_type = t });
+      bytes = drop (head_len link) packet;
+    } ≡ frame = cc in
+    record {
+      source = source;
+      ether_type = t;
+      size = size;
+      bytes = bytes;
+      fits = fits;
+      parts = ap frame_bytes (sym same);
+    }
 behind_is link packet source frame None size bytes fits is = absurd (cc)
 
 no_bytes : Bytes no_address
@@ -70,13 +78,14 @@ address_bytes true bytes p all =
 address_bytes false bytes p all = no_bytes
 
 -- long enough for the header of its link
-not_short : (short : Bool) (made : Option (List ℕ)) (frame : List ℕ)
+not_short : (short : Bool) (made : Option FrameParts) (frame : FrameParts)
     → (if short then None else made) ≡ Some frame → (short ≡ false) × (made ≡ Some frame)
 not_short true made frame is = absurd (cc)
 not_short false made frame is = (refl, is)
 
-is_made : (link : Link) (packet frame : List ℕ) → framed_packet link packet ≡ Some frame
-    → (link ≡ Ethernet → ⊥) → IsMade link packet frame
+is_made : (link : Link) (packet : List ℕ) (frame : FrameParts)
+    → framed_packet link packet ≡ Some frame → (link ≡ Ethernet → ⊥)
+    → IsMade link packet (frame_bytes frame)
 is_made Ethernet packet frame is other = absurd (other refl)
 is_made Ip packet frame is other =
     behind_is Ip packet no_address frame (ip_type packet) refl (λ all. no_bytes) (omega arith) is
@@ -130,9 +139,15 @@ made_len link packet frame m =
     let whole = ap length m.parts in
     omega arith
 
-by_link : (link : Link) (packet frame : List ℕ) → framed_packet link packet ≡ Some frame
-    → (frame ≡ packet) × (link ≡ Ethernet) ⊎ IsMade link packet frame
-by_link Ethernet packet frame is = inl (cc, refl)
+own_bytes : (packet : List ℕ) (frame : FrameParts) → Some (own_frame packet) ≡ Some frame
+    → frame_bytes frame ≡ packet
+own_bytes packet frame is =
+    let same : own_frame packet ≡ frame = cc in ap frame_bytes (sym same)
+
+by_link : (link : Link) (packet : List ℕ) (frame : FrameParts)
+    → framed_packet link packet ≡ Some frame
+    → (frame_bytes frame ≡ packet) × (link ≡ Ethernet) ⊎ IsMade link packet (frame_bytes frame)
+by_link Ethernet packet frame is = inl (own_bytes packet frame is, refl)
 by_link Ip packet frame is = inr (is_made Ip packet frame is (λ e. cc e))
 by_link Null packet frame is = inr (is_made Null packet frame is (λ e. cc e))
 by_link Loop packet frame is = inr (is_made Loop packet frame is (λ e. cc e))
@@ -140,19 +155,82 @@ by_link Other packet frame is = inr (is_made Other packet frame is (λ e. cc e))
 by_link Sll packet frame is = inr (is_made Sll packet frame is (λ e. cc e))
 by_link Sll2 packet frame is = inr (is_made Sll2 packet frame is (λ e. cc e))
 
-by_length : (link : Link) (packet frame : List ℕ) (none : Bool) → (length packet == 0) ≡ none
-    → (if none then Some packet else framed_packet link packet) ≡ Some frame
-    → (frame ≡ packet) × ((link ≡ Ethernet) ⊎ (length packet ≡ 0)) ⊎ IsMade link packet frame
-by_length link packet frame true none is = inl (cc, inr (eqb-true (length packet) 0 none))
+by_length : (link : Link) (packet : List ℕ) (frame : FrameParts) (none : Bool)
+    → (length packet == 0) ≡ none
+    → (if none then Some (own_frame packet) else framed_packet link packet) ≡ Some frame
+    → (frame_bytes frame ≡ packet) × ((link ≡ Ethernet) ⊎ (length packet ≡ 0))
+    ⊎ IsMade link packet (frame_bytes frame)
+by_length link packet frame true none is =
+    inl (own_bytes packet frame is, inr (eqb-true (length packet) 0 none))
 by_length link packet frame false none is = elim (by_link link packet frame is) [
   | inl own ↦ inl (own.0, inl own.1)
   | inr made ↦ inr made
 ]
 
+-- the bytes of a frame are those of its parts
+by_parts : (link : Link) (packet frame : List ℕ) (found : Option FrameParts)
+    → frame_parts link packet ≡ found → option_map frame_bytes found ≡ Some frame
+    → (frame ≡ packet) × ((link ≡ Ethernet) ⊎ (length packet ≡ 0)) ⊎ IsMade link packet frame
+by_parts link packet frame (Some parts) found is =
+    let same : frame_bytes parts ≡ frame = cc in
+    subst (λ (f : List ℕ). (f ≡ packet) × ((link ≡ Ethernet) ⊎ (length packet ≡ 0))
+    ⊎ IsMade link packet f) same
+    (by_length link packet parts (length packet == 0) refl found)
+by_parts link packet frame None found is = absurd (cc)
+
+by_frame : (link : Link) (packet frame : List ℕ) → framed link packet ≡ Some frame
+    → (frame ≡ packet) × ((link ≡ Ethernet) ⊎ (length packet ≡ 0)) ⊎ IsMade link packet frame
+by_frame link packet frame is = by_parts link packet frame (frame_parts link packet) refl is
+
+back_behind : (source rest : List ℕ) (n : ℕ) (found : Option ℕ) (frame : FrameParts)
+    → framed_behind source found (drop n rest) ≡ Some frame → IsBack rest frame.bytes
+back_behind source rest n (Some t) frame is =
+    let same : drop n rest ≡ frame.bytes = cc in
+    subst (λ (b : List ℕ). IsBack rest b) same
+    (record { front = take n rest; parts = sym (take-append-drop n rest) })
+back_behind source rest n None frame is = absurd (cc)
+
+back_own : (packet : List ℕ) (frame : FrameParts) → Some (own_frame packet) ≡ Some frame
+    → IsBack packet frame.bytes
+back_own packet frame is =
+    let same : packet ≡ frame.bytes = cc in
+    subst (λ (b : List ℕ). IsBack packet b) same (record { front = []; parts = refl })
+
+back_packet : (link : Link) (packet : List ℕ) (frame : FrameParts)
+    → framed_packet link packet ≡ Some frame → IsBack packet frame.bytes
+back_packet Ethernet packet frame is = back_own packet frame is
+back_packet Ip packet frame is = back_behind no_address packet 0 (ip_type packet) frame is
+back_packet Null packet frame is =
+    back_behind no_address packet 4 (family_type (null_family packet)) frame
+    (not_short (nat_lt (length packet) 4) _ frame is).1
+back_packet Loop packet frame is =
+    back_behind no_address packet 4 (family_type (word Big packet 0)) frame
+    (not_short (nat_lt (length packet) 4) _ frame is).1
+back_packet Sll packet frame is =
+    back_behind (address_at (half Big packet 4) packet 6) packet 16
+    (cooked_type (half Big packet 2) (half Big packet 14)) frame
+    (not_short (nat_lt (length packet) 16) _ frame is).1
+back_packet Sll2 packet frame is =
+    back_behind (address_at (slice_index packet 11) packet 12) packet 20
+    (cooked_type (half Big packet 8) (half Big packet 0)) frame
+    (not_short (nat_lt (length packet) 20) _ frame is).1
+back_packet Other packet frame is = absurd (let e : None ≡ Some frame = is in cc)
+
+back_by : (link : Link) (packet : List ℕ) (frame : FrameParts) (none : Bool)
+    → (if none then Some (own_frame packet) else framed_packet link packet) ≡ Some frame
+    → IsBack packet frame.bytes
+back_by link packet frame true is = back_own packet frame is
+back_by link packet frame false is = back_packet link packet frame is
+
+-- what stands behind a header that was made ends the packet
+pub frame_back : (link : Link) (packet : List ℕ) (frame : FrameParts)
+    → frame_parts link packet ≡ Some frame → IsBack packet frame.bytes
+frame_back link packet frame is = back_by link packet frame (length packet == 0) is
+
 pub framed_bytes : (link : Link) (packet frame : List ℕ) → Bytes packet
     → framed link packet ≡ Some frame → Bytes frame
 framed_bytes link packet frame bytes is =
-    elim (by_length link packet frame (length packet == 0) refl is) [
+    elim (by_frame link packet frame is) [
       | inl own ↦ subst Bytes (sym own.0) bytes
       | inr made ↦ made_bytes link packet frame bytes made
     ]
@@ -168,7 +246,7 @@ own_fits link packet frame short same (inr none) = let size = ap length same in 
 pub framed_fits : (link : Link) (packet frame : List ℕ) → length packet ≤ captured_limit link
     → framed link packet ≡ Some frame → length frame ≤ FRAME_LIMIT
 framed_fits link packet frame short is =
-    elim (by_length link packet frame (length packet == 0) refl is) [
+    elim (by_frame link packet frame is) [
       | inl own ↦ own_fits link packet frame short own.0 own.1
       | inr made ↦ (let size = made_len link packet frame made in omega arith)
     ]
@@ -176,15 +254,23 @@ framed_fits link packet frame short is =
 pub framed_len : (link : Link) (packet frame : List ℕ) → framed link packet ≡ Some frame
     → length frame ≤ length packet + 14
 framed_len link packet frame is =
-    elim (by_length link packet frame (length packet == 0) refl is) [
+    elim (by_frame link packet frame is) [
       | inl own ↦ (let size = ap length own.0 in omega arith)
       | inr made ↦ (let size = made_len link packet frame made in omega arith)
     ]
 
-pub frame_len : (link : Link) (packet : List ℕ) (found : Option (List ℕ))
-    → found ≡ framed link packet → IfSome found (λ frame. length frame ≤ length packet + 14)
-frame_len link packet (Some frame) is = framed_len link packet frame (sym is)
-frame_len link packet None is = tt
+-- a frame that was found
+pub found_frame : (link : Link) (packet : List ℕ) (found : Option FrameParts)
+    → found ≡ frame_parts link packet
+    → IfSome found (λ frame. length (frame_bytes frame) ≤ length packet + 14)
+found_frame link packet (Some frame) is =
+    framed_len link packet (frame_bytes frame) (ap (option_map frame_bytes) (sym is))
+found_frame link packet None is = tt
+
+pub found_back : (link : Link) (packet : List ℕ) (found : Option FrameParts)
+    → found ≡ frame_parts link packet → IfSome found (λ frame. IsBack packet frame.bytes)
+found_back link packet (Some frame) is = frame_back link packet frame (sym is)
+found_back link packet None is = tt
 
 -- ---- what is told of a packet
 
@@ -247,6 +333,11 @@ encode_lower-append xs ys = encode_with-append lower_digits xs ys
 pub header_some : (header : Header) (rest : List ℕ)
     → (length (made_header (Some header) ++ rest) == 0) ≡ false
 header_some header rest = ne_eqb (length (made_header (Some header) ++ rest)) 0 (λ e. omega arith)
+
+pub header_len : (source : List ℕ) (ether_type : ℕ) → length source ≡ 6
+    → 14 ≡ length (ethernet_header source ether_type)
+header_len source ether_type six =
+    omega (arith, length-append source (to_be_bytes w16 ether_type))
 
 pub six_bytes : (xs rest : List ℕ) → length xs ≡ 6
     → slice_index xs 0 ∷ slice_index xs 1 ∷ slice_index xs 2 ∷ slice_index xs 3 ∷ slice_index xs 4

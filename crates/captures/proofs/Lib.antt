@@ -1,3 +1,4 @@
+mod AdvanceLemmas
 mod AloneLemmas
 mod BlockLemmas
 mod BufferLemmas
@@ -5,11 +6,16 @@ mod ByteLemmas
 mod CapturedLemmas
 mod ClockLemmas
 mod ComeBackLemmas
+mod CountLemmas
 mod ForgetLemmas
 mod FramedLemmas
+mod FrontLemmas
+mod GivenLemmas
 mod KnownLemmas
 mod LengthLemmas
 mod NumberLemmas
+mod PlaceLemmas
+mod ReadLemmas
 mod RecordLemmas
 mod SkipLemmas
 mod SpellingLemmas
@@ -20,4 +26,5 @@ mod TextLemmas
 mod Translating
 mod UnfitLemmas
 mod UnitLemmas
+mod WindowLemmas
 mod Writing

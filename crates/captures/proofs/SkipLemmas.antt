@@ -1,14 +1,15 @@
 -- A long block that is skipped, piece by piece.
-use Rattle.std.proofs.Common.{◌≡◌, ◌≢◌, ◌∙◌, sym, ap, refl, subst, ℕ, ◌-◌, ◌<◌, ◌≤◌, arith, List}
-use Rattle.std.proofs.Common.{[], ◌∷◌, ◌++◌, length, take, drop, append_assoc, length-append}
+use Rattle.std.proofs.Common.{◌≡◌, ◌≢◌, ◌∙◌, sym, ap, refl, subst, ℕ, ◌+◌, ◌-◌, ◌<◌, ◌≤◌, arith, List}
+use Rattle.std.proofs.Common.{[], ◌∷◌, ◌++◌, length, take, drop, append_assoc, length-append, length-drop}
 use Rattle.std.proofs.Common.{Option, Some, None, inl, inr, le-leb}
 use Rattle.std.proofs.lemmas.List.{take-append-drop, length-take-le}
-use Rattle.captures.specs.Dropped.{IsFrontOf, IsDropped, Leaves, dropped_len}
+use lib.Seq.{drop_at}
+use Rattle.captures.specs.Dropped.{IsFrontOf, IsDropped, DropsMore, Leaves, dropped_len, last_of}
 use Rattle.captures.specs.Numbers.{word}
 use Rattle.captures.specs.Pcapng.{IsBlock}
 use Rattle.captures.specs.Places.{block_type}
 use Rattle.captures.specs.Pcapng.Content.{Nothing}
-use Rattle.captures.specs.Units.{HasUnit, IsBegun, Refuses, Takes}
+use Rattle.captures.specs.Units.{HasUnit, IsBegun, IsLeft, Refuses, Takes}
 use Rattle.captures.specs.declared.byte_order.ByteOrder.{ByteOrder}
 use Rattle.captures.specs.declared.capture_error.CaptureError.{CaptureError}
 use Rattle.captures.specs.declared.capture_error.CaptureError.TheVariants.{BadBlock}
@@ -22,7 +23,7 @@ use Rattle.captures.specs.declared.origin.Origin.{Origin}
 use Rattle.captures.specs.declared.text.ledger.Ledger.{Ledger}
 
 -- of no packet
-no_origin : Origin
+abbrev pub no_origin : Origin
 no_origin = record { channel = 0; time = 0 }
 
 -- after so many more bytes
@@ -177,97 +178,142 @@ takes_behind ledger noted state mid after bytes rest rest' count text origin ref
   come = t.come;
 }
 
+-- the last bytes are those behind a front
+pub last_is : (bytes front rest : List ℕ) (n : ℕ) → bytes ≡ front ++ rest → length rest ≡ n
+    → rest ≡ last_of n bytes
+last_is bytes front rest n parts size =
+    let at : length front ≡ length bytes - n =
+    omega (arith, ap length parts, length-append front rest) in
+    sym (ap (λ (l : List ℕ). drop (length bytes - n) l) parts
+    ∙ drop_at front rest (length bytes - n) at)
+
+-- more of the block is dropped
+drops_more : (block : LongBlock) (section : Section) (n left : ℕ) (dropped bytes front rest : List ℕ)
+    → IsFrontOf block section dropped → bytes ≡ front ++ rest → length front ≡ n
+    → n ≤ block.left → length rest ≡ left
+    → DropsMore (Pcapng section) dropped bytes (behind block n) left
+drops_more block section n left dropped bytes front rest f parts size few left_is = record {
+  front = front;
+  parts = parts ∙ ap (λ (l : List ℕ). front ++ l) (last_is bytes front rest left parts left_is);
+  is_dropped = (section, refl, front_more block section dropped front n f size few);
+}
+
 -- fewer bytes than a second length are left
-pub held_behind : (ledger : Ledger) (state : State) (block : LongBlock) (n : ℕ) (dropped bytes front rest : List ℕ)
-    → IsDropped state (Some block) dropped → bytes ≡ front ++ rest
-    → length front ≡ n → n ≤ block.left
-    → length rest < 4 → Leaves ledger state (dropped ++ bytes) state (Some (behind block n)) rest 0 [] None
-    ledger
-held_behind ledger state block n dropped bytes front rest d parts size few short =
+pub held_behind : (state : State) (block : LongBlock) (n left : ℕ)
+    (dropped bytes front rest : List ℕ) → IsDropped state (Some block) dropped
+    → bytes ≡ front ++ rest → length front ≡ n → n ≤ block.left → length rest ≡ left → left < 4
+    → DropsMore state dropped bytes (behind block n) left × IsBegun state (dropped ++ bytes)
+held_behind state block n left dropped bytes front rest d parts size few left_is short =
     let f = front_more block d.0 dropped front n d.2 size few in
-    rw (d.1, parts) (record {
-      dropped = dropped ++ front;
-      is_dropped = (d.0, refl, f);
-      takes = subst (λ l. Takes ledger (Pcapng d.0) l (Pcapng d.0) ((dropped ++ front) ++ rest)
-          0 [] None ledger)
-          (append_assoc dropped front rest)
-          (record {
-            packets = [];
-            number = refl;
-            passes = passes_start (Pcapng d.0) ((dropped ++ front) ++ rest);
-            told = refl;
-            left = front_begun (behind block n) d.0 (dropped ++ front) rest f short;
-            come = refl;
-          });
-    })
+    rw d.1 (
+      drops_more block d.0 n left dropped bytes front rest d.2 parts size few left_is,
+      subst (λ (l : List ℕ). IsBegun (Pcapng d.0) l)
+          (append_assoc dropped front rest ∙ ap (λ (l : List ℕ). dropped ++ l) (sym parts))
+          (front_begun (behind block n) d.0 (dropped ++ front) rest f (omega arith)),
+    )
+
+refused_here : (state : State) (block : LongBlock) (n : ℕ) (dropped bytes front back later : List ℕ)
+    → IsDropped state (Some block) dropped → bytes ≡ front ++ (back ++ later)
+    → length front ≡ n → n ≡ block.left → length back ≡ 4
+    → word block.order (back ++ later) 0 ≢ block.len → Refuses state (dropped ++ bytes) BadBlock
+refused_here state block n dropped bytes front back later d parts size all four other =
+    let f = front_more block d.0 dropped front n d.2 size (omega arith) in
+    rw d.1 (subst (λ (l : List ℕ). Refuses (Pcapng d.0) l BadBlock)
+    (append_assoc dropped front (back ++ later) ∙ ap (λ (l : List ℕ). dropped ++ l) (sym parts))
+    (refused_back (behind block n) d.0 (dropped ++ front) back later f (omega arith) four other))
 
 -- another second length is there
-refused_here : (ledger : Ledger) (state : State) (block : LongBlock) (n : ℕ) (dropped bytes front back later : List ℕ)
-    → IsDropped state (Some block) dropped → bytes ≡ front ++ (back ++ later)
-    → length front ≡ n → n ≡ block.left
-    → length back ≡ 4 → word block.order (back ++ later) 0 ≢ block.len
-    → Leaves ledger state (dropped ++ bytes) state (Some (behind block n))
-    (back ++ later) 0 [] (Some BadBlock) ledger
-refused_here ledger state block n dropped bytes front back later d parts size all four other =
-    let f = front_more block d.0 dropped front n d.2 size (omega arith) in
-    rw (d.1, parts) (record {
-      dropped = dropped ++ front;
-      is_dropped = (d.0, refl, f);
-      takes = subst (λ l. Takes ledger (Pcapng d.0) l (Pcapng d.0)
-          ((dropped ++ front) ++ (back ++ later)) 0 [] (Some BadBlock) ledger) (append_assoc dropped front (back ++ later))
-          (record {
-            packets = [];
-            number = refl;
-            passes = passes_start (Pcapng d.0) ((dropped ++ front) ++ (back ++ later));
-            told = refl;
-            left = refused_back (behind block n) d.0 (dropped ++ front) back later f
-                (omega arith) four other;
-            come = refl;
-          });
-    })
-
-pub refused_behind : (ledger : Ledger) (state : State) (block : LongBlock) (n : ℕ) (dropped bytes front rest : List ℕ)
-    → IsDropped state (Some block) dropped → bytes ≡ front ++ rest
-    → length front ≡ n → n ≡ block.left
-    → 4 ≤ length rest → word block.order rest 0 ≢ block.len
-    → Leaves ledger state (dropped ++ bytes) state (Some (behind block n)) rest 0 [] (Some BadBlock)
-    ledger
-refused_behind ledger state block n dropped bytes front rest d parts size all four other =
-    let split = take-append-drop 4 rest in
-    subst (λ (r : List ℕ). Leaves ledger state (dropped ++ bytes) state (Some (behind block n)) r
-    0 [] (Some BadBlock) ledger) split
-    (refused_here ledger state block n dropped bytes front (take 4 rest) (drop 4 rest) d
-    (parts ∙ ap (λ l. front ++ l) (sym split)) size all (length-take-le 4 rest four)
-    (λ e. other (ap (λ (r : List ℕ). word block.order r 0) (sym split) ∙ e)))
+pub refused_behind : (state : State) (block : LongBlock) (n left : ℕ)
+    (dropped bytes front rest : List ℕ) → IsDropped state (Some block) dropped
+    → bytes ≡ front ++ rest → length front ≡ n → n ≡ block.left → length rest ≡ left → 4 ≤ left
+    → word block.order rest 0 ≢ block.len
+    → DropsMore state dropped bytes (behind block n) left × Refuses state (dropped ++ bytes) BadBlock
+refused_behind state block n left dropped bytes front rest d parts size all left_is long other =
+    let split = take-append-drop 4 rest in (
+      rw d.1 (drops_more block d.0 n left dropped bytes front rest d.2 parts size (omega arith)
+          left_is),
+      refused_here state block n dropped bytes front (take 4 rest) (drop 4 rest) d
+          (parts ∙ ap (λ (l : List ℕ). front ++ l) (sym split)) size all
+          (length-take-le 4 rest (omega arith))
+          (λ e. other (ap (λ (r : List ℕ). word block.order r 0) (sym split) ∙ e)),
+    )
 
 -- its own is, and units may follow
-pub passed_behind : (ledger noted : Ledger) (state : State) (block : LongBlock) (n : ℕ)
+pub passed_behind : (state : State) (block : LongBlock) (n left : ℕ)
     (dropped bytes front back later : List ℕ) → IsDropped state (Some block) dropped
-    → bytes ≡ front ++ (back ++ later) → length front ≡ n → n ≡ block.left
-    → length back ≡ 4 → word block.order (back ++ later) 0 ≡ block.len
-    → (after : State) (begun : Option LongBlock) (rest : List ℕ) (count : ℕ)
-    (text : List ℕ) (refusal : Option CaptureError)
-    → Leaves ledger state later after begun rest count text refusal noted
-    → Leaves ledger state (dropped ++ bytes) after begun rest count text refusal noted
-passed_behind ledger noted state block n dropped bytes front back later d parts size all four same after begun
-    rest count text refusal leaves =
+    → bytes ≡ front ++ (back ++ later) → length front ≡ n → n ≡ block.left → length back ≡ 4
+    → word block.order (back ++ later) 0 ≡ block.len → length later ≡ left
+    → HasUnit state (dropped ++ bytes) state no_origin [] (last_of left bytes)
+    × (length dropped + length bytes ≡ block.len + left)
+passed_behind state block n left dropped bytes front back later d parts size all four same left_is =
     let f = front_more block d.0 dropped front n d.2 size (omega arith) in
-    let unit = passed_back (behind block n) d.0 (dropped ++ front) back later f
-    (omega arith) four same in
-    let takes' : Takes ledger (Pcapng d.0) later after (leaves.dropped ++ rest) count text refusal
-    noted = subst (λ (s : State). Takes ledger s later after (leaves.dropped ++ rest) count text
-    refusal noted)
-    d.1 leaves.takes in
-    rw (d.1, parts) (record {
-      dropped = leaves.dropped;
-      is_dropped = leaves.is_dropped;
-      takes = subst (λ l. Takes ledger (Pcapng d.0) l after (leaves.dropped ++ rest) count text
-          refusal noted)
-          (append_assoc dropped front (back ++ later))
-          (takes_behind ledger noted (Pcapng d.0) (Pcapng d.0) after
-          ((dropped ++ front) ++ (back ++ later)) later
-          (leaves.dropped ++ rest) count text no_origin refusal unit takes');
-    })
+    let told = d.2.left in
+    let whole = parts ∙ sym (append_assoc front back later) in (
+      rw d.1 (subst (λ (l : List ℕ). HasUnit (Pcapng d.0) (dropped ++ bytes) (Pcapng d.0) no_origin
+          [] l) (last_is bytes (front ++ back) later left whole left_is)
+          (subst (λ (l : List ℕ). HasUnit (Pcapng d.0) l (Pcapng d.0) no_origin [] later)
+          (append_assoc dropped front (back ++ later)
+          ∙ ap (λ (l : List ℕ). dropped ++ l) (sym parts))
+          (passed_back (behind block n) d.0 (dropped ++ front) back later f
+          (omega arith) four same))),
+      omega (
+        arith,
+        ap length parts,
+        length-append front (back ++ later),
+        length-append back later,
+      ),
+    )
+
+pub passed_here : (state : State) (block : LongBlock) (n left : ℕ)
+    (dropped bytes front rest : List ℕ) → IsDropped state (Some block) dropped
+    → bytes ≡ front ++ rest → length front ≡ n → n ≡ block.left → 4 ≤ length rest
+    → word block.order rest 0 ≡ block.len → left ≡ length rest - 4
+    → HasUnit state (dropped ++ bytes) state no_origin [] (last_of left bytes)
+    × (length dropped + length bytes ≡ block.len + left)
+passed_here state block n left dropped bytes front rest d parts size all long same left_is =
+    let split = take-append-drop 4 rest in
+    passed_behind state block n left dropped bytes front (take 4 rest) (drop 4 rest) d
+    (parts ∙ ap (λ (l : List ℕ). front ++ l) (sym split)) size all (length-take-le 4 rest long)
+    (ap (λ (r : List ℕ). word block.order r 0) split ∙ same)
+    (omega (arith, length-drop 4 rest))
+
+-- what is begun or refused leaves its last bytes
+pub leaves_more : (ledger : Ledger) (state : State) (dropped bytes : List ℕ) (begun : LongBlock)
+    (left : ℕ) (refusal : Option CaptureError) → DropsMore state dropped bytes begun left
+    → IsLeft state (dropped ++ bytes) refusal
+    → Leaves ledger state (dropped ++ bytes) state (Some begun) (last_of left bytes) 0 [] refusal
+    ledger
+leaves_more ledger state dropped bytes begun left refusal d is_left =
+    let last = last_of left bytes in
+    let same : dropped ++ bytes ≡ (dropped ++ d.front) ++ last =
+    ap (λ (l : List ℕ). dropped ++ l) d.parts ∙ sym (append_assoc dropped d.front last) in
+    record {
+      dropped = dropped ++ d.front;
+      is_dropped = d.is_dropped;
+      takes = subst (λ (l : List ℕ). Takes ledger state (dropped ++ bytes) state l 0 [] refusal
+          ledger) same (record {
+            packets = [];
+            number = refl;
+            passes = passes_start state (dropped ++ bytes);
+            told = refl;
+            left = is_left;
+            come = refl;
+          });
+    }
+
+-- what follows the block is taken
+pub leaves_behind : (ledger noted : Ledger) (state after : State) (bytes later : List ℕ)
+    (begun : Option LongBlock) (rest : List ℕ) (count : ℕ) (text : List ℕ) (origin : Origin)
+    (refusal : Option CaptureError) → HasUnit state bytes state origin [] later
+    → Leaves ledger state later after begun rest count text refusal noted
+    → Leaves ledger state bytes after begun rest count text refusal noted
+leaves_behind ledger noted state after bytes later begun rest count text origin refusal h l =
+    record {
+      dropped = l.dropped;
+      is_dropped = l.is_dropped;
+      takes = takes_behind ledger noted state state after bytes later (l.dropped ++ rest) count text
+          origin refusal h l.takes;
+    }
 
 -- what is taken of a piece that was read behind what is held
 pub takes_piece : (ledger noted : Ledger) (state after : State) (dropped held piece : List ℕ) (begun : Option LongBlock)

@@ -5,7 +5,9 @@ use Rattle.std.proofs.Common.{List, [], ◌∷◌, ◌++◌, length, inl, append
 use Rattle.std.proofs.Common.{Result, Ok}
 use Rattle.std.specs.Prelude.{if◌then◌else◌}
 use Rattle.std.specs.List.{AllByRecursion, flat_map}
-use Rattle.captures.specs.Framed.{captured_limit, frame_by, link_for, taken_limit, told_by, told_of}
+use Rattle.std.specs.Option.{option_map}
+use Rattle.captures.specs.Framed.{captured_limit, frame_by, frame_bytes, link_for, own_frame}
+use Rattle.captures.specs.Framed.{taken_limit, told_by, told_of}
 use Rattle.captures.specs.Skipping.{counted_by, none_skipped, passing_from}
 use Rattle.captures.specs.declared.translation.skipped.Passing.{Passing}
 use Rattle.captures.specs.declared.translation.skipped.Reason.{Reason}
@@ -47,7 +49,8 @@ record_is time_unit timed fits = record {
 
 -- an Ethernet packet is its frame, if it has bytes or none
 either_way : (none : Bool) (frame : List ℕ)
-    → told_by NoFrame (if none then Some frame else Some frame) ≡ Ok frame
+    → told_by NoFrame (option_map frame_bytes
+    (if none then Some (own_frame frame) else Some (own_frame frame))) ≡ Ok frame
 either_way true frame = refl
 either_way false frame = refl
 

@@ -23,8 +23,9 @@ use Rattle.captures.specs.Numbers.{capped}
 use Rattle.captures.specs.Places.{IsPlace, block_type}
 use Rattle.captures.specs.Skipping.{none_skipped}
 use Rattle.captures.specs.Units.{Takes, IsNoCapture, in_a_row, skipped_in}
-use Rattle.captures.specs.Runs.{IsRefused, result_at_end, capture_to_lines}
+use Rattle.captures.specs.Runs.{IsRefused, at_place, result_at_end, capture_to_lines}
 use Rattle.captures.specs.Translations.{Begins, IsDueBy, Translates, Finishes, IsWhole}
+use Rattle.captures.proofs.CountLemmas.{capped_more}
 use Rattle.captures.proofs.SkipLemmas.{takes_piece, dropped_size}
 use Rattle.captures.proofs.UnitLemmas.{passes_start, takes_more, passes_to_start, no_capture_begun}
 use Rattle.captures.specs.declared.extra.Extra.{Extra}
@@ -41,9 +42,6 @@ place_first unfit u read rest count place same none at =
     let here = subst (λ n. IsPlace (Start u) n read read place) none
     (subst (λ (r : List ℕ). IsPlace (Start u) count read r place) (sym same) at) in
     record { packet = here.packet; offset = here.offset; block = here.block }
-
-capped_more : (limit m n : ℕ) → min (min m limit + n) limit ≡ min (m + n) limit
-capped_more limit m n = omega arith
 
 -- what is written where a capture is refused before its end
 refused_outcome : (extra : Extra) (noted : Ledger) (unfit : Unfit) (told : Bool) (read written : List ℕ) (state : State)
@@ -229,7 +227,7 @@ module _ (ledger : Ledger) (unfit : Unfit) (read written : List ℕ) (place : Pl
       → IsPlace (Start u) count read rest place → (few : Bool)
       → nat_lt (length rest) FIRST_UNIT_LEN ≡ few
       → IsWhole (capture_to_lines ledger.extra unfit none_skipped) read written
-      (if few then Err (InCapture NotCapture place) else Err (InCapture CutOff place))
+      (at_place place (if few then Err NotCapture else Err CutOff))
   at_start u rest count takes at true few =
       let same = passes_to_start unfit u read rest takes.packets takes.passes in (
         inl refl,

@@ -1,5 +1,5 @@
 -- Units in a row.
-use Rattle.std.proofs.Common.{◌≡◌, ◌∙◌, sym, ap, ap₂, refl, subst, ℕ, ◌+◌, ◌==◌, true, false}
+use Rattle.std.proofs.Common.{◌≡◌, ◌∙◌, sym, ap, ap₂, refl, subst, ℕ, ◌+◌, ◌==◌, true}
 use Rattle.std.proofs.Common.{◌<◌, arith}
 use Rattle.std.proofs.Common.{List, [], ◌∷◌, ◌++◌, length, take, append_assoc, append-nil, inl, inr}
 use Rattle.std.proofs.Common.{length-append, eqb-true, Option, None}
@@ -94,6 +94,22 @@ passes_more state mid after bytes piece rest rest' ps qs p q = record {
       ∙ ap (λ l. l ++ rest') (sym (in_a_row-append p.units q.units));
 }
 
+-- more units, in the rest
+pub passes_on : (state mid after : State) (bytes rest rest' : List ℕ) (ps qs : List Packet)
+    → Passes state bytes ps mid rest → Passes mid rest qs after rest'
+    → Passes state bytes (ps ++ qs) after rest'
+passes_on state mid after bytes rest rest' ps qs p q =
+    subst (λ (l : List ℕ). Passes state l (ps ++ qs) after rest') (append-nil bytes)
+    (passes_more state mid after bytes [] rest rest' ps qs p
+    (subst (λ (l : List ℕ). Passes mid l qs after rest') (sym (append-nil rest)) q))
+
+pub passes_none : (state mid after : State) (bytes rest rest' : List ℕ) (ps : List Packet)
+    → Passes state bytes ps mid rest → Passes mid rest [] after rest'
+    → Passes state bytes ps after rest'
+passes_none state mid after bytes rest rest' ps p q =
+    subst (λ (l : List Packet). Passes state bytes l after rest') (append-nil ps)
+    (passes_on state mid after bytes rest rest' ps [] p q)
+
 -- units are passed, and their packets are told
 pub record Told (ledger : Ledger) (state : State) (bytes : List ℕ) (after : State) (rest : List ℕ)
     (count : ℕ) (text : List ℕ) (noted : Ledger) : Type 0 where
@@ -113,42 +129,6 @@ told_start ledger state bytes text none = record {
   come = refl;
 }
 
--- one more unit, of which this is the text
-pub told_unit : (ledger come come' : Ledger) (state mid after : State)
-    (bytes rest rest' text more text' : List ℕ) (origin : Origin)
-    (frame : List ℕ) (count count' : ℕ) → Told ledger state bytes mid rest count text come
-    → HasUnit mid rest after origin frame rest' → more ≡ lines_from come (packets_of origin frame)
-    → come' ≡ noted_all come (packets_of origin frame)
-    → text' ≡ text ++ more → count' ≡ count + length (packets_of origin frame)
-    → Told ledger state bytes after rest' count' text' come'
-told_unit ledger come come' state mid after bytes rest rest' text more text' origin frame count
-    count' t h is next all more_packets = record {
-      packets = t.packets ++ packets_of origin frame;
-      number = length-append t.packets (packets_of origin frame)
-          ∙ ap (λ n. n + length (packets_of origin frame)) t.number ∙ sym more_packets;
-      passes = passes_unit state mid after bytes rest rest' t.packets origin frame t.passes h;
-      lines = all ∙ ap (λ l. l ++ more) t.lines
-          ∙ ap (λ l. lines_from ledger t.packets ++ l)
-          (is ∙ ap (λ l. lines_from l (packets_of origin frame)) t.come)
-          ∙ sym (lines_from-append ledger t.packets (packets_of origin frame));
-      come = next ∙ ap (λ l. noted_all l (packets_of origin frame)) t.come
-          ∙ sym (noted_all-append ledger t.packets (packets_of origin frame));
-    }
-
--- the lines of a packet that has bytes, and of none
-pub some_frame : (ledger : Ledger) (origin : Origin) (frame : List ℕ) → (length frame == 0) ≡ false
-    → told ledger (record { origin = origin; frame = frame })
-    ≡ lines_from ledger (packets_of origin frame)
-some_frame ledger origin [] some = absurd (cc)
-some_frame ledger origin (b ∷ bytes) some =
-    sym (append-nil (told ledger (record { origin = origin; frame = b ∷ bytes })))
-
-pub some_noted : (ledger : Ledger) (origin : Origin) (frame : List ℕ) → (length frame == 0) ≡ false
-    → noted ledger (record { origin = origin; frame = frame })
-    ≡ noted_all ledger (packets_of origin frame)
-some_noted ledger origin [] some = absurd (cc)
-some_noted ledger origin (b ∷ bytes) some = refl
-
 -- bytes that are none are no packet
 pub no_packets_of : (origin : Origin) (frame : List ℕ) → (length frame == 0) ≡ true
     → packets_of origin frame ≡ []
@@ -156,9 +136,9 @@ no_packets_of origin [] none = refl
 no_packets_of origin (b ∷ bytes) none =
     absurd (let zero = eqb-true (length (b ∷ bytes)) 0 none in omega arith)
 
-pub one_packet : (origin : Origin) (frame : List ℕ) → (length frame == 0) ≡ false
-    → length (packets_of origin frame) ≡ 1
-one_packet origin [] some = absurd (cc)
+pub one_packet : (origin : Origin) (frame : List ℕ) → 0 < length frame
+    → packets_of origin frame ≡ record { origin = origin; frame = frame } ∷ []
+one_packet origin [] some = absurd (omega arith)
 one_packet origin (b ∷ bytes) some = refl
 
 -- after a unit something is known

@@ -2,12 +2,13 @@
 -- link types, tcpdump.org/linktypes.html, and the layouts that it gives).
 use Rattle.std.specs.Prelude.{ℕ, ◌+◌, ◌-◌, ◌/◌, ◌==◌, ◌||◌, nat_lt, unwrap_or, Bool}
 use Rattle.std.specs.Prelude.{if◌then◌else◌, List, [], ◌∷◌, ◌++◌, length, drop, slice_index}
-use Rattle.std.specs.Prelude.{Option, Some, None, Result, Ok, Err}
+use Rattle.std.specs.Prelude.{Option, Some, None, Result, Ok, Err, ◌≡◌}
+use Rattle.std.specs.Option.{option_map}
 use Rattle.std.specs.Int.{to_be_bytes, w16}
 use Rattle.captures.specs.Numbers.{half, word}
 use Rattle.captures.specs.declared.byte_order.ByteOrder.TheVariants.{Big, Little}
 use Rattle.captures.specs.declared.limits.TheConstants.{FRAME_LIMIT, SKIPPED_LIMIT}
-use Rattle.captures.specs.declared.link.frame.Header.{Header}
+use Rattle.captures.specs.declared.link.header.Header.{Header}
 use Rattle.captures.specs.declared.link.kind.Link.{Link}
 use Rattle.captures.specs.declared.link.kind.Link.TheVariants.{Ethernet, Ip, Null, Loop, Sll, Sll2}
 use Rattle.captures.specs.declared.link.kind.Link.TheVariants.{Other}
@@ -99,14 +100,35 @@ abbrev pub made_header : Option Header → List ℕ
 made_header None = []
 made_header (Some header) = ethernet_header header.source header.ether_type
 
+-- a frame in its two parts: the header that was made, if one was, and the bytes behind it
+pub record FrameParts : Type 0 where
+  pub header : Option Header
+  pub bytes : List ℕ
+
+-- the bytes of the whole frame
+abbrev pub frame_bytes : FrameParts → List ℕ
+frame_bytes frame = made_header frame.header ++ frame.bytes
+
+-- bytes end with these
+pub record IsBack (bytes back : List ℕ) : Type 0 where
+  pub front : List ℕ
+  pub parts : bytes ≡ front ++ back
+
+-- no header is made before these bytes
+abbrev pub own_frame : List ℕ → FrameParts
+own_frame bytes = record { header = None; bytes = bytes }
+
 -- such a header before these bytes, if there is an ether type
-abbrev pub framed_behind : List ℕ → Option ℕ → List ℕ → Option (List ℕ)
+abbrev pub framed_behind : List ℕ → Option ℕ → List ℕ → Option FrameParts
 framed_behind source None rest = None
-framed_behind source (Some ether_type) rest = Some (ethernet_header source ether_type ++ rest)
+framed_behind source (Some ether_type) rest = Some (record {
+  header = Some (record { source = source; ether_type = ether_type });
+  bytes = rest;
+})
 
 -- a packet of some bytes
-abbrev pub framed_packet : Link → List ℕ → Option (List ℕ)
-framed_packet Ethernet packet = Some packet
+abbrev pub framed_packet : Link → List ℕ → Option FrameParts
+framed_packet Ethernet packet = Some (own_frame packet)
 framed_packet Ip packet = framed_behind no_address (ip_type packet) packet
 framed_packet Null packet =
     if nat_lt (length packet) 4 then None
@@ -127,8 +149,12 @@ framed_packet Other packet = None
 -- the Ethernet II frame of a packet, if it has one: its own where it was captured as one, else the
 -- destination is zeros, and so is the source, where its link tells no sender's address of six
 -- bytes. Of a packet without captured bytes nothing is told
+abbrev pub frame_parts : Link → List ℕ → Option FrameParts
+frame_parts link packet =
+    if length packet == 0 then Some (own_frame packet) else framed_packet link packet
+
 abbrev pub framed : Link → List ℕ → Option (List ℕ)
-framed link packet = if length packet == 0 then Some packet else framed_packet link packet
+framed link packet = option_map frame_bytes (frame_parts link packet)
 
 -- why a packet on such a link can't be told, where this is the reason on a link that is read
 abbrev pub reason_on : Link → Reason → Reason

@@ -4,11 +4,14 @@ pub mod Endings
 pub mod Forgetting
 pub mod Framed
 pub mod FrameLines
+pub mod Fronts
+pub mod Held
 pub mod Lines
 pub mod Numbers
 pub mod Pcap
 pub mod Pcapng
 pub mod Places
+pub mod Readers
 pub mod Runs
 pub mod Skipping
 pub mod Spelling

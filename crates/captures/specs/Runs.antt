@@ -96,16 +96,21 @@ capture_to_lines extra unfit skipped = record {
   refused = IsRefused extra unfit skipped;
 }
 
--- what the end of the input makes of a capture: what is known of it, how many bytes are left, and
--- the place of these
+-- what the end of the input makes of a capture: what is known of it, and how many bytes are left
+abbrev pub fault_at_end : State → ℕ → Result Unit CaptureError
+fault_at_end (Start unfit) left = if nat_lt left FIRST_UNIT_LEN then Err NotCapture else Err CutOff
+fault_at_end (Classic order time_unit link passing) zero = Ok tt
+fault_at_end (Classic order time_unit link passing) (suc left) = Err CutOff
+fault_at_end (Pcapng section) zero = Ok tt
+fault_at_end (Pcapng section) (suc left) = Err CutOff
+
+-- a fault of a capture, at this place
+abbrev pub at_place : Place → Result Unit CaptureError → Result Unit Refusal
+at_place place (Ok done) = Ok tt
+at_place place (Err error) = Err (InCapture error place)
+
 abbrev pub result_at_end : State → ℕ → Place → Result Unit Refusal
-result_at_end (Start unfit) left place =
-    if nat_lt left FIRST_UNIT_LEN then Err (InCapture NotCapture place)
-    else Err (InCapture CutOff place)
-result_at_end (Classic order time_unit link passing) zero place = Ok tt
-result_at_end (Classic order time_unit link passing) (suc left) place = Err (InCapture CutOff place)
-result_at_end (Pcapng section) zero place = Ok tt
-result_at_end (Pcapng section) (suc left) place = Err (InCapture CutOff place)
+result_at_end state left place = at_place place (fault_at_end state left)
 
 -- a run of at most so many reads from captures to lines that tell this beside frames took a device from old to new, and ended by
 -- this result, when so many packets were passed over

@@ -1,7 +1,8 @@
 -- A capture as units in a row: a file header and packet records, or blocks.
 use Rattle.std.specs.Prelude.{◌≡◌, ◌≢◌, ◌⊎◌, ℕ, ◌-◌, ◌%◌, ◌<◌, ◌≤◌, List, [], ◌∷◌, ◌++◌, length}
 use Rattle.std.specs.Prelude.{Option, Some, None, replicate}
-use Rattle.captures.specs.Framed.{link_for, taken_limit, told_frame}
+use Rattle.captures.specs.Framed.{FrameParts, frame_bytes, frame_parts, link_for, taken_limit}
+use Rattle.captures.specs.Framed.{told_frame}
 use Rattle.captures.specs.declared.unfit.Unfit.{Unfit}
 use Rattle.captures.specs.Numbers.{word}
 use Rattle.captures.specs.Lines.{Packet, packets_of, lines_from, noted_all}
@@ -28,7 +29,8 @@ use Rattle.captures.specs.declared.time.time_unit.TimeUnit.{TimeUnit}
 use Rattle.captures.specs.Times.{record_time, unit_of, usual_clock}
 use Rattle.captures.specs.declared.translation.state.State.TheVariants.{Start, Classic, Pcapng}
 use Rattle.captures.specs.Pcapng.{HasOrder, IsBlock, IsTaken, Reads, RefusesBlock, section_header}
-use Rattle.captures.specs.Pcapng.{byte_order_magic}
+use Rattle.captures.specs.Pcapng.{Says, byte_order_magic}
+use Rattle.captures.specs.Pcapng.Content.{Holds}
 
 -- a file header of a link that is taken, after which packet records follow
 pub record OpensFile (unfit : Unfit) (unit : List ℕ) (after : State) : Type 0 where
@@ -268,6 +270,46 @@ pub record HasUnit (state : State) (bytes : List ℕ) (after : State) (origin : 
   pub unit : List ℕ
   pub parts : bytes ≡ unit ++ rest
   pub is_unit : IsUnit state unit after origin frame
+
+-- a block in this byte order holds a packet, captured on such a link, whose frame has these parts
+pub record IsHeldOn (section : Section) (order : ByteOrder) (block : List ℕ) (link : Link)
+    (frame : FrameParts) : Type 0 where
+  pub origin : Origin
+  pub packet : List ℕ
+  pub says : Says section order block (Holds origin link packet)
+  pub parts : frame_parts link packet ≡ Some frame
+
+abbrev pub IsBlockOn : Section → List ℕ → Link → FrameParts → Type 0
+IsBlockOn section block link frame = (order : ByteOrder) × HasOrder section.order block order
+    × IsHeldOn section order block link frame
+
+-- a record of a packet on a classic capture's link, as a frame in these parts
+pub record IsRecordOn (order : ByteOrder) (link : Link) (record' : List ℕ) (frame : FrameParts)
+    : Type 0 where
+  pub packet : List ℕ
+  pub is_record : IsPacketRecord order record' packet
+  pub parts : frame_parts link packet ≡ Some frame
+
+-- the packet of a unit was captured on such a link, and its frame has these parts
+abbrev pub IsOn : State → List ℕ → Link → FrameParts → Type 0
+IsOn (Start unfit) unit link frame = IsBlockOn (no_section unfit) unit link frame
+IsOn (Classic order time_unit link' passing) unit link frame = (link' ≡ link)
+    × IsRecordOn order link unit frame
+IsOn (Pcapng section) unit link frame = IsBlockOn section unit link frame
+
+-- a unit is the front of the bytes, and the packet that is told of it, if one is, was captured on
+-- such a link
+pub record HasPacket (state : State) (bytes : List ℕ) (after : State) (origin : Origin)
+    (link : Link) (frame : FrameParts) (rest : List ℕ) : Type 0 where
+  pub has_unit : HasUnit state bytes after origin (frame_bytes frame) rest
+  pub is_on : 0 < length (frame_bytes frame) → IsOn state has_unit.unit link frame
+
+-- these are the bytes behind so many
+pub record StandsAt (bytes : List ℕ) (at : ℕ) (part : List ℕ) : Type 0 where
+  pub before : List ℕ
+  pub behind : List ℕ
+  pub parts : bytes ≡ before ++ (part ++ behind)
+  pub place : length before ≡ at
 
 -- after all whole units of the bytes: more bytes are wanted, or this is refused
 abbrev pub IsLeft : State → List ℕ → Option CaptureError → Type 0

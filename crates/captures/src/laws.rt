@@ -37,7 +37,9 @@ use crate::limits::{
     SKIPPED_LIMIT, TIME_LIMIT,
 };
 use crate::pcapng::section::ETHERNET;
-use crate::{CaptureError, Extra, Place, RunError, Skipped, TimeUnit, Unfit};
+use crate::{
+    CaptureError, Extra, Header, Link, Place, ReadError, RunError, Skipped, TimeUnit, Unfit,
+};
 use ep_base::laws::traits::Value;
 use runs::Fault;
 
@@ -185,6 +187,9 @@ pub fn types_are_plain_data()
     ensures time_unit { IsPlainData ⟦<TimeUnit as Value>⟧ }
     ensures skipped { IsPlainData ⟦<Skipped as Value>⟧ }
     ensures fault { IsPlainData ⟦<Fault as Value>⟧ }
+    ensures header { IsPlainData ⟦<Header as Value>⟧ }
+    ensures link { IsPlainData ⟦<Link as Value>⟧ }
+    ensures read_error { IsPlainData ⟦<ReadError as Value>⟧ }
 {}
 
 /// The numbers that the definitions take from the code.

@@ -1,5 +1,5 @@
-//! Capture files in and out: the packets of a capture as lines for `netlines`, and a capture of
-//! such lines.
+//! Capture files in and out: the packets of a capture, from its bytes or a reader, or as lines for
+//! `netlines`, and a capture of such lines.
 #![tactic(auto)]
 
 mod byte_order;
@@ -9,9 +9,11 @@ pub mod laws;
 mod limits;
 mod link;
 mod origin;
+mod packet;
 mod pcap;
 mod pcapng;
 mod place;
+mod reading;
 mod text;
 mod time;
 mod translation;
@@ -20,8 +22,15 @@ mod unfit;
 pub use capture_error::CaptureError;
 pub use extra::Extra;
 pub use limits::{BLOCK_LIMIT, FRAME_LIMIT, READ_COUNT_LIMIT, SKIPPED_LIMIT};
+pub use link::frame::Frame;
+pub use link::header::Header;
+pub use link::kind::Link;
+pub use packet::Packet;
 pub use pcap::writer::Writer;
 pub use place::Place;
+pub use reading::packet_reader::PacketReader;
+pub use reading::packets::Packets;
+pub use reading::read_error::ReadError;
 pub use runs::device;
 pub use time::time_unit::TimeUnit;
 pub use translation::run_captures::{run, run_over};

@@ -18,10 +18,15 @@ pub const BLOCK_LIMIT: usize = INPUT_ROOM;
 /// The bytes that a run holds at most of what it has read.
 pub const INPUT_ROOM: usize = 262_144;
 
+/// The bytes that a run asks a reader for at once. What it makes of them is written before the next
+/// read, so it mostly needs no more room for lines than these want.
+pub const READ_PIECE: usize = 65_536;
+
 /// The captured bytes at most of a packet that is passed over, as a packet record is held whole.
 pub const SKIPPED_LIMIT: usize = INPUT_ROOM - 16;
 
-/// The bytes of lines that come out of so many bytes at most.
+/// The bytes of lines that come out of so many bytes at most. They are reserved, and cleared as far
+/// as they are wanted.
 pub const OUTPUT_ROOM: usize = 5 * INPUT_ROOM;
 
 /// The last nanosecond since the year 1970 began whose seconds fit 32 bits.

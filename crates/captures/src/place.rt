@@ -1,6 +1,7 @@
 //! Where in a capture it is refused.
-ghost use Rattle.std.specs.Prelude.{◌≡◌, ◌++◌, ℕ, List};
+ghost use Rattle.std.specs.Prelude.{◌≡◌, ◌+◌, ◌++◌, ℕ, List};
 ghost use Rattle.captures.specs.Dropped.{IsDropped};
+ghost use Rattle.captures.specs.Numbers.{capped};
 ghost use Rattle.captures.specs.Places.{block_type};
 
 use crate::byte_order::ByteOrder;
@@ -53,8 +54,28 @@ fn block_name(kind: u32) -> &'static str {
     }
 }
 
-/// The type of the block of which these bytes are held, behind what was dropped of it.
-pub(crate) fn begun_type(state: State, begun: Option<LongBlock>, held: &[u8]) -> Option<u32>
+/// The place of what comes behind so many packets and bytes of whole units, of which this is held.
+pub(crate) fn place_of(
+    count: u64,
+    passed: u64,
+    state: State,
+    begun: Option<LongBlock>,
+    held: &[u8],
+) -> Place
+    ensures packet { result.packet ≡ capped (count + 1) }
+    ensures offset { result.offset ≡ passed }
+    ensures block { (dropped : List ℕ) → IsDropped state begun dropped
+        → result.block ≡ block_type state (dropped ++ held.now) }
+{
+    Place {
+        packet: count.saturating_add(1),
+        offset: passed,
+        block: begun_type(state, begun, held),
+    }
+}
+
+// The type of the block of which these bytes are held, behind what was dropped of it.
+fn begun_type(state: State, begun: Option<LongBlock>, held: &[u8]) -> Option<u32>
     ensures { (dropped : List ℕ) → IsDropped state begun dropped
         → result ≡ block_type state (dropped ++ held.now) }
 {

@@ -1,6 +1,7 @@
 //! Runs from captures to lines and back: what is taken of the input, piece by piece, and how a run
 //! ends.
 
+pub(crate) mod end;
 pub(crate) mod progress;
 pub(crate) mod refusal;
 pub(crate) mod run_captures;

@@ -5,7 +5,7 @@
 ghost use Rattle.std.specs.Prelude.{◌≡◌, List, ℕ, OnOk, IfSome, MatchResult};
 ghost use Rattle.std.specs.Io.KnownBytes.{Appends};
 ghost use Rattle.std.specs.Process.{exit_status};
-ghost use Rattle.captures_cli.specs.ErrorStatus.{status_of};
+ghost use Rattle.capture_inputs.specs.ErrorStatus.{status_of};
 ghost use Rattle.captures.specs.Lines.{Packet, lines_of};
 ghost use Rattle.captures.specs.Runs.{IsCapture};
 ghost use Rattle.captures.specs.Spelling.{TimedFrame, capture_of};
@@ -14,20 +14,19 @@ ghost use Rattle.captures.specs.declared.extra.Extra.{Extra};
 ghost use Rattle.captures.specs.declared.time.time_unit.TimeUnit.{TimeUnit};
 ghost use Rattle.captures.specs.declared.unfit.Unfit.{Unfit};
 
-mod looks;
 mod modes;
 mod notes;
 
-use crate::looks::{Look, look_at};
 use crate::modes::Mode;
-use crate::notes::{Told, ToldSkipped};
+use crate::notes::note;
 use anyhow::Context;
+use capture_inputs::{Look, Told, input_look, input_of, status};
 use captures::{Extra, RunError, Skipped, TimeUnit, Unfit};
 use clap::{Arg, ArgAction, ArgMatches, Command, value_parser};
 use std::alloc::Global;
 use std::env;
 use std::fs::File;
-use std::io::{BufRead, BufReader, ErrorKind, Read, Write};
+use std::io::{BufReader, Read, Write};
 use std::process::ExitCode;
 
 fn main(rt: HostRuntime) -> anyhow::Result<ExitCode> {
@@ -142,16 +141,13 @@ fn unit_by(nanoseconds: bool) -> TimeUnit {
     }
 }
 
-// So many bytes tell what an input looks like.
-const FRONT_LEN: usize = 64;
-
 fn make_of_file(rt: &HostRuntime, mode: Mode, name: &str) -> anyhow::Result<ExitCode> {
     if name == "-" {
-        let input = BufReader::with_capacity(rt.alloc(), FRONT_LEN, rt.stdin())?;
+        let input = input_of(rt.alloc(), rt.stdin())?;
         return Ok(make_of(rt, mode, input));
     }
     let file = File::open(rt, name).context("the file cannot be opened")?;
-    let input = BufReader::with_capacity(rt.alloc(), FRONT_LEN, file)?;
+    let input = input_of(rt.alloc(), file)?;
     Ok(make_of(rt, mode, input))
 }
 
@@ -161,17 +157,6 @@ fn make_of<R: Read + Drop>(rt: &HostRuntime, mode: Mode, mut input: BufReader<R>
     let made = make(rt.alloc(), mode, &mut input, &mut rt.stdout(), &mut skipped);
     tell_skipped(rt, skipped);
     exit_code(rt, made, seen)
-}
-
-// What the input looks like, of which nothing is taken.
-fn input_look<R: Read + Drop>(input: &mut BufReader<R>) -> Look {
-    match input.fill_buf() {
-        Ok(front) => look_at(front),
-        Err(error) => match error.kind() {
-            ErrorKind::IsADirectory => Look::Directory,
-            _ => Look::Other,
-        },
-    }
 }
 
 fn make<R: Read, W: Write>(
@@ -240,8 +225,7 @@ fn make_capture<R: Read, W: Write>(
 // Tells on standard error what was passed over, if anything was.
 fn tell_skipped<P: Eprint>(rt: &P, skipped: Skipped) {
     if skipped != Skipped::NONE {
-        let told = ToldSkipped { skipped };
-        let _ = eprintln!(rt; "captures_cli: {told}");
+        let _ = eprintln!(rt; "captures_cli: passed over: {skipped}");
     }
 }
 
@@ -253,20 +237,13 @@ fn exit_code<P: Eprint>(rt: &P, made: Result<(), RunError>, look: Look) -> ExitC
     match made {
         Ok(()) => ExitCode::SUCCESS,
         Err(error) => {
-            let told = Told { error, look };
+            let told = Told {
+                error,
+                note: note(error, look),
+            };
             let _ = eprintln!(rt; "captures_cli: {told}");
             ExitCode::from(status(error))
         }
-    }
-}
-
-fn status(error: RunError) -> u8
-    ensures { result ≡ status_of error }
-{
-    match error {
-        RunError::Capture(_, _) | RunError::BadLine(_) => 3,
-        RunError::Read | RunError::Write | RunError::WriteZero => 4,
-        RunError::Memory | RunError::TooManyReads => 5,
     }
 }
 

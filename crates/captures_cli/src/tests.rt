@@ -1,8 +1,8 @@
 //! What is made of an input, the flush, the status and what is told of an error.
-use crate::looks::{Look, look_at};
 use crate::modes::Mode;
-use crate::notes::{Told, ToldSkipped};
+use crate::notes::note;
 use crate::{asked_for, command, exit_code, make, tell_skipped};
+use capture_inputs::{Look, Told, look_at};
 use captures::{CaptureError, Extra, Place, RunError, Skipped, TimeUnit, Unfit};
 use std::alloc::Global;
 use std::io::{self, ErrorKind, Write};
@@ -141,10 +141,9 @@ fn the_word_skip_passes_packets_over(rt: HostRuntime) -> Result<(), Fail> {
         Ok(())
     );
     assert!(rt; lines.is_empty());
-    let told = ToldSkipped { skipped };
     assert_eq!(rt;
-        format!(in rt.alloc(); "{told}")?.as_str(),
-        "passed over: 1 of other links, 0 too long, 0 without a frame"
+        format!(in rt.alloc(); "{skipped}")?.as_str(),
+        "1 of other links, 0 too long, 0 without a frame"
     );
     Ok(())
 }
@@ -221,7 +220,10 @@ fn a_flush_that_fails_is_a_failed_write(rt: HostRuntime) {
 
 // What is told of an error.
 fn message(alloc: Global, error: RunError, look: Look) -> Result<String, Fail> {
-    let told = Told { error, look };
+    let told = Told {
+        error,
+        note: note(error, look),
+    };
     Ok(format!(in alloc; "{told}")?)
 }
 

@@ -19,6 +19,8 @@ mod long_blocks;
 #[cfg(test)]
 mod pieces;
 #[cfg(test)]
+mod readers;
+#[cfg(test)]
 mod reads;
 #[cfg(test)]
 mod skipping;

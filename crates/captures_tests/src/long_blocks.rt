@@ -17,7 +17,7 @@ const PACKET: &[u8; 20] = b"\
     \x03\x00\x00\x00\x14\x00\x00\x00\x02\x00\x00\x00\xab\xcd\x00\x00\x14\x00\x00\x00";
 
 // The kind of a custom block.
-const CUSTOM: u32 = 0x0bad;
+pub(super) const CUSTOM: u32 = 0x0bad;
 
 // A block of this kind and length, which ends with another one.
 fn append_block(file: &mut Vec<u8>, kind: u32, len: u32, second: u32) -> Result<(), AllocError> {
@@ -32,7 +32,12 @@ fn append_block(file: &mut Vec<u8>, kind: u32, len: u32, second: u32) -> Result<
 }
 
 // A packet, such a block, and two packets.
-fn with_long_block(alloc: Global, kind: u32, len: u32, second: u32) -> Result<Vec<u8>, AllocError> {
+pub(super) fn with_long_block(
+    alloc: Global,
+    kind: u32,
+    len: u32,
+    second: u32,
+) -> Result<Vec<u8>, AllocError> {
     let mut file = Vec::from_slice(alloc, FRONT)?;
     file.extend_from_slice(PACKET)?;
     append_block(&mut file, kind, len, second)?;

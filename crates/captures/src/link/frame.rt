@@ -1,77 +1,87 @@
 //! A packet as an Ethernet II frame.
 ghost use Rattle.std.specs.Prelude.{◌≡◌, ◌≤◌, ◌+◌, ◌*◌, ◌++◌, ◌==◌, List, ℕ, [], length, take};
-ghost use Rattle.std.specs.Prelude.{IfOk, IfSome, None, Some, MatchOption};
+ghost use Rattle.std.specs.Prelude.{◌<◌, IfOk, IfSome, None, Some, MatchOption, MatchResult};
 ghost use Rattle.hex.specs.Hex.{encode_lower};
-ghost use Rattle.captures.specs.Framed.{address_at, cooked_type, ethernet_header, family_type};
-ghost use Rattle.captures.specs.Framed.{made_header, reason_on, told_frame, told_of};
-ghost use Rattle.captures.specs.Framed.{framed, framed_behind, framed_packet, ip_type};
+ghost use Rattle.captures.specs.Framed.{address_at, cooked_type, family_type};
+ghost use Rattle.captures.specs.Framed.{FrameParts, frame_bytes, frame_parts, own_frame, IsBack};
+ghost use Rattle.captures.specs.Framed.{reason_on, told_frame, told_of};
+ghost use Rattle.captures.specs.Framed.{framed_behind, framed_packet, ip_type};
 ghost use Rattle.captures.specs.Skipping.{counted};
 ghost use Rattle.captures.specs.declared.link.kind.Link.TheVariants.{Null, Loop, Sll, Sll2};
 
 use crate::byte_order::ByteOrder;
+use crate::link::header::Header;
 use crate::link::kind::Link;
 use crate::text::line::append_hex;
 use crate::translation::skipped::{Passing, Reason};
 use crate::unfit::Unfit;
 use std::marker::Model;
 
-/// The bytes of an Ethernet II header.
-pub(crate) const HEADER_LEN: usize = 14;
-
 const IPV4: u16 = 0x0800;
 
 const IPV6: u16 = 0x86dd;
 
-/// An Ethernet II header to no address.
-#[derive(Drop)]
-pub(crate) struct Header {
-    pub source: [u8; 6],
-    pub ether_type: u16,
-}
-
-impl Header {
-    fn to_bytes(&self) -> [u8; HEADER_LEN]
-        ensures { result ≡ ethernet_header self.now.source self.now.ether_type }
-    {
-        let source = &self.source;
-        let ether_type = self.ether_type.to_be_bytes();
-        [
-            0,
-            0,
-            0,
-            0,
-            0,
-            0,
-            source[0],
-            source[1],
-            source[2],
-            source[3],
-            source[4],
-            source[5],
-            ether_type[0],
-            ether_type[1],
-        ]
-    }
-}
-
-/// The bytes of a frame: those of a packet that was captured as one, or a header and what follows
-/// the packet's own.
-#[derive(Drop)]
-pub(crate) struct Frame<'a> {
+/// An Ethernet II frame: that of a packet that was captured as one, or a header and what follows the
+/// packet's own.
+#[derive(Debug, Drop)]
+pub struct Frame<'a> {
     header: Option<Header>,
     rest: &'a [u8],
 }
 
 impl<'a> Model for Frame<'a> {
-    ghost Value = { List ℕ };
+    ghost Value = { FrameParts };
 
-    ghost view = { λ frame. made_header frame.header ++ frame.rest.now };
+    ghost view = { λ frame. record { header = frame.header; bytes = frame.rest.now } };
 }
 
 impl<'a> Frame<'a> {
+    /// The header that was made in place of the link's own. There is none where the packet was
+    /// captured as an Ethernet frame.
+    pub fn header(&self) -> Option<&Header>
+        ensures { MatchOption result (self.now.header ≡ None)
+            (λ header. self.now.header ≡ Some header.now) }
+    {
+        self.header.as_ref()
+    }
+
+    /// The whole frame, or what stands behind a header that was made.
+    pub fn bytes(&self) -> &'a [u8]
+        ensures { result.now ≡ self.now.bytes }
+    {
+        self.rest
+    }
+
+    /// How many bytes the whole frame has, those of a header that was made among them.
+    pub fn len(&self) -> usize
+        ensures { result ≡ length (frame_bytes self.now) }
+    {
+        match &self.header {
+            Some(header) => header.len() + self.rest.len(),
+            None => self.rest.len(),
+        }
+    }
+
+    /// The same header, copied.
+    pub(crate) fn made_header(&self) -> Option<Header>
+        ensures { result ≡ self.now.header }
+    {
+        self.header
+    }
+
+    /// What stands behind this header, or the whole frame if there is none.
+    pub(crate) fn behind(header: Option<Header>, bytes: &'a [u8]) -> Frame<'a>
+        ensures { result ≡ record { header = header; bytes = bytes.now } }
+    {
+        Frame {
+            header,
+            rest: bytes,
+        }
+    }
+
     /// A frame of these bytes.
     pub(crate) fn of(bytes: &'a [u8]) -> Frame<'a>
-        ensures { result ≡ bytes.now }
+        ensures { result ≡ own_frame bytes.now }
     {
         Frame {
             header: None,
@@ -79,8 +89,9 @@ impl<'a> Frame<'a> {
         }
     }
 
-    pub(crate) fn is_empty(&self) -> bool
-        ensures { result ≡ (length self.now == 0) }
+    /// Whether it has no bytes.
+    pub fn is_empty(&self) -> bool
+        ensures { result ≡ (length (frame_bytes self.now) == 0) }
     {
         match &self.header {
             Some(_) => false,
@@ -90,9 +101,10 @@ impl<'a> Frame<'a> {
 
     /// Puts its hex digits behind the first `used` bytes, and tells how many are used then.
     pub(crate) fn append_hex(&self, out: &mut [u8], used: usize) -> usize
-        requires { used + 2 * length self.now ≤ length out.old }
-        ensures end { result ≡ used + 2 * length self.now }
-        ensures text { take result out.new ≡ take used out.old ++ encode_lower self.now }
+        requires { used + 2 * length (frame_bytes self.now) ≤ length out.old }
+        ensures end { result ≡ used + 2 * length (frame_bytes self.now) }
+        ensures text { take result out.new ≡ take used out.old
+            ++ encode_lower (frame_bytes self.now) }
     {
         match &self.header {
             Some(header) => {
@@ -111,9 +123,12 @@ impl<'a> Frame<'a> {
 pub(crate) fn tell<'a>(passing: &mut Passing, link: Link, packet: &'a [u8]) -> Option<Frame<'a>>
     ensures told { MatchOption result
         ((told_frame passing.old.unfit link packet.now ≡ None) × (passing.new ≡ passing.old))
-        (λ frame. (told_frame passing.old.unfit link packet.now ≡ Some frame)
+        (λ frame. (told_frame passing.old.unfit link packet.now ≡ Some (frame_bytes frame))
         × (passing.new ≡ counted passing.old link packet.now)) }
-    ensures size { IfSome result (λ frame. length frame ≤ length packet.now + 14) }
+    ensures parts { IfSome result (λ frame. 0 < length (frame_bytes frame)
+        → frame_parts link packet.now ≡ Some frame) }
+    ensures back { IfSome result (λ frame. IsBack packet.now frame.bytes) }
+    ensures size { IfSome result (λ frame. length (frame_bytes frame) ≤ length packet.now + 14) }
 {
     match told(link, packet) {
         Ok(frame) => Some(frame),
@@ -130,8 +145,12 @@ pub(crate) fn tell<'a>(passing: &mut Passing, link: Link, packet: &'a [u8]) -> O
 // The frame of a packet of such a link, or why it has none that a line can hold.
 #[inline(always)]
 fn told(link: Link, packet: &[u8]) -> Result<Frame<'_>, Reason>
-    ensures told { result ≡ told_of link packet.now }
-    ensures size { IfOk result (λ frame. length frame ≤ length packet.now + 14) }
+    ensures told { MatchResult result
+        (λ frame. told_of link packet.now ≡ Ok (frame_bytes frame))
+        (λ reason. told_of link packet.now ≡ Err reason) }
+    ensures parts { IfOk result (λ frame. frame_parts link packet.now ≡ Some frame) }
+    ensures back { IfOk result (λ frame. IsBack packet.now frame.bytes) }
+    ensures size { IfOk result (λ frame. length (frame_bytes frame) ≤ length packet.now + 14) }
 {
     if packet.len() > link.captured_limit() {
         return Err(reason_on(link, Reason::TooLong));
@@ -154,15 +173,16 @@ fn reason_on(link: Link, reason: Reason) -> Reason
 // A packet of such a link as an Ethernet II frame, if it has one.
 #[inline(always)]
 fn framed(link: Link, packet: &[u8]) -> Option<Frame<'_>>
-    ensures frame { result ≡ framed link packet.now }
-    ensures size { IfSome result (λ frame. length frame ≤ length packet.now + 14) }
+    ensures parts { result ≡ frame_parts link packet.now }
+    ensures back { IfSome result (λ frame. IsBack packet.now frame.bytes) }
+    ensures size { IfSome result (λ frame. length (frame_bytes frame) ≤ length packet.now + 14) }
 {
     frame_of(link, packet)
 }
 
 #[inline(always)]
 fn frame_of(link: Link, packet: &[u8]) -> Option<Frame<'_>>
-    ensures { result ≡ framed link packet.now }
+    ensures { result ≡ frame_parts link packet.now }
 {
     if packet.is_empty() {
         return Some(Frame::of(packet));

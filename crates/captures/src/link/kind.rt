@@ -3,23 +3,24 @@ ghost use Rattle.std.specs.Prelude.{◌≡◌};
 ghost use Rattle.captures.specs.Framed.{captured_limit, link_for, link_of, taken_limit};
 
 use crate::limits::{FRAME_LIMIT, SKIPPED_LIMIT};
-use crate::link::frame::HEADER_LEN;
+use crate::link::header::HEADER_LEN;
 use crate::unfit::Unfit;
 
-/// A kind of link, by what its packets begin with.
+/// A kind of link, by what its packets begin with. The numbers are those of the registry of link
+/// types.
 #[derive(Clone, Copy, Debug, PartialEq, Eq)]
-pub(crate) enum Link {
-    /// An Ethernet II header.
+pub enum Link {
+    /// An Ethernet II header: link type 1.
     Ethernet,
-    /// An IP header.
+    /// An IP header: 12, 14 and 101, and of one version 228 and 229.
     Ip,
-    /// The address family of BSD loopback, in the byte order of the host.
+    /// The address family of BSD loopback, in the byte order of the host: 0.
     Null,
-    /// The same, high byte first.
+    /// The same of OpenBSD loopback, high byte first: 108.
     Loop,
-    /// A header of Linux cooked captures.
+    /// A header of Linux cooked captures: 113.
     Sll,
-    /// A header of their second version.
+    /// A header of their second version: 276.
     Sll2,
     /// Anything else, whose packets are passed over.
     Other,

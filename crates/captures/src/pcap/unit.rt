@@ -2,7 +2,9 @@
 ghost use Rattle.std.specs.Prelude.{◌≡◌, ◌≤◌, ◌+◌, ◌*◌, ℕ, List, length, IfOk, IfErr, IfSome};
 ghost use Rattle.std.specs.Prelude.{MatchOption, ◌↔◌, IsTrue};
 ghost use Rattle.captures.specs.Pcap.{IsFileHeader, is_magic};
-ghost use Rattle.captures.specs.Units.{IsBegun, Refuses, HasUnit, BeginsSection, record_origin};
+ghost use Rattle.captures.specs.Framed.{frame_bytes};
+ghost use Rattle.captures.specs.Units.{IsBegun, Refuses, HasPacket, BeginsSection, StandsAt};
+ghost use Rattle.captures.specs.Units.{record_origin};
 ghost use Rattle.captures.specs.declared.byte_order.ByteOrder.{ByteOrder};
 ghost use Rattle.captures.specs.declared.translation.state.State.TheVariants.{Start, Classic};
 
@@ -27,6 +29,10 @@ const RECORD_HEAD_LEN: usize = 16;
 pub(crate) struct Unit<'a> {
     /// The interface and the time of the packet in it.
     pub origin: Origin,
+    /// The link that it was captured on.
+    pub link: Link,
+    /// So many bytes of the unit are in front of those of the frame.
+    pub at: usize,
     /// The packet's frame: no bytes where the unit has no packet, where none were captured, and
     /// where it is passed over.
     pub frame: Frame<'a>,
@@ -41,9 +47,11 @@ pub(crate) fn front_unit<'a>(
 ) -> Result<Option<Unit<'a>>, CaptureError>
     ensures found { IfOk result
         (λ found. MatchOption found (IsBegun state.old bytes.now × (state.new ≡ state.old))
-        (λ u. HasUnit state.old bytes.now state.new u.origin u.frame u.rest.now)) }
+        (λ u. HasPacket state.old bytes.now state.new u.origin u.link u.frame u.rest.now)) }
+    ensures at { IfOk result
+        (λ found. IfSome found (λ u. StandsAt bytes.now u.at u.frame.bytes)) }
     ensures room { IfOk result
-        (λ found. IfSome found (λ u. 46 + 2 * length u.frame + 5 * length u.rest.now
+        (λ found. IfSome found (λ u. 46 + 2 * length (frame_bytes u.frame) + 5 * length u.rest.now
         ≤ 5 * length bytes.now)) }
     ensures refused { IfErr result (λ e. Refuses state.old bytes.now e × (state.new ≡ state.old)) }
 {
@@ -67,9 +75,12 @@ fn first_unit<'a>(
     requires { state.old ≡ Start unfit }
     ensures found { IfOk result
         (λ found. MatchOption found (IsBegun (Start unfit) bytes.now × (state.new ≡ state.old))
-        (λ u. HasUnit (Start unfit) bytes.now state.new u.origin u.frame u.rest.now)) }
+        (λ u. HasPacket (Start unfit) bytes.now state.new u.origin u.link u.frame
+        u.rest.now)) }
+    ensures at { IfOk result
+        (λ found. IfSome found (λ u. StandsAt bytes.now u.at u.frame.bytes)) }
     ensures room { IfOk result
-        (λ found. IfSome found (λ u. 46 + 2 * length u.frame + 5 * length u.rest.now
+        (λ found. IfSome found (λ u. 46 + 2 * length (frame_bytes u.frame) + 5 * length u.rest.now
         ≤ 5 * length bytes.now)) }
     ensures refused { IfErr result
         (λ e. Refuses (Start unfit) bytes.now e × (state.new ≡ state.old)) }
@@ -92,9 +103,12 @@ fn first_block<'a>(
     requires begins { BeginsSection bytes.now }
     ensures found { IfOk result
         (λ found. MatchOption found (IsBegun (Start unfit) bytes.now × (state.new ≡ state.old))
-        (λ u. HasUnit (Start unfit) bytes.now state.new u.origin u.frame u.rest.now)) }
+        (λ u. HasPacket (Start unfit) bytes.now state.new u.origin u.link u.frame
+        u.rest.now)) }
+    ensures at { IfOk result
+        (λ found. IfSome found (λ u. StandsAt bytes.now u.at u.frame.bytes)) }
     ensures room { IfOk result
-        (λ found. IfSome found (λ u. 46 + 2 * length u.frame + 5 * length u.rest.now
+        (λ found. IfSome found (λ u. 46 + 2 * length (frame_bytes u.frame) + 5 * length u.rest.now
         ≤ 5 * length bytes.now)) }
     ensures refused { IfErr result
         (λ e. Refuses (Start unfit) bytes.now e × (state.new ≡ state.old)) }
@@ -119,9 +133,12 @@ fn file_header<'a>(
     requires other { BeginsSection bytes.now → ⊥ }
     ensures found { IfOk result
         (λ found. MatchOption found (IsBegun (Start unfit) bytes.now × (state.new ≡ state.old))
-        (λ u. HasUnit (Start unfit) bytes.now state.new u.origin u.frame u.rest.now)) }
+        (λ u. HasPacket (Start unfit) bytes.now state.new u.origin u.link u.frame
+        u.rest.now)) }
+    ensures at { IfOk result
+        (λ found. IfSome found (λ u. StandsAt bytes.now u.at u.frame.bytes)) }
     ensures room { IfOk result
-        (λ found. IfSome found (λ u. 46 + 2 * length u.frame + 5 * length u.rest.now
+        (λ found. IfSome found (λ u. 46 + 2 * length (frame_bytes u.frame) + 5 * length u.rest.now
         ≤ 5 * length bytes.now)) }
     ensures refused { IfErr result
         (λ e. Refuses (Start unfit) bytes.now e × (state.new ≡ state.old)) }
@@ -141,6 +158,8 @@ fn file_header<'a>(
             channel: 0,
             time: 0,
         },
+        link,
+        at: 0,
         frame: Frame::of(&[]),
         rest,
     }))
@@ -196,10 +215,12 @@ fn packet_record<'a>(
         (λ found. MatchOption found
         (IsBegun (Classic order time_unit link passing.old) bytes.now
         × (passing.new ≡ passing.old))
-        (λ u. HasUnit (Classic order time_unit link passing.old) bytes.now
-        (Classic order time_unit link passing.new) u.origin u.frame u.rest.now)) }
+        (λ u. HasPacket (Classic order time_unit link passing.old) bytes.now
+        (Classic order time_unit link passing.new) u.origin u.link u.frame u.rest.now)) }
+    ensures at { IfOk result
+        (λ found. IfSome found (λ u. StandsAt bytes.now u.at u.frame.bytes)) }
     ensures room { IfOk result
-        (λ found. IfSome found (λ u. 46 + 2 * length u.frame + 5 * length u.rest.now
+        (λ found. IfSome found (λ u. 46 + 2 * length (frame_bytes u.frame) + 5 * length u.rest.now
         ≤ 5 * length bytes.now)) }
     ensures refused { IfErr result
         (λ e. Refuses (Classic order time_unit link passing.old) bytes.now e
@@ -222,6 +243,8 @@ fn packet_record<'a>(
     };
     Ok(Some(Unit {
         origin: record_origin(order, time_unit, head),
+        link,
+        at: RECORD_HEAD_LEN + (packet.len() - frame.bytes().len()),
         frame,
         rest,
     }))

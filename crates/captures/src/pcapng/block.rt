@@ -1,12 +1,14 @@
 //! What a whole block of a pcapng file says.
-ghost use Rattle.std.specs.Prelude.{◌≡◌, ◌≤◌, ◌+◌, ◌*◌, ◌==◌, if◌then◌else◌, ◌↔◌, IsTrue, ℕ, List, []};
+ghost use Rattle.std.specs.Prelude.{◌<◌, ◌≡◌, ◌≤◌, ◌+◌, ◌*◌, ◌==◌, if◌then◌else◌, ◌↔◌, IsTrue, ℕ, List, []};
 ghost use Rattle.std.specs.Prelude.{length, IfOk, IfErr, IfSome, MatchOption};
+ghost use Rattle.captures.specs.Framed.{frame_bytes, own_frame};
 ghost use Rattle.captures.specs.Numbers.{word};
 ghost use Rattle.captures.specs.Pcapng.{section_header, interface_description, simple_packet};
 ghost use Rattle.captures.specs.Pcapng.{captured_len, IsOther, IsSkipped, HoldsPacket, Content};
 ghost use Rattle.captures.specs.Pcapng.{Says, IsTimedPacket, IsSimplePacket, Reads, RefusesBlock};
 ghost use Rattle.captures.specs.Pcapng.Content.{Holds};
 ghost use Rattle.captures.specs.Pcapng.{clock_at, clocks_with, link_at, links_with, later_links};
+ghost use Rattle.captures.specs.Units.{IsHeldOn, StandsAt};
 ghost use Rattle.captures.specs.declared.origin.Origin.{Origin};
 ghost use Rattle.captures.specs.declared.link.kind.Link.{Link};
 
@@ -54,6 +56,9 @@ fn is_other(order: ByteOrder, front: &[u8]) -> bool
 #[derive(Drop)]
 pub(crate) struct Reading<'a> {
     pub origin: Origin,
+    pub link: Link,
+    /// So many bytes of the block are in front of those of the frame.
+    pub at: usize,
     pub frame: Frame<'a>,
 }
 
@@ -66,8 +71,11 @@ pub(crate) fn read_block<'a>(
 ) -> Result<Reading<'a>, CaptureError>
     requires { 12 ≤ length block.now }
     ensures reads { IfOk result
-        (λ r. Reads section.old order block.now section.new r.origin r.frame) }
-    ensures room { IfOk result (λ r. 46 + 2 * length r.frame ≤ 5 * length block.now) }
+        (λ r. Reads section.old order block.now section.new r.origin (frame_bytes r.frame)) }
+    ensures on { IfOk result (λ r. 0 < length (frame_bytes r.frame)
+        → IsHeldOn section.old order block.now r.link r.frame) }
+    ensures at { IfOk result (λ r. StandsAt block.now r.at r.frame.bytes) }
+    ensures room { IfOk result (λ r. 46 + 2 * length (frame_bytes r.frame) ≤ 5 * length block.now) }
     ensures refused { IfErr result
         (λ e. RefusesBlock section.old order block.now e × (section.new ≡ section.old)) }
 {
@@ -83,13 +91,16 @@ pub(crate) fn read_block<'a>(
 
 // No packet.
 fn nothing<'a>() -> Reading<'a>
-    ensures { result.frame ≡ [] }
+    ensures frame { result.frame ≡ own_frame [] }
+    ensures at { result.at ≡ 0 }
 {
     Reading {
         origin: Origin {
             channel: 0,
             time: 0,
         },
+        link: Link::Other,
+        at: 0,
         frame: Frame::of(&[]),
     }
 }
@@ -102,8 +113,11 @@ fn begin_section<'a>(
     requires size { 12 ≤ length block.now }
     requires kind { word order block.now 0 ≡ section_header }
     ensures reads { IfOk result
-        (λ r. Reads section.old order block.now section.new r.origin r.frame) }
-    ensures room { IfOk result (λ r. 46 + 2 * length r.frame ≤ 5 * length block.now) }
+        (λ r. Reads section.old order block.now section.new r.origin (frame_bytes r.frame)) }
+    ensures on { IfOk result (λ r. 0 < length (frame_bytes r.frame)
+        → IsHeldOn section.old order block.now r.link r.frame) }
+    ensures at { IfOk result (λ r. StandsAt block.now r.at r.frame.bytes) }
+    ensures room { IfOk result (λ r. 46 + 2 * length (frame_bytes r.frame) ≤ 5 * length block.now) }
     ensures refused { IfErr result
         (λ e. RefusesBlock section.old order block.now e × (section.new ≡ section.old)) }
 {
@@ -128,8 +142,11 @@ fn describe_interface<'a>(
     requires size { 12 ≤ length block.now }
     requires kind { word order block.now 0 ≡ interface_description }
     ensures reads { IfOk result
-        (λ r. Reads section.old order block.now section.new r.origin r.frame) }
-    ensures room { IfOk result (λ r. 46 + 2 * length r.frame ≤ 5 * length block.now) }
+        (λ r. Reads section.old order block.now section.new r.origin (frame_bytes r.frame)) }
+    ensures on { IfOk result (λ r. 0 < length (frame_bytes r.frame)
+        → IsHeldOn section.old order block.now r.link r.frame) }
+    ensures at { IfOk result (λ r. StandsAt block.now r.at r.frame.bytes) }
+    ensures room { IfOk result (λ r. 46 + 2 * length (frame_bytes r.frame) ≤ 5 * length block.now) }
     ensures refused { IfErr result
         (λ e. RefusesBlock section.old order block.now e × (section.new ≡ section.old)) }
 {
@@ -214,11 +231,13 @@ fn first_snap_len(section: &Section, described: u32) -> u32
     }
 }
 
-// A packet's bytes, how many they are, where and when it was captured, and on which link.
+// A packet's bytes, how many they are and how many are in front of them in the block, where and
+// when it was captured, and on which link.
 #[derive(Drop)]
 struct Held<'a> {
     origin: Origin,
     link: Link,
+    at: usize,
     captured: u32,
     packet: &'a [u8],
 }
@@ -232,8 +251,11 @@ fn read_packet<'a>(
     requires size { 12 ≤ length block.now }
     requires kind { HoldsPacket order block.now }
     ensures reads { IfOk result
-        (λ r. Reads section.old order block.now section.new r.origin r.frame) }
-    ensures room { IfOk result (λ r. 46 + 2 * length r.frame ≤ 5 * length block.now) }
+        (λ r. Reads section.old order block.now section.new r.origin (frame_bytes r.frame)) }
+    ensures on { IfOk result (λ r. 0 < length (frame_bytes r.frame)
+        → IsHeldOn section.old order block.now r.link r.frame) }
+    ensures at { IfOk result (λ r. StandsAt block.now r.at r.frame.bytes) }
+    ensures room { IfOk result (λ r. 46 + 2 * length (frame_bytes r.frame) ≤ 5 * length block.now) }
     ensures refused { IfErr result
         (λ e. RefusesBlock section.old order block.now e × (section.new ≡ section.old)) }
 {
@@ -248,6 +270,8 @@ fn read_packet<'a>(
     };
     Ok(Reading {
         origin: held.origin,
+        link: held.link,
+        at: held.at + (held.packet.len() - frame.bytes().len()),
         frame,
     })
 }
@@ -260,6 +284,7 @@ fn held_packet<'a>(section: &Section, order: ByteOrder, block: &'a [u8]) -> Opti
         ((content : Content) → Says section.now order block.now content → ⊥)
         (λ h. Says section.now order block.now (Holds h.origin h.link h.packet.now)) }
     ensures captured { IfSome result (λ h. h.captured ≡ length h.packet.now) }
+    ensures at { IfSome result (λ h. StandsAt block.now h.at h.packet.now) }
     ensures size { IfSome result (λ h. length h.packet.now + 16 ≤ length block.now) }
 {
     match order.word(block, 0) {
@@ -281,6 +306,7 @@ fn timed_packet<'a>(
         → IsTimedPacket interface section.now order block.now origin link packet → ⊥)
         (λ h. IsTimedPacket interface section.now order block.now h.origin h.link h.packet.now) }
     ensures captured { IfSome result (λ h. h.captured ≡ length h.packet.now) }
+    ensures at { IfSome result (λ h. StandsAt block.now h.at h.packet.now) }
     ensures size { IfSome result (λ h. length h.packet.now + 16 ≤ length block.now) }
 {
     if block.len() < 32 || interface >= section.interfaces {
@@ -295,6 +321,7 @@ fn timed_packet<'a>(
     Some(Held {
         origin: Origin { channel, time },
         link: link_at(section, interface),
+        at: 28,
         captured,
         packet: &block[28..28 + captured as usize],
     })
@@ -308,6 +335,7 @@ fn simple_packet<'a>(section: &Section, order: ByteOrder, block: &'a [u8]) -> Op
         → IsSimplePacket section.now order block.now origin link packet → ⊥)
         (λ h. IsSimplePacket section.now order block.now h.origin h.link h.packet.now) }
     ensures captured { IfSome result (λ h. h.captured ≡ length h.packet.now) }
+    ensures at { IfSome result (λ h. StandsAt block.now h.at h.packet.now) }
     ensures size { IfSome result (λ h. length h.packet.now + 16 ≤ length block.now) }
 {
     if block.len() < 16 || section.interfaces == 0 {
@@ -323,6 +351,7 @@ fn simple_packet<'a>(section: &Section, order: ByteOrder, block: &'a [u8]) -> Op
             time: 0,
         },
         link: link_at(section, 0),
+        at: 12,
         captured,
         packet: &block[12..12 + captured as usize],
     })

@@ -1,13 +1,17 @@
 //! A block that is skipped, and that is longer than what a run holds of its input.
-ghost use Rattle.std.specs.Prelude.{◌≡◌, ◌≤◌, ◌<◌, length, MatchOption, Some};
-ghost use Rattle.captures.specs.Dropped.{IsDropped};
+ghost use Rattle.std.specs.Prelude.{◌≡◌, ◌≤◌, ◌<◌, List, ℕ, length, MatchOption, Some};
+ghost use Rattle.captures.specs.Dropped.{ComesBehind, IsDropped, IsWithin};
 ghost use Rattle.captures.specs.Units.{IsBegun};
+ghost use Rattle.captures.specs.declared.translation.state.State.{State};
 
 use crate::byte_order::ByteOrder;
 use crate::limits::{BLOCK_LIMIT, INPUT_ROOM};
 use crate::pcapng::block::is_skipped;
 use crate::pcapng::section_unit::BLOCK_MIN_LEN;
 use crate::translation::state::State;
+
+/// The bytes of a block's second length.
+const SECOND_LEN: usize = 4;
 
 /// Such a block, after a front of it.
 #[derive(Clone, Copy, Debug, PartialEq, Eq)]
@@ -17,6 +21,42 @@ pub(crate) struct LongBlock {
     pub len: u32,
     /// How many bytes are still to come before its second length.
     pub left: u32,
+}
+
+/// What becomes of the bytes that come behind the front of a long block.
+#[derive(Clone, Copy, Debug, PartialEq, Eq)]
+pub(crate) enum Behind {
+    /// It isn't whole yet. So many of them are held, of its second length.
+    Held(LongBlock, usize),
+    /// Its second length, of which so many bytes are left from there on, is another.
+    Refused(LongBlock, usize),
+    /// So many follow it.
+    Passed(usize),
+}
+
+impl LongBlock {
+    /// Drops what these bytes have of the block, as far as its second length.
+    pub(crate) fn behind(self, bytes: &[u8]) -> Behind
+        ensures comes { (state : State) (dropped : List ℕ) → IsDropped state (Some self) dropped
+            → ComesBehind state self dropped bytes.now result }
+        ensures within { IsWithin (length bytes.now) result }
+    {
+        let dropped = bytes.len().min(self.left as usize);
+        let (_, rest) = bytes.split_at(dropped);
+        let begun = LongBlock {
+            order: self.order,
+            kind: self.kind,
+            len: self.len,
+            left: self.left - dropped as u32,
+        };
+        if rest.len() < SECOND_LEN {
+            return Behind::Held(begun, rest.len());
+        }
+        if self.order.word(rest, 0) != self.len {
+            return Behind::Refused(begun, rest.len());
+        }
+        Behind::Passed(rest.len() - SECOND_LEN)
+    }
 }
 
 /// Such a block, of which these bytes are the front, if they begin one.

@@ -2,7 +2,8 @@
 ghost use Rattle.std.specs.Prelude.{◌≡◌, ◌≤◌, ◌+◌, ◌*◌, ◌↔◌, IsTrue, length, IfOk, IfErr, IfSome};
 ghost use Rattle.std.specs.Prelude.{MatchOption};
 ghost use Rattle.captures.specs.Pcapng.{HasOrder, IsTaken};
-ghost use Rattle.captures.specs.Units.{IsBegun, RefusesAt, HasUnit};
+ghost use Rattle.captures.specs.Framed.{frame_bytes};
+ghost use Rattle.captures.specs.Units.{IsBegun, RefusesAt, HasPacket, StandsAt};
 ghost use Rattle.captures.specs.declared.byte_order.ByteOrder.{ByteOrder};
 ghost use Rattle.captures.specs.declared.translation.state.State.TheVariants.{Pcapng};
 
@@ -26,10 +27,12 @@ pub(crate) fn section_unit<'a>(
     ensures found { IfOk result
         (λ found. MatchOption found
         (IsBegun (Pcapng section.old) bytes.now × (section.new ≡ section.old))
-        (λ u. HasUnit (Pcapng section.old) bytes.now (Pcapng section.new) u.origin u.frame
+        (λ u. HasPacket (Pcapng section.old) bytes.now (Pcapng section.new) u.origin u.link u.frame
         u.rest.now)) }
+    ensures at { IfOk result
+        (λ found. IfSome found (λ u. StandsAt bytes.now u.at u.frame.bytes)) }
     ensures room { IfOk result
-        (λ found. IfSome found (λ u. 46 + 2 * length u.frame + 5 * length u.rest.now
+        (λ found. IfSome found (λ u. 46 + 2 * length (frame_bytes u.frame) + 5 * length u.rest.now
         ≤ 5 * length bytes.now)) }
     ensures refused { IfErr result
         (λ e. RefusesAt section.old bytes.now e × (section.new ≡ section.old)) }
@@ -57,6 +60,8 @@ pub(crate) fn section_unit<'a>(
     match read_block(section, order, block) {
         Ok(reading) => Ok(Some(Unit {
             origin: reading.origin,
+            link: reading.link,
+            at: reading.at,
             frame: reading.frame,
             rest,
         })),

@@ -1,5 +1,6 @@
 //! How far the lines of a run have come.
 ghost use Rattle.std.specs.Prelude.{◌≡◌, ◌+◌, ◌*◌, ◌≤◌, ◌++◌, length, take};
+ghost use Rattle.captures.specs.Framed.{frame_bytes};
 ghost use Rattle.captures.specs.Lines.{blank, counted_by, forget_text, has_passed, noted, noted_as};
 ghost use Rattle.captures.specs.Lines.{told, told_as};
 ghost use Rattle.captures.specs.declared.extra.Extra.TheVariants.{Forget};
@@ -45,11 +46,11 @@ impl Ledger {
         origin: Origin,
         frame: &Frame<'_>,
     ) -> usize
-        requires { used + 46 + 2 * length frame.now ≤ length out.old }
-        ensures end { result ≤ used + 46 + 2 * length frame.now }
+        requires { used + 46 + 2 * length (frame_bytes frame.now) ≤ length out.old }
+        ensures end { result ≤ used + 46 + 2 * length (frame_bytes frame.now) }
         ensures text { take result out.new ≡ take used out.old
-            ++ told self.old (record { origin = origin; frame = frame.now }) }
-        ensures noted { self.new ≡ noted self.old (record { origin = origin; frame = frame.now }) }
+            ++ told self.old (record { origin = origin; frame = frame_bytes frame.now }) }
+        ensures noted { self.new ≡ noted self.old (record { origin = origin; frame = frame_bytes frame.now }) }
         ensures extra { self.new.extra ≡ self.old.extra }
     {
         match self.extra {

@@ -1,6 +1,7 @@
 //! The line of a packet.
 ghost use Rattle.std.specs.Prelude.{◌≡◌, ◌+◌, ◌*◌, ◌<◌, ◌≤◌, ◌++◌, codes, length, take, decimal};
 ghost use Rattle.hex.specs.Hex.{encode_lower};
+ghost use Rattle.captures.specs.Framed.{frame_bytes};
 ghost use Rattle.captures.specs.Lines.{forget_line, line_of, nanoseconds_text, time_text};
 ghost use Rattle.captures.specs.Lines.{timed_line_of};
 
@@ -11,10 +12,10 @@ use itoa::Buffer;
 /// Puts the line that hands a frame in behind the first `used` bytes, and tells how many are used
 /// then.
 pub(crate) fn append_line(out: &mut [u8], used: usize, origin: Origin, frame: &Frame<'_>) -> usize
-    requires { used + 18 + 2 * length frame.now ≤ length out.old }
-    ensures end { result ≤ used + 18 + 2 * length frame.now }
+    requires { used + 18 + 2 * length (frame_bytes frame.now) ≤ length out.old }
+    ensures end { result ≤ used + 18 + 2 * length (frame_bytes frame.now) }
     ensures text { take result out.new ≡ take used out.old
-        ++ line_of (record { origin = origin; frame = frame.now }) }
+        ++ line_of (record { origin = origin; frame = frame_bytes frame.now }) }
 {
     let digits = append_frame(out, used, origin.channel, frame);
     append(out, digits, b"\n")
@@ -27,10 +28,10 @@ pub(crate) fn append_timed_line(
     origin: Origin,
     frame: &Frame<'_>,
 ) -> usize
-    requires { used + 42 + 2 * length frame.now ≤ length out.old }
-    ensures end { result ≤ used + 42 + 2 * length frame.now }
+    requires { used + 42 + 2 * length (frame_bytes frame.now) ≤ length out.old }
+    ensures end { result ≤ used + 42 + 2 * length (frame_bytes frame.now) }
     ensures text { take result out.new ≡ take used out.old
-        ++ timed_line_of (record { origin = origin; frame = frame.now }) }
+        ++ timed_line_of (record { origin = origin; frame = frame_bytes frame.now }) }
 {
     let digits = append_frame(out, used, origin.channel, frame);
     let time = append_time(out, digits, origin.time);
@@ -50,10 +51,10 @@ pub(crate) fn append_forget_line(out: &mut [u8], used: usize, number: u64) -> us
 
 // A line up to the digits of its frame.
 fn append_frame(out: &mut [u8], used: usize, channel: u32, frame: &Frame<'_>) -> usize
-    requires { used + 17 + 2 * length frame.now ≤ length out.old }
-    ensures end { result ≤ used + 17 + 2 * length frame.now }
+    requires { used + 17 + 2 * length (frame_bytes frame.now) ≤ length out.old }
+    ensures end { result ≤ used + 17 + 2 * length (frame_bytes frame.now) }
     ensures text { take result out.new ≡ take used out.old
-        ++ (codes "frame " ++ decimal channel ++ codes " " ++ encode_lower frame.now) }
+        ++ (codes "frame " ++ decimal channel ++ codes " " ++ encode_lower (frame_bytes frame.now)) }
 {
     let command = append(out, used, b"frame ");
     let number = append(out, command, Buffer::new().format(channel).as_bytes());

@@ -1,17 +1,14 @@
 //! What a run takes of its input, piece by piece.
 ghost use Rattle.std.specs.Prelude.{◌≡◌, ◌≤◌, ◌<◌, ◌+◌, ◌*◌, ◌++◌, ℕ, List, length, take};
 ghost use Rattle.std.specs.Prelude.{None, Some};
-ghost use Rattle.captures.specs.Dropped.{IsDropped, Leaves, dropped_len};
+ghost use Rattle.captures.specs.Dropped.{IsDropped, Leaves, dropped_len, last_of};
 
 use crate::CaptureError;
 use crate::limits::INPUT_ROOM;
-use crate::pcapng::long_block::{LongBlock, long_block};
+use crate::pcapng::long_block::{Behind, LongBlock, long_block};
 use crate::text::ledger::Ledger;
 use crate::translation::state::State;
 use crate::translation::units::take_units;
-
-/// The bytes of a block's second length.
-const SECOND_LEN: usize = 4;
 
 /// What is known after all whole units of what was read.
 #[derive(Drop)]
@@ -134,48 +131,49 @@ fn take_behind<'a>(
     ensures parts { (front : List ℕ) × (bytes.now ≡ front ++ result.rest.now) }
     ensures room { result.refusal ≡ None → length result.rest.now < INPUT_ROOM }
 {
-    let dropped = bytes.len().min(block.left as usize);
-    let (_, rest) = bytes.split_at(dropped);
-    let begun = LongBlock {
-        order: block.order,
-        kind: block.kind,
-        len: block.len,
-        left: block.left - dropped as u32,
-    };
-    if rest.len() < SECOND_LEN {
-        return Progress {
+    match block.behind(bytes) {
+        Behind::Held(begun, left) => Progress {
             after: state,
             begun: Some(begun),
-            rest,
+            rest: last(bytes, left),
             passed: 0,
             count: 0,
             used: 0,
             ledger,
             refusal: None,
-        };
-    }
-    if block.order.word(rest, 0) != block.len {
-        return Progress {
+        },
+        Behind::Refused(begun, left) => Progress {
             after: state,
             begun: Some(begun),
-            rest,
+            rest: last(bytes, left),
             passed: 0,
             count: 0,
             used: 0,
             ledger,
             refusal: Some(CaptureError::BadBlock),
-        };
+        },
+        Behind::Passed(left) => {
+            let taken = take_whole(state, ledger, last(bytes, left), out);
+            Progress {
+                after: taken.after,
+                begun: taken.begun,
+                rest: taken.rest,
+                passed: u64::from(block.len) + taken.passed,
+                count: taken.count,
+                used: taken.used,
+                ledger: taken.ledger,
+                refusal: taken.refusal,
+            }
+        }
     }
-    let (_, behind) = rest.split_at(SECOND_LEN);
-    let taken = take_whole(state, ledger, behind, out);
-    Progress {
-        after: taken.after,
-        begun: taken.begun,
-        rest: taken.rest,
-        passed: u64::from(block.len) + taken.passed,
-        count: taken.count,
-        used: taken.used,
-        ledger: taken.ledger,
-        refusal: taken.refusal,
-    }
+}
+
+fn last(bytes: &[u8], left: usize) -> &[u8]
+    requires { left ≤ length bytes.now }
+    ensures last { result.now ≡ last_of left bytes.now }
+    ensures parts { (front : List ℕ) × (bytes.now ≡ front ++ result.now) }
+    ensures size { length result.now ≡ left }
+{
+    let (_, last) = bytes.split_at(bytes.len() - left);
+    last
 }

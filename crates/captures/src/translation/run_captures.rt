@@ -15,16 +15,16 @@ ghost use Rattle.captures.specs.Units.{Takes, skipped_in};
 ghost use Rattle.captures.specs.declared.limits.TheConstants.{INPUT_ROOM};
 ghost use Rattle.captures.specs.declared.translation.state.State.TheVariants.{Start};
 
-use crate::limits::FIRST_UNIT_LEN;
 use crate::pcapng::long_block::LongBlock;
-use crate::place::{Place, begun_type};
+use crate::place::{Place, place_of};
 use crate::text::ledger::Ledger;
+use crate::translation::end::end;
 use crate::translation::progress::take_piece;
 use crate::translation::refusal::Refusal;
 use crate::translation::skipped::Skipped;
 use crate::translation::state::State;
 use crate::translation::translator::{Finished, Translated, Translator, run_translator};
-use crate::{CaptureError, Extra, READ_COUNT_LIMIT, RunError, Unfit};
+use crate::{Extra, READ_COUNT_LIMIT, RunError, Unfit};
 use runs::{Device, ReaderWriter};
 use std::alloc::Global;
 use std::io::{Read, Write};
@@ -138,11 +138,7 @@ impl<const SKIPS: bool> PacketTeller<SKIPS> {
         ensures block { (dropped : List ℕ) → IsDropped self.now.state self.now.begun dropped
             → result.block ≡ block_type self.now.state (dropped ++ held.now) }
     {
-        Place {
-            packet: self.count.saturating_add(1),
-            offset: self.passed,
-            block: begun_type(self.state, self.begun, held),
-        }
+        place_of(self.count, self.passed, self.state, self.begun, held)
     }
 }
 
@@ -187,27 +183,15 @@ impl<const SKIPS: bool> Translator for PacketTeller<SKIPS> {
 
     fn finish(&mut self, input: &mut [u8], left: usize, _out: &mut [u8]) -> Finished {
         let place = self.place(&input[..left]);
-        Finished {
-            used: 0,
-            result: end(self.state, self.begun, left, place),
+        match end(self.state, self.begun, left) {
+            Ok(()) => Finished {
+                used: 0,
+                result: Ok(()),
+            },
+            Err(error) => Finished {
+                used: 0,
+                result: Err(Refusal::InCapture(error, place)),
+            },
         }
-    }
-}
-
-// What the end makes of so many bytes that are held, at their place.
-fn end(state: State, begun: Option<LongBlock>, left: usize, place: Place) -> Result<(), Refusal>
-    ensures { (dropped : List ℕ) → IsDropped state begun dropped
-        → result ≡ result_at_end state (length dropped + left) place }
-{
-    if begun.is_some() {
-        return Err(Refusal::InCapture(CaptureError::CutOff, place));
-    }
-    match state {
-        State::Start(_) if left < FIRST_UNIT_LEN => {
-            Err(Refusal::InCapture(CaptureError::NotCapture, place))
-        }
-        State::Start(_) => Err(Refusal::InCapture(CaptureError::CutOff, place)),
-        _ if left == 0 => Ok(()),
-        _ => Err(Refusal::InCapture(CaptureError::CutOff, place)),
     }
 }

@@ -3,6 +3,7 @@ ghost use Rattle.std.specs.Prelude.{◌≡◌};
 ghost use Rattle.captures.specs.Skipping.{passing_from, with_reason};
 
 use crate::unfit::Unfit;
+use std::fmt;
 
 /// How many packets a run passed over, by the reason. Counts stop at the greatest number of 64
 /// bits.
@@ -14,6 +15,18 @@ pub struct Skipped {
     pub too_long: u64,
     /// Those that have no frame.
     pub without_frame: u64,
+}
+
+impl fmt::Display for Skipped {
+    fn fmt<W: fmt::Write>(&self, f: &mut fmt::Formatter<W>) -> fmt::Result {
+        let Skipped {
+            of_other_links,
+            too_long,
+            without_frame,
+        } = *self;
+        write!(f, "{of_other_links} of other links, ")?;
+        write!(f, "{too_long} too long, {without_frame} without a frame")
+    }
 }
 
 /// Why a packet is passed over.

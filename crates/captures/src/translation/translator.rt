@@ -1,6 +1,6 @@
 //! What a run makes of its input, piece by piece, and such a run.
-ghost use Rattle.std.specs.Prelude.{◌≡◌, ◌≤◌, ◌<◌, ◌*◌, ◌++◌, ℕ, List, [], length, take, IfOk};
-ghost use Rattle.std.specs.Prelude.{None, vec_len};
+ghost use Rattle.std.specs.Prelude.{◌≡◌, ◌≤◌, ◌<◌, ◌+◌, ◌*◌, ◌++◌, ℕ, List, [], length, take, IfOk};
+ghost use Rattle.std.specs.Prelude.{None, vec_capacity, vec_len};
 ghost use Rattle.runs.specs.Runs.{Task, Goes};
 ghost use Rattle.captures.specs.Endings.{ending_of};
 ghost use Rattle.captures.specs.Translations.{Begins, IsDueBy, Translates, Finishes};
@@ -8,7 +8,7 @@ ghost use Rattle.captures.specs.declared.limits.TheConstants.{INPUT_ROOM, OUTPUT
 ghost use Rattle.captures.specs.declared.translation.refusal.Refusal.{Refusal};
 
 use crate::RunError;
-use crate::limits::{INPUT_ROOM, OUTPUT_ROOM};
+use crate::limits::{INPUT_ROOM, OUTPUT_ROOM, READ_PIECE};
 use crate::translation::refusal::Refusal;
 use runs::{Device, write_whole};
 use std::alloc::{AllocError, Global};
@@ -52,7 +52,7 @@ pub(crate) trait Translator {
     /// front of `out`.
     fn translate<'a>(&mut self, bytes: &'a [u8], out: &mut [u8]) -> Translated<'a>
         requires size { length bytes.now ≤ INPUT_ROOM }
-        requires out { length out.old ≡ OUTPUT_ROOM }
+        requires out { 5 * length bytes.now ≤ length out.old }
         ensures fits { result.used ≤ length out.new }
         ensures parts { (front : List ℕ) × (bytes.now ≡ front ++ result.rest.now) }
         ensures room { result.refusal ≡ None → length result.rest.now < INPUT_ROOM }
@@ -66,7 +66,7 @@ pub(crate) trait Translator {
     fn finish(&mut self, input: &mut [u8], left: usize, out: &mut [u8]) -> Finished
         requires room { left < length input.old }
         requires size { length input.old ≡ INPUT_ROOM }
-        requires out { length out.old ≡ OUTPUT_ROOM }
+        requires out { 5 * (left + 1) ≤ length out.old }
         ensures fits { result.used ≤ length out.new }
         ensures kept { kept self.new ≡ kept self.old }
         ensures finishes { (read written : List ℕ)
@@ -96,7 +96,7 @@ pub(crate) fn run_translator<T: Translator, D: Device>(
         translator,
         header,
         input.as_mut_slice(),
-        output.as_mut_slice(),
+        &mut output,
         device,
         reads,
     )
@@ -105,10 +105,21 @@ pub(crate) fn run_translator<T: Translator, D: Device>(
 // All the memory of a run.
 fn buffers(alloc: Global) -> Result<(Vec<u8>, Vec<u8>), AllocError>
     ensures input { IfOk result (λ made. vec_len made.0 ≡ INPUT_ROOM) }
-    ensures output { IfOk result (λ made. vec_len made.1 ≡ OUTPUT_ROOM) }
+    ensures output { IfOk result (λ made. OUTPUT_ROOM ≤ vec_capacity made.1) }
 {
     let input = vec![in alloc; 0; INPUT_ROOM]?;
-    Ok((input, vec![in alloc; 0; OUTPUT_ROOM]?))
+    Ok((input, Vec::with_capacity(alloc, OUTPUT_ROOM)?))
+}
+
+// Makes so many bytes of the room there. What was cleared once isn't cleared again.
+fn make_room(output: &mut Vec<u8>, len: usize)
+    requires { len ≤ vec_capacity output.old }
+    ensures len { len ≤ vec_len output.new }
+    ensures capacity { vec_capacity output.old ≤ vec_capacity output.new }
+{
+    if output.len() < len {
+        output.resize(len, 0).unwrap();
+    }
 }
 
 // Writes the header, and what is made of that which at most so many reads give.
@@ -116,7 +127,7 @@ fn translate_reads<T: Translator, D: Device>(
     translator: &mut T,
     header: &[u8],
     input: &mut [u8],
-    output: &mut [u8],
+    output: &mut Vec<u8>,
     device: &mut D,
     reads: u64,
 ) -> Result<(), RunError>
@@ -124,7 +135,7 @@ fn translate_reads<T: Translator, D: Device>(
     requires due { (t t' : T) → T.kept t' ≡ T.kept t → IsDueBy (T.task t) (T.task t') }
     requires most { INPUT_ROOM * reads ≤ T.most }
     requires input { length input.old ≡ INPUT_ROOM }
-    requires output { length output.old ≡ OUTPUT_ROOM }
+    requires output { OUTPUT_ROOM ≤ vec_capacity output.old }
     ensures kept { T.kept translator.new ≡ T.kept translator.old }
     ensures goes { Goes (T.task translator.new) D.transition reads device.old device.new
         (ending_of result) }
@@ -133,20 +144,25 @@ fn translate_reads<T: Translator, D: Device>(
     // The bytes in front of `input` that are held.
     let mut left = 0;
     'reads: for _ in 0..reads {
-        let given = match device.read_some(&mut input[left..]) {
+        let end = INPUT_ROOM.min(left + READ_PIECE);
+        let given = match device.read_some(&mut input[left..end]) {
             Ok(given) => given,
             Err(_) => return Err(RunError::Read),
         };
         if given == 0 {
-            let finished = translator.finish(input, left, output);
-            write_whole(device, &output[..finished.used])?;
+            make_room(output, 5 * (left + 1));
+            let out = output.as_mut_slice();
+            let finished = translator.finish(input, left, out);
+            write_whole(device, &out[..finished.used])?;
             return match finished.result {
                 Ok(()) => Ok(()),
                 Err(refusal) => Err(RunError::from(refusal)),
             };
         }
-        let taken = translator.translate(&input[..left + given], output);
-        write_whole(device, &output[..taken.used])?;
+        make_room(output, 5 * (left + given));
+        let out = output.as_mut_slice();
+        let taken = translator.translate(&input[..left + given], out);
+        write_whole(device, &out[..taken.used])?;
         if let Some(refusal) = taken.refusal {
             return Err(RunError::from(refusal));
         }

@@ -3,7 +3,7 @@ ghost use Rattle.std.specs.Prelude.{◌≡◌, ◌≤◌, ◌*◌, length, take}
 ghost use Rattle.captures.specs.Units.{Takes};
 
 use crate::CaptureError;
-use crate::pcap::unit::front_unit;
+use crate::reading::packets::Packets;
 use crate::text::ledger::Ledger;
 use crate::translation::state::State;
 
@@ -39,40 +39,20 @@ pub(crate) fn take_units<'a>(
         (take result.used out.new) result.refusal result.ledger }
     ensures extra { result.ledger.extra ≡ ledger.extra }
 {
-    let mut after = state;
-    let mut rest = bytes;
+    let mut packets = Packets::behind(state, bytes);
     let mut count = 0;
     let mut used = 0;
     let mut noted = ledger;
-    'units: loop {
-        match front_unit(&mut after, rest) {
-            Ok(Some(unit)) => {
-                if !unit.frame.is_empty() {
-                    used = noted.tell(out, used, unit.origin, &unit.frame);
-                    count += 1;
-                }
-                rest = unit.rest;
-            }
-            Ok(None) => {
-                return Taken {
-                    after,
-                    rest,
-                    count,
-                    used,
-                    ledger: noted,
-                    refusal: None,
-                };
-            }
-            Err(error) => {
-                return Taken {
-                    after,
-                    rest,
-                    count,
-                    used,
-                    ledger: noted,
-                    refusal: Some(error),
-                };
-            }
-        }
+    'lines: while let Some(packet) = packets.step() {
+        used = noted.tell(out, used, packet.origin(), &packet.frame);
+        count += 1;
+    }
+    Taken {
+        after: packets.state(),
+        rest: packets.rest(),
+        count,
+        used,
+        ledger: noted,
+        refusal: packets.refusal(),
     }
 }

@@ -1,5 +1,6 @@
 use Rattle.std.proofs.Common.{◌≡◌, refl, sym, subst, arith, List, ℕ}
 use Rattle.captures.specs.Pcap.{IsFileHeader}
+use Rattle.captures.proofs.PlaceLemmas.{stands_empty}
 use Rattle.captures.proofs.UnitLemmas.{front_is}
 use Rattle.captures.proofs.pcap.unit.file_header.Goals as goal
 
@@ -19,3 +20,6 @@ returns-in_default-clause-refused c = (
   ),
   refl,
 )
+
+pub returns-clause-at : goal.returns-clause-at
+returns-clause-at c = stands_empty _ _ _ refl c.of.ensures

@@ -1,7 +1,8 @@
-use Rattle.std.proofs.Common.{rules, arith, sym, ◌≡◌, ◌∙◌, ◌+◌}
+use Rattle.std.proofs.Common.{rules, arith, sym, ap, ◌≡◌, ◌∙◌, ◌+◌}
+use Rattle.captures.specs.Framed.{frame_bytes}
 use Rattle.captures.specs.Pcapng.Content.{Describes}
-use Rattle.captures.specs.declared.pcapng.section.Section.{Section}
 use Rattle.captures.proofs.BlockLemmas.{described}
+use Rattle.captures.proofs.PlaceLemmas.{none_of, stands_empty}
 use Rattle.captures.proofs.pcapng.block.describe_interface.Goals as goal
 
 pub returns-clause-reads : goal.returns-clause-reads
@@ -24,6 +25,12 @@ returns-clause-reads c =
         sym c.links_with.ensures ∙ c.in-Some-links_with.is,
         described section _ _ _ _ links interfaces c.first_snap_len-snap_len.ensures
             c.clocks_with-section.ensures,
-        c.nothing.ensures,
+        ap frame_bytes c.nothing.ensures.frame,
       );
     }
+
+pub returns-clause-on : goal.returns-clause-on
+returns-clause-on c some = none_of _ c.nothing.ensures.frame some _
+
+pub returns-clause-at : goal.returns-clause-at
+returns-clause-at c = stands_empty _ _ _ c.nothing.ensures.at c.nothing.ensures.frame

@@ -1,6 +1,7 @@
-use Rattle.std.proofs.Common.{arith, refl, ap}
+use Rattle.std.proofs.Common.{arith, refl, ap, ◌+◌, ◌-◌, length, List, ℕ}
 use Rattle.captures.specs.Pcapng.Content.{Holds}
 use Rattle.captures.specs.declared.translation.skipped.Passing.{Passing}
+use Rattle.captures.proofs.PlaceLemmas.{stands_back}
 use Rattle.captures.proofs.pcapng.block.read_packet.Goals as goal
 
 pub returns-then-held-taken_limit-clause-refused : goal.returns-then-held-taken_limit-clause-refused
@@ -48,3 +49,21 @@ returns-in_default-tell-clause-refused c =
       ap (λ (p : Passing). record c.args.section.now { passing = p })
           c.in_default-tell.ensures.told.1,
     )
+
+pub returns-clause-on : goal.returns-clause-on
+returns-clause-on c some =
+    let held = c.in-Some.held in
+    record {
+      origin = held.origin;
+      packet = held.packet.now;
+      says = c.in-Some.ensures.found;
+      parts = c.in-Some-tell.ensures.parts some;
+    }
+
+pub returns-clause-at : goal.returns-clause-at
+returns-clause-at c =
+    let held = c.in-Some.held in
+    let packet = held.packet.now in
+    stands_back c.args.block.now packet c.in-Some-tell.frame.bytes held.at _ c.in-Some.ensures.at
+    c.in-Some-tell.ensures.back
+    (ap (λ (l : List ℕ). held.at + (length packet - length l)) c.bytes.ensures)

@@ -1,42 +1,69 @@
-use Rattle.std.proofs.Common.{rules, ◌∙◌, ◌++◌, sym, ap, append_assoc, List, ℕ}
-use Rattle.captures.specs.Numbers.{word}
-use Rattle.captures.proofs.SkipLemmas.{held_behind, refused_behind, passed_behind}
+use Rattle.std.proofs.Common.{◌∙◌, ◌++◌, sym, ap, subst, arith, append_assoc, length-append, length}
+use Rattle.std.proofs.Common.{List, [], ℕ, None, Some}
+use Rattle.captures.specs.Dropped.{last_of}
+use Rattle.captures.specs.Units.{HasUnit}
+use Rattle.captures.specs.declared.capture_error.CaptureError.TheVariants.{BadBlock}
+use Rattle.captures.proofs.SkipLemmas.{dropped_size, leaves_behind, leaves_more}
 use Rattle.captures.proofs.translation.progress.take_behind.Goals as goal
 
-pub returns-then-rest-lt-SECOND_LEN-clause-takes :
-    goal.returns-then-rest-lt-SECOND_LEN-clause-takes
-returns-then-rest-lt-SECOND_LEN-clause-takes c dropped d =
-    held_behind c.args.ledger c.args.state c.args.block c.min-dropped.result dropped c.args.bytes.now
-    c.split_at.result.0.now c.split_at.result.1.now d c.split_at.ensures.by_index.0
-    c.split_at.ensures.front_len
-    (search rules) c.if-rest-lt-SECOND_LEN.true
+pub returns-in-Held-clause-takes : goal.returns-in-Held-clause-takes
+returns-in-Held-clause-takes c dropped d =
+    let comes = rw c.in-Held.is at c.behind.ensures.comes c.args.state dropped d in
+    rw c.last.ensures.last (leaves_more c.args.ledger c.args.state dropped c.args.bytes.now
+    c.in-Held.begun c.in-Held.left None comes.0 comes.1)
 
-pub returns-then-word-block-clause-takes : goal.returns-then-word-block-clause-takes
-returns-then-word-block-clause-takes c dropped d =
-    refused_behind c.args.ledger c.args.state c.args.block c.min-dropped.result dropped c.args.bytes.now
-    c.split_at.result.0.now c.split_at.result.1.now d c.split_at.ensures.by_index.0
-    c.split_at.ensures.front_len
-    (search rules) c.if-rest-lt-SECOND_LEN.false (λ e. c.if-word-block.true (c.word.ensures ∙ e))
+pub returns-in-Held-clause-passed : goal.returns-in-Held-clause-passed
+returns-in-Held-clause-passed c dropped d =
+    let comes = rw c.in-Held.is at c.behind.ensures.comes c.args.state dropped d in
+    let more = comes.0 in
+    omega (
+      arith,
+      dropped_size c.args.state (Some c.in-Held.begun) (dropped ++ more.front) more.is_dropped,
+      length-append dropped more.front,
+      ap length more.parts,
+      length-append more.front (last_of c.in-Held.left c.args.bytes.now),
+      ap length c.last.ensures.last,
+    )
 
-pub returns-clause-takes : goal.returns-clause-takes
-returns-clause-takes c dropped d =
-    let front = c.split_at.result.0.now in
-    let rest = c.split_at-2.ensures.by_index.0 in
-    let same = ap (λ (l : List ℕ). word c.args.block.order l 0) (sym rest) ∙ sym c.word.ensures
-    ∙ c.if-word-block.false in
-    passed_behind c.args.ledger _ c.args.state c.args.block c.min-dropped.result dropped c.args.bytes.now front
-    c.split_at-2.result.0.now c.split_at-2.result.1.now d
-    (c.split_at.ensures.by_index.0 ∙ ap (λ (l : List ℕ). front ++ l) rest)
-    c.split_at.ensures.front_len (search rules) c.split_at-2.ensures.front_len same _ _ _ _ _ _
-    c.take_whole-taken.ensures.takes
+pub returns-in-Refused-clause-takes : goal.returns-in-Refused-clause-takes
+returns-in-Refused-clause-takes c dropped d =
+    let comes = rw c.in-Refused.is at c.behind.ensures.comes c.args.state dropped d in
+    rw c.last-in-Refused.ensures.last (leaves_more c.args.ledger c.args.state dropped
+    c.args.bytes.now c.in-Refused.begun c.in-Refused.left (Some BadBlock) comes.0 comes.1)
 
-pub returns-clause-parts : goal.returns-clause-parts
-returns-clause-parts c =
-    let front = c.split_at.result.0.now in
-    let back = c.split_at-2.result.0.now in
+pub returns-in-Refused-clause-passed : goal.returns-in-Refused-clause-passed
+returns-in-Refused-clause-passed c dropped d =
+    let comes = rw c.in-Refused.is at c.behind.ensures.comes c.args.state dropped d in
+    let more = comes.0 in
+    omega (
+      arith,
+      dropped_size c.args.state (Some c.in-Refused.begun) (dropped ++ more.front) more.is_dropped,
+      length-append dropped more.front,
+      ap length more.parts,
+      length-append more.front (last_of c.in-Refused.left c.args.bytes.now),
+      ap length c.last-in-Refused.ensures.last,
+    )
+
+pub returns-in-Passed-clause-takes : goal.returns-in-Passed-clause-takes
+returns-in-Passed-clause-takes c dropped d =
+    let bytes = dropped ++ c.args.bytes.now in
+    let state = c.args.state in
+    let comes = rw c.in-Passed.is at c.behind.ensures.comes state dropped d in
+    leaves_behind c.args.ledger _ state _ bytes c.last-in-Passed.result.now _ _ _ _ comes.0 _
+    (subst (λ (l : List ℕ). HasUnit state bytes state comes.0 [] l)
+    (sym c.last-in-Passed.ensures.last) comes.1) c.take_whole-taken.ensures.takes
+
+pub returns-in-Passed-clause-passed : goal.returns-in-Passed-clause-passed
+returns-in-Passed-clause-passed c dropped d =
+    let comes = rw c.in-Passed.is at c.behind.ensures.comes c.args.state dropped d in
+    let size = comes.2 in
+    omega arith
+
+pub returns-in-Passed-clause-parts : goal.returns-in-Passed-clause-parts
+returns-in-Passed-clause-parts c =
+    let front = c.last-in-Passed.ensures.parts in
     let more = c.take_whole-taken.ensures.parts in (
-      front ++ (back ++ more.0),
-      c.split_at.ensures.by_index.0 ∙ ap (λ (l : List ℕ). front ++ l)
-          (c.split_at-2.ensures.by_index.0 ∙ ap (λ (l : List ℕ). back ++ l) more.1
-          ∙ sym (append_assoc back more.0 _)) ∙ sym (append_assoc front (back ++ more.0) _),
+      front.0 ++ more.0,
+      front.1 ∙ ap (λ (l : List ℕ). front.0 ++ l) more.1
+          ∙ sym (append_assoc front.0 more.0 _),
     )

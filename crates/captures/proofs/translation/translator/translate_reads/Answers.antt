@@ -24,6 +24,7 @@ reads-init g c = record {
       g.D.Device.transition _ c.args.device.now c.write_whole.new.device c.args.header.now
       c.requires.begins c.in_ok-write_whole.ensures;
   room = let size = c.requires.input in omega arith;
+  output = c.requires.output;
   size = c.requires.begins.room;
   kept = refl;
 }
@@ -36,7 +37,9 @@ returns-in-Err-clause-goes g c =
     let room = c.reads.invariant.room in
     let left = c.reads.left in
     let input = c.reads.input in
-    let some : 0 < length (take (length input - left) (drop left input)) = search rules in
+    let asked : ℕ = c.min-end.result - left in
+    let end = c.min-end.ensures in
+    let some : 0 < length (take asked (drop left input)) = search rules in
     translating_fails task transition t c.reads-test.true c.requires.most
     (c.in-Err.ensures.call some)
 
@@ -50,11 +53,13 @@ returns-in_err-write_whole-2-clause-goes g c =
     let left = c.reads.left in
     let input = c.reads.input in
     let buf = c.read_some.new.buf in
-    let some : 0 < length (take (length input - left) (drop left input)) = search rules in
+    let asked : ℕ = c.min-end.result - left in
+    let end = c.min-end.ensures in
+    let some : 0 < length (take asked (drop left input)) = search rules in
     let exit = err_from_is_err_and c.from_residual-in_err-write_whole-2.result
     c.from_residual-in_err-write_whole-2.ensures.1 in
     let none = ap (λ n. take n buf) c.if-given-eq0.true in
-    let same = read_nothing input buf left (omega arith) in
+    let same = read_nothing input buf left asked (omega arith) in
     rw (exit.1, exit.2) (finish_stops task transition t c.reads-test.true c.requires.most none
     (c.in-Ok.ensures.call some) same c.finish-finished.ensures.finishes
     c.in_err-write_whole-2.field-0.0 c.in_err-write_whole-2.ensures)
@@ -69,9 +74,11 @@ returns-in-Ok-result-clause-goes g c =
     let left = c.reads.left in
     let input = c.reads.input in
     let buf = c.read_some.new.buf in
-    let some : 0 < length (take (length input - left) (drop left input)) = search rules in
+    let asked : ℕ = c.min-end.result - left in
+    let end = c.min-end.ensures in
+    let some : 0 < length (take asked (drop left input)) = search rules in
     let none = ap (λ n. take n buf) c.if-given-eq0.true in
-    let same = read_nothing input buf left (omega arith) in
+    let same = read_nothing input buf left asked (omega arith) in
     let done = finish_ends task transition t c.reads-test.true c.requires.most none
     (c.in-Ok.ensures.call some) same c.finish-finished.ensures.finishes
     c.in_ok-write_whole-2.ensures in
@@ -87,9 +94,11 @@ returns-in-Err-result-clause-goes g c =
     let left = c.reads.left in
     let input = c.reads.input in
     let buf = c.read_some.new.buf in
-    let some : 0 < length (take (length input - left) (drop left input)) = search rules in
+    let asked : ℕ = c.min-end.result - left in
+    let end = c.min-end.ensures in
+    let some : 0 < length (take asked (drop left input)) = search rules in
     let none = ap (λ n. take n buf) c.if-given-eq0.true in
-    let same = read_nothing input buf left (omega arith) in
+    let same = read_nothing input buf left asked (omega arith) in
     let done = finish_ends task transition t c.reads-test.true c.requires.most none
     (c.in-Ok.ensures.call some) same c.finish-finished.ensures.finishes
     c.in_ok-write_whole-2.ensures in
@@ -107,13 +116,15 @@ returns-in_err-write_whole-3-clause-goes g c =
     let left = c.reads.left in
     let input = c.reads.input in
     let buf = c.read_some.new.buf in
-    let some : 0 < length (take (length input - left) (drop left input)) = search rules in
-    let held : length buf ≡ length input - left = search rules in
+    let asked : ℕ = c.min-end.result - left in
+    let end = c.min-end.ensures in
+    let some : 0 < length (take asked (drop left input)) = search rules in
+    let held : length buf ≡ asked = search rules in
     let not_zero = c.if-given-eq0.false in
     let count = length-take c.in-Ok.given buf in
     let size : length (take c.in-Ok.given buf) ≤ INPUT_ROOM = omega arith in
     let given : 0 < length (take c.in-Ok.given buf) = omega (arith, c.in-Ok.ensures.bound.0) in
-    let front = read_front input buf left c.in-Ok.given (omega arith) c.in-Ok.ensures.bound.0 in
+    let front = read_front input buf left asked c.in-Ok.given (omega arith) c.in-Ok.ensures.bound.0 in
     let exit = err_from_is_err_and c.from_residual-in_err-write_whole-3.result
     c.from_residual-in_err-write_whole-3.ensures.1 in
     rw (exit.1, exit.2) (translating_stops task transition t c.reads-test.true c.requires.most
@@ -133,13 +144,15 @@ returns-in-Some-clause-goes g c =
     let left = c.reads.left in
     let input = c.reads.input in
     let buf = c.read_some.new.buf in
-    let some : 0 < length (take (length input - left) (drop left input)) = search rules in
-    let held : length buf ≡ length input - left = search rules in
+    let asked : ℕ = c.min-end.result - left in
+    let end = c.min-end.ensures in
+    let some : 0 < length (take asked (drop left input)) = search rules in
+    let held : length buf ≡ asked = search rules in
     let not_zero = c.if-given-eq0.false in
     let count = length-take c.in-Ok.given buf in
     let size : length (take c.in-Ok.given buf) ≤ INPUT_ROOM = omega arith in
     let given : 0 < length (take c.in-Ok.given buf) = omega (arith, c.in-Ok.ensures.bound.0) in
-    let front = read_front input buf left c.in-Ok.given (omega arith) c.in-Ok.ensures.bound.0 in
+    let front = read_front input buf left asked c.in-Ok.given (omega arith) c.in-Ok.ensures.bound.0 in
     rw c.from-in-Some.ensures (translating_refused task transition t c.reads-test.true
     c.requires.most (c.in-Ok.ensures.call some) size to_read given front
     c.translate-taken.ensures.translates
@@ -148,7 +161,7 @@ returns-in-Some-clause-goes g c =
 pub overflow_sub-left : goal.overflow_sub-left
 overflow_sub-left g c =
     let n = c.reads.left + c.in-Ok.given in
-    let input = put_mid c.reads.left (length c.reads.input - c.reads.left)
+    let input = put_mid c.reads.left (c.min-end.result - c.reads.left)
     c.reads.input c.read_some.new.buf in
     let parts = c.translate-taken.ensures.parts in
     omega (
@@ -171,18 +184,20 @@ reads-preserved g c =
     let left = c.reads.left in
     let input = c.reads.input in
     let buf = c.read_some.new.buf in
-    let some : 0 < length (take (length input - left) (drop left input)) = search rules in
-    let held : length buf ≡ length input - left = search rules in
+    let asked : ℕ = c.min-end.result - left in
+    let end = c.min-end.ensures in
+    let some : 0 < length (take asked (drop left input)) = search rules in
+    let held : length buf ≡ asked = search rules in
     let not_zero = c.if-given-eq0.false in
     let count = length-take c.in-Ok.given buf in
     let size : length (take c.in-Ok.given buf) ≤ INPUT_ROOM = omega arith in
     let given : 0 < length (take c.in-Ok.given buf) = omega (arith, c.in-Ok.ensures.bound.0) in
-    let front = read_front input buf left c.in-Ok.given (omega arith) c.in-Ok.ensures.bound.0 in
+    let front = read_front input buf left asked c.in-Ok.given (omega arith) c.in-Ok.ensures.bound.0 in
     let rest = c.translate-taken.result.rest.now in
     let shown' = g.T.Translator.shows c.translate-taken.new.self in
-    let whole : left + c.in-Ok.given ≤ length (put_mid left (length input - left) input buf) =
+    let whole : left + c.in-Ok.given ≤ length (put_mid left asked input buf) =
     search rules in
-    let moved = moved_front (put_mid left (length input - left) input buf) c.copy_within.new.self
+    let moved = moved_front (put_mid left asked input buf) c.copy_within.new.self
     c.translate-taken.ensures.parts.0 rest
     (left + c.in-Ok.given) whole c.translate-taken.ensures.parts.1
     c.copy_within.ensures.after in
@@ -197,6 +212,9 @@ reads-preserved g c =
           c.translate-taken.ensures.translates
           c.in_default.is c.in_ok-write_whole-3.ensures);
       room = let few = c.translate-taken.ensures.room c.in_default.is in omega arith;
+      output =
+          let kept = c.make_room-in-reads.ensures.capacity in
+          let before = c.reads.invariant.output in omega arith;
       size = to_read;
       kept = c.translate-taken.ensures.kept ∙ c.reads.invariant.kept;
     }

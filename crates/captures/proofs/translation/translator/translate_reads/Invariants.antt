@@ -1,5 +1,5 @@
-use Rattle.std.proofs.Common.{◌≡◌, ◌<◌, length, take}
-use Rattle.captures.specs.declared.limits.TheConstants.{INPUT_ROOM}
+use Rattle.std.proofs.Common.{◌≡◌, ◌<◌, ◌≤◌, length, take, vec_capacity}
+use Rattle.captures.specs.declared.limits.TheConstants.{INPUT_ROOM, OUTPUT_ROOM}
 use Rattle.captures.proofs.Translating.{Translating}
 use Rattle.captures.proofs.translation.translator.translate_reads.Given as goal
 
@@ -9,6 +9,7 @@ invariant-reads g l = record {
   translating : Translating (g.T.Translator.task l.translator) g.D.Device.transition
       (g.T.Translator.shows l.translator) l.counter l.fn.device l.device (take l.left l.input);
   room : l.left < length l.input;
+  output : OUTPUT_ROOM ≤ vec_capacity l.output;
   size : (g.T.Translator.task l.translator).room ≡ INPUT_ROOM;
   kept : g.T.Translator.kept l.translator ≡ g.T.Translator.kept l.fn.translator;
 }

@@ -1,47 +1,39 @@
-use Rattle.std.proofs.Common.{◌∙◌, sym, ap, arith, ◌+◌, ◌*◌, ◌≤◌, [], append-nil, take, length}
-use Rattle.captures.specs.Lines.{told, lines_from, noted_all}
-use Rattle.captures.proofs.UnitLemmas.{told_unit, some_frame, some_noted, no_packets_of, one_packet}
+use Rattle.std.proofs.Common.{◌∙◌, ◌++◌, ap, arith, take}
+use Rattle.captures.specs.Framed.{frame_bytes}
+use Rattle.captures.specs.Lines.{noted, told}
+use Rattle.captures.specs.declared.origin.Origin.{Origin}
+use Rattle.captures.proofs.FrontLemmas.{told_all, told_first}
 use Rattle.captures.proofs.translation.units.take_units.Goals as goal
-use Rattle.captures.proofs.translation.units.take_units.Goals.{then-not-is_empty, else-not-is_empty}
 
-pub units-preserved : goal.units-preserved
-units-preserved c =
-    let unit = c.in-Ok-Some.unit in
-    let frame = unit.frame in
-    let origin = unit.origin in
-    let noted = c.units.noted in
-    let room : 46 + 2 * length frame + 5 * length unit.rest.now ≤ 5 * length c.units.rest.now =
-    rw c.in-Ok-Some.field-0-is at c.in-Ok-Some.ensures.room in
-    let found = rw c.in-Ok-Some.field-0-is at c.in-Ok-Some.ensures.found in
-    let before = c.units.invariant in
-    elim c.if-not-is_empty.branch [
-      | then-not-is_empty w ↦
-          (let some = sym c.is_empty.ensures ∙ w.if-not-is_empty.true in
-          rw (w.out-is, w.used-is, w.count-is, w.noted-is) (
-            told_unit c.args.ledger noted _ c.args.state c.units.after _ c.args.bytes.now
-                c.units.rest.now unit.rest.now _
-                (told noted (record { origin = origin; frame = frame })) _
-                origin frame c.units.count (c.units.count + 1) before.0 found
-                (some_frame noted origin frame some)
-                (w.tell-used.ensures.noted ∙ some_noted noted origin frame some)
-                w.tell-used.ensures.text
-                (let one = one_packet origin frame some in omega arith),
-            omega arith,
-            omega arith,
-            w.tell-used.ensures.extra ∙ before.3,
-          ))
-      | else-not-is_empty w ↦
-          (let none = no_packets_of origin frame
-          (sym c.is_empty.ensures ∙ w.if-not-is_empty.false) in
-          rw (w.out-is, w.used-is, w.count-is, w.noted-is) (
-            told_unit c.args.ledger noted noted c.args.state c.units.after _ c.args.bytes.now
-                c.units.rest.now unit.rest.now (take c.units.used c.units.out) [] _
-                origin frame c.units.count c.units.count before.0 found
-                (sym (ap (lines_from noted) none)) (sym (ap (noted_all noted) none))
-                (sym (append-nil (take c.units.used c.units.out)))
-                (let few = ap length none in omega arith),
-            omega arith,
-            omega arith,
-            before.3,
-          ))
-    ]
+pub lines-preserved : goal.lines-preserved
+lines-preserved c =
+    let packet = c.in-Some.packet in
+    let before = c.lines.invariant in
+    let room = c.in-Some.ensures.room in
+    let text = take c.lines.used c.lines.out in
+    let come = c.lines.noted in
+    record {
+      told = told_first c.args.ledger come _ c.args.state c.lines.packets.state _ c.args.bytes.now
+          c.lines.packets.rest.now _ text _ c.lines.count packet before.told
+          c.in-Some.ensures.steps.0
+          (c.tell-used.ensures.text
+          ∙ ap (λ (o : Origin). text ++ told come (record {
+            origin = o;
+            frame = frame_bytes packet.frame;
+          })) c.origin.ensures)
+          (c.tell-used.ensures.noted
+          ∙ ap (λ (o : Origin). noted come (record {
+            origin = o;
+            frame = frame_bytes packet.frame;
+          })) c.origin.ensures);
+      room = omega arith;
+      few = omega arith;
+      extra = c.tell-used.ensures.extra ∙ before.extra;
+    }
+
+pub returns-clause-takes : goal.returns-clause-takes
+returns-clause-takes c =
+    told_all c.args.ledger c.lines.noted c.args.state c.lines.packets.state _ c.args.bytes.now
+    c.lines.packets.rest.now _ (take c.lines.used c.lines.out) c.lines.count _
+    c.lines.invariant.told
+    (rw (c.state.ensures, c.rest.ensures, c.refusal.ensures) c.in_default.ensures.steps)

@@ -1,7 +1,7 @@
 use Rattle.std.proofs.Common.{sym, ap, ◌∙◌, ◌++◌, append_assoc, take, List, ℕ, Option}
 use Rattle.hex.specs.Hex.{encode_lower}
-use Rattle.captures.specs.Framed.{made_header}
-use Rattle.captures.specs.declared.link.frame.Header.{Header}
+use Rattle.captures.specs.Framed.{frame_bytes, made_header}
+use Rattle.captures.specs.declared.link.header.Header.{Header}
 use Rattle.captures.proofs.FramedLemmas.{encode_lower-append}
 use Rattle.captures.proofs.link.frame.Frame.append_hex.Goals as goal
 
@@ -16,4 +16,4 @@ returns-in-Some-clause-text c =
     ∙ ap (λ (l : List ℕ). before ++ l) (sym (encode_lower-append header rest)
     ∙ ap (λ (l : List ℕ). encode_lower (l ++ rest)) c.to_bytes-bytes.ensures
     ∙ ap encode_lower (ap (λ (h : Option Header). made_header h ++ rest) (sym c.in-Some.is)
-    ∙ c.self.view_is))
+    ∙ ap frame_bytes c.self.view_is))

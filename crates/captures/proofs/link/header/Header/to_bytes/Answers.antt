@@ -1,6 +1,6 @@
 use Rattle.std.proofs.Common.{rules, ap, ◌∷◌, List, ℕ}
 use Rattle.captures.proofs.FramedLemmas.{six_bytes}
-use Rattle.captures.proofs.link.frame.Header.to_bytes.Goals as goal
+use Rattle.captures.proofs.link.header.Header.to_bytes.Goals as goal
 
 pub returns : goal.returns
 returns c =

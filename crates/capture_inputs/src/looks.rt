@@ -1,7 +1,7 @@
 //! What an input looks like by its first bytes, for what is told of one that is refused.
 ghost use Rattle.std.specs.Prelude.{◌≡◌};
 ghost use Rattle.std.specs.List.{list_all};
-ghost use Rattle.captures_cli.specs.Looks.{begins_capture, is_text, look_of};
+ghost use Rattle.capture_inputs.specs.Looks.{begins_capture, is_text, look_of};
 
 /// What an input looks like.
 #[derive(Clone, Copy, Debug, PartialEq, Eq)]

@@ -3,9 +3,9 @@
 use Rattle.std.specs.Prelude.{ℕ, ◌==◌, ◌&&◌, ◌||◌, nat_eq, nat_le, Bool, not, if◌then◌else◌, List}
 use Rattle.std.specs.Prelude.{[], ◌∷◌, length, codes}
 use Rattle.std.specs.List.{starts_with, list_all}
-use Rattle.captures_cli.specs.declared.looks.Look.{Look}
-use Rattle.captures_cli.specs.declared.looks.Look.TheVariants.{Empty, Gzip, Zstd, Xz, Bzip2}
-use Rattle.captures_cli.specs.declared.looks.Look.TheVariants.{Capture, Text, Other}
+use Rattle.capture_inputs.specs.declared.looks.Look.{Look}
+use Rattle.capture_inputs.specs.declared.looks.Look.TheVariants.{Empty, Gzip, Zstd, Xz, Bzip2}
+use Rattle.capture_inputs.specs.declared.looks.Look.TheVariants.{Capture, Text, Other}
 
 abbrev pub begins : List ℕ → List ℕ → Bool
 begins front magic = starts_with nat_eq front magic

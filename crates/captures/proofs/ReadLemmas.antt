@@ -1,0 +1,358 @@
+-- What a reader of packets comes to.
+use Rattle.std.proofs.Common.{◌≡◌, ◌≢◌, ◌∙◌, sym, ap, refl, subst, ℕ, ◌+◌, ◌-◌, ◌^◌, ◌≤◌, ◌<◌}
+use Rattle.std.proofs.Common.{arith, Bool, true, false, List, [], ◌∷◌, ◌++◌, length, map}
+use Rattle.std.proofs.Common.{length-append, length-drop, append_assoc, append-nil, inl, inr}
+use Rattle.std.proofs.Common.{Option, Some, None, Result, Ok, Err}
+use Rattle.std.specs.Io.KnownBytes.{Consumes, IsAtEnd, Keeps}
+use Rattle.std.specs.Prelude.{min, nat_lt, if◌then◌else◌}
+use Rattle.captures.specs.Dropped.{DropsMore, IsDropped, last_of}
+use Rattle.captures.specs.Fronts.{Gives, HasNone, IsFirst, taken_of}
+use Rattle.captures.specs.Numbers.{capped}
+use Rattle.captures.specs.Places.{IsPlace, block_type}
+use Rattle.captures.specs.Readers.{AreGiven, FindsFront, HasRead, IsRefusedAt}
+use Rattle.captures.specs.Runs.{IsCapture, fault_at_end}
+use Rattle.captures.specs.Units.{HasUnit, IsBegun, Passes, Refuses, in_a_row, skipped_in}
+use Rattle.captures.specs.declared.capture_error.CaptureError.{CaptureError}
+use Rattle.captures.specs.declared.capture_error.CaptureError.TheVariants.{CutOff, NotCapture}
+use Rattle.captures.specs.declared.limits.TheConstants.{FIRST_UNIT_LEN}
+use Rattle.captures.specs.declared.origin.Origin.{Origin}
+use Rattle.captures.specs.declared.packet.Packet.{Packet}
+use Rattle.captures.specs.declared.pcapng.long_block.LongBlock.{LongBlock}
+use Rattle.captures.specs.declared.place.Place.{Place}
+use Rattle.captures.specs.declared.reading.packet_reader.PacketReader.{PacketReader}
+use Rattle.captures.specs.declared.translation.state.State.{State}
+use Rattle.captures.specs.declared.translation.state.State.TheVariants.{Start, Classic, Pcapng}
+use Rattle.captures.specs.declared.unfit.Unfit.{Unfit}
+use Rattle.captures.proofs.CountLemmas.{capped_more}
+use Rattle.captures.proofs.GivenLemmas.{gives_first, gives_none, gives_passes, gives_wide}
+use Rattle.captures.proofs.UnitLemmas.{passes_start, passes_unit}
+
+gives_len : (state after : State) (bytes rest : List ℕ) (packets : List Packet)
+    → Gives state bytes packets after rest → length rest ≤ length bytes
+gives_len state after bytes rest packets g =
+    let p = gives_passes state after bytes rest packets g in
+    omega (arith, ap length p.parts, length-append (in_a_row p.units) rest)
+
+last_len : (bytes : List ℕ) (n : ℕ) → n ≤ length bytes → length (last_of n bytes) ≡ n
+last_len bytes n few = omega (arith, length-drop (length bytes - n) bytes)
+
+module _ {R : Type 0} (unfit : Unfit) (old : PacketReader R) (read : List ℕ)
+    (given : List Packet) (h : HasRead unfit old read given) where
+  -- all that is left is held
+  all_held : old.begun ≡ None → h.dropped ++ old.window.held ≡ old.window.held
+  all_held none =
+      let is_dropped = subst (λ (b : Option LongBlock). IsDropped old.state b h.dropped) none
+      h.is_dropped in
+      ap (λ (l : List ℕ). l ++ old.window.held) is_dropped
+
+  pub gives_held : old.begun ≡ None → Gives (Start unfit) read given old.state old.window.held
+  gives_held none = subst (λ (l : List ℕ). Gives (Start unfit) read given old.state l)
+      (all_held none) h.gives
+
+  held_passed : old.begun ≡ None → old.passed ≡ capped (length read - length old.window.held)
+  held_passed none = h.passed
+      ∙ ap (λ (l : List ℕ). capped (length read - length l)) (all_held none)
+
+  module _ (none : old.begun ≡ None) (after : State) (left passed : ℕ)
+      (fits : left ≤ length old.window.held)
+      (passed_is : passed ≡ min (old.passed + (length old.window.held - left)) (2 ^ 64 - 1)) where
+    -- so many bytes were passed when so many are left
+    pub left_passed : passed ≡ capped (length read - length (last_of left old.window.held))
+    left_passed =
+        let held = old.window.held in
+        let size = last_len held left fits in
+        let within = gives_len (Start unfit) old.state read held given (gives_held none) in
+        let same : length read - length held + (length held - left)
+        ≡ length read - length (last_of left held) = omega arith in
+        passed_is
+        ∙ ap (λ (n : ℕ). min (n + (length held - left)) (2 ^ 64 - 1)) (held_passed none)
+        ∙ capped_more (2 ^ 64 - 1) (length read - length held) (length held - left)
+        ∙ ap capped same
+
+    -- a packet is found
+    pub finds_packet : (new : PacketReader R) (packet : Packet) → new.state ≡ after
+        → new.begun ≡ None → new.passed ≡ passed
+        → new.window.held ≡ last_of left old.window.held
+        → new.count ≡ min (old.count + 1) (2 ^ 64 - 1) → new.reads ≡ old.reads
+        → new.ended ≡ old.ended
+        → IsFirst old.state old.window.held after packet (last_of left old.window.held)
+        → HasRead unfit new read (given ++ packet ∷ [])
+    finds_packet new packet state begun passed_new held count reads ended first = record {
+      dropped = [];
+      is_dropped = subst (λ (b : Option LongBlock). IsDropped new.state b []) (sym begun) refl;
+      gives = rw (state, held) (gives_first (Start unfit) old.state after read old.window.held
+          (last_of left old.window.held) given packet (gives_held none) first);
+      count =
+          count ∙ ap (λ (n : ℕ). min (n + 1) (2 ^ 64 - 1)) h.count
+          ∙ capped_more (2 ^ 64 - 1) (length given) 1
+          ∙ ap capped (sym (length-append given (packet ∷ [])));
+      passed = passed_new ∙ left_passed
+          ∙ ap (λ (l : List ℕ). capped (length read - length l)) (sym held);
+      reads = subst (λ (n : ℕ). n ≤ length read) (sym reads) h.reads;
+      going = ended ∙ h.going;
+    }
+
+    -- no packet is
+    abbrev pub finds_none : (new : PacketReader R) (dropped : List ℕ) → new.state ≡ after
+        → IsDropped after new.begun dropped → new.passed ≡ passed
+        → dropped ++ new.window.held ≡ last_of left old.window.held
+        → new.count ≡ old.count → new.reads ≡ old.reads → new.ended ≡ old.ended
+        → (refusal : Option CaptureError)
+        → HasNone old.state old.window.held after (last_of left old.window.held) refusal
+        → HasRead unfit new read given
+    finds_none new dropped state is_dropped passed_new held count reads ended refusal first =
+        record {
+          dropped = dropped;
+          is_dropped = subst (λ (s : State). IsDropped s new.begun dropped) (sym state) is_dropped;
+          gives = rw (state, held) (gives_none (Start unfit) old.state after read old.window.held
+              (last_of left old.window.held) given (gives_held none) first.passes);
+          count = count ∙ h.count;
+          passed = passed_new ∙ left_passed
+              ∙ ap (λ (l : List ℕ). capped (length read - length l)) (sym held);
+          reads = subst (λ (n : ℕ). n ≤ length read) (sym reads) h.reads;
+          going = ended ∙ h.going;
+        }
+
+-- ---- known bytes
+
+pub consumes_none : (known : Option (List ℕ)) → Consumes known known []
+consumes_none None = tt
+consumes_none (Some bytes) = refl
+
+pub consumes_more : (a b c : Option (List ℕ)) (xs ys : List ℕ) → Consumes a b xs
+    → Consumes b c ys → Consumes a c (xs ++ ys)
+consumes_more None b c xs ys p q = tt
+consumes_more (Some x) None c xs ys p q = absurd p
+consumes_more (Some x) (Some y) None xs ys p q = absurd q
+consumes_more (Some x) (Some y) (Some z) xs ys p q =
+    p ∙ ap (λ (l : List ℕ). xs ++ l) q ∙ sym (append_assoc xs ys z)
+
+keeps_consumes : (a b : Option (List ℕ)) → Keeps a b → Consumes a b []
+keeps_consumes None b k = tt
+keeps_consumes (Some x) None k = absurd k
+keeps_consumes (Some x) (Some y) k = sym k
+
+pub consumes_kept : (a b c : Option (List ℕ)) (xs : List ℕ) → Consumes a b xs → Keeps b c
+    → Consumes a c xs
+consumes_kept a b c xs p k =
+    subst (λ (l : List ℕ). Consumes a c l) (append-nil xs)
+    (consumes_more a b c xs [] p (keeps_consumes b c k))
+
+pub consumes_end : (a b c : Option (List ℕ)) (xs piece : List ℕ) → Consumes a b xs
+    → Consumes b c piece → piece ≡ [] → Consumes a c xs
+consumes_end a b c xs piece p q none =
+    subst (λ (l : List ℕ). Consumes a c l)
+    (ap (λ (l : List ℕ). xs ++ l) none ∙ append-nil xs) (consumes_more a b c xs piece p q)
+
+pub no_piece : (piece : List ℕ) → length piece ≡ 0 → piece ≡ []
+no_piece [] none = refl
+no_piece (b ∷ bytes) none = absurd (omega arith)
+
+-- ---- what a call comes to
+
+module _ {R : Type 0} (unfit : Unfit) (old new : PacketReader R) (read : List ℕ)
+    (given : List Packet) (h : HasRead unfit old read given) (state : new.state ≡ old.state)
+    (begun : new.begun ≡ old.begun) (count : new.count ≡ old.count)
+    (passed : new.passed ≡ old.passed) where
+  dropped_same : IsDropped new.state new.begun h.dropped
+  dropped_same = rw (state, begun) h.is_dropped
+
+  -- a piece is read
+  pub reads_more : (piece : List ℕ) → new.window.held ≡ old.window.held ++ piece
+      → new.reads ≡ old.reads + 1 → new.ended ≡ old.ended → 0 < length piece
+      → HasRead unfit new (read ++ piece) given
+  reads_more piece held reads ended some =
+      let rest = h.dropped ++ old.window.held in
+      let whole : h.dropped ++ new.window.held ≡ rest ++ piece =
+      ap (λ (l : List ℕ). h.dropped ++ l) held ∙ sym (append_assoc h.dropped old.window.held piece) in
+      let few = h.reads in
+      record {
+        dropped = h.dropped;
+        is_dropped = dropped_same;
+        gives = rw (state, whole)
+            (gives_wide (Start unfit) old.state read rest piece given h.gives);
+        count = count ∙ h.count;
+        passed = passed ∙ h.passed ∙ ap capped
+            (let all : length read - length rest
+            ≡ length (read ++ piece) - length (h.dropped ++ new.window.held) =
+            omega (arith, ap length whole, length-append rest piece, length-append read piece) in
+            all);
+        reads = omega (arith, length-append read piece);
+        going = ended ∙ h.going;
+      }
+
+  -- nothing is
+  pub reads_none : new.window.held ≡ old.window.held → new.reads ≡ old.reads
+      → new.ended ≡ old.ended → HasRead unfit new (read ++ []) given
+  reads_none held reads ended =
+      let rest = h.dropped ++ old.window.held in
+      let whole : h.dropped ++ new.window.held ≡ rest =
+      ap (λ (l : List ℕ). h.dropped ++ l) held in
+      let same = append-nil read in
+      record {
+        dropped = h.dropped;
+        is_dropped = dropped_same;
+        gives = rw (state, whole, same) h.gives;
+        count = count ∙ h.count;
+        passed = passed ∙ h.passed
+            ∙ ap (λ (l : List ℕ). capped (length read - length l)) (sym whole)
+            ∙ ap (λ (l : List ℕ). capped (length l - length (h.dropped ++ new.window.held)))
+            (sym same);
+        reads = rw (reads, same) h.reads;
+        going = ended ∙ h.going;
+      }
+
+  -- all whole packets were given
+  pub all_given : new.window.held ≡ old.window.held
+      → IsBegun old.state (h.dropped ++ old.window.held) → AreGiven unfit read given
+  all_given held left = record {
+    state = old.state;
+    rest = h.dropped ++ old.window.held;
+    gives = h.gives;
+    begun = left;
+  }
+
+module _ {R : Type 0} (unfit : Unfit) (reader : PacketReader R) (read : List ℕ)
+    (given : List Packet) (h : HasRead unfit reader read given) (place : Place)
+    (packet : place.packet ≡ capped (reader.count + 1)) (offset : place.offset ≡ reader.passed)
+    (block : (dropped : List ℕ) → IsDropped reader.state reader.begun dropped
+    → place.block ≡ block_type reader.state (dropped ++ reader.window.held)) where
+  its_place : IsPlace reader.state (length given) read (h.dropped ++ reader.window.held) place
+  its_place = record {
+    packet = packet ∙ ap (λ (n : ℕ). capped (n + 1)) h.count
+        ∙ capped_more (2 ^ 64 - 1) (length given) 1;
+    offset = offset ∙ h.passed;
+    block = block h.dropped h.is_dropped;
+  }
+
+  -- it can't go on
+  pub refused_front : (error : CaptureError) (left : Option (List ℕ))
+      → Refuses reader.state (h.dropped ++ reader.window.held) error
+      → IsRefusedAt unfit (skipped_in reader.state) error place left read given
+  refused_front error left refuses = record {
+    state = reader.state;
+    rest = h.dropped ++ reader.window.held;
+    gives = h.gives;
+    is_place = its_place;
+    counts = refl;
+    why = inl refuses;
+  }
+
+  -- or it ends there
+  pub refused_end : (error : CaptureError) (left : Option (List ℕ)) → IsAtEnd left
+      → IsBegun reader.state (h.dropped ++ reader.window.held)
+      → fault_at_end reader.state (length (h.dropped ++ reader.window.held)) ≡ Err error
+      → IsRefusedAt unfit (skipped_in reader.state) error place left read given
+  refused_end error left ends begun fault = record {
+    state = reader.state;
+    rest = h.dropped ++ reader.window.held;
+    gives = h.gives;
+    is_place = its_place;
+    counts = refl;
+    why = inr (ends, begun, fault);
+  }
+
+abbrev start_fault : Bool → Result Unit CaptureError
+start_fault short = if short then Err NotCapture else Err CutOff
+
+start_ends : (short : Bool) → start_fault short ≡ Ok tt → ⊥
+start_ends true ends = cc
+start_ends false ends = cc
+
+-- the end of a capture: all was taken
+ends_known : (unfit : Unfit) (state : State) (rest : List ℕ)
+    → fault_at_end state (length rest) ≡ Ok tt → (rest ≡ []) × (state ≢ Start unfit)
+ends_known unfit (Start u) rest ends = absurd (start_ends (nat_lt (length rest) FIRST_UNIT_LEN) ends)
+ends_known unfit (Classic order time_unit link passing) [] ends = (refl, λ e. cc e)
+ends_known unfit (Classic order time_unit link passing) (b ∷ bytes) ends = absurd (cc)
+ends_known unfit (Pcapng section) [] ends = (refl, λ e. cc e)
+ends_known unfit (Pcapng section) (b ∷ bytes) ends = absurd (cc)
+
+pub ends_whole : (unfit : Unfit) (state : State) (read rest : List ℕ) (given : List Packet)
+    → Gives (Start unfit) read given state rest → fault_at_end state (length rest) ≡ Ok tt
+    → IsCapture unfit read (map taken_of given) (skipped_in state)
+ends_whole unfit state read rest given g ends =
+    let e = ends_known unfit state rest ends in
+    record {
+      state = state;
+      passes = subst (λ (l : List ℕ). Passes (Start unfit) read (map taken_of given) state l) e.0
+          (gives_passes (Start unfit) state read rest given g);
+      known = e.1;
+      counts = refl;
+    }
+
+-- ---- a long block is begun
+
+module _ {R : Type 0} (unfit : Unfit) (old new : PacketReader R) (read : List ℕ)
+    (given : List Packet) (h : HasRead unfit old read given) (left : ℕ)
+    (state : new.state ≡ old.state) (held : new.window.held ≡ last_of left old.window.held)
+    (count : new.count ≡ old.count) (reads : new.reads ≡ old.reads)
+    (ended : new.ended ≡ old.ended) where
+  -- more of it is dropped
+  module _ (begun : LongBlock) (begun_is : new.begun ≡ Some begun)
+      (passed : new.passed ≡ old.passed)
+      (d : DropsMore old.state h.dropped old.window.held begun left) where
+    pub same_left : h.dropped ++ old.window.held ≡ (h.dropped ++ d.front) ++ new.window.held
+    same_left =
+        ap (λ (l : List ℕ). h.dropped ++ l)
+        (d.parts ∙ ap (λ (l : List ℕ). d.front ++ l) (sym held))
+        ∙ sym (append_assoc h.dropped d.front new.window.held)
+
+    abbrev pub drops_more : HasRead unfit new read given
+    drops_more = record {
+      dropped = h.dropped ++ d.front;
+      is_dropped = rw (state, begun_is) d.is_dropped;
+      gives = rw state (subst (λ (l : List ℕ). Gives (Start unfit) read given old.state l)
+          same_left h.gives);
+      count = count ∙ h.count;
+      passed = passed ∙ h.passed
+          ∙ ap (λ (l : List ℕ). capped (length read - length l)) same_left;
+      reads = subst (λ (n : ℕ). n ≤ length read) (sym reads) h.reads;
+      going = ended ∙ h.going;
+    }
+
+    pub drops_begun : IsBegun old.state (h.dropped ++ old.window.held)
+        → FindsFront unfit new read given (Ok false)
+    drops_begun begins = (
+      drops_more,
+      subst (λ (s : State). IsBegun s ((h.dropped ++ d.front) ++ new.window.held)) (sym state)
+          (subst (λ (l : List ℕ). IsBegun old.state l) same_left begins),
+    )
+
+    pub drops_refused : (error : CaptureError)
+        → Refuses old.state (h.dropped ++ old.window.held) error
+        → FindsFront unfit new read given (Err error)
+    drops_refused error refuses = (
+      drops_more,
+      subst (λ (s : State). Refuses s ((h.dropped ++ d.front) ++ new.window.held) error)
+          (sym state) (subst (λ (l : List ℕ). Refuses old.state l error) same_left refuses),
+    )
+
+  -- it is passed
+  pub drops_passed : (len : ℕ) (origin : Origin) → new.begun ≡ None
+      → new.passed ≡ min (old.passed + len) (2 ^ 64 - 1)
+      → HasUnit old.state (h.dropped ++ old.window.held) old.state origin []
+      (last_of left old.window.held)
+      → length h.dropped + length old.window.held ≡ len + left → left ≤ length old.window.held
+      → HasRead unfit new read given
+  drops_passed len origin begun passed unit size fits =
+      let rest = h.dropped ++ old.window.held in
+      let last = last_of left old.window.held in
+      let within = gives_len (Start unfit) old.state read rest given h.gives in
+      let left_is = last_len old.window.held left fits in
+      let whole = length-append h.dropped old.window.held in
+      let same : length read - length rest + len ≡ length read - length last = omega arith in
+      record {
+        dropped = [];
+        is_dropped = subst (λ (b : Option LongBlock). IsDropped new.state b []) (sym begun) refl;
+        gives = rw (state, held) (gives_none (Start unfit) old.state old.state read rest last given
+            h.gives (passes_unit old.state old.state old.state rest rest last [] origin []
+            (passes_start old.state rest) unit));
+        count = count ∙ h.count;
+        passed =
+            passed ∙ ap (λ (n : ℕ). min (n + len) (2 ^ 64 - 1)) h.passed
+            ∙ capped_more (2 ^ 64 - 1) (length read - length rest) len ∙ ap capped same
+            ∙ ap (λ (l : List ℕ). capped (length read - length l)) (sym held);
+        reads = subst (λ (n : ℕ). n ≤ length read) (sym reads) h.reads;
+        going = ended ∙ h.going;
+      }

@@ -1,0 +1,151 @@
+-- A reader of a capture's packets: what it has read and given, and how it ends.
+use Rattle.std.specs.Prelude.{◌≡◌, ◌⊎◌, ℕ, ◌+◌, ◌-◌, ◌≤◌, Bool, true, false, List, [], ◌∷◌, ◌++◌}
+use Rattle.std.specs.Prelude.{length, map, take, Option, Some, None, Result, Ok, Err, MatchOption}
+use Rattle.std.specs.Io.KnownBytes.{IsAtEnd}
+use Rattle.std.specs.Option.{option_map}
+use Rattle.captures.specs.Dropped.{IsDropped, last_of}
+use Rattle.captures.specs.Fronts.{Gives, HasNone, IsFirst, taken_of}
+use Rattle.captures.specs.Numbers.{capped}
+use Rattle.captures.specs.Places.{IsPlace, block_type}
+use Rattle.captures.specs.Runs.{IsCapture, fault_at_end}
+use Rattle.captures.specs.Units.{IsBegun, Refuses, skipped_in}
+use Rattle.captures.specs.declared.capture_error.CaptureError.{CaptureError}
+use Rattle.captures.specs.declared.limits.TheConstants.{READ_COUNT_LIMIT}
+use Rattle.captures.specs.declared.packet.Packet.{Packet}
+use Rattle.captures.specs.declared.place.Place.{Place}
+use Rattle.captures.specs.declared.reading.ahead.Ahead.{Ahead}
+use Rattle.captures.specs.declared.reading.ahead.Found.{Found}
+use Rattle.captures.specs.declared.reading.packet_reader.PacketReader.{PacketReader}
+use Rattle.captures.specs.declared.reading.read_error.ReadError.{ReadError}
+use Rattle.captures.specs.declared.reading.read_error.ReadError.TheVariants.{Read, Capture}
+use Rattle.captures.specs.declared.reading.read_error.ReadError.TheVariants.{TooManyReads}
+use Rattle.captures.specs.declared.translation.skipped.Skipped.{Skipped}
+use Rattle.captures.specs.declared.translation.state.State.{State}
+use Rattle.captures.specs.declared.translation.state.State.TheVariants.{Start}
+use Rattle.captures.specs.declared.unfit.Unfit.{Unfit}
+
+-- a packet that was found, whose frame ends with these bytes
+abbrev pub packet_with : Found → List ℕ → Packet
+packet_with found bytes = record {
+  interface = found.interface;
+  time = found.time;
+  link = found.link;
+  frame = record { header = found.header; bytes = bytes };
+}
+
+-- the first packet of the bytes, or none
+abbrev pub IsAhead : State → List ℕ → State → Ahead → Type 0
+IsAhead state bytes after ahead = (ahead.left ≤ length bytes)
+    × (ahead.len ≤ ahead.from) × (ahead.from ≤ length bytes)
+    × MatchOption ahead.found
+    (HasNone state bytes after (last_of ahead.left bytes) ahead.refusal)
+    (λ found. IsFirst state bytes after
+    (packet_with found (take ahead.len (last_of ahead.from bytes))) (last_of ahead.left bytes))
+
+-- where its bytes come from
+abbrev pub source_of : {R : Type 0} → PacketReader R → R
+source_of reader = reader.reader
+
+-- the packet that it stands at
+abbrev pub packet_at : {R : Type 0} → PacketReader R → Option Packet
+packet_at reader =
+    option_map (λ (found : Found). packet_with found reader.window.marked) reader.found
+
+-- the packets that it passed over
+abbrev pub skipped_by : {R : Type 0} → PacketReader R → Skipped
+skipped_by reader = skipped_in reader.state
+
+-- how it ended, if it did
+abbrev pub ending_of : {R : Type 0} → PacketReader R → Option (Result Unit ReadError)
+ending_of reader = reader.ended
+
+-- after an end each call answers this
+abbrev pub again : Result Unit ReadError → Result Bool ReadError
+again (Ok done) = Ok false
+again (Err error) = Err error
+
+-- it has read these bytes and given these packets, each whole one of them in its order, and holds
+-- what follows
+pub record HasRead {R : Type 0} (unfit : Unfit) (reader : PacketReader R) (read : List ℕ)
+    (given : List Packet) : Type 0 where
+  pub dropped : List ℕ
+  pub is_dropped : IsDropped reader.state reader.begun dropped
+  pub gives : Gives (Start unfit) read given reader.state (dropped ++ reader.window.held)
+  pub count : reader.count ≡ capped (length given)
+  pub passed : reader.passed ≡ capped (length read - length (dropped ++ reader.window.held))
+  pub reads : reader.reads ≤ length read
+  pub going : reader.ended ≡ None
+
+-- what is found at the front of what it holds: the next packet, none yet, or why none can follow
+abbrev pub FindsFront : {R : Type 0} → Unfit → PacketReader R → (read : List ℕ)
+    → (given : List Packet) → Result Bool CaptureError → Type 0
+FindsFront unfit new read given (Ok true) = (packet : Packet) × (packet_at new ≡ Some packet)
+    × HasRead unfit new read (given ++ packet ∷ [])
+FindsFront unfit new read given (Ok false) = (h : HasRead unfit new read given)
+    × IsBegun new.state (h.dropped ++ new.window.held)
+FindsFront unfit new read given (Err error) = (h : HasRead unfit new read given)
+    × Refuses new.state (h.dropped ++ new.window.held) error
+
+-- nothing is read between
+pub record IsBeside {R : Type 0} (old new : PacketReader R) : Type 0 where
+  pub source : new.reader ≡ old.reader
+  pub reads : new.reads ≡ old.reads
+  pub ended : new.ended ≡ old.ended
+
+-- all whole packets of these bytes were given
+pub record AreGiven (unfit : Unfit) (read : List ℕ) (given : List Packet) : Type 0 where
+  pub state : State
+  pub rest : List ℕ
+  pub gives : Gives (Start unfit) read given state rest
+  pub begun : IsBegun state rest
+
+-- behind these packets a capture can't go on, or ends within one, at this place
+pub record IsRefusedAt (unfit : Unfit) (skipped : Skipped) (error : CaptureError) (place : Place)
+    (left : Option (List ℕ)) (read : List ℕ) (given : List Packet) : Type 0 where
+  pub state : State
+  pub rest : List ℕ
+  pub gives : Gives (Start unfit) read given state rest
+  pub is_place : IsPlace state (length given) read rest place
+  pub counts : skipped_in state ≡ skipped
+  pub why : Refuses state rest error ⊎ (IsAtEnd left × IsBegun state rest
+      × (fault_at_end state (length rest) ≡ Err error))
+
+-- it is refused for this, at the place where it stands
+abbrev pub IsRefusedWith : {R : Type 0} → (old new : PacketReader R) → CaptureError
+    → Result Bool ReadError → Type 0
+IsRefusedWith old new error result = (place : Place) × (result ≡ Err (Capture error place))
+    × (new ≡ record old { ended = Some (Err (Capture error place)) })
+    × (place.packet ≡ capped (old.count + 1)) × (place.offset ≡ old.passed)
+    × ((dropped : List ℕ) → IsDropped old.state old.begun dropped
+    → place.block ≡ block_type old.state (dropped ++ old.window.held))
+
+-- the end of the input makes this of it
+abbrev pub EndsBy : {R : Type 0} → (old new : PacketReader R) → Result Unit CaptureError
+    → Result Bool ReadError → Type 0
+EndsBy old new (Ok done) result = (result ≡ Ok false) × (new ≡ record old { ended = Some (Ok tt) })
+EndsBy old new (Err error) result = IsRefusedWith old new error result
+
+-- what a call that goes on comes to, where these bytes were read by then and these packets given
+-- before: the next packet, the end of a capture that holds no other, or why none follows. `left` are
+-- the bytes that reads still give
+abbrev pub ComesTo : {R : Type 0} → Unfit → PacketReader R → (left : Option (List ℕ))
+    → (read : List ℕ) → (given : List Packet) → Result Bool ReadError → Type 0
+ComesTo unfit new left read given (Ok true) = (packet : Packet) × (packet_at new ≡ Some packet)
+    × HasRead unfit new read (given ++ packet ∷ [])
+ComesTo unfit new left read given (Ok false) = (ending_of new ≡ Some (Ok tt))
+    × IsCapture unfit read (map taken_of given) (skipped_by new) × IsAtEnd left
+ComesTo unfit new left read given (Err Read) = (ending_of new ≡ Some (Err Read))
+    × AreGiven unfit read given
+ComesTo unfit new left read given (Err TooManyReads) = (ending_of new ≡ Some (Err TooManyReads))
+    × AreGiven unfit read given × (READ_COUNT_LIMIT ≤ length read)
+ComesTo unfit new left read given (Err (Capture error place)) =
+    (ending_of new ≡ Some (Err (Capture error place)))
+    × IsRefusedAt unfit (skipped_by new) error place left read given
+
+-- what a call that reads nothing comes to: the next packet, none in what is held, or why none
+-- follows
+abbrev pub HeldTo : {R : Type 0} → Unfit → PacketReader R → (left : Option (List ℕ))
+    → (read : List ℕ) → (given : List Packet) → Result Bool ReadError → Type 0
+HeldTo unfit new left read given (Ok true) = ComesTo unfit new left read given (Ok true)
+HeldTo unfit new left read given (Ok false) = HasRead unfit new read given
+HeldTo unfit new left read given (Err error) = ComesTo unfit new left read given (Err error)

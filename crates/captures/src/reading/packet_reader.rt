@@ -1,0 +1,287 @@
+//! The packets of a capture that a reader gives.
+ghost use Rattle.std.specs.Prelude.{◌≡◌, ◌+◌, ◌<◌, ◌++◌, ℕ, List, [], length, Result, IfOk};
+ghost use Rattle.std.specs.Prelude.{true, false, Some, None};
+ghost use Rattle.std.specs.Io.KnownBytes.{Consumes};
+ghost use Rattle.captures.specs.Dropped.{IsDropped};
+ghost use Rattle.captures.specs.Numbers.{capped};
+ghost use Rattle.captures.specs.Places.{block_type};
+ghost use Rattle.captures.specs.Readers.{ComesTo, EndsBy, FindsFront, HasRead, HeldTo, IsBeside};
+ghost use Rattle.captures.specs.Readers.{IsRefusedWith, again, packet_at, skipped_by, source_of};
+ghost use Rattle.captures.specs.Runs.{fault_at_end};
+ghost use Rattle.captures.specs.declared.limits.TheConstants.{INPUT_ROOM};
+ghost use Rattle.captures.specs.declared.packet.Packet.{Packet};
+ghost use Rattle.captures.specs.declared.reading.read_error.ReadError.{ReadError};
+ghost use Rattle.captures.specs.declared.unfit.Unfit.{Unfit};
+
+use crate::link::frame::Frame;
+use crate::packet::Packet;
+use crate::pcapng::long_block::{Behind, LongBlock, long_block};
+use crate::place::{Place, place_of};
+use crate::reading::ahead::{Found, look_ahead};
+use crate::reading::read_error::ReadError;
+use crate::reading::window::Window;
+use crate::translation::end::end;
+use crate::translation::state::State;
+use crate::{CaptureError, READ_COUNT_LIMIT, Skipped, Unfit};
+use std::alloc::{AllocError, Global};
+use std::io::Read;
+
+/// Reads the packets of a capture, one after the other, with one buffer of
+/// [`BLOCK_LIMIT`](crate::BLOCK_LIMIT) bytes.
+///
+/// A packet of which no byte was captured is not among them, and one that can't be told ends them
+/// or is passed over, as [`Unfit`] says. A read that gives nothing tells the end. Once there is no
+/// further packet, each call answers as the last one did and reads nothing. Any fault that a read
+/// answers ends the packets, an interrupted call too.
+#[derive(Drop)]
+pub struct PacketReader<R> {
+    reader: R,
+    // How many reads gave bytes.
+    reads: u64,
+    // What is held of the input, and the marked bytes of the packet that was found.
+    window: Window,
+    state: State,
+    // A long block that is begun, of which nothing is held.
+    begun: Option<LongBlock>,
+    // How many packets were given.
+    count: u64,
+    // How many bytes were passed: those of whole units.
+    passed: u64,
+    found: Option<Found>,
+    ended: Option<Result<(), ReadError>>,
+}
+
+impl<R: Read + Drop> PacketReader<R> {
+    /// Before the first packet. Nothing is read yet. The reader is dropped where there is no memory
+    /// for the buffer.
+    pub fn new(alloc: Global, unfit: Unfit, reader: R) -> Result<PacketReader<R>, AllocError>
+        ensures source { IfOk result (λ made. made.reader ≡ reader) }
+        ensures starts { IfOk result (λ made. HasRead unfit made [] []) }
+        ensures packet { IfOk result (λ made. packet_at made ≡ None) }
+    {
+        Ok(PacketReader {
+            reader,
+            reads: 0,
+            window: Window::new(alloc)?,
+            state: State::Start(unfit),
+            begun: None,
+            count: 0,
+            passed: 0,
+            found: None,
+            ended: None,
+        })
+    }
+
+    /// The next packet, or none at the end of the capture: [`advance`](PacketReader::advance), and
+    /// then [`packet`](PacketReader::packet).
+    pub fn next_packet(&mut self) -> Result<Option<Packet<'_>>, ReadError> {
+        if self.advance()? {
+            Ok(self.packet())
+        } else {
+            Ok(None)
+        }
+    }
+
+    /// Goes on to the next packet, and tells whether there is one.
+    pub fn advance(&mut self) -> Result<bool, ReadError>
+        ensures comes { (unfit : Unfit) (read : List ℕ) (given : List Packet)
+            → HasRead unfit self.old read given → (more : List ℕ)
+            × Consumes (R.remaining self.old.reader) (R.remaining self.new.reader) more
+            × ComesTo unfit self.new (R.remaining self.new.reader) (read ++ more) given result }
+        ensures again { (ended : Result Unit ReadError) → self.old.ended ≡ Some ended
+            → (result ≡ again ended) × (self.new ≡ self.old) }
+        ensures none { self.old.ended ≡ None → (result ≡ Ok true → ⊥)
+            → packet_at self.new ≡ None }
+    {
+        if let Some(ended) = self.ended {
+            return match ended {
+                Ok(()) => Ok(false),
+                Err(error) => Err(error),
+            };
+        }
+        self.found = None;
+        'reads: loop {
+            match self.take_front() {
+                Ok(true) => return Ok(true),
+                Ok(false) => {}
+                Err(error) => return self.refuse(error),
+            }
+            if self.reads >= READ_COUNT_LIMIT {
+                return self.stop(ReadError::TooManyReads);
+            }
+            match self.window.fill(&mut self.reader) {
+                Ok(0) => return self.end(),
+                Ok(_) => self.reads += 1,
+                Err(_) => return self.stop(ReadError::Read),
+            }
+        }
+    }
+
+    /// The packet that the last call went on to, if it did.
+    pub fn packet(&self) -> Option<Packet<'_>>
+        ensures { result ≡ packet_at self.now }
+    {
+        let found = self.found?;
+        Some(Packet {
+            interface: found.interface,
+            time: found.time,
+            link: found.link,
+            frame: Frame::behind(found.header, self.window.marked()),
+        })
+    }
+
+    /// Goes on to the next packet if it is held whole, and tells whether it is. Nothing is read: so
+    /// a caller does what is due before a read that may wait, and goes on by
+    /// [`PacketReader::advance`].
+    pub fn advance_held(&mut self) -> Result<bool, ReadError>
+        ensures source { source_of self.new ≡ source_of self.old }
+        ensures comes { (unfit : Unfit) (read : List ℕ) (given : List Packet)
+            → HasRead unfit self.old read given
+            → HeldTo unfit self.new (R.remaining self.new.reader) read given result }
+        ensures again { (ended : Result Unit ReadError) → self.old.ended ≡ Some ended
+            → (result ≡ Ok false) × (self.new ≡ self.old) }
+    {
+        if self.ended.is_some() {
+            return Ok(false);
+        }
+        self.found = None;
+        match self.take_front() {
+            Ok(found) => Ok(found),
+            Err(error) => self.refuse(error),
+        }
+    }
+
+    /// How many packets were passed over so far.
+    pub fn skipped(&self) -> Skipped
+        ensures { result ≡ skipped_by self.now }
+    {
+        self.state.skipped()
+    }
+
+    /// How many bytes of the input come before what is to be taken next. It stops at the greatest
+    /// number of 64 bits.
+    pub fn consumed(&self) -> u64
+        ensures { result ≡ self.now.passed }
+    {
+        self.passed
+    }
+
+    // Finds the packet at the front of what is held, and tells whether it is there. Units without
+    // one in front of it are passed, and what a long block has of it is dropped.
+    fn take_front(&mut self) -> Result<bool, CaptureError>
+        ensures finds { (unfit : Unfit) (read : List ℕ) (given : List Packet)
+            → HasRead unfit self.old read given → FindsFront unfit self.new read given result }
+        ensures room { result ≡ Ok false → length self.new.window.held < INPUT_ROOM }
+        ensures same { IsBeside self.old self.new }
+        ensures none { (result ≡ Ok true → ⊥) → self.new.found ≡ self.old.found }
+    {
+        match self.begun {
+            Some(block) => self.take_behind(block),
+            None => self.take_packet(),
+        }
+    }
+
+    fn take_behind(&mut self, block: LongBlock) -> Result<bool, CaptureError>
+        requires { self.old.begun ≡ Some block }
+        ensures finds { (unfit : Unfit) (read : List ℕ) (given : List Packet)
+            → HasRead unfit self.old read given → FindsFront unfit self.new read given result }
+        ensures room { result ≡ Ok false → length self.new.window.held < INPUT_ROOM }
+        ensures same { IsBeside self.old self.new }
+        ensures none { (result ≡ Ok true → ⊥) → self.new.found ≡ self.old.found }
+    {
+        match block.behind(self.window.held()) {
+            Behind::Held(begun, left) => {
+                self.begun = Some(begun);
+                self.window.keep(left);
+                Ok(false)
+            }
+            Behind::Refused(begun, left) => {
+                self.begun = Some(begun);
+                self.window.keep(left);
+                Err(CaptureError::BadBlock)
+            }
+            Behind::Passed(left) => {
+                self.begun = None;
+                self.passed = self.passed.saturating_add(u64::from(block.len));
+                self.window.keep(left);
+                self.take_packet()
+            }
+        }
+    }
+
+    fn take_packet(&mut self) -> Result<bool, CaptureError>
+        requires { self.old.begun ≡ None }
+        ensures finds { (unfit : Unfit) (read : List ℕ) (given : List Packet)
+            → HasRead unfit self.old read given → FindsFront unfit self.new read given result }
+        ensures room { result ≡ Ok false → length self.new.window.held < INPUT_ROOM }
+        ensures same { IsBeside self.old self.new }
+        ensures none { (result ≡ Ok true → ⊥) → self.new.found ≡ self.old.found }
+    {
+        let ahead = look_ahead(&mut self.state, self.window.held());
+        let passed = self.window.held().len() - ahead.left;
+        self.passed = self.passed.saturating_add(passed as u64);
+        if let Some(found) = ahead.found {
+            self.window.mark(ahead.from, ahead.len);
+            self.window.keep(ahead.left);
+            self.found = Some(found);
+            self.count = self.count.saturating_add(1);
+            return Ok(true);
+        }
+        self.window.keep(ahead.left);
+        if let Some(error) = ahead.refusal {
+            return Err(error);
+        }
+        match long_block(self.state, self.window.held()) {
+            Some(block) => {
+                self.begun = Some(block);
+                self.window.keep(0);
+                Ok(false)
+            }
+            None => Ok(false),
+        }
+    }
+
+    fn place(&self) -> Place
+        ensures packet { result.packet ≡ capped (self.now.count + 1) }
+        ensures offset { result.offset ≡ self.now.passed }
+        ensures block { (dropped : List ℕ) → IsDropped self.now.state self.now.begun dropped
+            → result.block ≡ block_type self.now.state (dropped ++ self.now.window.held) }
+    {
+        place_of(
+            self.count,
+            self.passed,
+            self.state,
+            self.begun,
+            self.window.held(),
+        )
+    }
+
+    fn refuse(&mut self, error: CaptureError) -> Result<bool, ReadError>
+        ensures { IsRefusedWith self.old self.new error result }
+    {
+        self.stop(ReadError::Capture(error, self.place()))
+    }
+
+    fn end(&mut self) -> Result<bool, ReadError>
+        ensures ends { (dropped : List ℕ) → IsDropped self.old.state self.old.begun dropped
+            → EndsBy self.old self.new
+            (fault_at_end self.old.state (length (dropped ++ self.old.window.held))) result }
+        ensures same { (self.new.found ≡ self.old.found) × (self.new.reader ≡ self.old.reader) }
+    {
+        match end(self.state, self.begun, self.window.held().len()) {
+            Ok(()) => {
+                self.ended = Some(Ok(()));
+                Ok(false)
+            }
+            Err(error) => self.refuse(error),
+        }
+    }
+
+    fn stop(&mut self, error: ReadError) -> Result<bool, ReadError>
+        ensures result { result ≡ Err error }
+        ensures stopped { self.new ≡ record self.old { ended = Some (Err error) } }
+    {
+        self.ended = Some(Err(error));
+        Err(error)
+    }
+}

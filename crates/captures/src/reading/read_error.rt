@@ -1,0 +1,36 @@
+//! Why no packet follows.
+use crate::place::Place;
+use crate::{CaptureError, RunError};
+use std::error::Error;
+use std::fmt;
+
+/// Why a [`PacketReader`](crate::PacketReader) gives no further packet.
+#[derive(Clone, Copy, Debug, PartialEq, Eq)]
+pub enum ReadError {
+    /// A read answered a fault, of whatever kind.
+    Read,
+    /// The input is no capture whose packets can be told, or is cut off, at this place.
+    Capture(CaptureError, Place),
+    /// As many reads as a reader may make gave bytes.
+    TooManyReads,
+}
+
+impl From<ReadError> for RunError {
+    fn from(error: ReadError) -> RunError {
+        match error {
+            ReadError::Read => RunError::Read,
+            ReadError::Capture(error, place) => RunError::Capture(error, place),
+            ReadError::TooManyReads => RunError::TooManyReads,
+        }
+    }
+}
+
+// The text of the run's error.
+impl fmt::Display for ReadError {
+    fn fmt<W: fmt::Write>(&self, f: &mut fmt::Formatter<W>) -> fmt::Result {
+        let error = RunError::from(*self);
+        write!(f, "{error}")
+    }
+}
+
+impl Error for ReadError {}

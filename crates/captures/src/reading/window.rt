@@ -1,0 +1,141 @@
+//! What is held of the bytes that a reader gave.
+ghost use Rattle.std.specs.Prelude.{◌≡◌, ◌+◌, ◌-◌, ◌<◌, ◌≤◌, ◌++◌, ℕ, List, [], length, take, drop};
+ghost use Rattle.std.specs.Prelude.{IfOk, OnErr, vec_len};
+ghost use Rattle.std.specs.Io.KnownBytes.{Consumes, IsAtEnd, Keeps};
+ghost use Rattle.captures.specs.Dropped.{last_of};
+ghost use Rattle.captures.specs.Held.{HeldBytes};
+ghost use Rattle.captures.specs.declared.limits.TheConstants.{INPUT_ROOM};
+
+use crate::limits::INPUT_ROOM;
+use std::alloc::{AllocError, Global};
+use std::io;
+use std::io::Read;
+use std::marker::Model;
+
+/// The bytes that are held of those that were read, in one buffer. Some of them, or of those in
+/// front of them, are marked.
+#[derive(Drop)]
+pub(crate) struct Window {
+    input: Vec<u8>,
+    // What is held stands from here
+    start: usize,
+    // up to here.
+    end: usize,
+    // What is marked stands from here, and has so many bytes.
+    mark: usize,
+    mark_len: usize,
+}
+
+impl Model for Window {
+    ghost Value = { HeldBytes };
+
+    ghost view = { λ window. record {
+      held = take (window.end - window.start) (drop window.start window.input.items);
+      marked = take window.mark_len (drop window.mark window.input.items);
+    } };
+
+    ghost invariant = { λ window. (vec_len window.input ≡ INPUT_ROOM) × (window.start ≤ window.end)
+        × (window.end ≤ INPUT_ROOM) × (window.mark + window.mark_len ≤ INPUT_ROOM) };
+}
+
+impl Window {
+    /// Nothing is held, and nothing marked.
+    pub(crate) fn new(alloc: Global) -> Result<Window, AllocError>
+        ensures held { IfOk result (λ window. window.held ≡ []) }
+        ensures marked { IfOk result (λ window. window.marked ≡ []) }
+    {
+        Ok(Window {
+            input: vec![in alloc; 0; INPUT_ROOM]?,
+            start: 0,
+            end: 0,
+            mark: 0,
+            mark_len: 0,
+        })
+    }
+
+    /// What is held.
+    pub(crate) fn held(&self) -> &[u8]
+        ensures held { result.now ≡ self.now.held }
+        ensures size { length self.now.held ≤ INPUT_ROOM }
+    {
+        &self.input[self.start..self.end]
+    }
+
+    /// What is marked.
+    pub(crate) fn marked(&self) -> &[u8]
+        ensures { result.now ≡ self.now.marked }
+    {
+        &self.input[self.mark..self.mark + self.mark_len]
+    }
+
+    /// Marks so many bytes of what is held, of which `from` are left from the first marked one on.
+    pub(crate) fn mark(&mut self, from: usize, len: usize)
+        requires len { len ≤ from }
+        requires from { from ≤ length self.old.held }
+        ensures held { self.new.held ≡ self.old.held }
+        ensures marked { self.new.marked ≡ take len (last_of from self.old.held) }
+    {
+        self.mark = self.end - from;
+        self.mark_len = len;
+    }
+
+    /// Holds no more than the last bytes, so many.
+    pub(crate) fn keep(&mut self, left: usize)
+        requires { left ≤ length self.old.held }
+        ensures held { self.new.held ≡ last_of left self.old.held }
+        ensures marked { self.new.marked ≡ self.old.marked }
+    {
+        self.start = self.end - left;
+    }
+
+    /// Reads behind what is held, and tells how many bytes came. Nothing is marked then.
+    pub(crate) fn fill<R: Read>(&mut self, reader: &mut R) -> io::Result<usize>
+        requires { length self.old.held < INPUT_ROOM }
+        ensures given { IfOk result (λ given. (piece : List ℕ)
+            × (self.new.held ≡ self.old.held ++ piece) × (length piece ≡ given)
+            × Consumes (R.remaining reader.old) (R.remaining reader.new) piece
+            × (given ≡ 0 → IsAtEnd (R.remaining reader.new))) }
+        ensures failed { OnErr result ((self.new.held ≡ self.old.held)
+            × Keeps (R.remaining reader.old) (R.remaining reader.new)) }
+    {
+        let left = self.end - self.start;
+        let filled = fill_behind(reader, self.input.as_mut_slice(), self.start, self.end);
+        self.start = 0;
+        self.mark = 0;
+        self.mark_len = 0;
+        match filled {
+            Ok(given) => {
+                self.end = left + given;
+                Ok(given)
+            }
+            Err(error) => {
+                self.end = left;
+                Err(error)
+            }
+        }
+    }
+}
+
+// Moves what is held to the front, and reads behind it.
+fn fill_behind<R: Read>(
+    reader: &mut R,
+    input: &mut [u8],
+    start: usize,
+    end: usize,
+) -> io::Result<usize>
+    requires ordered { start ≤ end }
+    requires fits { end ≤ length input.old }
+    requires room { end - start < length input.old }
+    ensures given { IfOk result (λ given. (piece : List ℕ)
+        × (take (end - start + given) input.new ≡ take (end - start) (drop start input.old) ++ piece)
+        × (length piece ≡ given)
+        × Consumes (R.remaining reader.old) (R.remaining reader.new) piece
+        × (given ≡ 0 → IsAtEnd (R.remaining reader.new))) }
+    ensures bound { IfOk result (λ given. end - start + given ≤ length input.old) }
+    ensures failed { OnErr result
+        ((take (end - start) input.new ≡ take (end - start) (drop start input.old))
+        × Keeps (R.remaining reader.old) (R.remaining reader.new)) }
+{
+    input.copy_within(start..end, 0);
+    reader.read(&mut input[end - start..])
+}

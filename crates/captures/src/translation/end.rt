@@ -1,0 +1,25 @@
+//! The end of a capture.
+ghost use Rattle.std.specs.Prelude.{◌≡◌, ◌+◌, ℕ, List, length};
+ghost use Rattle.captures.specs.Dropped.{IsDropped};
+ghost use Rattle.captures.specs.Runs.{fault_at_end};
+
+use crate::CaptureError;
+use crate::limits::FIRST_UNIT_LEN;
+use crate::pcapng::long_block::LongBlock;
+use crate::translation::state::State;
+
+/// What the end makes of so many bytes that are held.
+pub(crate) fn end(state: State, begun: Option<LongBlock>, left: usize) -> Result<(), CaptureError>
+    ensures { (dropped : List ℕ) → IsDropped state begun dropped
+        → result ≡ fault_at_end state (length dropped + left) }
+{
+    if begun.is_some() {
+        return Err(CaptureError::CutOff);
+    }
+    match state {
+        State::Start(_) if left < FIRST_UNIT_LEN => Err(CaptureError::NotCapture),
+        State::Start(_) => Err(CaptureError::CutOff),
+        _ if left == 0 => Ok(()),
+        _ => Err(CaptureError::CutOff),
+    }
+}
