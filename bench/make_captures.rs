@@ -1,6 +1,7 @@
 //! Writes a capture of so many packets of so many bytes on standard output: random bytes from a fixed seed.
-//! Usage: make_captures PACKETS BYTES KIND, KIND being pcap (Ethernet), pcapng (Ethernet) or sll (pcap, Linux
-//! cooked captures, of whose header only the ether type isn't random)
+//! Usage: make_captures PACKETS BYTES KIND, KIND being pcap (Ethernet), pcapng (Ethernet), sll (pcap, Linux
+//! cooked captures, of whose header only the ether type isn't random) or udp (pcap, Ethernet frames of UDP
+//! datagrams over IPv4 between 256 hosts, with right checksums)
 
 use std::env;
 use std::io::{self, BufWriter, Write};
@@ -15,6 +16,42 @@ impl Random {
         self.0 ^= self.0 << 17;
         self.0
     }
+}
+
+/// The ones' complement sum of big endian words of 16 bits, folded.
+fn sum(bytes: &[u8], start: u32) -> u32 {
+    let words = bytes.chunks(2).map(|word| {
+        u32::from(word[0]) << 8 | u32::from(word.get(1).copied().unwrap_or(0))
+    });
+    let total = words.fold(u64::from(start), |total, word| total + u64::from(word));
+    let mut folded = total;
+    while folded > 0xffff {
+        folded = (folded & 0xffff) + (folded >> 16);
+    }
+    folded as u32
+}
+
+/// An Ethernet frame of a UDP datagram over IPv4, of so many bytes, from 42.
+fn udp_frame(random: &mut Random, len: usize) -> Vec<u8> {
+    let mut frame: Vec<u8> = (0..len).map(|_| random.next() as u8).collect();
+    let (ip_len, udp_len) = ((len - 14) as u16, (len - 34) as u16);
+    let (from, to) = (frame[29] % 16, frame[33] % 16);
+    frame[12..14].copy_from_slice(&[0x08, 0x00]);
+    frame[14..24].copy_from_slice(&[0x45, 0, 0, 0, 0, 1, 0, 0, 64, 17]);
+    frame[16..18].copy_from_slice(&ip_len.to_be_bytes());
+    frame[24..26].fill(0);
+    frame[26..34].copy_from_slice(&[10, 0, 0, from, 10, 0, 1, to]);
+    let header_sum = !sum(&frame[14..34], 0) as u16;
+    frame[24..26].copy_from_slice(&header_sum.to_be_bytes());
+    frame[38..40].copy_from_slice(&udp_len.to_be_bytes());
+    frame[40..42].fill(0);
+    let pseudo = sum(&frame[26..34], 17 + u32::from(udp_len));
+    let checksum = match !sum(&frame[34..], pseudo) as u16 {
+        0 => 0xffff,
+        sum => sum,
+    };
+    frame[40..42].copy_from_slice(&checksum.to_be_bytes());
+    frame
 }
 
 fn number(place: usize) -> u32 {
@@ -39,7 +76,7 @@ fn main() -> io::Result<()> {
     let padding = len.next_multiple_of(4) - len;
     let block_len = len + padding + 32;
     match kind.as_str() {
-        "pcap" => put_words(&mut output, &[0xa1b2_c3d4, 0x0004_0002, 0, 0, 262_144, 1])?,
+        "pcap" | "udp" => put_words(&mut output, &[0xa1b2_c3d4, 0x0004_0002, 0, 0, 262_144, 1])?,
         "sll" => put_words(&mut output, &[0xa1b2_c3d4, 0x0004_0002, 0, 0, 262_144, 113])?,
         "pcapng" => {
             put_words(&mut output, &[0x0a0d_0d0a, 28, 0x1a2b_3c4d, 1, !0, !0, 28])?;
@@ -53,6 +90,10 @@ fn main() -> io::Result<()> {
             put_words(&mut output, &[6, block_len, 0, 0, packet, len, len])?;
         } else {
             put_words(&mut output, &[seconds, microseconds, len, len])?;
+        }
+        if kind == "udp" {
+            output.write_all(&udp_frame(&mut random, len as usize))?;
+            continue;
         }
         for at in 0..len {
             let byte = match at {
