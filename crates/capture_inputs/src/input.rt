@@ -1,4 +1,8 @@
 //! An input whose first bytes are looked at.
+ghost use Rattle.std.specs.Prelude.{◌≡◌, IfOk, []};
+ghost use Rattle.std.specs.Io.Buffered.{reader_buffer, reader_inner, reader_remaining};
+ghost use Rattle.std.specs.Io.KnownBytes.{Keeps};
+
 use crate::looks::{Look, look_at};
 use std::alloc::Global;
 use std::io::{self, BufRead, BufReader, ErrorKind, Read};
@@ -7,12 +11,18 @@ use std::io::{self, BufRead, BufReader, ErrorKind, Read};
 const FRONT_LEN: usize = 64;
 
 /// A reader as an input that can be looked at.
-pub fn input_of<R: Read + Drop>(alloc: Global, reader: R) -> io::Result<BufReader<R>> {
+pub fn input_of<R: Read + Drop>(alloc: Global, reader: R) -> io::Result<BufReader<R>>
+    ensures reader { IfOk result (λ input. reader_inner input ≡ reader) }
+    ensures unread { IfOk result (λ input. reader_buffer input ≡ []) }
+{
     BufReader::with_capacity(alloc, FRONT_LEN, reader)
 }
 
 /// What an input looks like, of which nothing is taken.
-pub fn input_look<R: Read + Drop>(input: &mut BufReader<R>) -> Look {
+pub fn input_look<R: Read + Drop>(input: &mut BufReader<R>) -> Look
+    ensures { Keeps (reader_remaining R.remaining input.old)
+        (reader_remaining R.remaining input.new) }
+{
     match input.fill_buf() {
         Ok(front) => look_at(front),
         Err(error) => match error.kind() {

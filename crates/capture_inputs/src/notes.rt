@@ -23,7 +23,8 @@ impl fmt::Display for Told {
 }
 
 /// What is told behind an error that ends a reader of captures, where the input looks like this:
-/// nothing, or a colon and what the input is or what link the error is about.
+/// nothing, or a colon and what the input is or what link the error is about. It has no contract:
+/// tests compare the texts.
 pub fn note(error: RunError, look: Look) -> &'static str {
     match error {
         RunError::Capture(CaptureError::NotCapture, _) => match look {
@@ -40,7 +41,7 @@ pub fn note(error: RunError, look: Look) -> &'static str {
     }
 }
 
-/// What is told behind an error where the input is compressed.
+/// What is told behind an error where the input is compressed; it has no contract, as `note`.
 pub fn compression_note(look: Look) -> &'static str {
     match look {
         Look::Gzip => ": the input is compressed, `gzip -dc` opens it",

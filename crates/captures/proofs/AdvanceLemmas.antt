@@ -52,7 +52,7 @@ pub held_front : {R : Type 0} (unfit : Unfit) (new : PacketReader R) (read : Lis
     (given : List Packet) (left : Option (List ℕ)) (found : Bool)
     → FindsFront unfit new read given (Ok found) → HeldTo unfit new left read given (Ok found)
 held_front unfit new read given left true f = f
-held_front unfit new read given left false f = f.0
+held_front unfit new read given left false f = f
 
 module _ {R : Type 0} (unfit : Unfit) (front new : PacketReader R) (read : List ℕ)
     (given : List Packet) (left : Option (List ℕ)) (result : Result Bool ReadError) where

@@ -2,6 +2,8 @@
 use Rattle.std.specs.Prelude.{Result}
 use Rattle.runs.specs.declared.fault.Fault.TheVariants.{ReadFailed, WriteFailed, NothingTaken}
 use Rattle.runs.specs.Endings.{Ending, Stopped, OutOfMemory, OutOfReads, Refused, ending_by}
+use Rattle.captures.specs.declared.reading.read_error.ReadError.{ReadError}
+use Rattle.captures.specs.declared.reading.read_error.ReadError.TheVariants as read
 use Rattle.captures.specs.declared.translation.refusal.Refusal.{Refusal}
 use Rattle.captures.specs.declared.translation.refusal.Refusal.TheVariants.{InCapture, InLine}
 use Rattle.captures.specs.declared.translation.run_error.RunError.{RunError}
@@ -18,6 +20,12 @@ cause Memory = OutOfMemory
 cause TooManyReads = OutOfReads
 cause (Capture error place) = Refused (InCapture error place)
 cause (BadLine number) = Refused (InLine number)
+
+-- why a reader gives no further packet
+abbrev pub read_cause : ReadError → Ending Refusal
+read_cause read.Read = Stopped ReadFailed
+read_cause (read.Capture error place) = Refused (InCapture error place)
+read_cause read.TooManyReads = OutOfReads
 
 abbrev pub ending_of : Result Unit RunError → Ending Refusal
 ending_of result = ending_by cause result

@@ -147,5 +147,5 @@ ComesTo unfit new left read given (Err (Capture error place)) =
 abbrev pub HeldTo : {R : Type 0} → Unfit → PacketReader R → (left : Option (List ℕ))
     → (read : List ℕ) → (given : List Packet) → Result Bool ReadError → Type 0
 HeldTo unfit new left read given (Ok true) = ComesTo unfit new left read given (Ok true)
-HeldTo unfit new left read given (Ok false) = HasRead unfit new read given
+HeldTo unfit new left read given (Ok false) = FindsFront unfit new read given (Ok false)
 HeldTo unfit new left read given (Err error) = ComesTo unfit new left read given (Err error)

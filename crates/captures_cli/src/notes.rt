@@ -2,7 +2,8 @@
 use capture_inputs::{Look, compression_note};
 use captures::{CaptureError, RunError};
 
-/// What is told behind an error, where the input looks like this.
+/// What is told behind an error, where the input looks like this. It has no contract: tests compare
+/// the texts.
 pub fn note(error: RunError, look: Look) -> &'static str {
     match error {
         RunError::Capture(CaptureError::NotCapture, _) if look == Look::Text => {

@@ -145,3 +145,42 @@ fn passed_over(rt: HostRuntime) -> Result<(), Fail> {
     assert!(rt; wireless.skipped().of_other_links == 1);
     Ok(())
 }
+
+// A packet is given without a read where it is held whole. The first read gives the whole file.
+#[test]
+fn packets_that_are_held(rt: HostRuntime) -> Result<(), Fail> {
+    let mut input = FaultReader::new(LITTLE_MICROSECONDS, 148);
+    {
+        let mut reader = PacketReader::new(rt.alloc(), Unfit::Refuse, &mut input)?;
+        assert!(rt; !reader.advance_held()? && reader.packet().is_none());
+        assert!(rt; reader.advance()?);
+        assert!(rt; reader.advance_held()?);
+        let packet = reader.packet().ok_or("no packet")?;
+        assert!(rt; Some(packet.frame.bytes()) == LITTLE_MICROSECONDS.get(106..148));
+        assert!(rt; !reader.advance_held()? && reader.packet().is_none());
+        assert!(rt; !reader.advance()?);
+    }
+    assert!(rt; input.calls == 2);
+    Ok(())
+}
+
+// The first packet ends at byte 90. Of the second, ten bytes are there at first.
+#[test]
+fn packets_of_bytes_go_on(rt: HostRuntime) -> Result<(), Fail> {
+    let (front, _) = LITTLE_MICROSECONDS.split_at(100);
+    let (_, behind) = LITTLE_MICROSECONDS.split_at(90);
+    let mut packets = Packets::new(Unfit::Refuse, front);
+    let packet = packets.next().ok_or("no packet")?;
+    assert!(rt; Some(packet.frame.bytes()) == LITTLE_MICROSECONDS.get(40..90));
+    assert!(rt; packets.next().is_none() && packets.refusal().is_none());
+    assert!(rt; Some(packets.rest()) == LITTLE_MICROSECONDS.get(90..100));
+    let mut packets = packets.go_on(behind);
+    let packet = packets.next().ok_or("no packet")?;
+    assert!(rt; Some(packet.frame.bytes()) == LITTLE_MICROSECONDS.get(106..148));
+    assert!(rt; packets.next().is_none() && packets.rest().is_empty());
+    assert!(rt; packets.skipped() == Skipped::NONE);
+    let other = capture(rt.alloc(), 105, b"\x45")?;
+    let mut wireless = Packets::new(Unfit::Skip, other.as_slice());
+    assert!(rt; wireless.next().is_none() && wireless.skipped().of_other_links == 1);
+    Ok(())
+}

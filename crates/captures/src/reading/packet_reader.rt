@@ -73,7 +73,8 @@ impl<R: Read + Drop> PacketReader<R> {
     }
 
     /// The next packet, or none at the end of the capture: [`advance`](PacketReader::advance), and
-    /// then [`packet`](PacketReader::packet).
+    /// then [`packet`](PacketReader::packet). It has no contract: a packet that is lent by
+    /// `&mut self` has no value in one, and its two lines are those calls.
     pub fn next_packet(&mut self) -> Result<Option<Packet<'_>>, ReadError> {
         if self.advance()? {
             Ok(self.packet())

@@ -1,4 +1,7 @@
 //! Why no packet follows.
+ghost use Rattle.std.specs.Prelude.{◌≡◌};
+ghost use Rattle.captures.specs.Endings.{cause, read_cause};
+
 use crate::place::Place;
 use crate::{CaptureError, RunError};
 use std::error::Error;
@@ -16,6 +19,8 @@ pub enum ReadError {
 }
 
 impl From<ReadError> for RunError {
+    ghost from_gives = { λ read error. cause error ≡ read_cause read };
+
     fn from(error: ReadError) -> RunError {
         match error {
             ReadError::Read => RunError::Read,

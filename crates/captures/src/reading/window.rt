@@ -97,6 +97,7 @@ impl Window {
             × (given ≡ 0 → IsAtEnd (R.remaining reader.new))) }
         ensures failed { OnErr result ((self.new.held ≡ self.old.held)
             × Keeps (R.remaining reader.old) (R.remaining reader.new)) }
+        ensures marked { self.new.marked ≡ [] }
     {
         let left = self.end - self.start;
         let filled = fill_behind(reader, self.input.as_mut_slice(), self.start, self.end);
