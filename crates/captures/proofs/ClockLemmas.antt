@@ -1,5 +1,5 @@
 -- The clocks of interfaces.
-use Rattle.std.proofs.Common.{◌≡◌, ◌∙◌, sym, ap, subst, refl, ℕ, zero, suc, ◌+◌, ◌-◌, ◌*◌, ◌/◌, ◌^◌}
+use Rattle.std.proofs.Common.{◌≡◌, ◌∙◌, ap, subst, refl, ℕ, zero, suc, ◌+◌, ◌-◌, ◌*◌, ◌/◌, ◌^◌}
 use Rattle.std.proofs.Common.{◌<◌, ◌≤◌, arith, ltb-false, Bool, true, false, List, length, drop}
 use Rattle.std.specs.Prelude.{min, nat_lt, ◌==◌, ◌||◌}
 use Rattle.captures.specs.Numbers.{half}

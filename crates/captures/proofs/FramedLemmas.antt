@@ -5,9 +5,11 @@ use Rattle.std.proofs.Common.{◌==◌, Bool, true, false, List, [], ◌∷◌, 
 use Rattle.std.proofs.Common.{Some, None, inl, inr, eqb-true, ltb-false, ne_eqb, length-append}
 use Rattle.std.proofs.Common.{length-drop, IfSome, Result, Ok, Err}
 use Rattle.std.specs.Option.{option_map}
-use Rattle.std.proofs.lemmas.List.{take-append-drop}
+use Rattle.std.proofs.Math.Seq.{take-append_seam}
+use Rattle.std.proofs.lemmas.List.{length-take-le, take-append-drop}
 use Rattle.std.specs.Int.{to_be_bytes, w16}
 use Rattle.std.specs.Prelude.{◌⊎◌, nat_lt, slice_index, if◌then◌else◌}
+use Rattle.hex.proofs.HexLemmas.{length-encode_with}
 use Rattle.hex.specs.Hex.{IsBytes, encode_lower, encode_with, lower_digits}
 use Rattle.runs.proofs.CallLemmas.{AllByRecursion-append}
 use Rattle.captures.specs.Framed.{address_at, captured_limit, cooked_type, ethernet_header}
@@ -338,6 +340,30 @@ pub header_len : (source : List ℕ) (ether_type : ℕ) → length source ≡ 6
     → 14 ≡ length (ethernet_header source ether_type)
 header_len source ether_type six =
     omega (arith, length-append source (to_be_bytes w16 ether_type))
+
+-- the digits of a header stand in front of those of what follows it
+pub header_digits : (source : List ℕ) (ether_type : ℕ) (behind : List ℕ) → length source ≡ 6
+    → take 28 (encode_lower (ethernet_header source ether_type ++ behind))
+    ≡ encode_lower (ethernet_header source ether_type)
+header_digits source ether_type behind six =
+    let header = ethernet_header source ether_type in
+    let few = header_len source ether_type six in
+    let size : length (encode_lower header) ≡ 28 =
+    omega (arith, length-encode_with lower_digits header, few) in
+    rw (encode_lower-append header behind)
+    (subst (λ n. take n (encode_lower header ++ encode_lower behind) ≡ encode_lower header) size
+    (take-append_seam (encode_lower header) (encode_lower behind)))
+
+pub header_digits_len : (source : List ℕ) (ether_type : ℕ) (digits : List ℕ) → length source ≡ 6
+    → digits ≡ encode_lower (ethernet_header source ether_type ++ 0 ∷ 0 ∷ [])
+    → length (take 28 digits) ≡ 28
+header_digits_len source ether_type digits six is =
+    let header = ethernet_header source ether_type in
+    let few = header_len source ether_type six in
+    let bytes = length-append header (0 ∷ 0 ∷ []) in
+    let size : 28 ≤ length digits =
+    rw is (omega (arith, length-encode_with lower_digits (header ++ 0 ∷ 0 ∷ []), few, bytes)) in
+    length-take-le 28 digits size
 
 pub six_bytes : (xs rest : List ℕ) → length xs ≡ 6
     → slice_index xs 0 ∷ slice_index xs 1 ∷ slice_index xs 2 ∷ slice_index xs 3 ∷ slice_index xs 4

@@ -6,12 +6,12 @@ use Rattle.std.specs.Prelude.{nat_lt, if◌then◌else◌, unwrap_or}
 use Rattle.captures.specs.Framed.{captured_limit, frame_by, link_for, link_of, told_frame, told_of}
 use Rattle.captures.specs.Lines.{Packet}
 use Rattle.captures.specs.Pcap.{link_type}
-use Rattle.captures.specs.Pcapng.{Content, Says, Becomes, IsTimedPacket, IsSimplePacket, Reads}
-use Rattle.captures.specs.Pcapng.{later_links, links_with, with_link}
+use Rattle.captures.specs.Pcapng.{Content, Says, Becomes, IsTimedPacket}
+use Rattle.captures.specs.Pcapng.{later_links, with_link}
 use Rattle.captures.specs.Pcapng.Content.{Opens, Describes, Holds, Nothing}
 use Rattle.captures.specs.Runs.{IsCapture}
 use Rattle.captures.specs.Skipping.{counted_by}
-use Rattle.captures.specs.Units.{IsUnit, IsBlockUnit, IsRecordUnit, OpensFile, Row, no_section}
+use Rattle.captures.specs.Units.{IsUnit, IsBlockUnit, Row, no_section}
 use Rattle.captures.specs.Units.{skipped_in}
 use Rattle.captures.specs.declared.byte_order.ByteOrder.{ByteOrder}
 use Rattle.captures.specs.declared.limits.TheConstants.{SKIPPED_LIMIT}
@@ -20,7 +20,6 @@ use Rattle.captures.specs.declared.link.kind.Link.TheVariants.{Ethernet, Ip, Nul
 use Rattle.captures.specs.declared.link.kind.Link.TheVariants.{Other}
 use Rattle.captures.specs.declared.origin.Origin.{Origin}
 use Rattle.captures.specs.declared.pcapng.section.Section.{Section}
-use Rattle.captures.specs.declared.time.time_unit.TimeUnit.{TimeUnit}
 use Rattle.captures.specs.declared.translation.skipped.Passing.{Passing}
 use Rattle.captures.specs.declared.translation.skipped.Reason.{Reason}
 use Rattle.captures.specs.declared.translation.skipped.Skipped.{Skipped}

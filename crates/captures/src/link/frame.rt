@@ -100,16 +100,16 @@ impl<'a> Frame<'a> {
     }
 
     /// Puts its hex digits behind the first `used` bytes, and tells how many are used then.
+    #[inline(always)]
     pub(crate) fn append_hex(&self, out: &mut [u8], used: usize) -> usize
         requires { used + 2 * length (frame_bytes self.now) ≤ length out.old }
         ensures end { result ≡ used + 2 * length (frame_bytes self.now) }
         ensures text { take result out.new ≡ take used out.old
             ++ encode_lower (frame_bytes self.now) }
     {
-        match &self.header {
+        match self.header {
             Some(header) => {
-                let bytes = header.to_bytes();
-                let behind = append_hex(out, used, &bytes);
+                let behind = header.append_hex(out, used);
                 append_hex(out, behind, self.rest)
             }
             None => append_hex(out, used, self.rest),

@@ -1,9 +1,14 @@
 //! The Ethernet II header that is made in place of a link's own.
-ghost use Rattle.std.specs.Prelude.{◌≡◌, length};
+ghost use Rattle.std.specs.Prelude.{◌≡◌, ◌≤◌, ◌+◌, ◌*◌, ◌++◌, ◌∷◌, [], length, take};
+ghost use Rattle.hex.specs.Hex.{encode_lower};
 ghost use Rattle.captures.specs.Framed.{ethernet_header};
+
+use crate::text::line::append;
 
 /// The bytes of an Ethernet II header.
 pub(crate) const HEADER_LEN: usize = 14;
+
+const BLOCK_LEN: usize = 16;
 
 /// An Ethernet II header that is made in place of a link's own. Its destination is zeros.
 #[derive(Clone, Copy, Debug, PartialEq, Eq)]
@@ -22,8 +27,22 @@ impl Header {
         HEADER_LEN
     }
 
-    pub(crate) fn to_bytes(&self) -> [u8; HEADER_LEN]
-        ensures { result ≡ ethernet_header self.now.source self.now.ether_type }
+    /// Puts its hex digits behind the first `used` bytes, and tells how many are used then.
+    #[inline(never)]
+    pub(crate) fn append_hex(self, out: &mut [u8], used: usize) -> usize
+        requires { used + 2 * length (ethernet_header self.source self.ether_type) ≤ length out.old }
+        ensures end { result ≡ used + 2 * length (ethernet_header self.source self.ether_type) }
+        ensures text { take result out.new ≡ take used out.old
+            ++ encode_lower (ethernet_header self.source self.ether_type) }
+    {
+        let mut digits = [0; 2 * BLOCK_LEN];
+        digits::encode(&self.block(), &mut digits);
+        append(out, used, &digits[..2 * HEADER_LEN])
+    }
+
+    // Its bytes, and zeros behind them: a block is encoded at once.
+    fn block(&self) -> [u8; BLOCK_LEN]
+        ensures { result ≡ ethernet_header self.now.source self.now.ether_type ++ 0 ∷ 0 ∷ [] }
     {
         let source = &self.source;
         let ether_type = self.ether_type.to_be_bytes();
@@ -42,6 +61,8 @@ impl Header {
             source[5],
             ether_type[0],
             ether_type[1],
+            0,
+            0,
         ]
     }
 }

@@ -47,6 +47,7 @@ impl<'a> Packets<'a> {
 
     /// The bytes behind the packets that it has given: in the end those of a packet or block that
     /// isn't whole, or that is refused.
+    #[inline(always)]
     pub fn rest(&self) -> &'a [u8]
         ensures { result.now ≡ self.now.rest.now }
     {
@@ -55,6 +56,7 @@ impl<'a> Packets<'a> {
 
     /// Why nothing can follow, once it has answered `None`. If nothing is refused, the bytes end
     /// the capture or more are wanted behind them.
+    #[inline(always)]
     pub fn refusal(&self) -> Option<CaptureError>
         ensures { result ≡ self.now.refusal }
     {
@@ -76,6 +78,7 @@ impl<'a> Packets<'a> {
         Packets::behind(self.state, bytes)
     }
 
+    #[inline(always)]
     pub(crate) fn state(&self) -> State
         ensures { result ≡ self.now.state }
     {

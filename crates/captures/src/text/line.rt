@@ -11,6 +11,7 @@ use itoa::Buffer;
 
 /// Puts the line that hands a frame in behind the first `used` bytes, and tells how many are used
 /// then.
+#[inline(always)]
 pub(crate) fn append_line(out: &mut [u8], used: usize, origin: Origin, frame: &Frame<'_>) -> usize
     requires { used + 18 + 2 * length (frame_bytes frame.now) ≤ length out.old }
     ensures end { result ≤ used + 18 + 2 * length (frame_bytes frame.now) }
@@ -22,6 +23,7 @@ pub(crate) fn append_line(out: &mut [u8], used: usize, origin: Origin, frame: &F
 }
 
 /// The same with the packet's time.
+#[inline(always)]
 pub(crate) fn append_timed_line(
     out: &mut [u8],
     used: usize,
@@ -50,16 +52,46 @@ pub(crate) fn append_forget_line(out: &mut [u8], used: usize, number: u64) -> us
 }
 
 // A line up to the digits of its frame.
+#[inline(always)]
 fn append_frame(out: &mut [u8], used: usize, channel: u32, frame: &Frame<'_>) -> usize
     requires { used + 17 + 2 * length (frame_bytes frame.now) ≤ length out.old }
     ensures end { result ≤ used + 17 + 2 * length (frame_bytes frame.now) }
     ensures text { take result out.new ≡ take used out.old
         ++ (codes "frame " ++ decimal channel ++ codes " " ++ encode_lower (frame_bytes frame.now)) }
 {
+    let head = append_head(out, used, channel);
+    frame.append_hex(out, head)
+}
+
+// A line up to its frame. Most captures have one interface, or few.
+#[inline(always)]
+fn append_head(out: &mut [u8], used: usize, channel: u32) -> usize
+    requires { used + 17 ≤ length out.old }
+    ensures end { result ≤ used + 17 }
+    ensures text { take result out.new ≡ take used out.old
+        ++ (codes "frame " ++ decimal channel ++ codes " ") }
+{
+    if channel < 10 {
+        let digit = b'0' + channel as u8;
+        append(
+            out,
+            used,
+            &[b'f', b'r', b'a', b'm', b'e', b' ', digit, b' '],
+        )
+    } else {
+        append_long_head(out, used, channel)
+    }
+}
+
+fn append_long_head(out: &mut [u8], used: usize, channel: u32) -> usize
+    requires { used + 17 ≤ length out.old }
+    ensures end { result ≤ used + 17 }
+    ensures text { take result out.new ≡ take used out.old
+        ++ (codes "frame " ++ decimal channel ++ codes " ") }
+{
     let command = append(out, used, b"frame ");
     let number = append(out, command, Buffer::new().format(channel).as_bytes());
-    let space = append(out, number, b" ");
-    frame.append_hex(out, space)
+    append(out, number, b" ")
 }
 
 fn append_time(out: &mut [u8], used: usize, time: u64) -> usize
@@ -90,6 +122,7 @@ fn append_nanoseconds(out: &mut [u8], used: usize, nanoseconds: u32) -> usize
 }
 
 /// Puts a text behind the first `used` bytes, and tells how many are used then.
+#[inline(always)]
 pub(crate) fn append(out: &mut [u8], used: usize, text: &[u8]) -> usize
     requires { used + length text.now ≤ length out.old }
     ensures end { result ≡ used + length text.now }
@@ -101,6 +134,7 @@ pub(crate) fn append(out: &mut [u8], used: usize, text: &[u8]) -> usize
 }
 
 /// The same of the hex digits of some bytes.
+#[inline(always)]
 pub(crate) fn append_hex(out: &mut [u8], used: usize, bytes: &[u8]) -> usize
     requires { used + 2 * length bytes.now ≤ length out.old }
     ensures end { result ≡ used + 2 * length bytes.now }

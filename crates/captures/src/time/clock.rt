@@ -1,5 +1,5 @@
 //! How an interface of a pcapng file tells times.
-ghost use Rattle.std.specs.Prelude.{◌≡◌, ◌<◌, ◌≤◌, ◌+◌, ◌^◌, false, length, min};
+ghost use Rattle.std.specs.Prelude.{◌≡◌, ◌<◌, ◌≤◌, ◌+◌, ◌*◌, ◌^◌, false, length, min};
 ghost use Rattle.captures.specs.Times.{clock_of, clock_time, ends_options, long_word, moved};
 ghost use Rattle.captures.specs.Times.{nanoseconds_of, option_len, with_option};
 ghost use Rattle.captures.specs.declared.limits.TheConstants.{TIME_LIMIT};
@@ -48,8 +48,26 @@ impl Clock {
         ensures { result ≡ clock_time self high low }
     {
         let count = (u64::from(high) << 32) + u64::from(low);
-        moved(self.offset, nanoseconds_of(self.resolution, count))
+        if self.resolution == 6 && self.offset == 0 {
+            usual_time(count)
+        } else {
+            other_time(self, count)
+        }
     }
+}
+
+// A time that the usual clock tells.
+fn usual_time(count: u64) -> u64
+    ensures { result ≡ min (1000 * count) TIME_LIMIT }
+{
+    count.saturating_mul(1000).min(TIME_LIMIT)
+}
+
+// A time that any clock tells.
+fn other_time(clock: Clock, count: u64) -> u64
+    ensures { result ≡ min (moved clock.offset (nanoseconds_of clock.resolution count)) TIME_LIMIT }
+{
+    moved(clock.offset, nanoseconds_of(clock.resolution, count))
 }
 
 fn nanoseconds_of(resolution: u8, count: u64) -> u128

@@ -1,6 +1,5 @@
-use Rattle.std.proofs.Common.{rules, arith, ◌≡◌, ◌∙◌, ◌≤◌, sym, ap, false, true, length, List, ℕ}
-use Rattle.std.proofs.Common.{drop, subst}
-use Rattle.captures.specs.Times.{clock_by, option_len}
+use Rattle.std.proofs.Common.{rules, arith, ◌≡◌, ◌∙◌, sym, ap}
+use Rattle.std.proofs.Common.{drop}
 use Rattle.captures.proofs.ClockLemmas.{long_enough, options_end, options_more}
 use Rattle.captures.proofs.time.clock.Clock.of.Goals as goal
 
