@@ -20,7 +20,7 @@ mod notes;
 use crate::modes::Mode;
 use crate::notes::note;
 use anyhow::Context;
-use capture_inputs::{Look, Told, input_look, input_of, status};
+use capture_inputs::{Look, input_look, input_of, tell_skipped};
 use captures::{Extra, RunError, Skipped, TimeUnit, Unfit};
 use clap::{Arg, ArgAction, ArgMatches, Command, value_parser};
 use std::alloc::Global;
@@ -28,6 +28,9 @@ use std::env;
 use std::fs::File;
 use std::io::{BufReader, Read, Write};
 use std::process::ExitCode;
+
+// What standard error begins with.
+const PROGRAM: &str = "captures_cli";
 
 fn main(rt: HostRuntime) -> anyhow::Result<ExitCode> {
     let alloc = rt.alloc();
@@ -155,7 +158,7 @@ fn make_of<R: Read + Drop>(rt: &HostRuntime, mode: Mode, mut input: BufReader<R>
     let seen = input_look(&mut input);
     let mut skipped = Skipped::NONE;
     let made = make(rt.alloc(), mode, &mut input, &mut rt.stdout(), &mut skipped);
-    tell_skipped(rt, skipped);
+    tell_skipped(rt, PROGRAM, skipped);
     exit_code(rt, made, seen)
 }
 
@@ -222,29 +225,16 @@ fn make_capture<R: Read, W: Write>(
     }
 }
 
-// Tells on standard error what was passed over, if anything was.
-fn tell_skipped<P: Eprint>(rt: &P, skipped: Skipped) {
-    if skipped != Skipped::NONE {
-        let _ = eprintln!(rt; "captures_cli: passed over: {skipped}");
-    }
-}
-
-// Tells an error on standard error. The status tells of it where that fails too.
+// Tells an error on standard error, with a note behind it.
 fn exit_code<P: Eprint>(rt: &P, made: Result<(), RunError>, look: Look) -> ExitCode
     ensures { MatchResult made (λ _. exit_status result ≡ 0)
         (λ error. exit_status result ≡ status_of error) }
 {
-    match made {
-        Ok(()) => ExitCode::SUCCESS,
-        Err(error) => {
-            let told = Told {
-                error,
-                note: note(error, look),
-            };
-            let _ = eprintln!(rt; "captures_cli: {told}");
-            ExitCode::from(status(error))
-        }
-    }
+    let note = match made {
+        Ok(()) => "",
+        Err(error) => note(error, look),
+    };
+    capture_inputs::exit_code(rt, PROGRAM, made, note)
 }
 
 #[cfg(test)]

@@ -1,8 +1,8 @@
 //! What is made of an input, the flush, the status and what is told of an error.
 use crate::modes::Mode;
 use crate::notes::note;
-use crate::{asked_for, command, exit_code, make, tell_skipped};
-use capture_inputs::{Look, Told, look_at};
+use crate::{PROGRAM, asked_for, command, exit_code, make};
+use capture_inputs::{Look, Told, look_at, tell_skipped};
 use captures::{CaptureError, Extra, Place, RunError, Skipped, TimeUnit, Unfit};
 use std::alloc::Global;
 use std::io::{self, ErrorKind, Write};
@@ -187,9 +187,10 @@ fn words_of_options(rt: HostRuntime) -> Result<(), Fail> {
 #[test]
 #[should_panic(expected = "captures_cli: passed over: 1 of other links, 2 too long")]
 fn packets_that_are_passed_over_are_told(rt: HostRuntime) {
-    tell_skipped(&rt, Skipped::NONE);
+    tell_skipped(&rt, PROGRAM, Skipped::NONE);
     tell_skipped(
         &rt,
+        PROGRAM,
         Skipped {
             of_other_links: 1,
             too_long: 2,

@@ -1,0 +1,120 @@
+-- How runs end: by a write or not.
+use Rattle.std.proofs.Common.{refl, ℕ, Bool, List, [], Option, Result, Ok, Err}
+use Rattle.std.proofs.Common.{MatchResult, OnOk, OnErr, inl, inr}
+use Rattle.captures.specs.declared.packet.Packet.{Packet}
+use Rattle.captures.specs.declared.translation.run_error.RunError.{RunError}
+use Rattle.captures.specs.declared.translation.run_error.RunError.TheVariants.{Read, Write}
+use Rattle.captures.specs.declared.translation.run_error.RunError.TheVariants.{WriteZero, Memory}
+use Rattle.captures.specs.declared.translation.run_error.RunError.TheVariants.{TooManyReads}
+use Rattle.captures.specs.declared.translation.run_error.RunError.TheVariants.{Capture, BadLine}
+use Rattle.captures.specs.declared.translation.skipped.Skipped.{Skipped}
+use Rattle.captures.specs.declared.translation.state.State.TheVariants.{Start}
+use Rattle.captures.specs.declared.unfit.Unfit.{Unfit}
+use Rattle.packets.specs.Runs.{AreFirst, AreTaken, BreaksBy, EndsBy, Unbroken, UnlessWanting}
+
+pub weaker_match : {E : Type 0} (result : Result Unit E) (A C : Type 0) (B D : E → Type 0)
+    → (A → C) → ((error : E) → B error → D error) → MatchResult result (λ _. A) B
+    → MatchResult result (λ _. C) D
+weaker_match (Ok done) A C B D ok err holds = ok holds
+weaker_match (Err error) A C B D ok err holds = err error holds
+
+pub by_result : {E : Type 0} (result : Result Unit E) (A B : Type 0) → OnOk result A
+    → OnErr result B → MatchResult result (λ _. A) (λ _. B)
+by_result (Ok done) A B ok err = ok
+by_result (Err error) A B ok err = err
+
+pub weaker_break : (writes : Bool) (error : RunError) (A B : Type 0) → (A → B)
+    → BreaksBy writes error A → BreaksBy writes error B
+weaker_break writes Read A B from by = by
+weaker_break writes Write A B from by = (by.0, from by.1)
+weaker_break writes WriteZero A B from by = (by.0, from by.1)
+weaker_break writes Memory A B from by = by
+weaker_break writes TooManyReads A B from by = by
+weaker_break writes (Capture why place) A B from by = by
+weaker_break writes (BadLine number) A B from by = by
+
+-- what holds by a write's error, which breaks a run
+pub broken : (writes : Bool) (error : RunError) (A : Type 0) → BreaksBy writes error A
+    → A × ((P Q : Type 0) → Q → Unbroken (Err error) P Q)
+broken writes Read A by = absurd by
+broken writes Write A by = (by.1, λ P Q q. q)
+broken writes WriteZero A by = (by.1, λ P Q q. q)
+broken writes Memory A by = absurd by
+broken writes TooManyReads A by = absurd by
+broken writes (Capture why place) A by = absurd by
+broken writes (BadLine number) A by = absurd by
+
+-- a run is broken by a write, or it isn't
+pub either_way : (result : Result Unit RunError) (A B C : Type 0) → Unbroken result A B
+    → (A → ((P Q : Type 0) → P → Unbroken result P Q) → C)
+    → (B → ((P Q : Type 0) → Q → Unbroken result P Q) → C) → C
+either_way (Ok done) A B C holds first second = first holds (λ P Q p. p)
+either_way (Err Read) A B C holds first second = first holds (λ P Q p. p)
+either_way (Err Write) A B C holds first second = second holds (λ P Q q. q)
+either_way (Err WriteZero) A B C holds first second = second holds (λ P Q q. q)
+either_way (Err Memory) A B C holds first second = first holds (λ P Q p. p)
+either_way (Err TooManyReads) A B C holds first second = first holds (λ P Q p. p)
+either_way (Err (Capture why place)) A B C holds first second = first holds (λ P Q p. p)
+either_way (Err (BadLine number)) A B C holds first second = first holds (λ P Q p. p)
+
+pub weaker_unbroken : (result : Result Unit RunError) (A B C D : Type 0) → (A → C) → (B → D)
+    → Unbroken result A B → Unbroken result C D
+weaker_unbroken result A B C D first second holds = either_way result A B (Unbroken result C D) holds
+    (λ a here. here C D (first a)) (λ b here. here C D (second b))
+
+pub unbroken_always : (result : Result Unit RunError) (A : Type 0) → Unbroken result A ⊥ → A
+unbroken_always result A holds =
+    either_way result A ⊥ A holds (λ a here. a) (λ none here. absurd none)
+
+-- it was given packets of the bytes
+pub ends_taken : (unfit : Unfit) (skipped : Skipped) (left : Option (List ℕ)) (bytes : List ℕ)
+    (given : List Packet) (writes : Bool) (result : Result Unit RunError)
+    → EndsBy writes unfit skipped left bytes given result → AreTaken unfit bytes given
+ends_taken unfit skipped left bytes given writes (Ok done) ends = inr (skipped, ends.0)
+ends_taken unfit skipped left bytes given writes (Err Read) ends =
+    inl (ends.state, ends.rest, ends.gives)
+ends_taken unfit skipped left bytes given writes (Err Write) ends = ends.1
+ends_taken unfit skipped left bytes given writes (Err WriteZero) ends = ends.1
+ends_taken unfit skipped left bytes given writes (Err Memory) ends = inl ends
+ends_taken unfit skipped left bytes given writes (Err TooManyReads) ends = inl ends.0
+ends_taken unfit skipped left bytes given writes (Err (Capture why place)) ends =
+    inl (ends.state, ends.rest, ends.gives)
+ends_taken unfit skipped left bytes given writes (Err (BadLine number)) ends = absurd ends
+
+-- a write that failed is how it ends
+pub break_ends : (writes : Bool) (unfit : Unfit) (skipped : Skipped) (left : Option (List ℕ))
+    (bytes : List ℕ) (given : List Packet) (error : RunError) (Breaks : Type 0)
+    → BreaksBy writes error Breaks → AreTaken unfit bytes given
+    → EndsBy writes unfit skipped left bytes given (Err error)
+break_ends writes unfit skipped left bytes given Read Breaks by taken = absurd by
+break_ends writes unfit skipped left bytes given Write Breaks by taken = (by.0, taken)
+break_ends writes unfit skipped left bytes given WriteZero Breaks by taken = (by.0, taken)
+break_ends writes unfit skipped left bytes given Memory Breaks by taken = absurd by
+break_ends writes unfit skipped left bytes given TooManyReads Breaks by taken = absurd by
+break_ends writes unfit skipped left bytes given (Capture why place) Breaks by taken = absurd by
+break_ends writes unfit skipped left bytes given (BadLine number) Breaks by taken = absurd by
+
+pub nothing_first : (unfit : Unfit) → AreFirst unfit [] []
+nothing_first unfit = (Start unfit, [], record { units = []; row = (refl, refl); parts = refl })
+
+pub unless_wanting : (result : Result Unit RunError) (Holds : Type 0) → Holds
+    → UnlessWanting result Holds
+unless_wanting (Ok done) Holds holds = holds
+unless_wanting (Err Read) Holds holds = holds
+unless_wanting (Err Write) Holds holds = holds
+unless_wanting (Err WriteZero) Holds holds = holds
+unless_wanting (Err Memory) Holds holds = tt
+unless_wanting (Err TooManyReads) Holds holds = holds
+unless_wanting (Err (Capture why place)) Holds holds = holds
+unless_wanting (Err (BadLine number)) Holds holds = holds
+
+pub weaker_wanting : (result : Result Unit RunError) (A B : Type 0) → (A → B)
+    → UnlessWanting result A → UnlessWanting result B
+weaker_wanting (Ok done) A B from holds = from holds
+weaker_wanting (Err Read) A B from holds = from holds
+weaker_wanting (Err Write) A B from holds = from holds
+weaker_wanting (Err WriteZero) A B from holds = from holds
+weaker_wanting (Err Memory) A B from holds = tt
+weaker_wanting (Err TooManyReads) A B from holds = from holds
+weaker_wanting (Err (Capture why place)) A B from holds = from holds
+weaker_wanting (Err (BadLine number)) A B from holds = from holds

@@ -1,0 +1,285 @@
+-- Packets counted in spans of time: spans that are doubled, and one packet more.
+use Rattle.std.proofs.Common.{◌≡◌, ◌≢◌, ℕ, zero, suc, ◌+◌, ◌-◌, ◌*◌, ◌/◌, ◌^◌, ◌<◌, ◌≤◌, ◌==◌, ◌⊎◌}
+use Rattle.std.proofs.Common.{inl, inr, Bool, true, false, cond, List, [], ◌∷◌, ◌++◌, length}
+use Rattle.std.proofs.Common.{nat_lt, Option, Some, unwrap_or, replicate, refl, ap, sym, ◌∙◌}
+use Rattle.std.proofs.Common.{◌||◌, subst, arith}
+use Rattle.std.specs.List.{All, count_by, list_any, slice_index, slice_index_or, slice_set}
+use Rattle.std.proofs.Math.Bool.{or-true}
+use Rattle.std.proofs.lemmas.Bool.{true≢false}
+use Rattle.std.proofs.lemmas.Bool.Decides.{nat_tests}
+use Rattle.std.proofs.lemmas.List.Elements.{All-append}
+use Rattle.std.proofs.lemmas.List.Folds.{list_any-append}
+use Rattle.std.proofs.lemmas.List.Sums.{sum_by-cons}
+use Rattle.std.proofs.Math.Nat.{div-div-eq-div-mul, mul-div-le, mul-le-mul_left, pow-suc}
+use Rattle.captures.specs.Numbers.{capped}
+use Rattle.packets.specs.Rate.{CountsBySpan, CountsSpans, is_behind, span_at, start_of}
+use Rattle.packets.specs.declared.outline.Outline.{Outline}
+use Rattle.packets.specs.declared.summary.rate.Rate.{Rate}
+use Rattle.packets.proofs.BucketLemmas.{bucket-more}
+
+halved : (x p : ℕ) → ◌≡◌ {A = ℕ} (cond (x / 2 == p) 1 0)
+    (cond (x == 2 * p) 1 0 + cond (x == 2 * p + 1) 1 0)
+halved x p = grind (arith, nat_tests)
+
+twice : (span start time : ℕ) → span_at (span * 2) start time ≡ span_at span start time / 2
+twice span start time = sym (div-div-eq-div-mul (time - start) span 2)
+
+count_by-cons : {X : Type 0} (p : X → Bool) (x : X) (xs : List X)
+    → count_by p (x ∷ xs) ≡ cond (p x) 1 0 + count_by p xs
+count_by-cons p x xs = sum_by-cons (λ y. cond (p y) 1 0) x xs
+
+counts-twice : (span start p : ℕ) (packets : List Outline)
+    → count_by (λ (q : Outline). span_at (span * 2) start q.time == p) packets
+    ≡ count_by (λ (q : Outline). span_at span start q.time == 2 * p) packets
+    + count_by (λ (q : Outline). span_at span start q.time == 2 * p + 1) packets
+counts-twice span start p [] = refl
+counts-twice span start p (q ∷ qs) =
+    let all = count_by-cons (λ (q : Outline). span_at (span * 2) start q.time == p) q qs in
+    let even = count_by-cons (λ (q : Outline). span_at span start q.time == 2 * p) q qs in
+    let odd = count_by-cons (λ (q : Outline). span_at span start q.time == 2 * p + 1) q qs in
+    let here : ◌≡◌ {A = ℕ} (cond (span_at (span * 2) start q.time == p) 1 0)
+    (cond (span_at span start q.time == 2 * p) 1 0
+    + cond (span_at span start q.time == 2 * p + 1) 1 0) =
+    ap (λ x. cond (x == p) 1 0) (twice span start q.time) ∙ halved (span_at span start q.time) p in
+    omega (arith, here, all, even, odd, counts-twice span start p qs)
+
+tail-of : {X : Type 0} (P : X → Type 0) (x : X) (xs : List X) → All P (x ∷ xs) → All P xs
+tail-of P x xs all k d lt = all (suc k) d (omega arith)
+
+zero-of : (x p : ℕ) → x < 64 → 32 ≤ p → ◌≡◌ {A = ℕ} (cond (x / 2 == p) 1 0) 0
+zero-of x p low far = grind (arith, nat_tests)
+
+counts-none : (span start p : ℕ) (packets : List Outline) → 32 ≤ p
+    → All (λ (q : Outline). span_at span start q.time < 64) packets
+    → count_by (λ (q : Outline). span_at (span * 2) start q.time == p) packets ≡ 0
+counts-none span start p [] far all = refl
+counts-none span start p (q ∷ qs) far all =
+    let low : span_at span start q.time < 64 = all 0 q (omega arith) in
+    let here : ◌≡◌ {A = ℕ} (cond (span_at (span * 2) start q.time == p) 1 0) 0 =
+    ap (λ x. cond (x == p) 1 0) (twice span start q.time)
+    ∙ zero-of (span_at span start q.time) p low far in
+    let first = count_by-cons (λ (q : Outline). span_at (span * 2) start q.time == p) q qs in
+    let rest = counts-none span start p qs far
+    (tail-of (λ (q : Outline). span_at span start q.time < 64) q qs all) in
+    omega (arith, here, first, rest)
+
+capped-sum : (a b : ℕ) → capped (capped a + capped b) ≡ capped (a + b)
+capped-sum a b = omega arith
+
+-- the counts of doubled spans
+pub counts-doubled : (span start : ℕ) (counts counts' : List ℕ) (packets : List Outline)
+    → ((p : ℕ) → p < 64 → slice_index counts p
+    ≡ capped (count_by (λ (q : Outline). span_at span start q.time == p) packets))
+    → All (λ (q : Outline). span_at span start q.time < 64) packets
+    → ((k : ℕ) → k < 32 → slice_index counts' k
+    ≡ capped (slice_index counts (2 * k) + slice_index counts (2 * k + 1)))
+    → ((k : ℕ) → 32 ≤ k → slice_index counts' k ≡ 0)
+    → (p : ℕ) → p < 64 → slice_index counts' p
+    ≡ capped (count_by (λ (q : Outline). span_at (span * 2) start q.time == p) packets)
+counts-doubled span start counts counts' packets counted all low high p small =
+    elim (nat_lt p 32) as (λ b. nat_lt p 32 ≡ b → slice_index counts' p
+    ≡ capped (count_by (λ (q : Outline). span_at (span * 2) start q.time == p) packets)) [
+      | true ↦ λ e.
+          let near : p < 32 = grind (arith, nat_tests) in
+          low p near
+          ∙ ap (λ n. capped (n + slice_index counts (2 * p + 1))) (counted (2 * p) (omega arith))
+          ∙ ap (λ n. capped (capped (count_by (λ (q : Outline). span_at span start q.time == 2 *
+          p) packets) + n))
+          (counted (2 * p + 1) (omega arith))
+          ∙ capped-sum (count_by (λ (q : Outline). span_at span start q.time == 2 * p) packets)
+          (count_by (λ (q : Outline). span_at span start q.time == 2 * p + 1) packets)
+          ∙ ap capped (sym (counts-twice span start p packets))
+      | false ↦ λ e.
+          let far : 32 ≤ p = grind (arith, nat_tests) in
+          high p far ∙ ap capped (sym (counts-none span start p packets far all))
+    ] refl
+
+pub within-doubled : (span start : ℕ) (packets : List Outline)
+    → All (λ (q : Outline). span_at span start q.time < 64) packets
+    → All (λ (q : Outline). span_at (span * 2) start q.time < 64) packets
+within-doubled span start packets all k d lt =
+    let low : span_at span start (slice_index_or packets k d).time < 64 = all k d lt in
+    let e = twice span start (slice_index_or packets k d).time in
+    omega (arith, low, e)
+
+twofold : (times : ℕ) → 1953125 * 2 ^ times * 2 ≡ 1953125 * 2 ^ suc times
+twofold times = let e : 2 ^ suc times ≡ 2 ^ times * 2 = pow-suc 2 times in omega (arith, e)
+
+pub zeros-at : (n k : ℕ) → slice_index (replicate n 0) k ≡ 0
+zeros-at zero zero = refl
+zeros-at zero (suc k) = refl
+zeros-at (suc n) zero = refl
+zeros-at (suc n) (suc k) = zeros-at n k
+
+-- the packets are counted in doubled spans
+pub spans-doubled : (rate rate' : Rate) (packets : List Outline) → CountsBySpan rate packets
+    → rate'.begin ≡ rate.begin → rate'.span ≡ rate.span * 2
+    → ((k : ℕ) → k < 32 → slice_index rate'.counts k
+    ≡ capped (slice_index rate.counts (2 * k) + slice_index rate.counts (2 * k + 1)))
+    → ((k : ℕ) → 32 ≤ k → slice_index rate'.counts k ≡ 0)
+    → CountsBySpan rate' packets
+spans-doubled rate rate' packets old eb es low high = record {
+  begin = eb ∙ old.begin;
+  doubled = (suc old.doubled.0, es ∙ ap (λ n. n * 2) old.doubled.1 ∙ twofold old.doubled.0);
+  counted = subst (λ n. (place : ℕ) → place < 64 → slice_index rate'.counts place ≡ capped
+      (count_by (λ (q : Outline). span_at n (start_of packets) q.time == place) packets)) (sym es)
+      (counts-doubled rate.span (start_of packets) rate.counts rate'.counts packets old.counted
+      old.within low high);
+  within = subst (λ n. All (λ (q : Outline). span_at n (start_of packets) q.time < 64) packets)
+      (sym es)
+      (within-doubled rate.span (start_of packets) packets old.within);
+}
+
+in-place : (x place : ℕ) → place ≡ x → (x == place) ≡ true
+in-place x place e = grind (arith, nat_tests)
+
+not-in : (x place d : ℕ) → place ≡ x → d ≢ place → (x == d) ≡ false
+not-in x place d e other = grind (arith, nat_tests)
+
+counts-added : (span start place v : ℕ) (counts : List ℕ) (packets : List Outline) (packet :
+    Outline)
+    → length counts ≡ 64
+    → ((d : ℕ) → d < 64 → slice_index counts d
+    ≡ capped (count_by (λ (q : Outline). span_at span start q.time == d) packets))
+    → place ≡ span_at span start packet.time → place < 64
+    → v ≡ capped (slice_index counts place + 1) → (d : ℕ) → d < 64
+    → slice_index (slice_set counts place v) d ≡ capped (count_by
+    (λ (q : Outline). span_at span start q.time == d) (packets ++ packet ∷ []))
+counts-added span start place v counts packets packet size counted here small ev =
+    bucket-more counts 64 place v (λ (d : ℕ) (q : Outline). span_at span start q.time == d)
+    packets packet
+    (omega arith) counted (in-place (span_at span start packet.time) place here)
+    (λ d other. not-in (span_at span start packet.time) place d here other) ev
+
+within-added : (span start place : ℕ) (packets : List Outline) (packet : Outline)
+    → place ≡ span_at span start packet.time → place < 64
+    → All (λ (q : Outline). span_at span start q.time < 64) packets
+    → All (λ (q : Outline). span_at span start q.time < 64) (packets ++ packet ∷ [])
+within-added span start place packets packet here small all =
+    All-append (λ (q : Outline). span_at span start q.time < 64) packets (packet ∷ []) all (alone
+    here small)
+  where
+    alone : place ≡ span_at span start packet.time → place < 64
+        → All (λ (q : Outline). span_at span start q.time < 64) (packet ∷ [])
+    alone here small zero d lt = omega (arith, here, small)
+    alone here small (suc k) d lt = absurd (omega arith)
+
+pub begun : (found : Option ℕ) (time start : ℕ) → found ≡ Some start → unwrap_or found time ≡ start
+begun found time start e = ap (λ o. unwrap_or o time) e
+
+-- the packets are counted with one more
+pub spans-added : (rate rate' : Rate) (packets : List Outline) (packet : Outline) (begin place v
+    : ℕ)
+    → length rate.counts ≡ 64 → CountsBySpan rate packets
+    → begin ≡ unwrap_or rate.begin packet.time → place ≡ span_at rate.span begin packet.time
+    → place < 64 → v ≡ capped (slice_index rate.counts place + 1)
+    → rate'.begin ≡ Some begin → rate'.span ≡ rate.span
+    → rate'.counts ≡ slice_set rate.counts place v
+    → CountsBySpan rate' (packets ++ packet ∷ [])
+spans-added rate rate' [] packet begin place v size old eb ep small ev eb' es ec =
+    let first : begin ≡ packet.time = eb ∙ ap (λ o. unwrap_or o packet.time) old.begin in
+    let here : place ≡ span_at rate'.span packet.time packet.time =
+    ep ∙ ap (λ b. span_at rate.span b packet.time) first
+    ∙ ap (λ s. span_at s packet.time packet.time) (sym es) in
+    record {
+      begin = eb' ∙ ap Some first;
+      doubled = (old.doubled.0, es ∙ old.doubled.1);
+      counted = subst (λ cs. (d : ℕ) → d < 64 → slice_index cs d ≡ capped (count_by
+          (λ (q : Outline). span_at rate'.span packet.time q.time == d) (packet ∷ []))) (sym ec)
+          (counts-added rate'.span packet.time place v rate.counts [] packet size old.counted
+          here small ev);
+      within = within-added rate'.span packet.time place [] packet here small
+          (λ k d lt. absurd (omega arith));
+    }
+spans-added rate rate' (q ∷ qs) packet begin place v size old eb ep small ev eb' es ec =
+    let first : begin ≡ q.time = eb ∙ begun rate.begin packet.time q.time old.begin in
+    let here : place ≡ span_at rate'.span q.time packet.time =
+    ep ∙ ap (λ b. span_at rate.span b packet.time) first
+    ∙ ap (λ s. span_at s q.time packet.time) (sym es) in
+    let before : (d : ℕ) → d < 64 → slice_index rate.counts d ≡ capped (count_by
+    (λ (p : Outline). span_at rate'.span q.time p.time == d) (q ∷ qs)) =
+    subst (λ s. (d : ℕ) → d < 64 → slice_index rate.counts d ≡ capped (count_by
+    (λ (p : Outline). span_at s q.time p.time == d) (q ∷ qs))) (sym es) old.counted in
+    let around : All (λ (p : Outline). span_at rate'.span q.time p.time < 64) (q ∷ qs) =
+    subst (λ s. All (λ (p : Outline). span_at s q.time p.time < 64) (q ∷ qs)) (sym es) old.within in
+    record {
+      begin = eb' ∙ ap Some first;
+      doubled = (old.doubled.0, es ∙ old.doubled.1);
+      counted = subst (λ cs. (d : ℕ) → d < 64 → slice_index cs d ≡ capped (count_by
+          (λ (p : Outline). span_at rate'.span q.time p.time == d) ((q ∷ qs) ++ packet ∷ [])))
+          (sym ec)
+          (counts-added rate'.span q.time place v rate.counts (q ∷ qs) packet size before here
+          small ev);
+      within = within-added rate'.span q.time place (q ∷ qs) packet here small around;
+    }
+
+any-first : {X : Type 0} (p : X → Bool) (xs ys : List X) → list_any p xs ≡ true
+    → list_any p (xs ++ ys) ≡ true
+any-first p xs ys h = list_any-append p xs ys ∙ ap (λ b. b || list_any p ys) h
+
+any-last : {X : Type 0} (p : X → Bool) (xs : List X) (x : X) → p x ≡ true
+    → list_any p (xs ++ x ∷ []) ≡ true
+any-last p [] x h = ap (λ b. b || false) h
+any-last p (y ∷ ys) x h = ap (λ b. p y || b) (any-last p ys x h) ∙ or-true (p y)
+
+behind : (span start : ℕ) (packet : Outline) → 64 ≤ span_at span start packet.time
+    → is_behind span start packet ≡ true
+behind span start packet far = grind (arith, nat_tests)
+
+-- no packet comes behind the last span, of which there is one at least where one does
+still-least : (old : Rate) (span begin : ℕ) (packets : List Outline) (packet : Outline)
+    → CountsSpans old packets → span ≡ old.span
+    → (span ≡ 1953125) ⊎ (list_any (is_behind (span / 2) (start_of (packets ++ packet ∷ [])))
+    (packets ++ packet ∷ []) ≡ true)
+still-least old span begin [] packet counted e = elim counted.least [
+  | inl shortest ↦ inl (e ∙ shortest)
+  | inr any ↦ absurd (true≢false (sym any))
+]
+still-least old span begin (q ∷ qs) packet counted e = elim counted.least [
+  | inl shortest ↦ inl (e ∙ shortest)
+  | inr any ↦ inr (any-first (is_behind (span / 2) q.time) (q ∷ qs) (packet ∷ [])
+      (ap (λ s. list_any (is_behind (s / 2) q.time) (q ∷ qs)) e ∙ any))
+]
+
+start-found : (old : Rate) (begin : ℕ) (packets : List Outline) (packet : Outline)
+    → CountsSpans old packets → begin ≡ unwrap_or old.begin packet.time
+    → begin ≡ start_of (packets ++ packet ∷ [])
+start-found old begin [] packet counted e =
+    e ∙ ap (λ o. unwrap_or o packet.time) counted.by_span.begin
+start-found old begin (q ∷ qs) packet counted e =
+    e ∙ begun old.begin packet.time q.time counted.by_span.begin
+
+-- the spans are the least with one packet more, where they stayed or half of them was too short
+pub spans-least : (old : Rate) (span begin since : ℕ) (packets : List Outline) (packet : Outline)
+    → CountsSpans old packets → begin ≡ unwrap_or old.begin packet.time
+    → since ≡ packet.time - begin → (span ≡ old.span) ⊎ (64 ≤ since / (span / 2))
+    → (span ≡ 1953125) ⊎ (list_any (is_behind (span / 2) (start_of (packets ++ packet ∷ [])))
+    (packets ++ packet ∷ []) ≡ true)
+spans-least old span begin since packets packet counted eb es doubled = elim doubled [
+  | inl same ↦ still-least old span begin packets packet counted same
+  | inr far ↦
+      let start = start-found old begin packets packet counted eb in
+      let late : 64 ≤ span_at (span / 2) (start_of (packets ++ packet ∷ [])) packet.time =
+      subst (λ b. 64 ≤ (packet.time - b) / (span / 2)) start
+      (subst (λ n. 64 ≤ n / (span / 2)) es far) in
+      inr (any-last (is_behind (span / 2) (start_of (packets ++ packet ∷ []))) packets packet
+      (behind (span / 2) (start_of (packets ++ packet ∷ [])) packet late))
+]
+
+-- twice a span that was too short
+pub half-short : (since span : ℕ) → 64 ≤ since / span → 64 ≤ since / (2 * span / 2)
+half-short since span far = let e : 2 * span / 2 ≡ span = omega arith in
+    subst (λ n. 64 ≤ since / n) (sym e) far
+
+-- a span of which more than 64 have passed can be doubled, and fewer have passed then
+pub span-fits : (since span : ℕ) → since < 2 ^ 64 → 64 ≤ since / span → span < 2 ^ 63
+span-fits since span fits far =
+    let below : span * (since / span) ≤ since = mul-div-le since span in
+    let some : span * 64 ≤ span * (since / span) = mul-le-mul_left span far in
+    omega (arith, below, some)
+
+pub span-fewer : (since span : ℕ) → 64 ≤ since / span → since / (2 * span) < since / span
+span-fewer since span far =
+    let e : since / span / 2 ≡ since / (span * 2) = div-div-eq-div-mul since span 2 in
+    let c : since / (2 * span) ≡ since / (span * 2) = ap (λ n. since / n) (omega arith) in
+    omega (arith, e, c)

@@ -1,0 +1,167 @@
+-- Walks over the packets of a capture: one packet more, and how they end.
+use Rattle.std.proofs.Common.{◌≡◌, ◌∙◌, sym, ap, refl, subst, ℕ, Bool, List, []}
+use Rattle.std.proofs.Common.{◌∷◌, ◌++◌, Option, Some, Err, inl}
+use Rattle.std.proofs.Common.{append_assoc, append-nil, map}
+use Rattle.std.specs.List.{filter}
+use Rattle.std.proofs.lemmas.List.{map-append}
+use Rattle.std.proofs.lemmas.List.Elements.{filter-append}
+use Rattle.captures.specs.Endings.{cause, read_cause}
+use Rattle.captures.specs.Fronts.{Gives}
+use Rattle.captures.specs.Readers.{ComesTo, HasRead, skipped_by}
+use Rattle.captures.specs.declared.packet.Packet.{Packet}
+use Rattle.captures.specs.declared.reading.packet_reader.PacketReader.{PacketReader}
+use Rattle.captures.specs.declared.reading.read_error.ReadError.{ReadError}
+use Rattle.captures.specs.declared.reading.read_error.ReadError.TheVariants as read
+use Rattle.captures.specs.declared.translation.run_error.RunError.{RunError}
+use Rattle.captures.specs.declared.translation.run_error.RunError.TheVariants.{Read, Write}
+use Rattle.captures.specs.declared.translation.run_error.RunError.TheVariants.{WriteZero, Memory}
+use Rattle.captures.specs.declared.translation.run_error.RunError.TheVariants.{TooManyReads}
+use Rattle.captures.specs.declared.translation.run_error.RunError.TheVariants.{Capture, BadLine}
+use Rattle.captures.specs.declared.translation.state.State.{State}
+use Rattle.captures.specs.declared.unfit.Unfit.{Unfit}
+use Rattle.packets.specs.Conditions.{lets_through}
+use Rattle.packets.specs.Courses.{AreDissected, Course, IsDissected, course_after, forgotten}
+use Rattle.packets.specs.Courses.{next_course, shown}
+use Rattle.packets.specs.Runs.{AreFirst, EndsBy, Unbroken}
+use Rattle.packets.specs.Counts.{Counts}
+use Rattle.packets.specs.Outlines.{outline_of}
+use Rattle.etherparse.specs.packet.declared.addresses.Addresses.{Addresses}
+use Rattle.packets.specs.declared.dissection.Dissection.{Dissection}
+use Rattle.packets.specs.declared.filter.Filter.{Filter}
+use Rattle.packets.specs.declared.outline.Outline.{Outline}
+use Rattle.packets.specs.declared.reason.Reason.{Reason}
+use Rattle.packets.specs.declared.summary.summary.Summary.{Summary}
+
+-- the run's error of a reader's
+abbrev as_run_error : ReadError → RunError
+as_run_error read.Read = Read
+as_run_error (read.Capture error place) = Capture error place
+as_run_error read.TooManyReads = TooManyReads
+
+same_error : (from : ReadError) (error : RunError) → cause error ≡ read_cause from
+    → error ≡ as_run_error from
+same_error read.Read Read is = refl
+same_error read.Read Write is = cc
+same_error read.Read WriteZero is = cc
+same_error read.Read Memory is = cc
+same_error read.Read TooManyReads is = cc
+same_error read.Read (Capture error place) is = cc
+same_error read.Read (BadLine number) is = cc
+same_error (read.Capture error place) Read is = cc
+same_error (read.Capture error place) Write is = cc
+same_error (read.Capture error place) WriteZero is = cc
+same_error (read.Capture error place) Memory is = cc
+same_error (read.Capture error place) TooManyReads is = cc
+same_error (read.Capture error place) (Capture other elsewhere) is = cc
+same_error (read.Capture error place) (BadLine number) is = cc
+same_error read.TooManyReads Read is = cc
+same_error read.TooManyReads Write is = cc
+same_error read.TooManyReads WriteZero is = cc
+same_error read.TooManyReads Memory is = cc
+same_error read.TooManyReads TooManyReads is = refl
+same_error read.TooManyReads (Capture error place) is = cc
+same_error read.TooManyReads (BadLine number) is = cc
+
+-- what a reader has given are the first packets
+pub first_given : {R : Type 0} (unfit : Unfit) (reader : PacketReader R) (bytes : List ℕ)
+    (given : List Packet) → HasRead unfit reader bytes given → AreFirst unfit bytes given
+first_given unfit reader bytes given h = (reader.state, h.dropped ++ reader.window.held, h.gives)
+
+gives_front : (state after : State) (bytes rest : List ℕ) (given : List Packet) (packet : Packet)
+    → Gives state bytes (given ++ packet ∷ []) after rest
+    → (mid : State) × (between : List ℕ) × Gives state bytes given mid between
+gives_front state after bytes rest [] packet g =
+    (state, bytes, record { units = []; row = (refl, refl); parts = refl })
+gives_front state after bytes rest (first ∷ later) packet g =
+    let front = gives_front g.0 after g.1 rest later packet g.3 in
+    (front.0, front.1, (g.0, g.1, g.2, front.2))
+
+-- all but the last one are too
+pub first_but_last : {R : Type 0} (unfit : Unfit) (reader : PacketReader R) (bytes : List ℕ)
+    (given : List Packet) (packet : Packet) → HasRead unfit reader bytes (given ++ packet ∷ [])
+    → AreFirst unfit bytes given
+first_but_last unfit reader bytes given packet h =
+    gives_front _ reader.state bytes (h.dropped ++ reader.window.held) given packet h.gives
+
+-- an error of a reader is how a run ends
+comes_ends : {R : Type 0} (writes : Bool) (unfit : Unfit) (reader : PacketReader R)
+    (left : Option (List ℕ)) (bytes : List ℕ) (given : List Packet) (from : ReadError)
+    → ComesTo unfit reader left bytes given (Err from)
+    → EndsBy writes unfit (skipped_by reader) left bytes given (Err (as_run_error from))
+comes_ends writes unfit reader left bytes given read.Read comes = comes.1
+comes_ends writes unfit reader left bytes given read.TooManyReads comes =
+    ((comes.1.state, comes.1.rest, comes.1.gives), inl comes.2)
+comes_ends writes unfit reader left bytes given (read.Capture error place) comes = comes.1
+
+pub reader_ends : {R : Type 0} (writes : Bool) (unfit : Unfit) (reader : PacketReader R)
+    (left : Option (List ℕ)) (bytes : List ℕ) (given : List Packet) (from : ReadError)
+    (error : RunError) → cause error ≡ read_cause from
+    → ComesTo unfit reader left bytes given (Err from)
+    → EndsBy writes unfit (skipped_by reader) left bytes given (Err error)
+reader_ends writes unfit reader left bytes given from error is comes =
+    subst (λ (e : RunError). EndsBy writes unfit (skipped_by reader) left bytes given (Err e))
+    (sym (same_error from error is))
+    (comes_ends writes unfit reader left bytes given from comes)
+
+-- and no write ended it
+reader_unbroken : (from : ReadError) (Goes Breaks : Type 0) → Goes
+    → Unbroken (Err (as_run_error from)) Goes Breaks
+reader_unbroken read.Read Goes Breaks goes = goes
+reader_unbroken (read.Capture error place) Goes Breaks goes = goes
+reader_unbroken read.TooManyReads Goes Breaks goes = goes
+
+pub unbroken_by_read : (from : ReadError) (error : RunError) (Goes Breaks : Type 0)
+    → cause error ≡ read_cause from → Goes → Unbroken (Err error) Goes Breaks
+unbroken_by_read from error Goes Breaks is goes =
+    subst (λ (e : RunError). Unbroken (Err e) Goes Breaks) (sym (same_error from error is))
+    (reader_unbroken from Goes Breaks goes)
+
+pub same_packet : (one other : Packet) → Some one ≡ Some other → one ≡ other
+same_packet one other same = cc
+
+pub course_more : (forget : Option ℕ) (course : Course) (given : List Packet) (packet : Packet)
+    → course_after forget course (given ++ packet ∷ [])
+    ≡ next_course forget (course_after forget course given) packet
+course_more forget course [] packet = refl
+course_more forget course (first ∷ later) packet =
+    course_more forget (next_course forget course first) later packet
+
+pub dissected_more : (forget : Option ℕ) (course : Course) (given : List Packet)
+    (told : List Dissection) (packet : Packet) (last : Dissection)
+    → AreDissected forget course given told
+    → IsDissected (forgotten forget packet.time (course_after forget course given)) packet last
+    → AreDissected forget course (given ++ packet ∷ []) (told ++ last ∷ [])
+dissected_more forget course [] told packet last are is =
+    (last, [], ap (λ (l : List Dissection). l ++ last ∷ []) are, is, refl)
+dissected_more forget course (first ∷ later) told packet last are is = (
+  are.0,
+  are.1 ++ last ∷ [],
+  ap (λ (l : List Dissection). l ++ last ∷ []) are.2,
+  are.3,
+  dissected_more forget (next_course forget course first) later are.1 packet last are.4 is,
+)
+
+pub shown_more : (conditions : Filter) (told : List Dissection) (last : Dissection)
+    → shown conditions (told ++ last ∷ [])
+    ≡ shown conditions told ++ filter (lets_through conditions) (last ∷ [])
+shown_more conditions told last = filter-append (lets_through conditions) told (last ∷ [])
+
+pub counted_none : {S H : Type 0} (same_reason : Reason → Reason → Bool)
+    (same_addresses : Addresses → Addresses → Bool) (summary : Summary S H)
+    (counted : List Outline) → Counts same_reason same_addresses summary counted
+    → Counts same_reason same_addresses summary (counted ++ [])
+counted_none same_reason same_addresses summary counted =
+    subst (λ (packets : List Outline). Counts same_reason same_addresses summary packets)
+    (sym (append-nil counted))
+
+pub counted_more : {S H : Type 0} (same_reason : Reason → Reason → Bool)
+    (same_addresses : Addresses → Addresses → Bool) (summary : Summary S H)
+    (counted : List Outline) (seen : List Dissection) (packet : Dissection)
+    → Counts same_reason same_addresses summary
+    ((counted ++ map outline_of seen) ++ outline_of packet ∷ [])
+    → Counts same_reason same_addresses summary
+    (counted ++ map outline_of (seen ++ packet ∷ []))
+counted_more same_reason same_addresses summary counted seen packet =
+    subst (λ (packets : List Outline). Counts same_reason same_addresses summary packets)
+    (sym (ap (λ (l : List Outline). counted ++ l) (map-append outline_of seen (packet ∷ []))
+    ∙ sym (append_assoc counted (map outline_of seen) (outline_of packet ∷ []))))

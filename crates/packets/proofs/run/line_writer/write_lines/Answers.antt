@@ -1,0 +1,105 @@
+use Rattle.std.proofs.Common.{◌≡◌, ◌∙◌, sym, refl, subst, [], Err, true}
+use Rattle.std.proofs.KnownBytes.{Appends-nil, Consumes-nil}
+use Rattle.std.specs.Io.KnownBytes.{Consumes}
+use Rattle.captures.specs.Readers.{source_of}
+use Rattle.packets.specs.Courses.{shown}
+use Rattle.packets.specs.Runs.{EndsBy}
+use Rattle.packets.proofs.EndLemmas.{break_ends, either_way, ends_taken, nothing_first}
+use Rattle.packets.proofs.EndLemmas.{weaker_unbroken}
+use Rattle.packets.proofs.LineLemmas.{Break, RunTold, Wait, ended_broken, ended_whole}
+use Rattle.packets.proofs.run.line_writer.write_lines.Goals as goal
+
+pub returns-in_default : goal.returns-in_default
+returns-in_default g c = (
+  [],
+  g.R.Read.remaining c.args.reader,
+  [],
+  [],
+  Consumes-nil (g.R.Read.remaining c.args.reader),
+  nothing_first c.args.rules.now.unfit,
+  refl,
+  [],
+  refl,
+  [],
+  Appends-nil (g.W.Write.contents c.args.writer.now),
+  refl,
+)
+
+pub returns-in-Ok-written : goal.returns-in-Ok-written
+returns-in-Ok-written g c =
+    let rules = c.args.rules.now in
+    let tells = g.L.LineWriter.tells c.args.lines.now in
+    let result = c.walk-result.result in
+    let walked = c.walk-result.ensures in
+    let source = g.R.Read.remaining c.args.reader in
+    let left = g.R.Read.remaining (source_of c.walk-result.new.packets) in
+    let output = c.walk-result.new.visitor in
+    let first = g.W.Write.contents c.args.writer.now in
+    let mid = g.W.Write.contents output.writer.now in
+    let seen = shown rules.filter walked.2 in
+    let writer = c.write_out-written.ensures.name ∙ either_way result _ _
+    (output.writer.ghost_name ≡ _) walked.6 (λ held here. held.0)
+    (λ held here. held.0) in
+    let told = ended_whole tells result first mid
+    (g.W.Write.contents c.write_out-written.new.self.writer.now) seen output.texts.waiting.items
+    (weaker_unbroken result _ _ (Wait tells first mid seen output.texts.waiting.items)
+    ((output.texts.waiting.items ≡ []) × Break tells first mid seen)
+    (λ held. (held.2, held.3, held.4)) (λ held. (held.1, (held.2, held.3, held.4, held.5))) walked.6)
+    c.in-Ok-written.ensures.written in
+    subst (λ writer. RunTold tells rules.unfit rules.forget rules.filter c.skipped.result
+    source first (g.W.Write.contents writer) result) (sym (c.writer-1.given.1 (sym writer))) (
+      walked.0,
+      left,
+      walked.1,
+      walked.2,
+      subst (λ reader. Consumes (g.R.Read.remaining reader) left walked.0) c.in-Ok.ensures.source
+          walked.3,
+      subst (λ skipped. EndsBy true rules.unfit skipped left walked.0 walked.1 result)
+          (sym c.skipped.ensures) walked.4,
+      walked.5,
+      told.0,
+      told.1,
+      told.2,
+      told.3,
+      told.4,
+    )
+
+pub returns : goal.returns
+returns g c =
+    let rules = c.args.rules.now in
+    let tells = g.L.LineWriter.tells c.args.lines.now in
+    let result = c.walk-result.result in
+    let walked = c.walk-result.ensures in
+    let source = g.R.Read.remaining c.args.reader in
+    let left = g.R.Read.remaining (source_of c.walk-result.new.packets) in
+    let output = c.walk-result.new.visitor in
+    let first = g.W.Write.contents c.args.writer.now in
+    let mid = g.W.Write.contents output.writer.now in
+    let seen = shown rules.filter walked.2 in
+    let by = c.in-Err.ensures.written in
+    let writer = c.write_out-written.ensures.name ∙ either_way result _ _
+    (output.writer.ghost_name ≡ _) walked.6 (λ held here. held.0) (λ held here. held.0) in
+    let told = ended_broken tells result c.in-Err.error first mid
+    (g.W.Write.contents c.write_out-written.new.self.writer.now) seen output.texts.waiting.items
+    (weaker_unbroken result _ _ (Wait tells first mid seen output.texts.waiting.items)
+    ((output.texts.waiting.items ≡ []) × Break tells first mid seen)
+    (λ held. (held.2, held.3, held.4)) (λ held. (held.1, (held.2, held.3, held.4, held.5))) walked.6)
+    by in
+    subst (λ writer. RunTold tells rules.unfit rules.forget rules.filter c.skipped.result
+    source first (g.W.Write.contents writer) (Err c.in-Err.error))
+    (sym (c.writer-1.given.1 (sym writer))) (
+      walked.0,
+      left,
+      walked.1,
+      walked.2,
+      subst (λ reader. Consumes (g.R.Read.remaining reader) left walked.0) c.in-Ok.ensures.source
+          walked.3,
+      break_ends true rules.unfit c.skipped.result left walked.0 walked.1 c.in-Err.error _ by
+          (ends_taken rules.unfit _ left walked.0 walked.1 true result walked.4),
+      walked.5,
+      told.0,
+      told.1,
+      told.2,
+      told.3,
+      told.4,
+    )

@@ -1,0 +1,40 @@
+use Rattle.std.proofs.Common.{refl, sym, subst, [], false}
+use Rattle.std.proofs.KnownBytes.{Consumes-nil}
+use Rattle.std.specs.Io.KnownBytes.{Consumes}
+use Rattle.captures.specs.Readers.{source_of}
+use Rattle.packets.specs.Runs.{EndsBy}
+use Rattle.packets.proofs.EndLemmas.{nothing_first, unbroken_always, weaker_wanting}
+use Rattle.packets.proofs.WalkLemmas.{counted_none}
+use Rattle.packets.proofs.run.summarize.summarize.Goals as goal
+
+pub returns-in_default : goal.returns-in_default
+returns-in_default g c = (
+  [],
+  g.R.Read.remaining c.args.reader,
+  [],
+  [],
+  Consumes-nil (g.R.Read.remaining c.args.reader),
+  nothing_first c.args.rules.now.unfit,
+  refl,
+  λ counted was. counted_none _ _ c.args.summary.now counted was,
+  tt,
+)
+
+pub returns : goal.returns
+returns g c =
+    let rules = c.args.rules.now in
+    let result = c.walk-result.result in
+    let walked = c.walk-result.ensures in
+    let left = g.R.Read.remaining (source_of c.walk-result.new.packets) in (
+      walked.0,
+      left,
+      walked.1,
+      walked.2,
+      subst (λ reader. Consumes (g.R.Read.remaining reader) left walked.0) c.in-Ok.ensures.source
+          walked.3,
+      subst (λ skipped. EndsBy false rules.unfit skipped left walked.0 walked.1 result)
+          (sym c.skipped.ensures) walked.4,
+      walked.5,
+      unbroken_always result _ walked.6,
+      weaker_wanting result _ _ (λ shows. c.open.ensures _ shows) walked.7,
+    )

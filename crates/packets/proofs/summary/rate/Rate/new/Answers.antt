@@ -1,0 +1,13 @@
+use Rattle.std.proofs.Common.{inl, refl, arith}
+use Rattle.packets.proofs.summary.rate.Rate.new.Goals as goal
+
+pub returns : goal.returns
+returns c = record {
+  by_span = record {
+    begin = refl;
+    doubled = (0, refl);
+    counted = λ place small. c.no_counts.ensures.zero place;
+    within = λ k d lt. grind arith;
+  };
+  least = inl refl;
+}

@@ -1,0 +1,126 @@
+-- What is told of the packets of a capture, one after the other: which messages are on their way when
+-- each comes, and when they are dropped.
+use Rattle.std.specs.Prelude.{◌≡◌, ℕ, ◌+◌, ◌-◌, ◌*◌, nat_le, Bool, if◌then◌else◌}
+use Rattle.std.specs.Prelude.{List, [], ◌∷◌, filter, length, Option, Some, None}
+use Rattle.captures.specs.Framed.{frame_bytes}
+use Rattle.captures.specs.Numbers.{capped}
+use Rattle.captures.specs.declared.packet.Packet.{Packet}
+use Rattle.etherparse.specs.defrag.PoolCalls.{Lists, answer_to_frame, fault_in, lists_with_frame}
+use Rattle.etherparse.specs.defrag.PoolCalls.{ShowsLists, no_lists, retained_from}
+use Rattle.etherparse.specs.packet.Class.{Class, class_told}
+use Rattle.packets.specs.Begun.{Begun, ShowsBegun, TellsBegun, begun_with, none_begun}
+use Rattle.packets.specs.Conditions.{lets_through}
+use Rattle.packets.specs.Dissected.{fragment_told, told_of, verdict_on}
+use Rattle.packets.specs.Layers.{layers_of}
+use Rattle.packets.specs.declared.dissection.Dissection.{Dissection}
+use Rattle.packets.specs.declared.dissector.Dissector.{Dissector}
+use Rattle.packets.specs.declared.filter.Filter.{Filter}
+use Rattle.packets.specs.declared.run.rules.Spans.{Spans}
+
+-- how far a capture has come: how many packets came, when the first one did, the fragments of each
+-- message that is on its way, in which packet it began, and when the span began at whose end
+-- messages are dropped
+pub record Course : Type 0 where
+  pub number : ℕ
+  pub first : Option ℕ
+  pub lists : Lists
+  pub begun : Begun
+  pub begin : Option ℕ
+
+-- no packet came
+abbrev pub no_course : Course
+no_course =
+    record { number = 0; first = None; lists = no_lists; begun = none_begun; begin = None }
+
+-- whether so many seconds passed between two times in nanoseconds
+abbrev pub has_passed : ℕ → ℕ → ℕ → Bool
+has_passed seconds begin time = nat_le (1000000000 * seconds) (time - begin)
+
+-- the lists when a packet of this time comes: once a span has passed, without those of which no
+-- fragment was accepted since it began
+abbrev pub lists_at : Option ℕ → Option ℕ → ℕ → Lists → Lists
+lists_at None begin time lists = lists
+lists_at (Some seconds) None time lists = lists
+lists_at (Some seconds) (Some begin) time lists = if has_passed seconds begin time
+    then (λ name channel. retained_from begin (lists name channel)) else lists
+
+-- and when the span began that lasts then
+abbrev pub begin_at : Option ℕ → Option ℕ → ℕ → Option ℕ
+begin_at None begin time = begin
+begin_at (Some seconds) None time = Some time
+begin_at (Some seconds) (Some begin) time = if has_passed seconds begin time
+    then Some time else Some begin
+
+abbrev pub forgotten : Option ℕ → ℕ → Course → Course
+forgotten seconds time course = record course {
+  lists = lists_at seconds course.begin time course.lists;
+  begin = begin_at seconds course.begin time;
+}
+
+-- when the first packet came, if this one comes next
+abbrev pub first_at : Option ℕ → ℕ → ℕ
+first_at None time = time
+first_at (Some first) time = first
+
+abbrev pub class_of : Packet → Class
+class_of packet = class_told (layers_of packet.frame.header packet.frame.bytes)
+
+-- one packet more
+abbrev pub with_packet : Course → Packet → Course
+with_packet course packet = record {
+  number = capped (course.number + 1);
+  first = Some (first_at course.first packet.time);
+  lists = lists_with_frame course.lists (class_of packet) packet.time packet.interface;
+  begun = begun_with course.lists course.begun (class_of packet) packet.interface
+      (capped (course.number + 1));
+  begin = course.begin;
+}
+
+abbrev pub next_course : Option ℕ → Course → Packet → Course
+next_course seconds course packet = with_packet (forgotten seconds packet.time course) packet
+
+-- after some packets
+abbrev pub course_after : Option ℕ → Course → List Packet → Course
+course_after seconds course [] = course
+course_after seconds course (packet ∷ packets) =
+    course_after seconds (next_course seconds course packet) packets
+
+-- what is told of a packet that comes after others: its number, time and headers, what becomes of it
+-- as a fragment by the fragments before it, and in which packet its message began
+pub record IsDissected (course : Course) (packet : Packet) (told : Dissection) : Type 0 where
+  pub number : told.number ≡ capped (course.number + 1)
+  pub first_time : told.first_time ≡ first_at course.first packet.time
+  pub time : told.time ≡ packet.time
+  pub interface : told.interface ≡ packet.interface
+  pub link : told.link ≡ packet.link
+  pub header : told.header ≡ packet.frame.header
+  pub len : told.len ≡ length (frame_bytes packet.frame)
+  pub layers : told.layers ≡ layers_of packet.frame.header packet.frame.bytes
+  pub answered : told_of told.layers told.fragment
+      ≡ answer_to_frame course.lists (class_told told.layers) packet.interface
+      (fault_in told.layers)
+  pub begun : TellsBegun course.lists course.begun (class_told told.layers) packet.interface
+      told.number told.fragment
+  pub verdict : told.verdict ≡ verdict_on (class_told told.layers) (fragment_told told.fragment)
+
+-- what is told of some packets, one by one, in their order
+abbrev pub AreDissected : Option ℕ → Course → List Packet → List Dissection → Type 0
+AreDissected seconds course [] told = told ≡ []
+AreDissected seconds course (packet ∷ packets) told = (first : Dissection)
+    × (later : List Dissection) × (told ≡ first ∷ later)
+    × IsDissected (forgotten seconds packet.time course) packet first
+    × AreDissected seconds (next_course seconds course packet) packets later
+
+-- those of them that a filter lets through
+abbrev pub shown : Filter → List Dissection → List Dissection
+shown conditions told = filter (lets_through conditions) told
+
+-- a capture has come so far with these, where messages are dropped after so many seconds
+pub record HasCourse (forget : Option ℕ) (course : Course) (dissector : Dissector) (spans : Spans)
+    : Type 0 where
+  pub number : dissector.number ≡ course.number
+  pub first : dissector.first_time ≡ course.first
+  pub lists : ShowsLists dissector.messages.pool course.lists
+  pub begun : ShowsBegun dissector.messages.beginnings course.lists course.begun
+  pub seconds : spans.seconds ≡ forget
+  pub begin : spans.begin ≡ course.begin

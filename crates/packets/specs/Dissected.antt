@@ -1,0 +1,99 @@
+-- What is told of a packet, by its headers and by the parts of its message that came before it.
+use Rattle.std.specs.Prelude.{◌≡◌, ℕ, Bool, true, false, Option, Some, None, IsSome, Result}
+use Rattle.std.specs.Prelude.{Ok, Err, MatchResult}
+use Rattle.etherparse.specs.defrag.IpDefragPool.{payload_told}
+use Rattle.etherparse.specs.defrag.IpFragId.{fragment_in}
+use Rattle.etherparse.specs.defrag.PoolCalls.{HasMemory, Lists, ShowsLists, Told}
+use Rattle.etherparse.specs.defrag.PoolCalls.{answer_to_frame}
+use Rattle.etherparse.specs.defrag.PoolCalls.{lists_with_frame}
+use Rattle.etherparse.specs.defrag.PoolCalls.Told.{Delivered, NoMemory, NotSliced, Nothing}
+use Rattle.etherparse.specs.defrag.PoolCalls.Told.{Refused as PartRefused, Retained}
+use Rattle.etherparse.specs.defrag.Streams.{Pool}
+use Rattle.etherparse.specs.defrag.declared.defrag.ip_defrag_error.IpDefragError.{IpDefragError}
+use Rattle.etherparse.specs.defrag.declared.defrag.ip_defrag_error.IpDefragError.TheVariants.{UnalignedFragmentPayloadLen}
+use Rattle.etherparse.specs.defrag.declared.defrag.ip_defrag_error.IpDefragError.TheVariants.{SegmentTooBig}
+use Rattle.etherparse.specs.defrag.declared.defrag.ip_defrag_error.IpDefragError.TheVariants.{ConflictingEnd}
+use Rattle.etherparse.specs.defrag.declared.defrag.ip_defrag_error.IpDefragError.TheVariants.{AllocationFailure}
+use Rattle.etherparse.specs.defrag.declared.defrag.ip_defrag_error.IpDefragError.TheVariants.{OverlappingFragment}
+use Rattle.etherparse.specs.defrag.declared.defrag.ip_frag_id.IpFragId.{IpFragId}
+use Rattle.etherparse.specs.packet.Class.{Class}
+use Rattle.etherparse.specs.packet.Class.Class.{Cut, Other, Refused as Faulty, Whole}
+use Rattle.etherparse.specs.packet.Readable.{ReadMessage, message_at}
+use Rattle.etherparse.specs.packet.declared.addresses.Addresses.{Addresses}
+use Rattle.etherparse.specs.packet.declared.err.packet.slice_error.SliceError.{SliceError}
+use Rattle.etherparse.specs.packet.declared.sliced_packet.SlicedPacket.{SlicedPacket}
+use Rattle.netlines.specs.Verdict.{verdict_of}
+use Rattle.netlines.specs.declared.frames.verdict.Verdict.{Verdict}
+use Rattle.packets.specs.declared.dissection.Fragment.{Fragment}
+use Rattle.packets.specs.declared.dissection.Fragment.TheVariants.{Waits, Completes, Refused}
+use Rattle.packets.specs.declared.messages.Finding.{Finding}
+
+-- what is told of a part of a message, or of what is none
+abbrev pub fragment_told : Option Fragment → Told
+fragment_told None = Nothing
+fragment_told (Some (Waits begun)) = Nothing
+fragment_told (Some (Completes begun message)) = Delivered (payload_told message)
+fragment_told (Some (Refused begun error)) = PartRefused error
+
+-- what is told of a packet: that it is refused, or what became of a part of a message
+abbrev pub told_of : Result SlicedPacket SliceError → Option Fragment → Told
+told_of (Ok layers) fragment = fragment_told fragment
+told_of (Err e) fragment = NotSliced (Some e)
+
+-- what a checksum tells of a message, if it can be read
+abbrev pub verdict_if_read : Addresses → Result ReadMessage SliceError → Option Verdict
+verdict_if_read addresses (Ok message) = Some (verdict_of addresses message)
+verdict_if_read addresses (Err e) = None
+
+-- of the message that is complete with a part, where it is
+abbrev pub completed_verdict : Addresses → Told → Option Verdict
+completed_verdict addresses Nothing = None
+completed_verdict addresses (Delivered p) =
+    verdict_if_read addresses (message_at p.ip_number.0 p.bytes)
+completed_verdict addresses (PartRefused error) = None
+completed_verdict addresses (NotSliced error) = None
+completed_verdict addresses Retained = None
+completed_verdict addresses NoMemory = None
+
+-- what the checksum tells of a packet of a class, of which this is told: of its message, or of that
+-- which it completes
+abbrev pub verdict_on : Class → Told → Option Verdict
+verdict_on (Whole addresses number bytes message) told = Some (verdict_of addresses message)
+verdict_on (Cut name offset more bytes) told = completed_verdict name.addresses told
+verdict_on Other told = None
+verdict_on Faulty told = None
+
+-- a packet of this class was answered, which came at this time on this channel: by the lists of all
+-- names, and the pool shows them with it then; or there was no memory for a part, and it shows them
+-- as they were
+abbrev pub Answers : {E : Type 0} → (old new : Pool (IpFragId ℕ) ℕ) → Class → (time channel : ℕ)
+    → Option SliceError → Result Told E → Type 0
+Answers old new class time channel fault result = (lists : Lists) → ShowsLists old lists
+    → MatchResult result
+    (λ told. (told ≡ answer_to_frame lists class channel fault)
+    × ShowsLists new (lists_with_frame lists class time channel))
+    (λ e. ShowsLists new lists × IsSome (fragment_in class))
+
+-- what is told of a part, if anything is
+abbrev pub found_told : {E : Type 0} → Result Finding E → Result Told E
+found_told (Ok finding) = Ok (fragment_told finding.fragment)
+found_told (Err e) = Err e
+
+-- what is told of a packet with these headers, if anything is
+abbrev pub told_if_found : {E : Type 0} → Result SlicedPacket SliceError → Result Finding E
+    → Result Told E
+told_if_found layers (Ok finding) = Ok (told_of layers finding.fragment)
+told_if_found layers (Err e) = Err e
+
+-- a want of memory
+abbrev pub is_want : IpDefragError → Bool
+is_want (UnalignedFragmentPayloadLen offset len) = false
+is_want (SegmentTooBig offset len most) = false
+is_want (ConflictingEnd previous_end end) = false
+is_want (AllocationFailure len) = true
+is_want (OverlappingFragment offset len) = false
+
+-- what is found in a part of which this is told; nothing is where it tells of a want of memory
+abbrev pub IsFound : {E : Type 0} → Told → Result Finding E → Type 0
+IsFound told (Ok finding) = (fragment_told finding.fragment ≡ told) × HasMemory told
+IsFound told (Err e) = HasMemory told → ⊥

@@ -1,0 +1,17 @@
+pub mod Begun
+pub mod Conditions
+pub mod Counts
+pub mod Courses
+pub mod Dissected
+pub mod Forgetting
+pub mod Headers
+pub mod Layers
+pub mod Numbers
+pub mod Outlines
+pub mod Rate
+pub mod Reasons
+pub mod Runs
+pub mod Sizes
+pub mod Table
+pub mod Tally
+pub mod Written

@@ -1,0 +1,101 @@
+-- What a summary takes of a packet.
+use Rattle.std.specs.Prelude.{Bool, true, false, Option, Some, None, Result, Ok, Err}
+use Rattle.std.specs.List.{list_any}
+use Rattle.captures.specs.declared.link.kind.Link.{Link}
+use Rattle.captures.specs.declared.link.kind.Link.TheVariants.{Ethernet, Ip, Null, Loop, Sll, Sll2}
+use Rattle.captures.specs.declared.link.kind.Link.TheVariants.{Other}
+use Rattle.etherparse.specs.ipslice.Packet.{ipv4_payload}
+use Rattle.etherparse.specs.packet.Class.{ipv4_addresses, ipv6_addresses}
+use Rattle.etherparse.specs.packet.Readable.{ReadMessage, message_at}
+use Rattle.etherparse.specs.packet.declared.err.packet.slice_error.SliceError.{SliceError}
+use Rattle.etherparse.specs.packet.declared.net.net_slice.NetSlice.{NetSlice}
+use Rattle.etherparse.specs.packet.declared.net.net_slice.NetSlice.TheVariants as slice
+use Rattle.etherparse.specs.packet.declared.sliced_packet.SlicedPacket.{SlicedPacket}
+use Rattle.etherparse.specs.tag.declared.link.link_ext_slice.LinkExtSlice.{LinkExtSlice}
+use Rattle.etherparse.specs.tag.declared.link.link_ext_slice.LinkExtSlice.TheVariants.{Vlan, Macsec}
+use Rattle.packets.specs.Reasons.{part_reason, reason_of}
+use Rattle.packets.specs.declared.dissection.Dissection.{Dissection}
+use Rattle.packets.specs.declared.dissection.Fragment.{Fragment}
+use Rattle.packets.specs.declared.dissection.Fragment.TheVariants as fragment
+use Rattle.packets.specs.declared.outline.Headers.{Headers}
+use Rattle.packets.specs.declared.outline.Net.{Net}
+use Rattle.packets.specs.declared.outline.Net.TheVariants as net
+use Rattle.packets.specs.declared.outline.Outline.{Outline}
+use Rattle.packets.specs.declared.outline.PartState.{PartState}
+use Rattle.packets.specs.declared.outline.PartState.TheVariants as state
+use Rattle.packets.specs.declared.reason.Reason.{Reason}
+
+abbrev pub is_ethernet : Link → Bool
+is_ethernet Ethernet = true
+is_ethernet Ip = false
+is_ethernet Null = false
+is_ethernet Loop = false
+is_ethernet Sll = false
+is_ethernet Sll2 = false
+is_ethernet Other = false
+
+abbrev pub is_vlan : LinkExtSlice → Bool
+is_vlan (Vlan bytes) = true
+is_vlan (Macsec bytes) = false
+
+abbrev pub is_macsec : LinkExtSlice → Bool
+is_macsec (Vlan bytes) = false
+is_macsec (Macsec bytes) = true
+
+abbrev pub net_of : Option NetSlice → Option Net
+net_of None = None
+net_of (Some (slice.Ipv4 packet)) =
+    Some (net.Ip (ipv4_addresses packet) (ipv4_payload packet).ip_number)
+net_of (Some (slice.Ipv6 packet)) =
+    Some (net.Ip (ipv6_addresses packet) packet.payload.ip_number)
+net_of (Some (slice.Arp packet)) = Some net.Arp
+
+-- the headers of a packet of a link, of which none are known where it is refused
+abbrev pub headers_of : Link → Result SlicedPacket SliceError → Headers
+headers_of link (Ok packet) = record {
+  ethernet = is_ethernet link;
+  vlan = list_any is_vlan packet.link_exts.items;
+  macsec = list_any is_macsec packet.link_exts.items;
+  net = net_of packet.net;
+}
+headers_of link (Err e) = record {
+  ethernet = is_ethernet link;
+  vlan = false;
+  macsec = false;
+  net = None;
+}
+
+-- why a message that was put together can't be read
+abbrev pub message_refusal : Result ReadMessage SliceError → Option Reason
+message_refusal (Ok message) = None
+message_refusal (Err e) = Some (reason_of e)
+
+abbrev pub part_refusal : Option Fragment → Option Reason
+part_refusal None = None
+part_refusal (Some (fragment.Waits begun)) = None
+part_refusal (Some (fragment.Completes begun message)) =
+    message_refusal (message_at message.ip_number.0 message.payload.items)
+part_refusal (Some (fragment.Refused begun error)) = Some (part_reason error)
+
+-- why a packet is refused: by its headers, as a part of a message, or since the message that it
+-- completes can't be read
+abbrev pub refusal_of : Result SlicedPacket SliceError → Option Fragment → Option Reason
+refusal_of (Ok packet) part = part_refusal part
+refusal_of (Err e) part = Some (reason_of e)
+
+abbrev pub part_of : Option Fragment → Option PartState
+part_of None = None
+part_of (Some (fragment.Waits begun)) = Some state.Waits
+part_of (Some (fragment.Completes begun message)) = Some state.Completes
+part_of (Some (fragment.Refused begun error)) = Some state.Refused
+
+abbrev pub outline_of : Dissection → Outline
+outline_of packet = record {
+  number = packet.number;
+  time = packet.time;
+  len = packet.len;
+  headers = headers_of packet.link packet.layers;
+  refusal = refusal_of packet.layers packet.fragment;
+  part = part_of packet.fragment;
+  verdict = packet.verdict;
+}

@@ -1,0 +1,39 @@
+-- How many packets there are in each span of time.
+use Rattle.std.specs.Prelude.{◌≡◌, ◌⊎◌, ℕ, ◌<◌, ◌*◌, ◌^◌, ◌-◌, ◌/◌, ◌==◌, nat_le, Bool, true, List}
+use Rattle.std.specs.Prelude.{[], ◌∷◌, count_by, slice_index, Option, Some, None, All}
+use Rattle.std.specs.List.{list_any}
+use Rattle.captures.specs.Numbers.{capped}
+use Rattle.packets.specs.declared.outline.Outline.{Outline}
+use Rattle.packets.specs.declared.summary.rate.Rate.{Rate}
+use Rattle.packets.specs.declared.summary.rate.TheConstants.{SHORTEST, SPAN_COUNT}
+
+-- when the first of the packets was captured
+abbrev pub begin_of : List Outline → Option ℕ
+begin_of [] = None
+begin_of (packet ∷ packets) = Some packet.time
+
+abbrev pub start_of : List Outline → ℕ
+start_of [] = 0
+start_of (packet ∷ packets) = packet.time
+
+-- in which span after a start one of this time comes: with an earlier time in the first
+abbrev pub span_at : (span start time : ℕ) → ℕ
+span_at span start time = (time - start) / span
+
+-- the packets of each span are counted, and none comes behind the last span
+pub record CountsBySpan (rate : Rate) (packets : List Outline) : Type 0 where
+  pub begin : rate.begin ≡ begin_of packets
+  pub doubled : (times : ℕ) × (rate.span ≡ SHORTEST * 2 ^ times)
+  pub counted : (place : ℕ) → place < SPAN_COUNT → slice_index rate.counts place ≡ capped
+      (count_by (λ packet. span_at rate.span (start_of packets) packet.time == place) packets)
+  pub within : All (λ packet. span_at rate.span (start_of packets) packet.time < SPAN_COUNT) packets
+
+-- a packet comes behind the last of spans of this length
+abbrev pub is_behind : (span start : ℕ) → Outline → Bool
+is_behind span start packet = nat_le SPAN_COUNT (span_at span start packet.time)
+
+-- the spans are the shortest ones, or a packet comes behind the last of spans half as long
+pub record CountsSpans (rate : Rate) (packets : List Outline) : Type 0 where
+  pub by_span : CountsBySpan rate packets
+  pub least : (rate.span ≡ SHORTEST)
+      ⊎ (list_any (is_behind (rate.span / 2) (start_of packets)) packets ≡ true)

@@ -1,0 +1,84 @@
+-- Runs over the packets of a capture, and how they end.
+use Rattle.std.specs.Prelude.{◌≡◌, ◌⊎◌, ℕ, ◌-◌, ◌^◌, ◌≤◌, Bool, true, List, ◌++◌, length, map}
+use Rattle.std.specs.Prelude.{Option, Result, Ok, Err}
+use Rattle.std.specs.Io.KnownBytes.{IsAtEnd}
+use Rattle.captures.specs.Fronts.{Gives, taken_of}
+use Rattle.captures.specs.Readers.{AreGiven, IsRefusedAt}
+use Rattle.captures.specs.Runs.{IsCapture}
+use Rattle.captures.specs.declared.limits.TheConstants.{READ_COUNT_LIMIT}
+use Rattle.captures.specs.declared.packet.Packet.{Packet}
+use Rattle.captures.specs.declared.translation.run_error.RunError.{RunError}
+use Rattle.captures.specs.declared.translation.run_error.RunError.TheVariants.{Read, Write}
+use Rattle.captures.specs.declared.translation.run_error.RunError.TheVariants.{WriteZero, Memory}
+use Rattle.captures.specs.declared.translation.run_error.RunError.TheVariants.{TooManyReads}
+use Rattle.captures.specs.declared.translation.run_error.RunError.TheVariants.{Capture, BadLine}
+use Rattle.captures.specs.declared.translation.skipped.Skipped.{Skipped}
+use Rattle.captures.specs.declared.translation.state.State.{State}
+use Rattle.captures.specs.declared.translation.state.State.TheVariants.{Start}
+use Rattle.captures.specs.declared.unfit.Unfit.{Unfit}
+
+-- these are the first packets of the bytes, each once and in their order
+abbrev pub AreFirst : Unfit → List ℕ → List Packet → Type 0
+AreFirst unfit read given = (state : State) × (rest : List ℕ)
+    × Gives (Start unfit) read given state rest
+
+-- these are packets of the bytes, each once and in their order: the first ones, or all of a capture
+abbrev pub AreTaken : Unfit → List ℕ → List Packet → Type 0
+AreTaken unfit read given = AreFirst unfit read given
+    ⊎ ((skipped : Skipped) × IsCapture unfit read (map taken_of given) skipped)
+
+-- a run with this result has read these bytes, of which it was given these packets and passed over
+-- so many: all of a whole capture; all before a refusal or a failed read; or some. Only a run that
+-- writes ends by a write
+abbrev pub EndsBy : (writes : Bool) → Unfit → Skipped → (left : Option (List ℕ)) → (read : List ℕ)
+    → (given : List Packet) → Result Unit RunError → Type 0
+EndsBy writes unfit skipped left read given (Ok done) =
+    IsCapture unfit read (map taken_of given) skipped × IsAtEnd left
+EndsBy writes unfit skipped left read given (Err Read) = AreGiven unfit read given
+EndsBy writes unfit skipped left read given (Err Write) =
+    (writes ≡ true) × AreTaken unfit read given
+EndsBy writes unfit skipped left read given (Err WriteZero) =
+    (writes ≡ true) × AreTaken unfit read given
+EndsBy writes unfit skipped left read given (Err Memory) = AreFirst unfit read given
+EndsBy writes unfit skipped left read given (Err TooManyReads) = AreFirst unfit read given
+    × ((READ_COUNT_LIMIT ≤ length read) ⊎ (2 ^ 64 - 1 ≤ length given))
+EndsBy writes unfit skipped left read given (Err (Capture error place)) =
+    IsRefusedAt unfit skipped error place left read given
+EndsBy writes unfit skipped left read given (Err (BadLine number)) = ⊥
+
+-- after a run the first holds, or the second where a write ended it
+abbrev pub Unbroken : Result Unit RunError → Type 0 → Type 0 → Type 0
+Unbroken (Ok done) Goes Breaks = Goes
+Unbroken (Err Read) Goes Breaks = Goes
+Unbroken (Err Write) Goes Breaks = Breaks
+Unbroken (Err WriteZero) Goes Breaks = Breaks
+Unbroken (Err Memory) Goes Breaks = Goes
+Unbroken (Err TooManyReads) Goes Breaks = Goes
+Unbroken (Err (Capture error place)) Goes Breaks = Goes
+Unbroken (Err (BadLine number)) Goes Breaks = Goes
+
+-- of a text this is written: all, or a front where a write ended the run
+abbrev pub IsWritten : Result Unit RunError → (text written : List ℕ) → Type 0
+IsWritten result text written =
+    Unbroken result (written ≡ text) ((rest : List ℕ) × (text ≡ written ++ rest))
+
+-- what holds unless memory was wanting
+abbrev pub UnlessWanting : Result Unit RunError → Type 0 → Type 0
+UnlessWanting (Ok done) Holds = Holds
+UnlessWanting (Err Read) Holds = Holds
+UnlessWanting (Err Write) Holds = Holds
+UnlessWanting (Err WriteZero) Holds = Holds
+UnlessWanting (Err Memory) Holds = Unit {0}
+UnlessWanting (Err TooManyReads) Holds = Holds
+UnlessWanting (Err (Capture error place)) Holds = Holds
+UnlessWanting (Err (BadLine number)) Holds = Holds
+
+-- the error is a write's, of a run that writes, and this holds
+abbrev pub BreaksBy : (writes : Bool) → RunError → Type 0 → Type 0
+BreaksBy writes Read Breaks = ⊥
+BreaksBy writes Write Breaks = (writes ≡ true) × Breaks
+BreaksBy writes WriteZero Breaks = (writes ≡ true) × Breaks
+BreaksBy writes Memory Breaks = ⊥
+BreaksBy writes TooManyReads Breaks = ⊥
+BreaksBy writes (Capture error place) Breaks = ⊥
+BreaksBy writes (BadLine number) Breaks = ⊥

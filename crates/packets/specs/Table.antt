@@ -1,0 +1,41 @@
+-- Tallies of packets by keys.
+use Rattle.std.specs.Prelude.{◌≡◌, ℕ, Bool, false, if◌then◌else◌, List, [], ◌∷◌, ◌++◌, fold}
+use Rattle.std.specs.Prelude.{Option, Some, None, unwrap_or}
+use Rattle.std.specs.List.{list_any}
+use Rattle.std.specs.Map.{keys_of, lookup}
+use Rattle.packets.specs.Tally.{tally_of}
+use Rattle.packets.specs.declared.outline.Outline.{Outline}
+use Rattle.packets.specs.declared.summary.tally.Tally.{Tally}
+
+-- tallies, each beside its key, and room for so many others
+pub record Tallies (K : Type 0) : Type 0 where
+  pub entries : List (K × Tally)
+  pub spare : ℕ
+
+abbrev pub no_tally : Tally
+no_tally = record { packets = 0; bytes = 0; first = None }
+
+-- the tally of a key: that of no packet where there is none
+abbrev pub tally_at : {K : Type 0} → (K → K → Bool) → Tallies K → K → Tally
+tally_at same table key = unwrap_or (lookup (same key) table.entries) no_tally
+
+abbrev pub is_key : {K : Type 0} → (K → K → Bool) → K → Option K → Bool
+is_key same key None = false
+is_key same key (Some own) = same own key
+
+-- keys, and behind them this one if it is none of them
+abbrev pub with_key : {K : Type 0} → (K → K → Bool) → List K → Option K → List K
+with_key same keys None = keys
+with_key same keys (Some key) =
+    if list_any (same key) keys then keys else (keys ++ key ∷ [])
+
+-- the keys that packets have, each once, in the order in which they came first
+abbrev pub keys_in : {K : Type 0} → (K → K → Bool) → (Outline → Option K) → List Outline → List K
+keys_in same key_of packets = fold (λ keys packet. with_key same keys (key_of packet)) [] packets
+
+-- the keys are those that packets have, and of each those are counted that have it
+pub record CountsKeys {K : Type 0} (same : K → K → Bool) (key_of : Outline → Option K)
+    (table : Tallies K) (packets : List Outline) : Type 0 where
+  pub keys : keys_of table.entries ≡ keys_in same key_of packets
+  pub tallied : (key : K) → tally_at same table key
+      ≡ tally_of (λ packet. is_key same key (key_of packet)) packets

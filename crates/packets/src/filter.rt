@@ -1,0 +1,251 @@
+//! Which packets are told.
+ghost use Rattle.std.specs.Prelude.{◌≡◌, ◌++◌, ◌∷◌, [], OnOk, OnErr};
+ghost use Rattle.etherparse.specs.packet.Readable.{message_at};
+ghost use Rattle.packets.specs.Conditions.{arp_has_host, datagram_has_port, has_host};
+ghost use Rattle.packets.specs.Conditions.{has_ipv4_host, has_ipv6_host, has_port};
+ghost use Rattle.packets.specs.Conditions.{message_has_port, packet_has_port, segment_has_port};
+ghost use Rattle.packets.specs.Conditions.{transport_has_port};
+ghost use Rattle.packets.specs.Counts.{is_bad};
+
+use crate::outline::refusal_of;
+use crate::{Dissection, Fragment, Headers, Protocol};
+use etherparse::defrag::IpDefragPayloadVec;
+use etherparse::err::packet::SliceError;
+use etherparse::{
+    ArpPacketSlice, EtherType, Message, NetSlice, SlicedPacket, TcpSlice, TransportSlice, UdpSlice,
+    read_message,
+};
+use netlines::Verdict;
+use std::alloc::{AllocError, Global};
+use std::net::IpAddr;
+use std::str::FromStr;
+use thiserror::Error;
+
+/// A condition on a packet.
+#[derive(Clone, Copy, Debug, PartialEq, Eq)]
+pub enum Condition {
+    /// It has a header of this protocol, or is a part of a message of it.
+    Protocol(Protocol),
+    /// The checksum of its message, or of that which it completes, is wrong.
+    Bad,
+    /// It is refused, by its headers or as a part of a message, or the message that it completes
+    /// can't be read.
+    Refused,
+    /// It is a part of a message.
+    Fragment,
+    /// It comes from this address or goes to it, by its IP header or as an ARP packet for IPv4.
+    Host(IpAddr),
+    /// Its TCP or UDP message, or the one that it completes, comes from this port or goes to it.
+    Port(u16),
+}
+
+/// Why a word is no condition.
+#[derive(Clone, Copy, Debug, PartialEq, Eq, Error)]
+pub enum WordError {
+    /// It is the name of no protocol, and none of the other words.
+    #[error("no protocol, and not `bad`, `refused`, `fragments`, `host=ADDRESS` or `port=NUMBER`")]
+    Unknown,
+    /// What follows `host` is no IP address.
+    #[error("no IP address behind `host`")]
+    Address,
+    /// What follows `port` is no number up to 65535.
+    #[error("no number up to 65535 behind `port`")]
+    Port,
+}
+
+impl FromStr for Condition {
+    type Err = WordError;
+
+    /// Reads `bad`, `refused`, `fragments`, `host=ADDRESS`, `port=NUMBER`, or the name of a
+    /// protocol ([`Protocol::named`]), in letters of either case. A space may stand for the `=`. It
+    /// has no contract: tests compare the texts.
+    fn from_str(word: &str) -> Result<Condition, WordError> {
+        if let Some((key, value)) = word.split_once(|c: char| c == '=' || c == ' ') {
+            return Condition::of(key, value);
+        }
+        if word.eq_ignore_ascii_case("bad") {
+            Ok(Condition::Bad)
+        } else if word.eq_ignore_ascii_case("refused") {
+            Ok(Condition::Refused)
+        } else if word.eq_ignore_ascii_case("fragments") {
+            Ok(Condition::Fragment)
+        } else {
+            match Protocol::named(word) {
+                Some(protocol) => Ok(Condition::Protocol(protocol)),
+                None => Err(WordError::Unknown),
+            }
+        }
+    }
+}
+
+impl Condition {
+    ghost use Rattle.packets.specs.Conditions.{holds};
+
+    fn of(key: &str, value: &str) -> Result<Condition, WordError> {
+        if key.eq_ignore_ascii_case("host") {
+            match value.parse::<IpAddr>() {
+                Ok(address) => Ok(Condition::Host(address)),
+                Err(_) => Err(WordError::Address),
+            }
+        } else if key.eq_ignore_ascii_case("port") {
+            match value.parse::<u16>() {
+                Ok(port) => Ok(Condition::Port(port)),
+                Err(_) => Err(WordError::Port),
+            }
+        } else {
+            Err(WordError::Unknown)
+        }
+    }
+
+    /// Whether it holds of a packet.
+    pub fn holds(&self, dissection: &Dissection<'_>) -> bool
+        ensures { result ≡ holds self.now dissection.now }
+    {
+        match self {
+            Condition::Protocol(protocol) => Headers::of(dissection).has(*protocol),
+            Condition::Bad => is_bad(dissection.verdict),
+            Condition::Refused => refusal_of(dissection).is_some(),
+            Condition::Fragment => dissection.fragment.is_some(),
+            Condition::Host(address) => has_host(&dissection.layers, *address),
+            Condition::Port(port) => has_port(dissection, *port),
+        }
+    }
+}
+
+fn is_bad(verdict: Option<Verdict>) -> bool
+    ensures { result ≡ is_bad verdict }
+{
+    matches!(verdict, Some(Verdict::Bad))
+}
+
+fn has_host(layers: &Result<SlicedPacket<'_>, SliceError>, address: IpAddr) -> bool
+    ensures { result ≡ has_host layers.now address }
+{
+    match (layers, address) {
+        (Ok(packet), IpAddr::V4(address)) => has_ipv4_host(&packet.net, address.octets()),
+        (Ok(packet), IpAddr::V6(address)) => has_ipv6_host(&packet.net, address.octets()),
+        (Err(_), _) => false,
+    }
+}
+
+fn has_ipv4_host(net: &Option<NetSlice<'_>>, address: [u8; 4]) -> bool
+    ensures { result ≡ has_ipv4_host net.now address }
+{
+    match net {
+        Some(NetSlice::Ipv4(packet)) => {
+            let header = packet.header();
+            header.source() == address || header.destination() == address
+        }
+        Some(NetSlice::Arp(packet)) => arp_has_host(packet, address),
+        _ => false,
+    }
+}
+
+fn arp_has_host(packet: &ArpPacketSlice<'_>, address: [u8; 4]) -> bool
+    ensures { result ≡ arp_has_host packet.now address }
+{
+    packet.proto_addr_type() == EtherType::IPV4
+        && (packet.sender_protocol_addr() == address.as_slice()
+            || packet.target_protocol_addr() == address.as_slice())
+}
+
+fn has_ipv6_host(net: &Option<NetSlice<'_>>, address: [u8; 16]) -> bool
+    ensures { result ≡ has_ipv6_host net.now address }
+{
+    match net {
+        Some(NetSlice::Ipv6(packet)) => {
+            let header = packet.header();
+            header.source() == address || header.destination() == address
+        }
+        _ => false,
+    }
+}
+
+fn has_port(dissection: &Dissection<'_>, port: u16) -> bool
+    ensures { result ≡ has_port dissection.now.layers dissection.now.fragment port }
+{
+    match &dissection.fragment {
+        Some(Fragment::Completes { message, .. }) => message_has_port(message, port),
+        _ => packet_has_port(&dissection.layers, port),
+    }
+}
+
+fn message_has_port(message: &IpDefragPayloadVec, port: u16) -> bool
+    ensures { result ≡ message_has_port
+        (message_at message.now.ip_number.0 message.now.payload.items) port }
+{
+    match read_message(message.ip_number, message.payload.as_slice()) {
+        Ok(Message::Tcp(segment)) => segment_has_port(&segment, port),
+        Ok(Message::Udp(datagram)) => datagram_has_port(&datagram, port),
+        _ => false,
+    }
+}
+
+fn packet_has_port(layers: &Result<SlicedPacket<'_>, SliceError>, port: u16) -> bool
+    ensures { result ≡ packet_has_port layers.now port }
+{
+    match layers {
+        Ok(packet) => transport_has_port(&packet.transport, port),
+        Err(_) => false,
+    }
+}
+
+fn transport_has_port(transport: &Option<TransportSlice<'_>>, port: u16) -> bool
+    ensures { result ≡ transport_has_port transport.now port }
+{
+    match transport {
+        Some(TransportSlice::Tcp(segment)) => segment_has_port(segment, port),
+        Some(TransportSlice::Udp(datagram)) => datagram_has_port(datagram, port),
+        _ => false,
+    }
+}
+
+fn segment_has_port(segment: &TcpSlice<'_>, port: u16) -> bool
+    ensures { result ≡ segment_has_port segment.now port }
+{
+    segment.source_port() == port || segment.destination_port() == port
+}
+
+fn datagram_has_port(datagram: &UdpSlice<'_>, port: u16) -> bool
+    ensures { result ≡ datagram_has_port datagram.now port }
+{
+    datagram.source_port() == port || datagram.destination_port() == port
+}
+
+/// The conditions that a packet has to meet to be told.
+#[derive(Debug, Drop)]
+pub struct Filter {
+    conditions: Vec<Condition>,
+}
+
+impl Filter {
+    ghost use Rattle.packets.specs.Conditions.{conditions_of, lets_through};
+
+    /// Lets every packet through. It takes no memory.
+    pub fn new(alloc: Global) -> Filter
+        ensures { conditions_of result ≡ [] }
+    {
+        Filter {
+            conditions: Vec::new(alloc),
+        }
+    }
+
+    /// Lets only packets through that meet this condition too.
+    pub fn add(&mut self, condition: Condition) -> Result<(), AllocError>
+        ensures ok { OnOk result (conditions_of self.new
+            ≡ conditions_of self.old ++ condition ∷ []) }
+        ensures err { OnErr result (conditions_of self.new ≡ conditions_of self.old) }
+    {
+        self.conditions.push(condition)?;
+        Ok(())
+    }
+
+    /// Whether a packet meets all conditions.
+    pub fn matches(&self, dissection: &Dissection<'_>) -> bool
+        ensures { result ≡ lets_through self.now dissection.now }
+    {
+        self.conditions
+            .iter()
+            .all(|condition| condition.holds(dissection))
+    }
+}

@@ -1,0 +1,133 @@
+//! What `Clone`, `PartialEq` and `Hash` of the types here mean, and what runs drop and count.
+ghost use Rattle.std.specs.Prelude.{◌≡◌, ◌≤◌, ◌<◌, ◌+◌, ◌-◌, ◌*◌, ◌^◌, ℕ, pos, true, not, is_some};
+ghost use Rattle.std.specs.Prelude.{List, [], ◌∷◌, Some, None};
+ghost use Rattle.std.specs.Hash as fed;
+ghost use Rattle.captures.specs.declared.packet.Packet.{Packet};
+ghost use Rattle.etherparse.specs.base.Traits.{IsPlainData, VariantFeeds};
+ghost use Rattle.etherparse.specs.defrag.Fragments.{Fragment};
+ghost use Rattle.etherparse.specs.defrag.PoolCalls.{Lists};
+ghost use Rattle.etherparse.specs.packet.Class.{FragmentName};
+ghost use Rattle.packets.specs.Courses.{Course, course_after, lists_at, no_course};
+ghost use Rattle.packets.specs.Forgetting.{ComeWithin, ForgetDrops};
+ghost use Rattle.packets.specs.Tally.{tally_of};
+ghost use Rattle.packets.specs.declared.outline.Outline.{Outline};
+ghost use Rattle.packets.specs.declared.reason.Reason.TheVariants as reason;
+
+use crate::{
+    ChecksumTallies, Condition, Ending, Headers, Net, NoProgress, Outline, PartState, PartTallies,
+    Protocol, Reason, ShowOptions, Sizes, Style, Tally, TimeForm, WordError,
+};
+use etherparse::err::Layer;
+use etherparse::laws::base::traits::Value;
+use std::hash::Hash;
+
+/// A copy is the value and takes no memory. Equal are the values that are the same.
+pub fn types_are_plain_data()
+    ensures condition { IsPlainData ⟦<Condition as Value>⟧ }
+    ensures word_error { IsPlainData ⟦<WordError as Value>⟧ }
+    ensures net { IsPlainData ⟦<Net as Value>⟧ }
+    ensures part_state { IsPlainData ⟦<PartState as Value>⟧ }
+    ensures protocol { IsPlainData ⟦<Protocol as Value>⟧ }
+    ensures reason { IsPlainData ⟦<Reason as Value>⟧ }
+    ensures no_progress { IsPlainData ⟦<NoProgress as Value>⟧ }
+    ensures show_options { IsPlainData ⟦<ShowOptions as Value>⟧ }
+    ensures style { IsPlainData ⟦<Style as Value>⟧ }
+    ensures time_form { IsPlainData ⟦<TimeForm as Value>⟧ }
+    ensures sizes { IsPlainData ⟦<Sizes as Value>⟧ }
+    ensures tally { IsPlainData ⟦<Tally as Value>⟧ }
+{}
+
+/// So are values that hold some of these.
+pub fn holders_are_plain_data()
+    ensures headers { IsPlainData ⟦<Headers as Value>⟧ }
+    ensures checksums { IsPlainData ⟦<ChecksumTallies as Value>⟧ }
+    ensures parts { IsPlainData ⟦<PartTallies as Value>⟧ }
+    ensures ending { IsPlainData ⟦<Ending as Value>⟧ }
+{
+    types_are_plain_data();
+    captures::laws::types_are_plain_data();
+}
+
+/// So are outlines of packets.
+pub fn outlines_are_plain_data()
+    ensures { IsPlainData ⟦<Outline as Value>⟧ }
+{
+    types_are_plain_data();
+    holders_are_plain_data();
+    netlines::laws::traits::types_are_plain_data();
+}
+
+/// A reason feeds a hasher its place, as it is declared, and then the layer that it names.
+pub fn reasons_hash_all_fields()
+    ensures cut_off { VariantFeeds ⟦<Reason as Hash>⟧.hash_input
+        0 reason.CutOff ⟦<Layer as Hash>⟧.hash_input }
+    ensures packet_type { ⟦<Reason as Hash>⟧.hash_input reason.CookedPacketType
+        ≡ fed.isize (pos 1) }
+    ensures memory { ⟦<Reason as Hash>⟧.hash_input reason.FragmentMemory ≡ fed.isize (pos 14) }
+{}
+
+/// While each packet comes less than so many seconds after the last fragment of a message that was
+/// accepted, the message is as if nothing were dropped.
+pub fn forget_keeps()
+    ensures { (seconds channel : ℕ) (name : FragmentName) (course : Course) (packets : List Packet)
+        → 0 < seconds → ComeWithin seconds name channel course packets
+        → (course_after (Some seconds) course packets).lists name channel
+        ≡ (course_after None course packets).lists name channel }
+{}
+
+/// Where the span that lasts began no later than the last fragment of a message that was accepted,
+/// the message is dropped in time: let a packet come so many seconds after the fragment, and then
+/// one that comes so many seconds after each up to that one.
+pub fn forget_drops()
+    ensures { ForgetDrops }
+{}
+
+/// With a packet by which a span has passed, a message is dropped of which no fragment was accepted
+/// since the span began.
+pub fn span_drops()
+    ensures { (seconds begin time channel : ℕ) (lists : Lists) (name : FragmentName)
+        → (lists name channel).time < begin → begin + 1_000_000_000 * seconds ≤ time
+        → (lists_at (Some seconds) (Some begin) time lists name channel).fragments ≡ [] }
+{}
+
+/// When the span began that lasts behind packets at 100, 105, 110, 119, 90 and 121 seconds, with
+/// spans of ten seconds, and what is dropped by the one at 110 seconds.
+pub fn worked_spans()
+    ensures first { (packet : ℕ → Packet)
+        → ((second : ℕ) → (packet second).time ≡ 1_000_000_000 * second)
+        → (course_after (Some 10) no_course (packet 100 ∷ packet 105 ∷ [])).begin
+        ≡ Some 100_000_000_000 }
+    ensures second { (packet : ℕ → Packet)
+        → ((second : ℕ) → (packet second).time ≡ 1_000_000_000 * second)
+        → (course_after (Some 10) no_course (packet 100 ∷ packet 105 ∷ packet 110 ∷ packet 119
+        ∷ packet 90 ∷ [])).begin ≡ Some 110_000_000_000 }
+    ensures third { (packet : ℕ → Packet)
+        → ((second : ℕ) → (packet second).time ≡ 1_000_000_000 * second)
+        → (course_after (Some 10) no_course (packet 100 ∷ packet 105 ∷ packet 110 ∷ packet 119
+        ∷ packet 90 ∷ packet 121 ∷ [])).begin ≡ Some 121_000_000_000 }
+    ensures dropped { (fs : List Fragment) (name : FragmentName)
+        → (lists_at (Some 10) (Some 100_000_000_000) 110_000_000_000
+        (λ name channel. record { fragments = fs; time = 99_999_999_999 }) name 0).fragments ≡ [] }
+    ensures kept { (fs : List Fragment) (name : FragmentName)
+        → (lists_at (Some 10) (Some 100_000_000_000) 110_000_000_000
+        (λ name channel. record { fragments = fs; time = 100_000_000_000 }) name 0).fragments
+        ≡ fs }
+    ensures early { (fs : List Fragment) (name : FragmentName)
+        → (lists_at (Some 10) (Some 100_000_000_000) 109_999_999_999
+        (λ name channel. record { fragments = fs; time = 0 }) name 0).fragments ≡ fs }
+{}
+
+/// Packets that are refused and the others are all packets, in number and bytes, where neither
+/// stops at the greatest count.
+pub fn refused_and_others_are_all()
+    ensures packets { (packets : List Outline)
+        → (tally_of (λ packet. true) packets).packets < 2 ^ 64 - 1
+        → (tally_of (λ packet. true) packets).packets
+        ≡ (tally_of (λ packet. is_some packet.refusal) packets).packets
+        + (tally_of (λ packet. not (is_some packet.refusal)) packets).packets }
+    ensures bytes { (packets : List Outline)
+        → (tally_of (λ packet. true) packets).bytes < 2 ^ 64 - 1
+        → (tally_of (λ packet. true) packets).bytes
+        ≡ (tally_of (λ packet. is_some packet.refusal) packets).bytes
+        + (tally_of (λ packet. not (is_some packet.refusal)) packets).bytes }
+{}

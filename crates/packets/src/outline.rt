@@ -1,0 +1,235 @@
+//! What filters and summaries ask of a packet.
+ghost use Rattle.std.specs.Prelude.{◌≡◌};
+ghost use Rattle.std.specs.List.{list_any};
+ghost use Rattle.etherparse.specs.packet.Readable.{message_at};
+ghost use Rattle.packets.specs.Headers.{has_header, net_addresses, net_number};
+ghost use Rattle.packets.specs.Outlines.{headers_of, is_ethernet, is_macsec, is_vlan};
+ghost use Rattle.packets.specs.Outlines.{message_refusal, net_of, outline_of, part_of};
+ghost use Rattle.packets.specs.Outlines.{part_refusal, refusal_of};
+
+use crate::{Dissection, Fragment, Protocol, Reason};
+use captures::Link;
+use etherparse::defrag::IpDefragPayloadVec;
+use etherparse::{Addresses, IpNumber, LinkExtSlice, NetSlice, SlicedPacket, read_message};
+use netlines::Verdict;
+
+/// What a summary takes of a packet.
+#[derive(Clone, Copy, Debug, PartialEq, Eq)]
+pub struct Outline {
+    /// The number of the packet.
+    pub number: u64,
+    /// When it was captured, in nanoseconds since 1970.
+    pub time: u64,
+    /// The bytes of its frame.
+    pub len: usize,
+    /// Its headers, none where it is refused.
+    pub headers: Headers,
+    /// Why it is refused, or the message that it completes.
+    pub refusal: Option<Reason>,
+    /// What became of it, if it is a part of a message.
+    pub part: Option<PartState>,
+    /// What its checksum tells, if a message was read.
+    pub verdict: Option<Verdict>,
+}
+
+/// Which headers a packet has.
+#[derive(Clone, Copy, Debug, PartialEq, Eq)]
+pub struct Headers {
+    /// Whether it was captured as an Ethernet frame.
+    pub ethernet: bool,
+    /// Whether it has a VLAN tag.
+    pub vlan: bool,
+    /// Whether it has a MACsec header.
+    pub macsec: bool,
+    /// The header of the network layer.
+    pub net: Option<Net>,
+}
+
+/// A header of the network layer.
+#[derive(Clone, Copy, Debug, PartialEq, Eq)]
+pub enum Net {
+    /// An ARP packet.
+    Arp,
+    /// An IP packet, and the protocol of its message.
+    Ip(Addresses, IpNumber),
+}
+
+/// What became of a part of a message.
+#[derive(Clone, Copy, Debug, PartialEq, Eq)]
+pub enum PartState {
+    /// Its message waits for others.
+    Waits,
+    /// It completes its message.
+    Completes,
+    /// It is refused.
+    Refused,
+}
+
+impl Outline {
+    /// The outline of a packet.
+    pub fn of(dissection: &Dissection<'_>) -> Outline
+        ensures { result ≡ outline_of dissection.now }
+    {
+        Outline {
+            number: dissection.number,
+            time: dissection.time,
+            len: dissection.len,
+            headers: Headers::of(dissection),
+            refusal: refusal_of(dissection),
+            part: part_of(&dissection.fragment),
+            verdict: dissection.verdict,
+        }
+    }
+}
+
+/// Why a packet is refused: by its headers, as a part of a message, or since the message that it
+/// completes can't be read.
+pub(crate) fn refusal_of(dissection: &Dissection<'_>) -> Option<Reason>
+    ensures { result ≡ refusal_of dissection.now.layers dissection.now.fragment }
+{
+    match &dissection.layers {
+        Err(error) => Some(Reason::of(*error)),
+        Ok(_) => part_refusal(&dissection.fragment),
+    }
+}
+
+fn part_refusal(fragment: &Option<Fragment>) -> Option<Reason>
+    ensures { result ≡ part_refusal fragment.now }
+{
+    match fragment {
+        Some(Fragment::Completes { message, .. }) => message_refusal(message),
+        Some(Fragment::Refused { error, .. }) => Some(Reason::of_part(*error)),
+        _ => None,
+    }
+}
+
+fn message_refusal(message: &IpDefragPayloadVec) -> Option<Reason>
+    ensures { result ≡ message_refusal
+        (message_at message.now.ip_number.0 message.now.payload.items) }
+{
+    match read_message(message.ip_number, message.payload.as_slice()) {
+        Ok(_) => None,
+        Err(error) => Some(Reason::of(error)),
+    }
+}
+
+fn part_of(fragment: &Option<Fragment>) -> Option<PartState>
+    ensures { result ≡ part_of fragment.now }
+{
+    match fragment {
+        Some(Fragment::Waits { .. }) => Some(PartState::Waits),
+        Some(Fragment::Completes { .. }) => Some(PartState::Completes),
+        Some(Fragment::Refused { .. }) => Some(PartState::Refused),
+        None => None,
+    }
+}
+
+impl Headers {
+    /// The headers of a packet.
+    pub fn of(dissection: &Dissection<'_>) -> Headers
+        ensures { result ≡ headers_of dissection.now.link dissection.now.layers }
+    {
+        let ethernet = is_ethernet(dissection.link);
+        match &dissection.layers {
+            Ok(packet) => Headers {
+                ethernet,
+                vlan: has_vlan(packet),
+                macsec: has_macsec(packet),
+                net: net_of(packet),
+            },
+            Err(_) => Headers {
+                ethernet,
+                vlan: false,
+                macsec: false,
+                net: None,
+            },
+        }
+    }
+
+    /// The addresses of an IP packet.
+    pub fn addresses(&self) -> Option<Addresses>
+        ensures { result ≡ net_addresses self.now.net }
+    {
+        match self.net {
+            Some(Net::Ip(addresses, _)) => Some(addresses),
+            _ => None,
+        }
+    }
+
+    /// The protocol of the message of an IP packet.
+    pub fn carried(&self) -> Option<IpNumber>
+        ensures { result ≡ net_number self.now.net }
+    {
+        match self.net {
+            Some(Net::Ip(_, number)) => Some(number),
+            _ => None,
+        }
+    }
+
+    /// Whether a header of this protocol is there.
+    pub fn has(&self, protocol: Protocol) -> bool
+        ensures { result ≡ has_header self.now protocol }
+    {
+        match protocol {
+            Protocol::Ethernet => self.ethernet,
+            Protocol::Vlan => self.vlan,
+            Protocol::Macsec => self.macsec,
+            Protocol::Arp => matches!(self.net, Some(Net::Arp)),
+            Protocol::Ipv4 => matches!(self.net, Some(Net::Ip(Addresses::V4 { .. }, _))),
+            Protocol::Ipv6 => matches!(self.net, Some(Net::Ip(Addresses::V6 { .. }, _))),
+            Protocol::OverIp(number) => match self.net {
+                Some(Net::Ip(_, carried)) => carried == number,
+                _ => false,
+            },
+        }
+    }
+}
+
+fn is_ethernet(link: Link) -> bool
+    ensures { result ≡ is_ethernet link }
+{
+    matches!(link, Link::Ethernet)
+}
+
+fn has_vlan(packet: &SlicedPacket<'_>) -> bool
+    ensures { result ≡ list_any is_vlan packet.now.link_exts.items }
+{
+    packet
+        .link_exts
+        .as_slice()
+        .iter()
+        .any(|tag| matches!(tag, LinkExtSlice::Vlan(_)))
+}
+
+fn has_macsec(packet: &SlicedPacket<'_>) -> bool
+    ensures { result ≡ list_any is_macsec packet.now.link_exts.items }
+{
+    packet
+        .link_exts
+        .as_slice()
+        .iter()
+        .any(|tag| matches!(tag, LinkExtSlice::Macsec(_)))
+}
+
+fn net_of(packet: &SlicedPacket<'_>) -> Option<Net>
+    ensures { result ≡ net_of packet.now.net }
+{
+    match &packet.net {
+        Some(NetSlice::Ipv4(packet)) => {
+            let addresses = Addresses::V4 {
+                source: packet.header().source(),
+                destination: packet.header().destination(),
+            };
+            Some(Net::Ip(addresses, packet.payload_ip_number()))
+        }
+        Some(NetSlice::Ipv6(packet)) => {
+            let addresses = Addresses::V6 {
+                source: packet.header().source(),
+                destination: packet.header().destination(),
+            };
+            Some(Net::Ip(addresses, packet.payload_ip_number()))
+        }
+        Some(NetSlice::Arp(_)) => Some(Net::Arp),
+        None => None,
+    }
+}

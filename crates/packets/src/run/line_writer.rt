@@ -1,0 +1,227 @@
+//! Writes the packets of a capture, a line for each.
+ghost use Rattle.std.specs.Prelude.{◌≡◌, ◌++◌, true, List, [], ℕ, IfOk, MatchResult, Option};
+ghost use Rattle.std.specs.Io.KnownBytes.{Appends, Consumes};
+ghost use Rattle.captures.specs.declared.packet.Packet.{Packet};
+ghost use Rattle.packets.specs.Courses.{AreDissected, no_course, shown};
+ghost use Rattle.packets.specs.Runs.{BreaksBy, EndsBy, IsWritten};
+ghost use Rattle.packets.specs.Written.{AreLines, one_line};
+ghost use Rattle.packets.specs.declared.dissection.Dissection.{Dissection};
+
+use crate::run::progress::NoProgress;
+use crate::run::rules::Rules;
+use crate::run::walk::{Visitor, walk};
+use crate::{Dissection, Dissector, JsonLines, ShowOptions};
+use captures::{PacketReader, RunError, Skipped};
+use runs::{Fault, ReaderWriter, write_whole};
+use std::alloc::{AllocError, Global};
+use std::io::{self, Read, Write};
+
+// So many bytes of lines are written at once, but for the line that reaches them.
+const WRITTEN_AT_ONCE: usize = 1 << 16;
+
+/// Tells of a packet in one line.
+pub trait LineWriter {
+    // Such a text may be told of a packet.
+    ghost tells: { Self → Dissection → List ℕ → Type 0 };
+
+    /// Puts the line of a packet into `out`, which is empty, without the 0a that ends it. Where it
+    /// has others, they are left out of the line.
+    fn write_line(&self, packet: &Dissection<'_>, out: &mut Vec<u8>) -> Result<(), AllocError>
+        requires { out.old.items ≡ [] }
+        ensures { IfOk result (λ _. tells self.now packet.now out.new.items) };
+}
+
+impl LineWriter for ShowOptions {
+    // Its texts are compared by tests.
+    ghost tells = { λ options packet text. Unit {0} };
+
+    fn write_line(&self, packet: &Dissection<'_>, out: &mut Vec<u8>) -> Result<(), AllocError> {
+        ShowOptions::write_line(self, packet, out)
+    }
+}
+
+impl LineWriter for JsonLines {
+    // Its texts are compared by tests.
+    ghost tells = { λ options packet text. Unit {0} };
+
+    fn write_line(&self, packet: &Dissection<'_>, out: &mut Vec<u8>) -> Result<(), AllocError> {
+        JsonLines::write_line(self, packet, out)
+    }
+}
+
+/// Writes a line for each packet that the filter lets through, up to the end of the capture or to
+/// where it is refused. All lines are written before the next read; `skipped` becomes how many
+/// packets are passed over.
+///
+/// Lines of packets before a refusal are written, also where memory is wanting for the next one. An
+/// error of the writer goes before why the packets end. No write is tried again, and none follows
+/// one that failed.
+pub fn write_lines<R: Read + Drop, W: Write, L: LineWriter>(
+    alloc: Global,
+    rules: &Rules,
+    lines: &L,
+    reader: R,
+    writer: &mut W,
+    skipped: &mut Skipped,
+) -> Result<(), RunError>
+    ensures { (read : List ℕ) × (left : Option (List ℕ)) × (given : List Packet)
+        × (told : List Dissection) × Consumes (R.remaining reader) left read
+        × EndsBy true rules.now.unfit skipped.new left read given result
+        × AreDissected rules.now.forget no_course given told
+        × (text : List ℕ) × AreLines (L.tells lines.now) (shown rules.now.filter told) text
+        × (written : List ℕ) × Appends (W.contents writer.old) (W.contents writer.new) written
+        × IsWritten result text written }
+{
+    *skipped = Skipped::NONE;
+    let Ok(mut packets) = PacketReader::new(alloc, rules.unfit, reader) else {
+        return Err(RunError::Memory);
+    };
+    let mut dissector = Dissector::new(alloc);
+    let mut output = LineOutput {
+        lines,
+        writer,
+        texts: Texts {
+            line: Vec::new(alloc),
+            waiting: Vec::new(alloc),
+        },
+    };
+    let result = walk(
+        rules,
+        &mut packets,
+        &mut dissector,
+        &mut output,
+        &mut NoProgress,
+    );
+    *skipped = packets.skipped();
+    let written = output.write_out();
+    let LineOutput { writer, texts, .. } = output;
+    drop(texts);
+    // No effect at run time. The proof reads here what the writer holds at the end.
+    let _ = &*writer;
+    match written {
+        Ok(()) => result,
+        Err(error) => Err(error),
+    }
+}
+
+// The last line, or what was put there of it, and the lines that wait to be written.
+#[derive(Drop)]
+struct Texts {
+    line: Vec<u8>,
+    waiting: Vec<u8>,
+}
+
+// Where lines go.
+#[derive(Drop)]
+struct LineOutput<'a, L, W> {
+    lines: &'a L,
+    writer: &'a mut W,
+    texts: Texts,
+}
+
+impl<'a, L: LineWriter, W: Write> Visitor for LineOutput<'a, L, W> {
+    ghost use Rattle.packets.specs.Written.{AreLines};
+
+    ghost writes = { true };
+
+    // What is written and what waits are the lines.
+    ghost goes = { λ start now seen. (now.writer.ghost_name ≡ start.writer.ghost_name)
+        × (now.lines ≡ start.lines) × (written : List ℕ)
+        × Appends (W.contents start.writer.now) (W.contents now.writer.now) written
+        × AreLines (L.tells start.lines.now) seen (written ++ now.texts.waiting.items) };
+
+    // What is written is a front of the lines, and none wait.
+    ghost breaks = { λ start now seen. (now.writer.ghost_name ≡ start.writer.ghost_name)
+        × (now.texts.waiting.items ≡ []) × (written : List ℕ) × (rest : List ℕ)
+        × Appends (W.contents start.writer.now) (W.contents now.writer.now) written
+        × AreLines (L.tells start.lines.now) seen (written ++ rest) };
+
+    fn visit(&mut self, packet: &Dissection<'_>) -> Result<(), AllocError> {
+        self.texts.take_line(self.lines, packet)
+    }
+
+    fn before_packet(&mut self) -> Result<(), RunError> {
+        if self.texts.waiting.len() < WRITTEN_AT_ONCE {
+            Ok(())
+        } else {
+            self.write_out()
+        }
+    }
+
+    fn before_read(&mut self) -> Result<(), RunError> {
+        self.write_out()
+    }
+}
+
+impl<'a, L: LineWriter, W: Write> LineOutput<'a, L, W> {
+    // Writes all lines that wait. None wait then, also where a write failed.
+    fn write_out(&mut self) -> Result<(), RunError>
+        ensures name { self.new.writer.ghost_name ≡ self.old.writer.ghost_name }
+        ensures lines { self.new.lines ≡ self.old.lines }
+        ensures waiting { self.new.texts.waiting.items ≡ [] }
+        ensures written { MatchResult result
+            (λ _. Appends (W.contents self.old.writer.now) (W.contents self.new.writer.now)
+            self.old.texts.waiting.items)
+            (λ error. BreaksBy true error ((front : List ℕ) × (rest : List ℕ)
+            × Appends (W.contents self.old.writer.now) (W.contents self.new.writer.now) front
+            × (self.old.texts.waiting.items ≡ front ++ rest))) }
+    {
+        let written = write_text(&mut *self.writer, self.texts.waiting.as_slice());
+        self.texts.waiting.clear();
+        written
+    }
+}
+
+impl Texts {
+    // Has the line of a packet wait behind the others. Where memory is wanting for it, these stay.
+    fn take_line<L: LineWriter>(
+        &mut self,
+        lines: &L,
+        packet: &Dissection<'_>,
+    ) -> Result<(), AllocError>
+        ensures { MatchResult result
+            (λ _. (line : List ℕ) × L.tells lines.now packet.now line
+            × (self.new.waiting.items ≡ self.old.waiting.items ++ one_line line))
+            (λ _. self.new.waiting.items ≡ self.old.waiting.items) }
+    {
+        self.line.clear();
+        if let Err(error) = lines.write_line(packet, &mut self.line) {
+            return Err(error);
+        }
+        self.line.retain(|byte| *byte != b'\n');
+        if self.line.push(b'\n').is_err() {
+            return Err(AllocError);
+        }
+        self.waiting.extend_from_slice(&self.line)
+    }
+}
+
+fn write_text<W: Write>(writer: &mut W, text: &[u8]) -> Result<(), RunError>
+    ensures { MatchResult result
+        (λ _. Appends (W.contents writer.old) (W.contents writer.new) text.now)
+        (λ error. BreaksBy true error ((front : List ℕ) × (rest : List ℕ)
+        × Appends (W.contents writer.old) (W.contents writer.new) front
+        × (text.now ≡ front ++ rest))) }
+{
+    let mut nothing = io::empty();
+    let mut device = ReaderWriter {
+        reader: &mut nothing,
+        writer,
+    };
+    let written = write_whole(&mut device, text);
+    // No effect at run time. The proof reads here what the writer holds at the end.
+    let _ = &*device.writer;
+    match written {
+        Ok(()) => Ok(()),
+        Err(fault) => Err(write_error(fault)),
+    }
+}
+
+fn write_error(fault: Fault) -> RunError
+    ensures { BreaksBy true result (Unit {0}) }
+{
+    match fault {
+        Fault::NothingTaken => RunError::WriteZero,
+        _ => RunError::Write,
+    }
+}

@@ -1,0 +1,95 @@
+//! Counts the packets of a capture.
+ghost use Rattle.std.specs.Prelude.{◌≡◌, ◌++◌, false, List, ℕ, Option, map};
+ghost use Rattle.std.specs.Io.KnownBytes.{Consumes};
+ghost use Rattle.captures.specs.declared.packet.Packet.{Packet};
+ghost use Rattle.etherparse.specs.defrag.OpenMessages.{IsOpenCount};
+ghost use Rattle.packets.specs.Counts.{Counts};
+ghost use Rattle.packets.specs.Courses.{AreDissected, course_after, no_course, shown};
+ghost use Rattle.packets.specs.Outlines.{outline_of};
+ghost use Rattle.packets.specs.Runs.{EndsBy, UnlessWanting};
+ghost use Rattle.packets.specs.declared.dissection.Dissection.{Dissection};
+ghost use Rattle.packets.specs.declared.outline.Outline.{Outline};
+
+use crate::run::progress::Progress;
+use crate::run::rules::Rules;
+use crate::run::walk::{Visitor, walk};
+use crate::{Dissection, Dissector, Reason, Summary};
+use captures::{PacketReader, RunError, Skipped};
+use etherparse::Addresses;
+use std::alloc::{AllocError, Global};
+use std::hash::BuildHasher;
+use std::io::Read;
+
+/// How a run over a capture ended.
+#[derive(Clone, Copy, Debug, PartialEq, Eq)]
+pub struct Ending {
+    /// How many messages were on their way still.
+    pub open: usize,
+    /// How many packets were passed over.
+    pub skipped: Skipped,
+    /// Whether the whole capture was read, or why not.
+    pub result: Result<(), RunError>,
+}
+
+/// Counts the packets that the filter lets through, up to the end of the capture or to where it is
+/// refused.
+pub fn summarize<R: Read + Drop, S: BuildHasher, P: Progress>(
+    alloc: Global,
+    rules: &Rules,
+    summary: &mut Summary<S>,
+    reader: R,
+    progress: &mut P,
+) -> Ending
+    ensures { (read : List ℕ) × (left : Option (List ℕ)) × (given : List Packet)
+        × (told : List Dissection) × Consumes (R.remaining reader) left read
+        × EndsBy false rules.now.unfit result.skipped left read given result.result
+        × AreDissected rules.now.forget no_course given told
+        × ((counted : List Outline)
+        → Counts ⟦<Reason as PartialEq>⟧.eq ⟦<Addresses as PartialEq>⟧.eq summary.old counted
+        → Counts ⟦<Reason as PartialEq>⟧.eq ⟦<Addresses as PartialEq>⟧.eq summary.new
+        (counted ++ map outline_of (shown rules.now.filter told)))
+        × UnlessWanting result.result
+        (IsOpenCount (course_after rules.now.forget no_course given).lists result.open) }
+{
+    let mut dissector = Dissector::new(alloc);
+    let Ok(mut packets) = PacketReader::new(alloc, rules.unfit, reader) else {
+        return Ending {
+            open: 0,
+            skipped: Skipped::NONE,
+            result: Err(RunError::Memory),
+        };
+    };
+    let result = walk(rules, &mut packets, &mut dissector, summary, progress);
+    Ending {
+        open: dissector.open(),
+        skipped: packets.skipped(),
+        result,
+    }
+}
+
+impl<S: BuildHasher> Visitor for Summary<S> {
+    ghost use Rattle.packets.specs.Counts.{Counts};
+    ghost use Rattle.packets.specs.Outlines.{outline_of};
+
+    ghost writes = { false };
+
+    // All packets that are seen are counted beside those that were.
+    ghost goes = { λ start now seen. (counted : List Outline)
+        → Counts ⟦<Reason as PartialEq>⟧.eq ⟦<Addresses as PartialEq>⟧.eq start counted
+        → Counts ⟦<Reason as PartialEq>⟧.eq ⟦<Addresses as PartialEq>⟧.eq now
+        (counted ++ map outline_of seen) };
+
+    ghost breaks = { λ start now seen. ⊥ };
+
+    fn visit(&mut self, packet: &Dissection<'_>) -> Result<(), AllocError> {
+        self.add(packet)
+    }
+
+    fn before_packet(&mut self) -> Result<(), RunError> {
+        Ok(())
+    }
+
+    fn before_read(&mut self) -> Result<(), RunError> {
+        Ok(())
+    }
+}

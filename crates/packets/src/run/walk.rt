@@ -1,0 +1,166 @@
+//! A walk over the packets of a capture.
+ghost use Rattle.std.specs.Prelude.{◌≡◌, ◌≤◌, ◌∷◌, ◌++◌, Bool, Option, Ok, Err, List, [], ℕ};
+ghost use Rattle.std.specs.Prelude.{MatchResult, None, filter};
+ghost use Rattle.std.specs.Io.KnownBytes.{Consumes};
+ghost use Rattle.captures.specs.Readers.{ComesTo, HasRead, skipped_by, source_of};
+ghost use Rattle.captures.specs.declared.packet.Packet.{Packet};
+ghost use Rattle.captures.specs.declared.unfit.Unfit.{Unfit};
+ghost use Rattle.packets.specs.Begun.{ShowsBegun, none_begun};
+ghost use Rattle.packets.specs.Conditions.{lets_through};
+ghost use Rattle.packets.specs.Courses.{AreDissected, Course, HasCourse, IsDissected, course_after};
+ghost use Rattle.packets.specs.Courses.{forgotten, next_course, no_course, shown};
+ghost use Rattle.packets.specs.Runs.{BreaksBy, EndsBy, Unbroken, UnlessWanting};
+ghost use Rattle.etherparse.specs.defrag.PoolCalls.{ShowsLists, no_lists};
+ghost use Rattle.packets.specs.declared.dissection.Dissection.{Dissection};
+
+use crate::run::progress::{Progress, tell_step};
+use crate::run::rules::{Rules, Spans};
+use crate::{Dissection, Dissector};
+use captures::{Packet, PacketReader, RunError};
+use std::alloc::AllocError;
+use std::io::Read;
+
+/// Is shown the packets that a filter lets through, one after the other.
+pub(crate) trait Visitor {
+    // Whether it writes.
+    ghost writes: { Bool };
+
+    // From one state these packets lead to another.
+    ghost goes: { Self → Self → List Dissection → Type 0 };
+
+    // And to this one where a write then failed.
+    ghost breaks: { Self → Self → List Dissection → Type 0 };
+
+    /// Goes on by a packet, unless memory is wanting for it.
+    fn visit(&mut self, packet: &Dissection<'_>) -> Result<(), AllocError>
+        ensures { (start : Self) (seen : List Dissection) → goes start self.old seen
+            → MatchResult result (λ _. goes start self.new (seen ++ packet.now ∷ []))
+            (λ _. goes start self.new seen) };
+
+    /// Does what is due before the next packet.
+    fn before_packet(&mut self) -> Result<(), RunError>
+        ensures { (start : Self) (seen : List Dissection) → goes start self.old seen
+            → MatchResult result (λ _. goes start self.new seen)
+            (λ error. BreaksBy writes error (breaks start self.new seen)) };
+
+    /// Does what is due before a read, which may wait.
+    fn before_read(&mut self) -> Result<(), RunError>
+        ensures { (start : Self) (seen : List Dissection) → goes start self.old seen
+            → MatchResult result (λ _. goes start self.new seen)
+            (λ error. BreaksBy writes error (breaks start self.new seen)) };
+}
+
+/// Shows a visitor each packet that the filter lets through, up to the end of the capture or to
+/// where it is refused.
+///
+/// Before each read the visitor is told, so that it keeps nothing back while a read waits. As many
+/// packets as 64 bits count end a walk as too many reads do.
+pub(crate) fn walk<R: Read + Drop, V: Visitor, P: Progress>(
+    rules: &Rules,
+    packets: &mut PacketReader<R>,
+    dissector: &mut Dissector,
+    visitor: &mut V,
+    progress: &mut P,
+) -> Result<(), RunError>
+    requires unread { HasRead rules.now.unfit packets.old [] [] }
+    requires messages { ShowsLists dissector.old.messages.pool no_lists }
+    requires begun { ShowsBegun dissector.old.messages.beginnings no_lists none_begun }
+    requires number { dissector.old.number ≡ 0 }
+    requires first_time { dissector.old.first_time ≡ None }
+    requires begins { V.goes visitor.old visitor.old [] }
+    ensures { (read : List ℕ) × (given : List Packet) × (told : List Dissection)
+        × Consumes (R.remaining (source_of packets.old)) (R.remaining (source_of packets.new)) read
+        × EndsBy V.writes rules.now.unfit (skipped_by packets.new)
+        (R.remaining (source_of packets.new)) read given result
+        × AreDissected rules.now.forget no_course given told
+        × Unbroken result (V.goes visitor.old visitor.new (shown rules.now.filter told))
+        (V.breaks visitor.old visitor.new (shown rules.now.filter told))
+        × UnlessWanting result (ShowsLists dissector.new.messages.pool
+        (course_after rules.now.forget no_course given).lists) }
+{
+    let mut spans = Spans::of(rules.forget);
+    let mut count: u64 = 0;
+    let mut steps = 0;
+    'packets: while count < u64::MAX {
+        match go_on(packets, visitor, progress, &mut steps) {
+            Ok(true) => {}
+            Ok(false) => return Ok(()),
+            Err(error) => return Err(error),
+        }
+        let Some(packet) = packets.packet() else {
+            return Ok(());
+        };
+        match take(rules, &packet, &mut spans, dissector, visitor) {
+            Ok(()) => count += 1,
+            Err(_) => return Err(RunError::Memory),
+        }
+    }
+    Err(RunError::TooManyReads)
+}
+
+// Goes on to the next packet, and tells whether there is one. The visitor is told before, and once
+// more where a read is wanted for it.
+fn go_on<R: Read + Drop, V: Visitor, P: Progress>(
+    packets: &mut PacketReader<R>,
+    visitor: &mut V,
+    progress: &mut P,
+    steps: &mut u64,
+) -> Result<bool, RunError>
+    ensures { (unfit : Unfit) (read : List ℕ) (given : List Packet) (start : V)
+        (seen : List Dissection) → HasRead unfit packets.old read given
+        → V.goes start visitor.old seen → (more : List ℕ)
+        × Consumes (R.remaining (source_of packets.old)) (R.remaining (source_of packets.new)) more
+        × MatchResult result
+        (λ found. ComesTo unfit packets.new (R.remaining (source_of packets.new)) (read ++ more)
+        given (Ok found) × V.goes start visitor.new seen)
+        (λ error. EndsBy V.writes unfit (skipped_by packets.new)
+        (R.remaining (source_of packets.new)) (read ++ more) given (Err error)
+        × Unbroken (Err error) (V.goes start visitor.new seen) (V.breaks start visitor.new seen)) }
+{
+    if let Err(error) = visitor.before_packet() {
+        return Err(error);
+    }
+    match packets.advance_held() {
+        Ok(true) => return Ok(true),
+        Ok(false) => {}
+        Err(error) => return Err(RunError::from(error)),
+    }
+    if let Err(error) = visitor.before_read() {
+        return Err(error);
+    }
+    tell_step(progress, steps, packets.consumed());
+    match packets.advance() {
+        Ok(found) => Ok(found),
+        Err(error) => Err(RunError::from(error)),
+    }
+}
+
+// Takes the next packet, unless memory is wanting for it.
+fn take<V: Visitor>(
+    rules: &Rules,
+    packet: &Packet<'_>,
+    spans: &mut Spans,
+    dissector: &mut Dissector,
+    visitor: &mut V,
+) -> Result<(), AllocError>
+    ensures { (seconds : Option ℕ) (course : Course) (start : V) (seen : List Dissection)
+        → HasCourse seconds course dissector.old spans.old → V.goes start visitor.old seen
+        → MatchResult result
+        (λ _. (told : Dissection)
+        × IsDissected (forgotten seconds packet.now.time course) packet.now told
+        × V.goes start visitor.new (seen ++ filter (lets_through rules.now.filter) (told ∷ []))
+        × HasCourse seconds (next_course seconds course packet.now) dissector.new spans.new)
+        (λ _. V.goes start visitor.new seen) }
+{
+    spans.go_on(packet.time, dissector);
+    let Ok(dissection) = dissector.dissect(packet) else {
+        return Err(AllocError);
+    };
+    if rules.filter.matches(&dissection) {
+        if let Err(error) = visitor.visit(&dissection) {
+            return Err(error);
+        }
+    }
+    dissector.give_back(dissection);
+    Ok(())
+}

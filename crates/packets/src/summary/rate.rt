@@ -1,0 +1,93 @@
+//! How many packets there are in each span of time.
+ghost use Rattle.std.specs.Prelude.{◌≡◌, ◌<◌, ◌≤◌, ◌+◌, ◌*◌, ◌^◌, ◌++◌, ◌∷◌, ℕ, [], List, length};
+ghost use Rattle.std.specs.Prelude.{slice_index};
+ghost use Rattle.captures.specs.Numbers.{capped};
+
+use crate::Outline;
+
+/// The spans that are told apart.
+pub const SPAN_COUNT: usize = 64;
+
+// 1/512 second, which is a whole number of nanoseconds. Nine times doubled it is a second.
+const SHORTEST: u64 = 1_953_125;
+
+/// How many packets came in each of 64 spans of equal length, from the first packet on. What came
+/// with a time before it counts to the first span. A span has 1/512 second, or that doubled as
+/// often as it takes to reach the last packet: where one comes behind the last span, each two spans
+/// become one. So the memory is the same however long a capture is. Counts stop at the greatest
+/// number of 64 bits.
+#[derive(Drop)]
+pub struct Rate {
+    /// When the first packet was captured, in nanoseconds since 1970.
+    pub begin: Option<u64>,
+    /// The length of a span in nanoseconds.
+    pub span: u64,
+    /// The packets of each span.
+    pub counts: [u64; SPAN_COUNT],
+    ghost positive: { 0 < span },
+}
+
+impl Rate {
+    ghost use Rattle.packets.specs.Rate.{CountsBySpan, CountsSpans};
+    ghost use Rattle.packets.specs.declared.outline.Outline.{Outline};
+
+    /// No packet.
+    pub fn new() -> Rate
+        ensures { CountsSpans result [] }
+    {
+        Rate {
+            begin: None,
+            span: SHORTEST,
+            counts: no_counts(),
+        }
+    }
+
+    /// Counts one packet more.
+    pub fn add(&mut self, packet: &Outline)
+        ensures { (packets : List Outline) → CountsSpans self.old packets
+            → CountsSpans self.new (packets ++ packet.now ∷ []) }
+    {
+        let begin = self.begin.unwrap_or(packet.time);
+        let since = packet.time.saturating_sub(begin);
+        'spans: while since / self.span >= SPAN_COUNT as u64 {
+            self.double();
+        }
+        let place = (since / self.span) as usize;
+        self.begin = Some(begin);
+        self.counts[place] = self.counts[place].saturating_add(1);
+    }
+
+    // Makes one span of each two.
+    fn double(&mut self)
+        requires { self.old.span < 2 ^ 63 }
+        ensures counted { (packets : List Outline) → CountsBySpan self.old packets
+            → CountsBySpan self.new packets }
+        ensures span { self.new.span ≡ 2 * self.old.span }
+        ensures begin { self.new.begin ≡ self.old.begin }
+        ensures size { length self.new.counts ≡ SPAN_COUNT }
+    {
+        self.counts = joined(&self.counts);
+        self.span *= 2;
+    }
+}
+
+// One count of each two.
+fn joined(counts: &[u64; SPAN_COUNT]) -> [u64; SPAN_COUNT]
+    ensures pairs { (k : ℕ) → k < 32 → slice_index result k
+        ≡ capped (slice_index counts.now (2 * k) + slice_index counts.now (2 * k + 1)) }
+    ensures rest { (k : ℕ) → 32 ≤ k → slice_index result k ≡ 0 }
+    ensures size { length result ≡ SPAN_COUNT }
+{
+    let mut joined = no_counts();
+    'pairs: for place in 0..SPAN_COUNT / 2 {
+        joined[place] = counts[2 * place].saturating_add(counts[2 * place + 1]);
+    }
+    joined
+}
+
+fn no_counts() -> [u64; SPAN_COUNT]
+    ensures zero { (k : ℕ) → slice_index result k ≡ 0 }
+    ensures size { length result ≡ SPAN_COUNT }
+{
+    [0; SPAN_COUNT]
+}

@@ -1,0 +1,336 @@
+//! A summary as text.
+
+use crate::summary::bars::{Bar, column, steps_of};
+use crate::summary::rate::Rate;
+use crate::summary::sizes::Sizes;
+use crate::summary::summary::{ChecksumTallies, ProtocolTallies, Summary};
+use crate::summary::table::Table;
+use crate::summary::tally::Tally;
+use crate::{Protocol, Reason};
+use captures::Skipped;
+use etherparse::{Addresses, IpNumber};
+use std::fmt;
+use std::hash::BuildHasher;
+use std::net::{Ipv4Addr, Ipv6Addr};
+
+// The titles of the columns before the last.
+const TITLES: &str = "   packets   share           bytes   share     first  ";
+
+// So many talkers are told.
+const TALKER_COUNT: usize = 10;
+
+// So many columns has the longest bar.
+const BAR_COLUMNS: u32 = 32;
+
+/// What is told of a capture at its end. It has no contract: tests compare the texts.
+#[derive(Drop)]
+pub struct Report<'s, S: BuildHasher> {
+    /// Its packets, counted.
+    pub summary: &'s Summary<S>,
+    /// How many messages were on their way still.
+    pub open: usize,
+    /// How many packets were passed over.
+    pub skipped: Skipped,
+}
+
+impl<S: BuildHasher> fmt::Display for Report<'_, S> {
+    fn fmt<W: fmt::Write>(&self, f: &mut fmt::Formatter<W>) -> fmt::Result {
+        let summary = self.summary;
+        if summary.all.packets == 0 {
+            writeln!(f, "no packets")?;
+            self.write_parts(f)?;
+        } else {
+            write_kinds(f, summary)?;
+            self.write_parts(f)?;
+            write_talkers(f, &summary.talkers, &summary.all)?;
+            write_sizes(f, &summary.sizes, summary.all.packets)?;
+            write_rate(f, &summary.rate)?;
+        }
+        self.write_skipped(f)
+    }
+}
+
+impl<S: BuildHasher> Report<'_, S> {
+    fn write_parts<W: fmt::Write>(&self, f: &mut fmt::Formatter<W>) -> fmt::Result {
+        let parts = &self.summary.parts;
+        let all = &self.summary.all;
+        let open = self.open;
+        if parts.all.packets > 0 {
+            write_title(f, "fragments")?;
+            write_row(f, &parts.all, all, "all fragments")?;
+            write_row(f, &parts.completing, all, "completing a message")?;
+            write_row(f, &parts.refused, all, "refused")?;
+        } else if open > 0 {
+            // Of fragments that aren't among the packets told.
+            writeln!(f)?;
+        } else {
+            return Ok(());
+        }
+        writeln!(f, "messages open at the end: {open}")
+    }
+
+    fn write_skipped<W: fmt::Write>(&self, f: &mut fmt::Formatter<W>) -> fmt::Result {
+        if self.skipped == Skipped::NONE {
+            return Ok(());
+        }
+        let skipped = self.skipped;
+        writeln!(f, "\npassed over: {skipped}")
+    }
+}
+
+// The packets by their protocols, by why they are refused, and by their checksums.
+fn write_kinds<W: fmt::Write, S: BuildHasher>(
+    f: &mut fmt::Formatter<W>,
+    summary: &Summary<S>,
+) -> fmt::Result {
+    let all = summary.all;
+    writeln!(f, "{TITLES}protocol")?;
+    write_row(f, &all, &all, "all packets")?;
+    write_protocols(f, &summary.protocols, &all)?;
+    if summary.refused.packets > 0 {
+        write_title(f, "refused because")?;
+        write_reasons(f, &summary.reasons, &all)?;
+    }
+    write_checksums(f, &summary.checksums, &all)
+}
+
+// What checksums tell, if a message was read.
+fn write_checksums<W: fmt::Write>(
+    f: &mut fmt::Formatter<W>,
+    tallies: &ChecksumTallies,
+    all: &Tally,
+) -> fmt::Result {
+    let (good, bad, none) = (&tallies.good, &tallies.bad, &tallies.none);
+    if good.packets == 0 && bad.packets == 0 && none.packets == 0 {
+        return Ok(());
+    }
+    write_title(f, "checksum")?;
+    write_row(f, good, all, "good")?;
+    write_row(f, bad, all, "bad")?;
+    write_row(f, none, all, "none")
+}
+
+fn write_title<W: fmt::Write>(f: &mut fmt::Formatter<W>, title: &str) -> fmt::Result {
+    writeln!(f, "\n{TITLES}{title}")
+}
+
+// A row of a table, if there is such a packet.
+fn write_row<W: fmt::Write>(
+    f: &mut fmt::Formatter<W>,
+    tally: &Tally,
+    all: &Tally,
+    name: impl fmt::Display + Drop,
+) -> fmt::Result {
+    let Some(first) = tally.first else {
+        return Ok(());
+    };
+    let packets = tally.packets;
+    let bytes = tally.bytes;
+    write!(f, "{packets:>10} ")?;
+    write_share(f, packets, all.packets)?;
+    write!(f, " {bytes:>15} ")?;
+    write_share(f, bytes, all.bytes)?;
+    writeln!(f, " {first:>9}  {name}")
+}
+
+// A part of a whole in tenths of a percent, rounded. No part is more than its whole, and one that
+// is less has less than 100 percent.
+fn write_share<W: fmt::Write>(f: &mut fmt::Formatter<W>, part: u64, whole: u64) -> fmt::Result {
+    let greatest = if part < whole { 999 } else { 1000 };
+    let whole = u128::from(whole.max(1));
+    let tenths = ((u128::from(part) * 1000 + whole / 2) / whole).min(greatest) as u64;
+    let (percent, rest) = (tenths / 10, tenths % 10);
+    write!(f, "{percent:>3}.{rest} %")
+}
+
+fn write_protocols<W: fmt::Write>(
+    f: &mut fmt::Formatter<W>,
+    tallies: &ProtocolTallies,
+    all: &Tally,
+) -> fmt::Result {
+    write_row(f, &tallies.ethernet, all, Protocol::Ethernet)?;
+    write_row(f, &tallies.vlan, all, Protocol::Vlan)?;
+    write_row(f, &tallies.macsec, all, Protocol::Macsec)?;
+    write_row(f, &tallies.arp, all, Protocol::Arp)?;
+    write_row(f, &tallies.ipv4, all, Protocol::Ipv4)?;
+    write_row(f, &tallies.ipv6, all, Protocol::Ipv6)?;
+    for number in 0..=u8::MAX {
+        let number = IpNumber(number);
+        write_row(
+            f,
+            &tallies.over_ip.get(number),
+            all,
+            Protocol::OverIp(number),
+        )?;
+    }
+    Ok(())
+}
+
+fn write_reasons<W: fmt::Write, S: BuildHasher>(
+    f: &mut fmt::Formatter<W>,
+    reasons: &Table<Reason, S>,
+    all: &Tally,
+) -> fmt::Result {
+    for index in 0..reasons.len() {
+        if let Some((reason, tally)) = reasons.get(index) {
+            write_row(f, tally, all, reason)?;
+        }
+    }
+    Ok(())
+}
+
+fn write_talkers<W: fmt::Write, S: BuildHasher>(
+    f: &mut fmt::Formatter<W>,
+    talkers: &Table<Addresses, S>,
+    all: &Tally,
+) -> fmt::Result {
+    if talkers.is_empty() {
+        return Ok(());
+    }
+    write_title(f, "from > to")?;
+    let mut last = None;
+    for _ in 0..TALKER_COUNT {
+        let Some(rank) = next_rank(talkers, last) else {
+            break;
+        };
+        if let Some((addresses, tally)) = talkers.get(rank.index) {
+            write_talker(f, addresses, tally, all)?;
+        }
+        last = Some(rank);
+    }
+    let more = talkers.len().saturating_sub(TALKER_COUNT);
+    if more > 0 {
+        writeln!(f, "and {more} more")?;
+    }
+    Ok(())
+}
+
+fn write_talker<W: fmt::Write>(
+    f: &mut fmt::Formatter<W>,
+    addresses: &Addresses,
+    tally: &Tally,
+    all: &Tally,
+) -> fmt::Result {
+    match addresses {
+        Addresses::V4 {
+            source,
+            destination,
+        } => {
+            let (from, to) = (Ipv4Addr::from(*source), Ipv4Addr::from(*destination));
+            write_row(f, tally, all, format_args!("{from} > {to}"))
+        }
+        Addresses::V6 {
+            source,
+            destination,
+        } => {
+            let (from, to) = (Ipv6Addr::from(*source), Ipv6Addr::from(*destination));
+            write_row(f, tally, all, format_args!("{from} > {to}"))
+        }
+    }
+}
+
+// The place of a talker among all: by its bytes, and then by when it came first.
+#[derive(Clone, Copy)]
+struct Rank {
+    bytes: u64,
+    index: usize,
+}
+
+impl Rank {
+    fn is_before(self, other: Rank) -> bool {
+        self.bytes > other.bytes || (self.bytes == other.bytes && self.index < other.index)
+    }
+}
+
+// The first of the talkers that come after this one, or of all.
+fn next_rank<S: BuildHasher>(talkers: &Table<Addresses, S>, last: Option<Rank>) -> Option<Rank> {
+    let mut next: Option<Rank> = None;
+    for index in 0..talkers.len() {
+        if let Some((_, tally)) = talkers.get(index) {
+            let rank = Rank {
+                bytes: tally.bytes,
+                index,
+            };
+            let is_after = match last {
+                Some(last) => last.is_before(rank),
+                None => true,
+            };
+            let is_first = match next {
+                Some(next) => rank.is_before(next),
+                None => true,
+            };
+            if is_after && is_first {
+                next = Some(rank);
+            }
+        }
+    }
+    next
+}
+
+fn write_sizes<W: fmt::Write>(
+    f: &mut fmt::Formatter<W>,
+    sizes: &Sizes,
+    packets: u64,
+) -> fmt::Result {
+    writeln!(f, "\n   packets   share  bytes of a frame")?;
+    let most = sizes.counts.iter().copied().max().unwrap_or(0);
+    for digits in 0..sizes.counts.len() {
+        let count = sizes.counts[digits];
+        if count > 0 {
+            write!(f, "{count:>10} ")?;
+            write_share(f, count, packets)?;
+            let eighths = steps_of(count, most, 8 * BAR_COLUMNS);
+            let (least, greatest) = ends_of(digits as u32);
+            let bar = Bar { eighths };
+            writeln!(f, "  {least:>6} to {greatest:<6} {bar}")?;
+        }
+    }
+    Ok(())
+}
+
+// The least and the greatest number of so many binary digits.
+fn ends_of(digits: u32) -> (u64, u64) {
+    if digits == 0 || digits > 64 {
+        return (0, 0);
+    }
+    let greatest = u64::MAX >> (64 - digits);
+    (greatest / 2 + 1, greatest)
+}
+
+fn write_rate<W: fmt::Write>(f: &mut fmt::Formatter<W>, rate: &Rate) -> fmt::Result {
+    let most = rate.counts.iter().copied().max().unwrap_or(0);
+    if most == 0 {
+        return Ok(());
+    }
+    // Rounded up, so that no span has more.
+    let a_second = (u128::from(most) * 1_000_000_000).div_ceil(u128::from(rate.span));
+    f.write_str("\npackets a second, by spans of ")?;
+    write_seconds(f, rate.span)?;
+    writeln!(f, ": {a_second} at most")?;
+    let used = match rate.counts.iter().rposition(|count| *count > 0) {
+        Some(last) => last.saturating_add(1),
+        None => 0,
+    };
+    for count in rate.counts.iter().take(used) {
+        f.write_str(column(steps_of(*count, most, 8)))?;
+    }
+    writeln!(f)
+}
+
+// A span of time, whose fraction of a second has up to nine digits.
+fn write_seconds<W: fmt::Write>(f: &mut fmt::Formatter<W>, nanoseconds: u64) -> fmt::Result {
+    let seconds = nanoseconds / 1_000_000_000;
+    write!(f, "{seconds}")?;
+    let mut rest = nanoseconds % 1_000_000_000;
+    if rest > 0 {
+        let mut digits = 9usize;
+        for _ in 0..9 {
+            if rest % 10 == 0 {
+                rest /= 10;
+                digits = digits.saturating_sub(1);
+            }
+        }
+        write!(f, ".{rest:0digits$}")?;
+    }
+    f.write_str(" s")
+}

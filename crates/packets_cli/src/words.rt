@@ -1,0 +1,206 @@
+//! The words of the command line, and what they ask for.
+use captures::Unfit;
+use clap::{Arg, ArgAction, ArgMatches, Command, value_parser};
+use packets::{Condition, Filter, Rules, TimeForm, WordError};
+use std::alloc::{AllocError, Global};
+use thiserror::Error;
+
+/// What the words ask for.
+#[derive(Drop)]
+pub struct Asked<'m> {
+    /// What is written.
+    pub output: Output,
+    /// Of which packets, and what becomes of the others and of messages.
+    pub rules: Rules,
+    /// The file's name, or `-` for standard input.
+    pub name: &'m str,
+}
+
+/// Why words ask for nothing.
+#[derive(Debug, Drop, Error)]
+pub enum AskError {
+    /// This word is no condition.
+    #[error("invalid value '{word}' for '--only <WHAT>': {error}")]
+    Word { word: String, error: WordError },
+    /// There is no memory for the conditions, or for a word that is none.
+    #[error("out of memory")]
+    Memory(#[from(alloc)] AllocError),
+}
+
+/// What is written of a capture.
+#[derive(Clone, Copy, Debug, PartialEq, Eq)]
+pub enum Output {
+    /// A line for each packet, with such times, cut to so many columns, in colours.
+    Show(TimeForm, Option<usize>, Coloring),
+    /// A JSON object for each packet, with the bytes of its payload or without.
+    Json(bool),
+    /// What is in it, counted.
+    Summary,
+}
+
+/// When lines have colours.
+#[derive(Clone, Copy, Debug, PartialEq, Eq)]
+pub enum Coloring {
+    /// On a terminal, if `NO_COLOR` isn't set.
+    Auto,
+    /// On anything.
+    Always,
+    /// On nothing.
+    Never,
+}
+
+/// The command line. It has no contract: tests compare what words ask for.
+pub fn command<'a>(alloc: Global) -> Result<Command<'a>, clap::Error> {
+    let show = with_input(alloc, show(alloc)?)?;
+    let json = with_input(alloc, json(alloc)?)?;
+    let summary = Command::new(alloc, "summary").about(
+        "Counts what is in a capture: protocols, refusals, checksums, fragments, talkers",
+    );
+    Ok(
+        Command::new(alloc, "packets_cli")
+            .about("What is in a capture file")
+            .version("0.1.0")
+            .subcommand_required(true)
+            .subcommand(show)?
+            .subcommand(json)?
+            .subcommand(with_input(alloc, summary)?)?,
+    )
+}
+
+fn show<'a>(alloc: Global) -> Result<Command<'a>, AllocError> {
+    Command::new(alloc, "show")
+        .about("Writes a line for each packet")
+        .arg(
+            Arg::new(alloc, "utc")
+                .long("utc")
+                .help("Writes the time of day in UTC, not that since the first packet")
+                .action(ArgAction::SetTrue),
+        )?
+        .arg(
+            Arg::new(alloc, "width")
+                .long("width")
+                .value_name("COLUMNS")
+                .help("Cuts lines to so many columns")
+                .value_parser(value_parser!(u32).range(1..4_294_967_296)),
+        )?
+        .arg(
+            Arg::new(alloc, "color")
+                .long("color")
+                .value_name("WHEN")
+                .help("When lines have colors: `auto` is on a terminal, if NO_COLOR is not set")
+                .value_parser(["auto", "always", "never"].as_slice())
+                .default_value("auto"),
+        )
+}
+
+fn json<'a>(alloc: Global) -> Result<Command<'a>, AllocError> {
+    Command::new(alloc, "json")
+        .about("Writes a JSON object for each packet")
+        .arg(
+            Arg::new(alloc, "payload")
+                .long("payload")
+                .help("Writes the bytes of payloads, in hex")
+                .action(ArgAction::SetTrue),
+        )
+}
+
+// What each command takes: which packets are told, and of which file.
+fn with_input<'a>(alloc: Global, command: Command<'a>) -> Result<Command<'a>, clap::Error> {
+    Ok(
+        command
+            .arg(
+                Arg::new(alloc, "only")
+                    .long("only")
+                    .value_name("WHAT")
+                    .help(
+                        "Only packets of a protocol, or `bad`, `refused`, `fragments` ..; see the manual",
+                    )
+                    .action(ArgAction::Append),
+            )?
+            .arg(
+                Arg::new(alloc, "skip")
+                    .long("skip")
+                    .help("Passes over packets of other links, without a frame or too long")
+                    .action(ArgAction::SetTrue),
+            )?
+            .arg(
+                Arg::new(alloc, "forget")
+                    .long("forget")
+                    .value_name("SECONDS")
+                    .help("Drops messages that wait for one to two spans of SECONDS of packet time")
+                    .value_parser(value_parser!(u32).range(1..4_294_967_296)),
+            )?
+            .arg(
+                Arg::new(alloc, "FILE")
+                    .help("A capture file, or - for standard input")
+                    .default_value("-"),
+            )?,
+    )
+}
+
+/// What the words ask for, if they name a command. It has no contract: tests compare what words ask
+/// for.
+pub fn asked_for<'m>(
+    alloc: Global,
+    matches: &'m ArgMatches,
+) -> Result<Option<Asked<'m>>, AskError> {
+    let (output, words) = match matches.subcommand() {
+        Some(("show", words)) => (
+            Output::Show(time_form(words), width(words), when_colored(words)),
+            words,
+        ),
+        Some(("json", words)) => (Output::Json(words.get_flag("payload")), words),
+        Some(("summary", words)) => (Output::Summary, words),
+        _ => return Ok(None),
+    };
+    Ok(Some(Asked {
+        output,
+        rules: Rules {
+            filter: filter_of(alloc, words.get_strs("only").unwrap_or(&[]))?,
+            unfit: if words.get_flag("skip") {
+                Unfit::Skip
+            } else {
+                Unfit::Refuse
+            },
+            forget: words.get_one::<u32>("forget"),
+        },
+        name: words.get_str("FILE").unwrap_or("-"),
+    }))
+}
+
+fn filter_of(alloc: Global, words: &[&str]) -> Result<Filter, AskError> {
+    let mut filter = Filter::new(alloc);
+    for word in words {
+        match word.parse::<Condition>() {
+            Ok(condition) => filter.add(condition)?,
+            Err(error) => {
+                let word = String::from_str(alloc, word)?;
+                return Err(AskError::Word { word, error });
+            }
+        }
+    }
+    Ok(filter)
+}
+
+fn time_form(words: &ArgMatches) -> TimeForm {
+    if words.get_flag("utc") {
+        TimeForm::Utc
+    } else {
+        TimeForm::SinceFirst
+    }
+}
+
+fn width(words: &ArgMatches) -> Option<usize> {
+    match words.get_one::<u32>("width") {
+        Some(columns) => Some(columns as usize),
+        None => None,
+    }
+}
+
+fn when_colored(words: &ArgMatches) -> Coloring {
+    match words.get_str("color") {
+        Some("always") => Coloring::Always,
+        Some("never") => Coloring::Never,
+        _ => Coloring::Auto,
+    }
+}

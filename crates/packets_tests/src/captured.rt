@@ -1,0 +1,52 @@
+//! Captures of frames that are written in hex.
+
+use std::alloc::Global;
+use std::test::Fail;
+
+/// A classic capture of these frames, high byte first, on links of this type. The first came at
+/// 1700000000 s, and each other one 1500 us after the one before it.
+pub(super) fn capture_of(alloc: Global, link_type: u32, frames: &[&str]) -> Result<Vec<u8>, Fail> {
+    let mut capture = header(alloc, link_type)?;
+    let mut microseconds = 0u32;
+    for frame in frames {
+        add_frame(alloc, &mut capture, 0, microseconds, *frame)?;
+        microseconds = microseconds.wrapping_add(1500);
+    }
+    Ok(capture)
+}
+
+/// A capture of Ethernet frames, each so many seconds after 1700000000 s.
+pub(super) fn timed_capture_of(alloc: Global, frames: &[(u32, &str)]) -> Result<Vec<u8>, Fail> {
+    let mut capture = header(alloc, 1)?;
+    for (seconds, frame) in frames {
+        add_frame(alloc, &mut capture, *seconds, 0, *frame)?;
+    }
+    Ok(capture)
+}
+
+fn header(alloc: Global, link_type: u32) -> Result<Vec<u8>, Fail> {
+    let mut capture = Vec::from_slice(
+        alloc,
+        b"\xa1\xb2\xc3\xd4\x00\x02\x00\x04\0\0\0\0\0\0\0\0\x00\x04\x00\x00",
+    )?;
+    capture.extend_from_slice(&link_type.to_be_bytes())?;
+    Ok(capture)
+}
+
+fn add_frame(
+    alloc: Global,
+    capture: &mut Vec<u8>,
+    seconds: u32,
+    microseconds: u32,
+    frame: &str,
+) -> Result<(), Fail> {
+    let bytes = hex::decode(alloc, frame)?;
+    let len = u32::try_from(bytes.len())?.to_be_bytes();
+    let seconds = 1_700_000_000u32.wrapping_add(seconds);
+    capture.extend_from_slice(&seconds.to_be_bytes())?;
+    capture.extend_from_slice(&microseconds.to_be_bytes())?;
+    capture.extend_from_slice(&len)?;
+    capture.extend_from_slice(&len)?;
+    capture.extend_from_slice(bytes.as_slice())?;
+    Ok(())
+}

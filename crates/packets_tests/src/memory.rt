@@ -1,0 +1,108 @@
+//! Without memory. Each of these tests passes as it is, and where one of its growths is refused:
+//! then a call tells of it and of nothing else, what it worked on is as before, and the same call
+//! succeeds after it. All growths are those of the calls.
+
+use crate::whole_captures::{LINES, rules};
+use captures::{Packets, RunError, Skipped, Unfit};
+use packets::{Dissector, NoProgress, Summary, Tally, summarize, write_lines};
+use std::alloc::Global;
+use std::process::Abort;
+use std::test::Fail;
+
+// Two parts of a UDP datagram, and an IPv4 header that is cut off.
+const CAPTURE: &[u8; 189] = b"\
+    \xd4\xc3\xb2\xa1\x02\x00\x04\x00\x00\x00\x00\x00\x00\x00\x00\x00\
+    \x00\x00\x04\x00\x01\x00\x00\x00\
+    \x00\xf1\x53\x65\x00\x00\x00\x00\x32\x00\x00\x00\x32\x00\x00\x00\
+    \x02\x00\x00\x00\x00\x02\x02\x00\x00\x00\x00\x01\x08\x00\x45\x00\x00\x24\x12\x34\x20\x00\x40\
+    \x11\x34\x93\x0a\x00\x00\x01\x0a\x00\x00\x02\x00\x35\x0f\xa0\x00\x1c\xb3\xac\x61\x62\x63\x64\
+    \x65\x66\x67\x68\
+    \x00\xf1\x53\x65\x00\x00\x00\x00\x2e\x00\x00\x00\x2e\x00\x00\x00\
+    \x02\x00\x00\x00\x00\x02\x02\x00\x00\x00\x00\x01\x08\x00\x45\x00\x00\x20\x12\x34\x00\x02\x40\
+    \x11\x54\x95\x0a\x00\x00\x01\x0a\x00\x00\x02\x69\x6a\x6b\x6c\x6d\x6e\x6f\x70\x71\x72\x73\x74\
+    \x00\xf1\x53\x65\x00\x00\x00\x00\x15\x00\x00\x00\x15\x00\x00\x00\
+    \x02\x00\x00\x00\x00\x02\x02\x00\x00\x00\x00\x01\x08\x00\x45\x00\x00\x28\x00\x01\x00";
+
+// Twelve bytes of each line, and its end.
+const WANTED: &[u8; 39] = b"    1   0.00\n    2   0.00\n    3   0.00\n";
+
+// Whether a run writes all lines. If not, it found no memory, and what it wrote are whole lines.
+fn are_written(rt: &impl Abort, alloc: Global) -> Result<bool, Fail> {
+    let mut room = [0u8; 64];
+    let mut left = room.as_mut_slice();
+    let mut skipped = Skipped::NONE;
+    let rules = rules(alloc, &[])?;
+    let result = write_lines(
+        alloc,
+        &rules,
+        &LINES,
+        CAPTURE.as_slice(),
+        &mut left,
+        &mut skipped,
+    );
+    let written = 64 - left.len().min(64);
+    assert!(rt; WANTED.starts_with(&room[..written]) && written % 13 == 0);
+    if result.is_ok() {
+        assert!(rt; written == WANTED.len());
+        return Ok(true);
+    }
+    assert!(rt; result == Err(RunError::Memory));
+    Ok(false)
+}
+
+#[test]
+fn lines_want_memory(rt: HostRuntime) -> Result<(), Fail> {
+    let first = are_written(&rt, rt.alloc())?;
+    let second = are_written(&rt, rt.alloc())?;
+    assert!(rt; first || second);
+    Ok(())
+}
+
+// Whether a run counts all packets. If not, it found no memory, and counted those before.
+fn are_counted(rt: &impl Abort, alloc: Global) -> Result<bool, Fail> {
+    let rules = rules(alloc, &[])?;
+    let mut summary = Summary::new(alloc);
+    let reader = CAPTURE.as_slice();
+    let ending = summarize(alloc, &rules, &mut summary, reader, &mut NoProgress);
+    if ending.result.is_ok() {
+        assert!(rt; summary.all.packets == 3 && summary.talkers.len() == 1);
+        return Ok(true);
+    }
+    assert!(rt; ending.result == Err(RunError::Memory));
+    assert!(rt; summary.all.packets < 3);
+    Ok(false)
+}
+
+#[test]
+fn counts_want_memory(rt: HostRuntime) -> Result<(), Fail> {
+    let first = are_counted(&rt, rt.alloc())?;
+    let second = are_counted(&rt, rt.alloc())?;
+    assert!(rt; first || second);
+    Ok(())
+}
+
+// Where memory is wanting for a packet, it is told and counted the next time.
+#[test]
+fn packets_want_memory(rt: HostRuntime) -> Result<(), Fail> {
+    let mut dissector = Dissector::new(rt.alloc());
+    let mut summary = Summary::new(rt.alloc());
+    let mut number = 0u64;
+    for packet in Packets::new(Unfit::Refuse, CAPTURE) {
+        let dissection = match dissector.dissect(&packet) {
+            Ok(dissection) => dissection,
+            Err(_) => dissector.dissect(&packet)?,
+        };
+        if summary.add(&dissection).is_err() {
+            assert_eq!(rt; summary.all.packets, number);
+            assert_eq!(rt; summary.refused, Tally::NONE);
+            summary.add(&dissection)?;
+        }
+        number = number.saturating_add(1);
+        assert_eq!(rt; (dissection.number, summary.all.packets), (number, number));
+        dissector.give_back(dissection);
+    }
+    assert_eq!(rt; (number, dissector.open()), (3, 0));
+    assert_eq!(rt; summary.parts.completing.packets, 1);
+    assert_eq!(rt; (summary.reasons.len(), summary.talkers.len()), (1, 1));
+    Ok(())
+}

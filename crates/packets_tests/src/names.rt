@@ -1,0 +1,187 @@
+//! Names of protocols, by IANA's registry "Protocol Numbers", and of reasons.
+
+use etherparse::IpNumber;
+use etherparse::defrag::IpDefragError;
+use etherparse::err::packet::SliceError;
+use etherparse::err::{Layer, ip, linux_sll, macsec, tcp};
+use packets::{Protocol, Reason, ip_number_name, ip_number_named};
+use std::test::Fail;
+
+// Where a keyword of the registry is that of a header here (4 IPv4, 41 IPv6, 143 Ethernet), or is
+// less known, another name stands for it.
+const NAMES: [(u8, &str); 47] = [
+    (0, "HOPOPT"),
+    (1, "ICMP"),
+    (2, "IGMP"),
+    (3, "GGP"),
+    (4, "IPencap"),
+    (5, "ST"),
+    (6, "TCP"),
+    (8, "EGP"),
+    (9, "IGP"),
+    (17, "UDP"),
+    (27, "RDP"),
+    (33, "DCCP"),
+    (36, "XTP"),
+    (41, "IPv6-in-IP"),
+    (43, "IPv6-Route"),
+    (44, "IPv6-Frag"),
+    (46, "RSVP"),
+    (47, "GRE"),
+    (50, "ESP"),
+    (51, "AH"),
+    (57, "SKIP"),
+    (58, "ICMPv6"),
+    (59, "IPv6-NoNxt"),
+    (60, "IPv6-Opts"),
+    (88, "EIGRP"),
+    (89, "OSPF"),
+    (94, "IPIP"),
+    (97, "EtherIP"),
+    (103, "PIM"),
+    (108, "IPComp"),
+    (112, "VRRP"),
+    (113, "PGM"),
+    (115, "L2TP"),
+    (124, "IS-IS"),
+    (132, "SCTP"),
+    (133, "FC"),
+    (135, "MH"),
+    (136, "UDP-Lite"),
+    (137, "MPLS-in-IP"),
+    (138, "MANET"),
+    (139, "HIP"),
+    (140, "Shim6"),
+    (141, "WESP"),
+    (142, "ROHC"),
+    (143, "Ethernet-in-IP"),
+    (144, "AGGFRAG"),
+    (145, "NSH"),
+];
+
+#[test]
+fn protocols(rt: HostRuntime) {
+    for (name, wanted) in [
+        ("eth", Some(Protocol::Ethernet)),
+        ("Ethernet", Some(Protocol::Ethernet)),
+        ("VLAN", Some(Protocol::Vlan)),
+        ("macsec", Some(Protocol::Macsec)),
+        ("arp", Some(Protocol::Arp)),
+        ("IP4", Some(Protocol::Ipv4)),
+        ("IPv4", Some(Protocol::Ipv4)),
+        ("ip6", Some(Protocol::Ipv6)),
+        ("ipv6", Some(Protocol::Ipv6)),
+        ("icmp6", Some(Protocol::OverIp(IpNumber(58)))),
+        ("ICMPv6", Some(Protocol::OverIp(IpNumber(58)))),
+        ("ipv6-icmp", Some(Protocol::OverIp(IpNumber(58)))),
+        ("ospfigp", Some(Protocol::OverIp(IpNumber(89)))),
+        ("isis", Some(Protocol::OverIp(IpNumber(124)))),
+        ("mobility-header", Some(Protocol::OverIp(IpNumber(135)))),
+        ("udplite", Some(Protocol::OverIp(IpNumber(136)))),
+        ("udp", Some(Protocol::OverIp(IpNumber(17)))),
+        ("17", Some(Protocol::OverIp(IpNumber(17)))),
+        ("256", None),
+        ("", None),
+        ("ip", None),
+    ] {
+        assert_eq!(rt; Protocol::named(name), wanted);
+    }
+}
+
+#[test]
+fn names_of_numbers(rt: HostRuntime) {
+    let mut at = 0usize;
+    for number in 0..=u8::MAX {
+        let wanted = match NAMES.get(at) {
+            Some((named, name)) if *named == number => {
+                at = at.saturating_add(1);
+                Some(*name)
+            }
+            _ => None,
+        };
+        assert_eq!(rt; ip_number_name(IpNumber(number)), wanted);
+    }
+    assert_eq!(rt; at, NAMES.len());
+    for (number, name) in NAMES {
+        assert_eq!(rt; ip_number_named(name), Some(IpNumber(number)));
+    }
+    assert_eq!(rt; ip_number_named("sctp"), Some(IpNumber(132)));
+    assert_eq!(rt; ip_number_named("253"), Some(IpNumber(253)));
+    assert_eq!(rt; ip_number_named("tcq"), None);
+}
+
+// As a summary tells them.
+#[test]
+fn texts_of_protocols(rt: HostRuntime) -> Result<(), Fail> {
+    for (protocol, wanted) in [
+        (Protocol::Ethernet, "Ethernet"),
+        (Protocol::Vlan, "VLAN"),
+        (Protocol::Macsec, "MACsec"),
+        (Protocol::Arp, "ARP"),
+        (Protocol::Ipv4, "IPv4"),
+        (Protocol::Ipv6, "IPv6"),
+        (Protocol::OverIp(IpNumber(6)), "TCP"),
+        (Protocol::OverIp(IpNumber(253)), "IP protocol 253"),
+    ] {
+        let text = format!(in rt.alloc(); "{protocol}")?;
+        assert_eq!(rt; text.as_str(), wanted);
+    }
+    Ok(())
+}
+
+#[test]
+fn reasons(rt: HostRuntime) -> Result<(), Fail> {
+    for (reason, wanted) in [
+        (Reason::CutOff(Layer::Ipv4Header), "IPv4 header cut off"),
+        (Reason::CookedPacketType, "cooked packet of an unknown type"),
+        (
+            Reason::CookedHardwareType,
+            "cooked packet of an unknown hardware type",
+        ),
+        (Reason::MacsecVersion, "MACsec version 1"),
+        (Reason::MacsecShortLen, "MACsec short length 1"),
+        (Reason::IpVersion, "IP header of another version"),
+        (Reason::Ipv4HeaderLen, "IPv4 header length below 5"),
+        (Reason::AuthHeaderLen, "authentication header of length 0"),
+        (
+            Reason::HopByHopNotFirst,
+            "hop-by-hop options behind another header",
+        ),
+        (Reason::TcpDataOffset, "TCP data offset below 5"),
+        (
+            Reason::FragmentUnaligned,
+            "fragment of no multiple of 8 bytes",
+        ),
+        (Reason::FragmentTooLong, "fragment behind 65535 bytes"),
+        (
+            Reason::FragmentEnd,
+            "fragment against the end of its message",
+        ),
+        (Reason::FragmentOverlap, "fragment that overlaps another"),
+        (Reason::FragmentMemory, "no memory for a fragment"),
+    ] {
+        let text = format!(in rt.alloc(); "{reason}")?;
+        assert_eq!(rt; text.as_str(), wanted);
+    }
+    Ok(())
+}
+
+#[test]
+fn reasons_of_errors(rt: HostRuntime) {
+    let cooked = linux_sll::HeaderError::UnsupportedPacketTypeField { packet_type: 8 };
+    let version = ip::HeaderError::UnsupportedIpVersion { version_number: 7 };
+    let offset = tcp::HeaderError::DataOffsetTooSmall { data_offset: 4 };
+    for (error, wanted) in [
+        (SliceError::LinuxSll(cooked), Reason::CookedPacketType),
+        (
+            SliceError::Macsec(macsec::HeaderError::UnexpectedVersion),
+            Reason::MacsecVersion,
+        ),
+        (SliceError::Ip(version), Reason::IpVersion),
+        (SliceError::Tcp(offset), Reason::TcpDataOffset),
+    ] {
+        assert_eq!(rt; Reason::of(error), wanted);
+    }
+    let want = IpDefragError::AllocationFailure { len: 8 };
+    assert_eq!(rt; Reason::of_part(want), Reason::FragmentMemory);
+}

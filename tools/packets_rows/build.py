@@ -1,0 +1,88 @@
+"""Packets of scapy, with the facts that hold of all of a kind."""
+
+import socket
+import struct
+
+import fields
+from scapy.layers.inet import IP, TCP, UDP
+from scapy.layers.inet6 import IPv6
+from scapy.layers.l2 import Ether
+from scapy.utils import checksum
+from telling import Packet
+
+A_MAC, B_MAC = "02:00:00:00:00:01", "02:00:00:00:00:02"
+A4, B4 = "10.0.0.1", "10.0.0.2"
+A6, B6 = "2001:db8::1", "2001:db8::2"
+IPV4, ARP_TYPE, IPV6 = 0x0800, 0x0806, 0x86DD
+
+
+def frame(ether_type, data):
+    return bytes(Ether(src=A_MAC, dst=B_MAC, type=ether_type)) + bytes(data)
+
+
+def link(ether_type):
+    return {"Ethernet2": {"source": A_MAC, "destination": B_MAC, "ether_type": ether_type}}
+
+
+def v4(protocol, message, options=b"", **known):
+    """An IPv4 packet, its header read again."""
+    ihl = 5 + len(options) // 4
+    header = IP(src=A4, dst=B4, proto=protocol, ihl=ihl, len=4 * ihl + len(message), chksum=0)
+    header = IP(bytes(header / b"")[:20])
+    for name, value in known.items():
+        setattr(header, name, value)
+    plain = bytes(header)[:20] + options
+    plain = plain[:10] + struct.pack("!H", checksum(plain)) + plain[12:]
+    return IP(plain + message)
+
+
+def v6(next_header, message, **known):
+    known = {"src": A6, "dst": B6, "plen": len(message)} | known
+    return IPv6(bytes(IPv6(nh=next_header, **known) / message))
+
+
+def sealed(protocol, message, at, source=A4, target=B4):
+    """The message with its checksum at an offset, behind a pseudo header but for ICMP over IPv4."""
+    family = socket.AF_INET6 if ":" in source else socket.AF_INET
+    ends = socket.inet_pton(family, source) + socket.inet_pton(family, target)
+    summed = message[:at] + b"\0\0" + message[at + 2 :]
+    pseudo = b"" if protocol == 1 else ends + struct.pack("!II", len(message), protocol)
+    return message[:at] + struct.pack("!H", checksum(pseudo + summed)) + message[at + 2 :]
+
+
+def udp(payload, source=A4, target=B4, ports=(53, 4000), **known):
+    known = {"len": 8 + len(payload), "chksum": 0} | known
+    plain = bytes(UDP(sport=ports[0], dport=ports[1], **known)) + payload
+    return sealed(17, plain, 6, source, target)
+
+
+def tcp(payload, source=A4, target=B4, options=b"", **known):
+    known = {"sport": 443, "dport": 51234, "dataofs": 5 + len(options) // 4, "chksum": 0} | known
+    return sealed(6, bytes(TCP(**known)) + options + payload, 16, source, target)
+
+
+def icmp(kind, code, behind, source=None, target=B6):
+    """An ICMP message, over IPv6 where a source is told."""
+    plain = bytes([kind, code, 0, 0]) + behind
+    return sealed(58, plain, 2, source, target) if source else sealed(1, plain, 2)
+
+
+def ip_packet(
+    ip, line, kinds, check, net=None, transport=None, payload=b"", exts=(), tags=b"", **known
+):
+    """An IP packet in an Ethernet frame, behind tags."""
+    is_v4 = ip.version == 4
+    ether_type = IPV4 if is_v4 else IPV6
+    outer = int.from_bytes(tags[:2], "big") if tags else ether_type
+    data = frame(outer, tags[2:] + (struct.pack("!H", ether_type) if tags else b"") + bytes(ip))
+    net = net or (fields.ipv4(ip) if is_v4 else fields.ipv6(ip))
+    fragment = known.pop("fragment", None)
+    told = fields.members(link(outer), list(exts), net, transport, payload, fragment)
+    kinds = ("Ethernet", *known.pop("tag_kinds", ()), "IPv4" if is_v4 else "IPv6", *kinds)
+    talk = f"{ip.src} > {ip.dst}"
+    return Packet(data, line, told, kinds, check=check, talk=talk, **known)
+
+
+def refused(data, line, error, reason):
+    """A frame that is refused."""
+    return Packet(data, f"refused: {line}", error, ("Ethernet",), refused=reason)

@@ -1,0 +1,163 @@
+"""The three outputs of a capture, by docs/PACKETS.md and docs/JSON.md, of what its packets are."""
+
+import dataclasses
+import decimal
+import json
+
+BEGIN = 1_700_000_000 * 10**9
+TITLES = "   packets   share           bytes   share     first  "
+# The rows of protocols in their order. Those over IP follow by their numbers.
+LINKS = ("Ethernet", "VLAN", "MACsec", "ARP", "IPv4", "IPv6")
+OVER_IP = {"ICMP": 1, "TCP": 6, "UDP": 17, "GRE": 47, "ICMPv6": 58, "IPv6-NoNxt": 59, "SCTP": 132}
+OVER_IP |= {"IP protocol 253": 253}
+VERDICTS = {"good": "Good", "bad": "Bad", "none": "None"}
+EIGHTHS = " ▏▎▍▌▋▊▉█"
+HEIGHTS = " ▁▂▃▄▅▆▇█"
+
+
+@dataclasses.dataclass
+class Packet:
+    """A packet, and what is known of it.
+
+    `data` was captured; `line` is that of `show` behind the time; `told` are the members of its
+    object behind `len`, but for the verdict; `kinds` are the protocols that it has headers of;
+    `check` is what its checksum tells, if it has a message; `part` is what became of a part of a
+    message; `refused` is why it is refused; `talk` are its addresses.
+    """
+
+    data: bytes
+    line: str
+    told: dict
+    kinds: tuple
+    check: str = None
+    part: str = None
+    refused: str = None
+    talk: str = None
+    interface: int = 0
+    time: int = 0
+    number: int = 0
+    # The bytes of the header that was captured, and stands in the frame as one of 14 bytes.
+    replaced: int = 14
+
+    @property
+    def len(self):
+        return len(self.data) - self.replaced + 14
+
+
+def shown(packets):
+    for it in packets:
+        seconds = decimal.Decimal(it.time - packets[0].time) / 10**9
+        time = seconds.quantize(decimal.Decimal("0.000001"), decimal.ROUND_DOWN)
+        yield f"{it.number:5} {time:10} {it.line}"
+
+
+def objects(packets, link_type):
+    for it in packets:
+        told = {
+            "number": it.number,
+            "time": it.time,
+            "interface": it.interface,
+            "link_type": link_type,
+            "len": it.len,
+        }
+        told |= it.told | ({"verdict": VERDICTS[it.check]} if it.check else {})
+        yield json.dumps(told, separators=(",", ":"))
+
+
+def share(part, whole):
+    # Rounded to tenths, a half upwards, but less than a whole stays below it.
+    tenths = (2000 * part + whole) // (2 * whole)
+    tenths = min(tenths, 999) if part < whole else tenths
+    return f"{tenths // 10:3}.{tenths % 10} %"
+
+
+def row(packets, chosen, name):
+    size = sum(it.len for it in chosen)
+    shares = share(len(chosen), len(packets)), share(size, sum(it.len for it in packets))
+    return f"{len(chosen):10} {shares[0]} {size:15} {shares[1]} {chosen[0].number:9}  {name}"
+
+
+def table(packets, title, rows):
+    """A table of the rows that have packets, if there are any."""
+    rows = [(name, chosen) for name, chosen in rows if chosen]
+    if rows:
+        yield f"{TITLES}{title}"
+        yield from (row(packets, chosen, name) for name, chosen in rows)
+        yield ""
+
+
+def by(packets, key):
+    """The packets of each key that some packet has, in the order in which they came first."""
+    found = {}
+    for it in packets:
+        if key(it) is not None:
+            found.setdefault(key(it), []).append(it)
+    return list(found.items())
+
+
+def steps(part, whole, count):
+    """So many steps of `count`, rounded up."""
+    return -(-part * count // whole)
+
+
+def sizes(packets):
+    yield "   packets   share  bytes of a frame"
+    found = by(sorted(packets, key=lambda it: it.len), lambda it: it.len.bit_length())
+    most = max(len(chosen) for _, chosen in found)
+    for digits, chosen in found:
+        eighths = steps(len(chosen), most, 8 * 32)
+        bar = "█" * (eighths // 8) + EIGHTHS[eighths % 8].strip()
+        ends = f"{2 ** (digits - 1):6} to {2**digits - 1:<6}"
+        yield f"{len(chosen):10} {share(len(chosen), len(packets))}  {ends} {bar}"
+    yield ""
+
+
+def rate(packets):
+    """At most 64 spans of 1/512 second, doubled as often as needed.
+
+    What came before the first packet counts to the first span.
+    """
+    since = [max(it.time - packets[0].time, 0) for it in packets]
+    span = 10**9 // 512
+    while max(since) // span >= 64:
+        span *= 2
+    counts = [sum(1 for it in since if it // span == at) for at in range(max(since) // span + 1)]
+    seconds = f"{span // 10**9}.{span % 10**9:09}".rstrip("0").rstrip(".")
+    # Rounded up, so that none has more.
+    yield f"packets a second, by spans of {seconds} s: {steps(max(counts), span, 10**9)} at most"
+    yield "".join(HEIGHTS[steps(count, max(counts), 8)] for count in counts)
+
+
+def summary(packets, still_open):
+    order = LINKS + tuple(sorted(OVER_IP, key=OVER_IP.get))
+    assert all(kind in order for it in packets for kind in it.kinds)
+    kinds = [(kind, [it for it in packets if kind in it.kinds]) for kind in order]
+    yield from table(packets, "protocol", [("all packets", packets), *kinds])
+    yield from table(packets, "refused because", by(packets, lambda it: it.refused))
+    yield from table(
+        packets,
+        "checksum",
+        [(kind, [it for it in packets if it.check == kind]) for kind in VERDICTS],
+    )
+    parts = [it for it in packets if it.part]
+    if parts:
+        named = {"completing a message": "completes", "refused": "refused"}
+        rows = [(name, [it for it in parts if it.part == part]) for name, part in named.items()]
+        *lines, _ = table(packets, "fragments", [("all fragments", parts), *rows])
+        yield from [*lines, f"messages open at the end: {still_open}", ""]
+    talkers = sorted(
+        by(packets, lambda it: it.talk), key=lambda found: -sum(it.len for it in found[1])
+    )
+    assert len(talkers) <= 10
+    yield from table(packets, "from > to", talkers)
+    yield from sizes(packets)
+    yield from rate(packets)
+
+
+def outputs(name, packets, link_type, still_open):
+    yield f"== show {name}"
+    yield from shown(packets)
+    yield f"== json --payload {name}"
+    yield from objects(packets, link_type)
+    yield f"== summary {name}"
+    yield from summary(packets, still_open)
