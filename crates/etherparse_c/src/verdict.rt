@@ -6,7 +6,7 @@ ghost use Rattle.etherparse_c.specs.Verdict.{verdict_in, verdict_number};
 
 use etherparse::err::packet::SliceError;
 use etherparse::{Class, SlicedPacket};
-use netlines::{Verdict, judge};
+use verdicts::{Verdict, judge};
 
 /// The verdict on the message in an Ethernet II frame: 0 no checksum, 1 a right one, 2 a wrong
 /// one, 3 no uncut message that can be read.

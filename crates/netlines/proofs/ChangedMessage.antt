@@ -15,10 +15,11 @@ use Rattle.etherparse.specs.tcpudp.UdpFault.{no_header}
 use Rattle.netlines.specs.ChangedWord.{DifferInOneWord, verdict_after}
 use Rattle.etherparse.specs.packet.Readable.{ReadMessage, message_at, read_as}
 use Rattle.etherparse.specs.packet.Readable.ReadMessage.{Icmpv4, Tcp, Udp, Icmpv6, Raw}
-use Rattle.netlines.specs.Verdict.{AddressesFit, is_unchecked, pseudo, pseudo_of, summed_bytes}
-use Rattle.netlines.specs.Verdict.{summed_text, verdict_of}
+use Rattle.netlines.specs.Sealed.{AddressesFit}
+use Rattle.verdicts.specs.Verdict.{is_unchecked, pseudo, pseudo_of, summed_bytes}
+use Rattle.verdicts.specs.Verdict.{summed_text, verdict_of}
 use Rattle.etherparse.specs.packet.declared.addresses.Addresses.{Addresses}
-use Rattle.netlines.specs.declared.frames.verdict.Verdict.TheVariants as verdict
+use Rattle.verdicts.specs.declared.verdict.Verdict.TheVariants as verdict
 use Rattle.netlines.proofs.ChangedWordLemmas.{IsChanged, kept, nothing_behind, same_len, told}
 use Rattle.netlines.proofs.ReadLemmas.{icmpv4_is, icmpv6_is, segment_is}
 use Rattle.netlines.proofs.SealedLemmas.{even_pseudo}

@@ -9,12 +9,12 @@ use Rattle.etherparse.specs.base.Sum.{all_ones, total}
 use Rattle.netlines.specs.ChangedWord.{DifferInOneWord, is_exchange, verdict_after}
 use Rattle.etherparse.specs.tcpudp.Udp.{checksum_of, length_of}
 use Rattle.etherparse.specs.packet.Readable.{ReadMessage}
-use Rattle.netlines.specs.Verdict.{is_unchecked, verdict_by_sum, pseudo, pseudo_of, summed_bytes}
-use Rattle.netlines.specs.Verdict.{summed_text}
-use Rattle.netlines.specs.Verdict.{verdict_of}
+use Rattle.verdicts.specs.Verdict.{is_unchecked, verdict_by_sum, pseudo, pseudo_of, summed_bytes}
+use Rattle.verdicts.specs.Verdict.{summed_text}
+use Rattle.verdicts.specs.Verdict.{verdict_of}
 use Rattle.etherparse.specs.packet.declared.addresses.Addresses.{Addresses}
-use Rattle.netlines.specs.declared.frames.verdict.Verdict.{Verdict}
-use Rattle.netlines.specs.declared.frames.verdict.Verdict.TheVariants as verdict
+use Rattle.verdicts.specs.declared.verdict.Verdict.{Verdict}
+use Rattle.verdicts.specs.declared.verdict.Verdict.TheVariants as verdict
 
 -- a word in a text is one word of its sum
 total-word : (front word rest : List ℕ) → length front % 2 ≡ 0 → (length word ≡ 2)

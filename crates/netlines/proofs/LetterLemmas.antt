@@ -13,8 +13,7 @@ use Rattle.etherparse.specs.link.declared.link.ethernet2_header.Ethernet2Header.
 use Rattle.etherparse.specs.tag.Vlan as vlan
 use Rattle.netlines.specs.Letter.{IdentificationFits, LetterFits}
 use Rattle.netlines.specs.PostedHeaders.{ip_headers_of, tags_of}
-use Rattle.netlines.specs.Sealed.{addresses_of}
-use Rattle.netlines.specs.Verdict.{AddressesFit}
+use Rattle.netlines.specs.Sealed.{AddressesFit, addresses_of}
 use Rattle.netlines.specs.declared.messages.letter.Letter.{Letter}
 
 -- the link header of a letter's frames

@@ -16,9 +16,9 @@ use Rattle.netlines.specs.Letter.{name_of}
 use Rattle.netlines.specs.Posted.{is_cut}
 use Rattle.netlines.specs.PostedInput.{AreAllPosted, HandsOutPosted, IsPostedFrame, IsPostedOn}
 use Rattle.netlines.specs.Sealed.{addresses_of}
-use Rattle.netlines.specs.Verdict.{verdict_of}
+use Rattle.verdicts.specs.Verdict.{verdict_of}
 use Rattle.netlines.specs.Waiting.{line_of_message}
-use Rattle.netlines.specs.declared.frames.verdict.Verdict.{Verdict}
+use Rattle.verdicts.specs.declared.verdict.Verdict.{Verdict}
 use Rattle.netlines.proofs.AllPosted.{class_is, part_handed_out, piece_in, posted_parts}
 use Rattle.netlines.proofs.AllPosted.{uncut_is_refused, uncut_is_whole}
 use Rattle.netlines.proofs.AloneLemmas.{answer_is}

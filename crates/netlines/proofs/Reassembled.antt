@@ -7,10 +7,10 @@ use Rattle.etherparse.specs.packet.Class.{FragmentName}
 use Rattle.etherparse.specs.packet.Readable.{ReadMessage, message_at}
 use Rattle.netlines.specs.Answers.{answer_after, completed_answer, hex_word, message_answer}
 use Rattle.netlines.specs.Answers.{outcome_answer, verdict_word}
-use Rattle.netlines.specs.Verdict.{verdict_of}
+use Rattle.verdicts.specs.Verdict.{verdict_of}
 use Rattle.netlines.specs.Waiting.{Completes}
-use Rattle.netlines.specs.declared.frames.verdict.Verdict.{Verdict}
-use Rattle.netlines.specs.declared.frames.verdict.Verdict.TheVariants.{Good, Bad, None}
+use Rattle.verdicts.specs.declared.verdict.Verdict.{Verdict}
+use Rattle.verdicts.specs.declared.verdict.Verdict.TheVariants.{Good, Bad, None}
 use Rattle.netlines.proofs.ArrivalLemmas.{fragment_answered}
 
 -- ---- an answer tells its verdict

@@ -39,13 +39,14 @@ use Rattle.netlines.specs.declared.messages.seal_error.SealError.TheVariants.{Ic
 use Rattle.netlines.specs.declared.messages.seal_error.SealError.TheVariants.{TooLong}
 use Rattle.etherparse.specs.packet.declared.transport.transport_header.TransportHeader.{TransportHeader}
 use Rattle.etherparse.specs.packet.declared.transport.transport_header.TransportHeader.TheVariants as header
-use Rattle.netlines.specs.Sealed.{HeaderFits, IsSealable, addresses_of, is_icmp_of_other_version}
+use Rattle.netlines.specs.Sealed.{AddressesFit, HeaderFits, IsSealable, addresses_of}
+use Rattle.netlines.specs.Sealed.{is_icmp_of_other_version}
 use Rattle.netlines.specs.Sealed.{number_of, seal_refusal, sealed_header, sealed_message_bytes}
 use Rattle.netlines.specs.Sealed.{stream_between}
-use Rattle.netlines.specs.Verdict.{AddressesFit, verdict_by_sum, pseudo, verdict_of}
+use Rattle.verdicts.specs.Verdict.{verdict_by_sum, pseudo, verdict_of}
 use Rattle.etherparse.specs.packet.declared.addresses.Addresses.{Addresses}
 use Rattle.etherparse.specs.packet.declared.addresses.Addresses.TheVariants.{V4, V6}
-use Rattle.netlines.specs.declared.frames.verdict.Verdict.TheVariants as verdict
+use Rattle.verdicts.specs.declared.verdict.Verdict.TheVariants as verdict
 
 -- a text of all ones is good
 good_where : (text : List ℕ) → IsTrue (all_ones text) → verdict_by_sum text ≡ verdict.Good

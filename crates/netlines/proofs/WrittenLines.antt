@@ -34,9 +34,9 @@ use Rattle.netlines.specs.Answers.{answer_after, answers_of, class_answer, comma
 use Rattle.netlines.specs.Answers.{completed_answer, frame_meaning, hex_word, message_answer}
 use Rattle.netlines.specs.Answers.{outcome_answer, refusal_answer, reply_after, verdict_word}
 use Rattle.netlines.specs.Arrivals.{lists_after_lines}
-use Rattle.netlines.specs.Verdict.{verdict_of}
-use Rattle.netlines.specs.declared.frames.verdict.Verdict.{Verdict}
-use Rattle.netlines.specs.declared.frames.verdict.Verdict.TheVariants as verdict
+use Rattle.verdicts.specs.Verdict.{verdict_of}
+use Rattle.verdicts.specs.declared.verdict.Verdict.{Verdict}
+use Rattle.verdicts.specs.declared.verdict.Verdict.TheVariants as verdict
 use Rattle.netlines.proofs.AloneLemmas.{answer_is, not_true}
 
 -- ---- no answer has a 0a

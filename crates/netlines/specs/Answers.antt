@@ -21,9 +21,9 @@ use Rattle.netlines.specs.Arrivals.{lists_after_lines}
 use Rattle.commands.specs.Commands.{Command, command_of}
 use Rattle.commands.specs.Commands.Command.{Frame, Forget, Bad}
 use Rattle.lines.specs.Replies.{Meaning, replies_to, replies_to_ended}
-use Rattle.netlines.specs.Verdict.{verdict_of}
-use Rattle.netlines.specs.declared.frames.verdict.Verdict.{Verdict}
-use Rattle.netlines.specs.declared.frames.verdict.Verdict.TheVariants as verdict
+use Rattle.verdicts.specs.Verdict.{verdict_of}
+use Rattle.verdicts.specs.declared.verdict.Verdict.{Verdict}
+use Rattle.verdicts.specs.declared.verdict.Verdict.TheVariants as verdict
 
 abbrev pub verdict_word : Verdict → List ℕ
 verdict_word verdict.Good = codes "good"

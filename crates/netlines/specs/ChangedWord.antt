@@ -5,8 +5,8 @@ use Rattle.std.specs.Prelude.{List, [], ◌++◌, length}
 use Rattle.etherparse.specs.base.Bytes.{IsBytes}
 use Rattle.etherparse.specs.base.Sum.{total}
 use Rattle.etherparse.specs.defrag.Fragments.{Fragment}
-use Rattle.netlines.specs.declared.frames.verdict.Verdict.{Verdict}
-use Rattle.netlines.specs.declared.frames.verdict.Verdict.TheVariants as verdict
+use Rattle.verdicts.specs.declared.verdict.Verdict.{Verdict}
+use Rattle.verdicts.specs.declared.verdict.Verdict.TheVariants as verdict
 
 pub record DifferInOneWord (old new : List ℕ) : Type 0 where
   pub front : List ℕ

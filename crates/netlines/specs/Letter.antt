@@ -6,8 +6,7 @@ use Rattle.etherparse.specs.defrag.declared.defrag.ip_frag_version_spec_id.IpFra
 use Rattle.etherparse.specs.packet.Class.{Class, FragmentName}
 use Rattle.etherparse.specs.packet.Class.Class.{Cut}
 use Rattle.netlines.specs.Posted.{Piece}
-use Rattle.netlines.specs.Sealed.{addresses_of}
-use Rattle.netlines.specs.Verdict.{AddressesFit}
+use Rattle.netlines.specs.Sealed.{AddressesFit, addresses_of}
 use Rattle.netlines.specs.declared.messages.letter.Letter.{Letter}
 
 abbrev pub identification_of : IpFragVersionSpecId → ℕ

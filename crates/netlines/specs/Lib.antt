@@ -11,5 +11,4 @@ pub mod PostedInput
 pub mod Runs
 pub mod Sealed
 pub mod TwoRuns
-pub mod Verdict
 pub mod Waiting

@@ -11,7 +11,7 @@ use Rattle.netlines.specs.Letter.{LetterFits, name_of}
 use Rattle.netlines.specs.Posted.{is_cut, posted_frames}
 use Rattle.netlines.specs.PostRefusal.{post_refusal}
 use Rattle.netlines.specs.Sealed.{addresses_of}
-use Rattle.netlines.specs.Verdict.{verdict_of}
+use Rattle.verdicts.specs.Verdict.{verdict_of}
 use Rattle.netlines.specs.declared.messages.letter.Letter.{Letter}
 
 -- the frame is one of those that this message is posted as with these cuts

@@ -18,7 +18,7 @@ use Rattle.etherparse.specs.tcpudp.TcpChecksum as tcp_checksum
 use Rattle.etherparse.specs.tcpudp.TcpOptions.{IsTcpOptions}
 use Rattle.etherparse.specs.tcpudp.UdpChecksum as udp_checksum
 use Rattle.etherparse.specs.packet.Readable.{icmpv4, icmpv6, tcp, udp}
-use Rattle.netlines.specs.Verdict.{AddressesFit, pseudo}
+use Rattle.verdicts.specs.Verdict.{pseudo}
 use Rattle.etherparse.specs.packet.declared.addresses.Addresses.{Addresses}
 use Rattle.etherparse.specs.packet.declared.addresses.Addresses.TheVariants.{V4, V6}
 use Rattle.etherparse.specs.defrag.declared.defrag.ip_frag_version_spec_id.IpFragVersionSpecId.{IpFragVersionSpecId}
@@ -29,6 +29,11 @@ use Rattle.etherparse.specs.packet.declared.net.ip_headers.IpHeaders.TheVariants
 use Rattle.netlines.specs.declared.messages.seal_error.SealError.{SealError}
 use Rattle.netlines.specs.declared.messages.seal_error.SealError.TheVariants.{IcmpOfOtherVersion}
 use Rattle.netlines.specs.declared.messages.seal_error.SealError.TheVariants.{TooLong}
+
+-- addresses of the length of their version
+abbrev pub AddressesFit : Addresses → Type 0
+AddressesFit (V4 source destination) = (length source ≡ 4) × (length destination ≡ 4)
+AddressesFit (V6 source destination) = (length source ≡ 16) × (length destination ≡ 16)
 
 -- where the messages of a stream come from and go to
 abbrev pub addresses_of : IpFragVersionSpecId → Addresses

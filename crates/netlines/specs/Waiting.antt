@@ -15,7 +15,7 @@ use Rattle.netlines.specs.Alone.{texts_that_matter}
 use Rattle.netlines.specs.Answers.{completed_answer, message_answer}
 use Rattle.netlines.specs.ChangedWord.{DifferAt}
 use Rattle.netlines.specs.Arrivals.{HandsInFragment, held_with_line, lists_after_lines}
-use Rattle.netlines.specs.declared.frames.verdict.Verdict.{Verdict}
+use Rattle.verdicts.specs.declared.verdict.Verdict.{Verdict}
 
 -- of texts, one for each of these lines, those for the lines that matter to a message, without the
 -- numbers of these lines

@@ -4,4 +4,3 @@ pub(crate) mod answer;
 pub(crate) mod frame_answerer;
 pub(crate) mod output;
 pub(crate) mod run_frames;
-pub(crate) mod verdict;

@@ -12,7 +12,6 @@ pub use frames::frame_answerer::FrameAnswerer;
 pub use frames::run_frames::{
     answers, run, run_bounded, run_over, run_over_with_hasher, run_with_hasher,
 };
-pub use frames::verdict::{Verdict, judge};
 pub use lines::{
     Answerer, LINE_LIMIT, READ_COUNT_LIMIT, READ_SIZE_LIMIT, REPLY_ROOM, RunError, run_with,
 };
@@ -22,3 +21,4 @@ pub use messages::post_message::post;
 pub use messages::seal_error::SealError;
 pub use messages::sealed_message::seal_message;
 pub use runs::device;
+pub use verdicts::{Verdict, judge};

@@ -14,8 +14,8 @@ use Rattle.packets.specs.declared.protocol.Protocol.{Protocol}
 use Rattle.packets.specs.declared.protocol.Protocol.TheVariants.{Ethernet, Vlan, Macsec, Arp, Ipv4}
 use Rattle.packets.specs.declared.protocol.Protocol.TheVariants.{Ipv6}
 use Rattle.packets.specs.declared.reason.Reason.{Reason}
-use Rattle.netlines.specs.declared.frames.verdict.Verdict.{Verdict}
-use Rattle.netlines.specs.declared.frames.verdict.Verdict.TheVariants as verdict
+use Rattle.verdicts.specs.declared.verdict.Verdict.{Verdict}
+use Rattle.verdicts.specs.declared.verdict.Verdict.TheVariants as verdict
 use Rattle.packets.specs.declared.summary.summary.ChecksumTallies.{ChecksumTallies}
 use Rattle.packets.specs.declared.summary.summary.PartTallies.{PartTallies}
 use Rattle.packets.specs.declared.summary.summary.ProtocolTallies.{ProtocolTallies}

@@ -22,8 +22,8 @@ use Rattle.etherparse.specs.packet.Readable.{ReadMessage, message_at}
 use Rattle.etherparse.specs.packet.declared.addresses.Addresses.{Addresses}
 use Rattle.etherparse.specs.packet.declared.err.packet.slice_error.SliceError.{SliceError}
 use Rattle.etherparse.specs.packet.declared.sliced_packet.SlicedPacket.{SlicedPacket}
-use Rattle.netlines.specs.Verdict.{verdict_of}
-use Rattle.netlines.specs.declared.frames.verdict.Verdict.{Verdict}
+use Rattle.verdicts.specs.Verdict.{verdict_of}
+use Rattle.verdicts.specs.declared.verdict.Verdict.{Verdict}
 use Rattle.packets.specs.declared.dissection.Fragment.{Fragment}
 use Rattle.packets.specs.declared.dissection.Fragment.TheVariants.{Waits, Completes, Refused}
 use Rattle.packets.specs.declared.messages.Finding.{Finding}

@@ -4,7 +4,7 @@ use captures::{Header, Link};
 use etherparse::SlicedPacket;
 use etherparse::defrag::{IpDefragError, IpDefragPayloadVec};
 use etherparse::err::packet::SliceError;
-use netlines::Verdict;
+use verdicts::Verdict;
 
 /// A packet, and what is told of it.
 #[derive(Drop)]

@@ -15,11 +15,11 @@ use etherparse::{
     ArpPacketSlice, EtherType, Message, NetSlice, SlicedPacket, TcpSlice, TransportSlice, UdpSlice,
     read_message,
 };
-use netlines::Verdict;
 use std::alloc::{AllocError, Global};
 use std::net::IpAddr;
 use std::str::FromStr;
 use thiserror::Error;
+use verdicts::Verdict;
 
 /// A condition on a packet.
 #[derive(Clone, Copy, Debug, PartialEq, Eq)]

@@ -54,7 +54,7 @@ pub fn outlines_are_plain_data()
 {
     types_are_plain_data();
     holders_are_plain_data();
-    netlines::laws::traits::types_are_plain_data();
+    verdicts::laws::verdicts_are_plain_data();
 }
 
 /// A reason feeds a hasher its place, as it is declared, and then the layer that it names.

@@ -28,8 +28,8 @@ use etherparse::laws::defrag::streams::{
     spare_buffers_show_nothing, wants_are_told,
 };
 use etherparse::{Addresses, Class, CutMessage, SlicedPacket, read_message};
-use netlines::{Verdict, judge};
 use std::alloc::{AllocError, Global};
+use verdicts::{Verdict, judge};
 
 /// The messages that are on their way.
 #[derive(Drop)]

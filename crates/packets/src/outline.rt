@@ -11,7 +11,7 @@ use crate::{Dissection, Fragment, Protocol, Reason};
 use captures::Link;
 use etherparse::defrag::IpDefragPayloadVec;
 use etherparse::{Addresses, IpNumber, LinkExtSlice, NetSlice, SlicedPacket, read_message};
-use netlines::Verdict;
+use verdicts::Verdict;
 
 /// What a summary takes of a packet.
 #[derive(Clone, Copy, Debug, PartialEq, Eq)]

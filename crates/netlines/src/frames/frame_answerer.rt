@@ -14,7 +14,7 @@ ghost use Rattle.commands.specs.Commands.Command.{Forget};
 ghost use Rattle.commands.specs.Reads.{Reads};
 ghost use Rattle.commands.specs.Request.{as_command, frame_len};
 ghost use Rattle.netlines.specs.PoolAnswers.{AnswersClass, AnswersCommand};
-ghost use Rattle.netlines.specs.Verdict.{verdict_of};
+ghost use Rattle.verdicts.specs.Verdict.{verdict_of};
 ghost use Rattle.commands.specs.declared.hex_digits.TheConstants.{FRAME_ROOM};
 ghost use Rattle.lines.specs.declared.limits.TheConstants.{REPLY_ROOM};
 

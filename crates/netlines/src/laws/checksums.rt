@@ -16,16 +16,17 @@ ghost use Rattle.etherparse.specs.packet.Transport.{transport_len, transport_spe
 ghost use Rattle.etherparse.specs.packet.declared.addresses.Addresses.{Addresses};
 ghost use Rattle.etherparse.specs.packet.declared.net.ip_headers.IpHeaders.{IpHeaders};
 ghost use Rattle.etherparse.specs.packet.declared.transport.transport_header.TransportHeader.{TransportHeader};
-ghost use Rattle.netlines.specs.Sealed.{HeaderFits, IsSealable, addresses_of, is_icmp_of_other_version};
+ghost use Rattle.netlines.specs.Sealed.{AddressesFit, HeaderFits, IsSealable, addresses_of};
+ghost use Rattle.netlines.specs.Sealed.{is_icmp_of_other_version};
 ghost use Rattle.netlines.specs.Sealed.{number_of, seal_refusal, sealed_message_bytes};
 ghost use Rattle.netlines.specs.Sealed.{stream_between};
-ghost use Rattle.netlines.specs.Verdict.{AddressesFit, summed_bytes, summed_text, verdict_of};
+ghost use Rattle.verdicts.specs.Verdict.{summed_bytes, summed_text, verdict_of};
 ghost use Rattle.netlines.specs.Waiting.{Completes, HandsOut, HandsOutChanged, lines_for};
 ghost use Rattle.netlines.specs.Waiting.{texts_for, waiting_lines};
 ghost use Rattle.netlines.specs.declared.messages.seal_error.SealError.TheVariants.{IcmpOfOtherVersion};
 ghost use Rattle.netlines.specs.declared.messages.seal_error.SealError.TheVariants.{TooLong};
+ghost use Rattle.verdicts.specs.declared.verdict.Verdict.TheVariants as verdict;
 
-use crate::Verdict;
 use etherparse::laws::defrag::members_agree;
 use etherparse::laws::defrag::names::equal_names;
 use etherparse::laws::icmp::{icmpv4, icmpv6};
@@ -38,7 +39,7 @@ pub fn sealed_is_good()
     ensures good { (stream : IpFragVersionSpecId) (header : TransportHeader) (payload : List ℕ)
         (message : ReadMessage) → IsSealable stream header payload
         → message_at (number_of header) (sealed_message_bytes stream header payload) ≡ Ok message
-        → verdict_of (addresses_of stream) message ≡ Verdict.Good }
+        → verdict_of (addresses_of stream) message ≡ verdict.Good }
     // Whatever `seal_message` doesn't refuse can be sealed.
     ensures unrefused { (stream : IpFragVersionSpecId) (header : TransportHeader)
         (payload : List ℕ) → AddressesFit (addresses_of stream) → HeaderFits header
@@ -71,7 +72,7 @@ pub fn built_is_good()
         (message : ReadMessage) → IsSealable (stream_between ip) header payload
         → message_at (number_of header)
         (transport_spelling (built_header ip payload header) ++ payload) ≡ Ok message
-        → verdict_of (addresses_of (stream_between ip)) message ≡ Verdict.Good }
+        → verdict_of (addresses_of (stream_between ip)) message ≡ verdict.Good }
 {
     icmpv4::checksums_sum_to_all_ones();
     icmpv6::checksums_sum_to_all_ones();
@@ -86,7 +87,7 @@ pub fn built_is_good()
 pub fn one_changed_word()
     ensures message { (addresses : Addresses) (number : ℕ) (bytes behind new : List ℕ)
         (message changed : ReadMessage) → AddressesFit addresses
-        → message_at number bytes ≡ Ok message → verdict_of addresses message ≡ Verdict.Good
+        → message_at number bytes ≡ Ok message → verdict_of addresses message ≡ verdict.Good
         → bytes ≡ summed_bytes message ++ behind → (words : DifferInOneWord (summed_bytes message)
         new)
         → (number ≡ udp_number → (length words.front ≢ 4) × (length words.front ≢ 6))
@@ -98,7 +99,7 @@ pub fn one_changed_word()
         (earlier others : List (List ℕ)) (line changed_line text behind new : List ℕ)
         (message changed : ReadMessage) → AddressesFit name.addresses
         → Completes earlier line name channel text → message_at name.number text ≡ Ok message
-        → answer_after earlier line ≡ message_answer name.number Verdict.Good text
+        → answer_after earlier line ≡ message_answer name.number verdict.Good text
         → text ≡ summed_bytes message ++ behind → (words : DifferInOneWord (summed_bytes message)
         new)
         → (name.number ≡ udp_number → (length words.front ≢ 4) × (length words.front ≢ 6))

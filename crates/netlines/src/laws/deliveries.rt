@@ -18,7 +18,7 @@ ghost use Rattle.netlines.specs.PostRefusal.{post_refusal};
 ghost use Rattle.netlines.specs.Waiting.{HandsOut, HandsOutJoined, line_of_message, lines_for};
 ghost use Rattle.netlines.specs.Waiting.{texts_for};
 ghost use Rattle.netlines.specs.Waiting.{waiting_lines};
-ghost use Rattle.netlines.specs.declared.frames.verdict.Verdict.{Verdict};
+ghost use Rattle.verdicts.specs.declared.verdict.Verdict.{Verdict};
 ghost use Rattle.netlines.specs.declared.messages.letter.Letter.{Letter};
 
 use etherparse::laws::build::frames::built_frames_are_read;

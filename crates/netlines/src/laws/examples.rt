@@ -8,7 +8,7 @@ ghost use Rattle.hex.specs.Hex.{encode_lower};
 ghost use Rattle.netlines.specs.Answers.{answer_after, message_answer, takes_memory};
 ghost use Rattle.netlines.specs.PostRefusal.{bad_cut};
 ghost use Rattle.netlines.specs.Posted.{packet, pieces_from, tags_and_ether_type};
-ghost use Rattle.netlines.specs.declared.frames.verdict.Verdict.TheVariants as verdict;
+ghost use Rattle.verdicts.specs.declared.verdict.Verdict.TheVariants as verdict;
 
 /// What these lines are answered: a UDP message with a right checksum, with a wrong one and with
 /// none, a frame of another ether type, a frame of 13 bytes, and a frame with half a byte.

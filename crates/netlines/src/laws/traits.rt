@@ -4,17 +4,16 @@ ghost use Rattle.std.specs.Prelude.{◌≡◌, pos};
 ghost use Rattle.std.specs.Hash as fed;
 ghost use Rattle.etherparse.specs.base.Traits.{HashIsOfPlace, IsPlainData, VariantFeeds};
 ghost use Rattle.lines.specs.Endings.{error_place};
-ghost use Rattle.netlines.specs.Verdict.{verdict_place};
-ghost use Rattle.netlines.specs.declared.frames.verdict.Verdict.TheVariants as verdict;
 ghost use Rattle.lines.specs.declared.run_error.RunError.TheVariants as run;
 ghost use Rattle.netlines.specs.declared.messages.post_error.PostError.TheVariants as post;
 ghost use Rattle.netlines.specs.declared.messages.seal_error.SealError.TheVariants as seal;
 
-use crate::{Letter, PostError, RunError, SealError, Verdict};
+use crate::{Letter, PostError, RunError, SealError};
 use etherparse::err::packet::TransportChecksumError;
 use etherparse::laws::base::traits::Value;
 pub use etherparse::laws::packet::traits::equal_messages_are_read_alike;
 use std::hash::Hash;
+pub use verdicts::laws::{verdicts_are_plain_data, verdicts_hash_their_place};
 
 /// A copy is the value and takes no memory. Equal are the values that are the same.
 pub fn types_are_plain_data()
@@ -22,19 +21,15 @@ pub fn types_are_plain_data()
     ensures post_error { IsPlainData ⟦<PostError as Value>⟧ }
     ensures run_error { IsPlainData ⟦<RunError as Value>⟧ }
     ensures seal_error { IsPlainData ⟦<SealError as Value>⟧ }
-    ensures verdict { IsPlainData ⟦<Verdict as Value>⟧ }
 {
     etherparse::laws::base::traits::types_are_plain_data();
     etherparse::laws::packet::traits::types_are_plain_data();
     etherparse::laws::defrag::traits::types_are_plain_data();
 }
 
-/// A verdict and an error of a run feed a hasher their place, as they are declared.
+/// An error of a run feeds a hasher its place, as it is declared.
 pub fn hashes_are_of_places()
-    ensures verdict { HashIsOfPlace verdict_place ⟦<Verdict as Hash>⟧.hash_input }
     ensures run_error { HashIsOfPlace error_place ⟦<RunError as Hash>⟧.hash_input }
-    ensures bad { ⟦<Verdict as Hash>⟧.hash_input verdict.Bad ≡ fed.isize (pos 1) }
-    ensures no_checksum { ⟦<Verdict as Hash>⟧.hash_input verdict.None ≡ fed.isize (pos 2) }
     ensures write_zero { ⟦<RunError as Hash>⟧.hash_input run.WriteZero ≡ fed.isize (pos 2) }
     ensures reads { ⟦<RunError as Hash>⟧.hash_input run.TooManyReads ≡ fed.isize (pos 4) }
 {}

@@ -1,8 +1,7 @@
 //! What laws want of addresses, headers and letters, and what every value of their types has.
 ghost use Rattle.std.specs.Prelude.{◌≤◌, All};
 ghost use Rattle.netlines.specs.Letter.{IdentificationFits, LetterFits};
-ghost use Rattle.netlines.specs.Sealed.{HeaderFits, addresses_of, stream_between};
-ghost use Rattle.netlines.specs.Verdict.{AddressesFit};
+ghost use Rattle.netlines.specs.Sealed.{AddressesFit, HeaderFits, addresses_of, stream_between};
 
 use crate::{Addresses, IpFragVersionSpecId, Letter, VlanId};
 use etherparse::{IpHeaders, TransportHeader};

@@ -5,8 +5,8 @@ use crate::show::line::Line;
 use crate::show::style::Tone;
 use crate::show::{icmp, names, tcp};
 use etherparse::{IpNumber, Message};
-use netlines::Verdict;
 use std::alloc::AllocError;
+use verdicts::Verdict;
 
 /// The ports between which a message goes.
 pub(crate) fn ports_of(message: &Message<'_>) -> Option<Ports> {

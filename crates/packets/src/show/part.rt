@@ -7,8 +7,8 @@ use crate::show::style::Tone;
 use crate::show::{addresses, names, refusal};
 use etherparse::defrag::IpDefragPayloadVec;
 use etherparse::{CutMessage, Part, read_message};
-use netlines::Verdict;
 use std::alloc::AllocError;
+use verdicts::Verdict;
 
 /// A part of a message, and what became of it.
 pub(crate) fn part(

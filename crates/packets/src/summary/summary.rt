@@ -10,9 +10,9 @@ use crate::summary::table::Table;
 use crate::summary::tally::Tally;
 use crate::{Dissection, Outline, Protocol, Reason};
 use etherparse::Addresses;
-use netlines::Verdict;
 use std::alloc::{AllocError, Global};
 use std::hash::{BuildHasher, BuildHasherDefault, FoldHasher};
+use verdicts::Verdict;
 
 /// What is in a capture. Its memory grows with the number of pairs of addresses that packets go
 /// between, and with nothing else.

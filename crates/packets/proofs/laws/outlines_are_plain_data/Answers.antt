@@ -17,7 +17,7 @@ returns c = record {
       (λ outline. outline.refusal)
       (field (options_same c.types_are_plain_data.ensures.part_state.equals)
       (λ outline. outline.part)
-      (last_field (options_same c.types_are_plain_data-2.ensures.verdict.equals)
+      (last_field (options_same c.verdicts_are_plain_data.ensures.equals)
       (λ outline. outline.verdict))))))))
       (λ number time len headers refusal part verdict i. record {
         number = number i;

@@ -1,6 +1,6 @@
 use Rattle.std.proofs.Common.{◌++◌}
 use Rattle.netlines.specs.ChangedWord.{verdict_after}
-use Rattle.netlines.specs.Verdict.{summed_text}
+use Rattle.verdicts.specs.Verdict.{summed_text}
 use Rattle.netlines.proofs.ChangedMessage.{changed_word}
 use Rattle.netlines.proofs.ChangedReplay.{replayed_with_change}
 use Rattle.netlines.proofs.Reassembled.{answered_by_verdict, was_good}

@@ -1,13 +1,14 @@
 //! What a message's checksum tells.
 ghost use Rattle.std.specs.Prelude.{◌≡◌, ◌++◌, ℕ, List, length};
-ghost use Rattle.etherparse.specs.base.MessageSum.{SumsWords};
-ghost use Rattle.etherparse.specs.base.Sum.{fold, total};
-ghost use Rattle.etherparse.specs.packet.Readable.{as_read};
-ghost use Rattle.netlines.specs.Verdict.{verdict_by_sum, pseudo, verdict_of};
+ghost use Rattle.ep_base.specs.MessageSum.{SumsWords};
+ghost use Rattle.ep_base.specs.Sum.{fold, total};
+ghost use Rattle.ep_packet.specs.Readable.{as_read};
+ghost use Rattle.verdicts.specs.Verdict.{verdict_by_sum, pseudo, verdict_of};
 
-use crate::{Addresses, Message};
-use etherparse::IpNumber;
-use etherparse::checksum::{Sum16BitWords, pseudo_sum_v4, pseudo_sum_v6};
+use ep_base::IpNumber;
+use ep_base::checksum::Sum16BitWords;
+use ep_ip::checksum::{pseudo_sum_v4, pseudo_sum_v6};
+use ep_packet::{Addresses, Message};
 
 /// Whether a message came as it was sent, as far as its checksum tells.
 #[derive(Clone, Copy, Debug, PartialEq, Eq, Hash)]
