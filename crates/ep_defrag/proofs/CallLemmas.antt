@@ -10,25 +10,25 @@ use Rattle.ep_packet.specs.Class.Class.{Whole, Cut, Other, Refused as Faulty}
 use Rattle.ep_packet.specs.declared.addresses.Addresses.{Addresses}
 use Rattle.ep_packet.specs.declared.addresses.Addresses.TheVariants.{V4, V6}
 use Rattle.ep_packet.specs.declared.err.packet.slice_error.SliceError.{SliceError}
-use Rattle.ep_defrag.specs.declared.defrag.ip_defrag_error.IpDefragError.{IpDefragError}
+use Rattle.ep_fragments.specs.declared.defrag.ip_defrag_error.IpDefragError.{IpDefragError}
 use Rattle.ep_defrag.specs.declared.defrag.ip_defrag_payload_vec.IpDefragPayloadVec.{IpDefragPayloadVec}
 use Rattle.ep_defrag.specs.declared.defrag.ip_frag_id.IpFragId.{IpFragId}
-use Rattle.ep_defrag.specs.declared.defrag.overlap_rule.OverlapRule.{OverlapRule}
+use Rattle.ep_fragments.specs.declared.defrag.overlap_rule.OverlapRule.{OverlapRule}
 use Rattle.ep_defrag.specs.declared.defrag.stream.Stream.{Stream}
-use Rattle.ep_defrag.specs.Fragments.{Fragment, fragment, named_end, overlap_of}
-use Rattle.ep_defrag.specs.IpDefragError.{is_overlap}
+use Rattle.ep_fragments.specs.Fragments.{Fragment, fragment, named_end, overlap_of}
+use Rattle.ep_fragments.specs.IpDefragError.{is_overlap}
 use Rattle.ep_defrag.specs.IpDefragPool.{Accepts, Refuses, payload_of, payload_told}
 use Rattle.ep_defrag.specs.IpDefragPool.{same_id as same_by}
 use Rattle.ep_defrag.specs.IpFragId.{id_named, overlap_rule_of, rule_over, same_name, spec_id}
-use Rattle.ep_defrag.specs.Outcome.{Held, Outcome, error_of, held_after, memory_error, outcome}
-use Rattle.ep_defrag.specs.Outcome.Outcome.{Clash, Completed, Refusal, Waiting}
+use Rattle.ep_fragments.specs.Outcome.{Held, Outcome, error_of, held_after, memory_error, outcome}
+use Rattle.ep_fragments.specs.Outcome.Outcome.{Clash, Completed, Refusal, Waiting}
 use Rattle.ep_defrag.specs.PoolCalls.{FrameAnswered, Lists, ShowsHeld, ShowsLists, Told}
 use Rattle.ep_defrag.specs.PoolCalls.{outcome_at, told_of, told_outcome}
 use Rattle.ep_defrag.specs.PoolCalls.Told.{Delivered, Nothing, Refused}
 use Rattle.ep_defrag.specs.Processed.{Processed}
 use Rattle.ep_defrag.specs.Streams.{Becomes, IsErrorOf, IsStreamOf, OthersStay, Pool, ShowsStream}
 use Rattle.ep_defrag.specs.Streams.{Stays, stream_at}
-use Rattle.ep_defrag.proofs.Found.{no_overlap_at}
+use Rattle.ep_fragments.proofs.Found.{no_overlap_at}
 use Rattle.ep_defrag.proofs.OutcomeLemmas.{by_outcome}
 use Rattle.ep_defrag.proofs.Retaining.{some_same}
 

@@ -1,11 +1,11 @@
 -- A message that is handed out, beside its protocol and where its lengths came from.
 use Rattle.std.proofs.Common.{◌≡◌, ◌∙◌, ap, refl, ℕ, Option, Some, None, List}
 use Rattle.ep_defrag.specs.declared.defrag.ip_frag_id.IpFragId.{IpFragId}
-use Rattle.ep_defrag.specs.declared.defrag.overlap_rule.OverlapRule.{OverlapRule}
+use Rattle.ep_fragments.specs.declared.defrag.overlap_rule.OverlapRule.{OverlapRule}
 use Rattle.ep_defrag.specs.declared.defrag.stream.Stream.{Stream}
 use Rattle.ep_defrag.specs.IpDefragPool.{Payload, payload_of}
-use Rattle.ep_defrag.specs.Outcome.{Outcome}
-use Rattle.ep_defrag.specs.Outcome.Outcome.{Clash, Completed, Refusal, Waiting}
+use Rattle.ep_fragments.specs.Outcome.{Outcome}
+use Rattle.ep_fragments.specs.Outcome.Outcome.{Clash, Completed, Refusal, Waiting}
 use Rattle.ep_defrag.specs.Streams.{Becomes}
 use Rattle.ep_defrag.proofs.Retaining.{some_same}
 

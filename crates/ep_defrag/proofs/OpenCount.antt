@@ -23,13 +23,13 @@ use Rattle.ep_defrag.specs.declared.defrag.ip_frag_id.IpFragId.{IpFragId}
 use Rattle.ep_defrag.specs.declared.defrag.ip_frag_version_spec_id.IpFragVersionSpecId.{IpFragVersionSpecId}
 use Rattle.ep_defrag.specs.declared.defrag.ip_frag_version_spec_id.IpFragVersionSpecId.TheVariants.{Ipv4}
 use Rattle.ep_defrag.specs.declared.defrag.ip_frag_version_spec_id.IpFragVersionSpecId.TheVariants.{Ipv6}
-use Rattle.ep_defrag.specs.declared.defrag.overlap_rule.OverlapRule.{OverlapRule}
+use Rattle.ep_fragments.specs.declared.defrag.overlap_rule.OverlapRule.{OverlapRule}
 use Rattle.ep_defrag.specs.declared.defrag.stream.Stream.{Stream}
 use Rattle.ep_defrag.specs.Counts.{open_in}
 use Rattle.ep_defrag.specs.IpDefragPool.{same_id as same_by}
 use Rattle.ep_defrag.specs.IpFragId.{id_named, rule_over, same_name, spec_id}
 use Rattle.ep_defrag.specs.OpenMessages.{AreOpen, IsOpenCount}
-use Rattle.ep_defrag.specs.Outcome.{Held}
+use Rattle.ep_fragments.specs.Outcome.{Held}
 use Rattle.ep_defrag.specs.PoolCalls.{Lists, ShowsHeld, ShowsLists}
 use Rattle.ep_defrag.specs.Streams.{Pool}
 

@@ -2,15 +2,15 @@
 use Rattle.std.proofs.Common.{◌≡◌, ◌∙◌, ◌⊎◌, inl, inr, ap, refl, sym, cond, Bool, true, false, Option}
 use Rattle.std.proofs.Common.{Some, None, List, [], ◌∷◌, ◌++◌}
 use Rattle.std.specs.Option.{option_or}
-use Rattle.ep_defrag.specs.declared.defrag.ip_defrag_error.IpDefragError.{IpDefragError}
-use Rattle.ep_defrag.specs.declared.defrag.ip_defrag_error.IpDefragError.TheVariants.{AllocationFailure}
-use Rattle.ep_defrag.specs.declared.defrag.overlap_rule.OverlapRule.{OverlapRule}
-use Rattle.ep_defrag.specs.Fragments.{Fragment, end_of, is_complete, named_end, overlap_of, overlaps}
-use Rattle.ep_defrag.specs.Fragments.{refusal_at, refusal_of}
-use Rattle.ep_defrag.specs.Outcome.{Outcome, error_of, memory_error, outcome, outcome_accepted}
-use Rattle.ep_defrag.specs.Outcome.{outcome_unless}
-use Rattle.ep_defrag.specs.Outcome.Outcome.{Clash, Completed, Refusal, Waiting}
-use Rattle.ep_defrag.specs.Picture.{text_of}
+use Rattle.ep_fragments.specs.declared.defrag.ip_defrag_error.IpDefragError.{IpDefragError}
+use Rattle.ep_fragments.specs.declared.defrag.ip_defrag_error.IpDefragError.TheVariants.{AllocationFailure}
+use Rattle.ep_fragments.specs.declared.defrag.overlap_rule.OverlapRule.{OverlapRule}
+use Rattle.ep_fragments.specs.Fragments.{Fragment, end_of, is_complete, named_end, overlap_of, overlaps}
+use Rattle.ep_fragments.specs.Fragments.{refusal_at, refusal_of}
+use Rattle.ep_fragments.specs.Outcome.{Outcome, error_of, memory_error, outcome, outcome_accepted}
+use Rattle.ep_fragments.specs.Outcome.{outcome_unless}
+use Rattle.ep_fragments.specs.Outcome.Outcome.{Clash, Completed, Refusal, Waiting}
+use Rattle.ep_fragments.specs.Picture.{text_of}
 use Rattle.ep_defrag.specs.Streams.{IsErrorOf}
 
 none_or : {X : Type 0} (o n : Option X) → option_or o n ≡ None → (o ≡ None) × (n ≡ None)

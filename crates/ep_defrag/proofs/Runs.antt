@@ -9,23 +9,23 @@ use Rattle.std.specs.Option.{option_map}
 use Rattle.ep_packet.specs.Class.{Class, FragmentName, class_of}
 use Rattle.ep_packet.specs.Class.Class.{Whole, Cut, Other, Refused as Faulty}
 use Rattle.ep_packet.specs.declared.err.packet.slice_error.SliceError.{SliceError}
-use Rattle.ep_defrag.specs.declared.defrag.ip_defrag_error.IpDefragError.{IpDefragError}
-use Rattle.ep_defrag.specs.declared.defrag.ip_defrag_error.IpDefragError.TheVariants.{AllocationFailure}
-use Rattle.ep_defrag.specs.declared.defrag.ip_defrag_error.IpDefragError.TheVariants.{ConflictingEnd}
-use Rattle.ep_defrag.specs.declared.defrag.ip_defrag_error.IpDefragError.TheVariants.{SegmentTooBig}
-use Rattle.ep_defrag.specs.declared.defrag.ip_defrag_error.IpDefragError.TheVariants.{UnalignedFragmentPayloadLen}
-use Rattle.ep_defrag.specs.declared.defrag.overlap_rule.OverlapRule.{OverlapRule}
+use Rattle.ep_fragments.specs.declared.defrag.ip_defrag_error.IpDefragError.{IpDefragError}
+use Rattle.ep_fragments.specs.declared.defrag.ip_defrag_error.IpDefragError.TheVariants.{AllocationFailure}
+use Rattle.ep_fragments.specs.declared.defrag.ip_defrag_error.IpDefragError.TheVariants.{ConflictingEnd}
+use Rattle.ep_fragments.specs.declared.defrag.ip_defrag_error.IpDefragError.TheVariants.{SegmentTooBig}
+use Rattle.ep_fragments.specs.declared.defrag.ip_defrag_error.IpDefragError.TheVariants.{UnalignedFragmentPayloadLen}
+use Rattle.ep_fragments.specs.declared.defrag.overlap_rule.OverlapRule.{OverlapRule}
 use Rattle.ep_defrag.specs.declared.defrag.pool_calls.PoolCall.{PoolCall}
 use Rattle.ep_defrag.specs.declared.defrag.pool_calls.PoolCall.TheVariants.{Frame, RetainFrom}
 use Rattle.ep_defrag.specs.declared.defrag.pool_calls.PoolReply.{PoolReply}
 use Rattle.ep_defrag.specs.declared.defrag.ip_frag_id.IpFragId.{IpFragId}
 use Rattle.ep_defrag.specs.Counts.{Bounded, open_in}
-use Rattle.ep_defrag.specs.Fragments.{Fragment, end_conflict, end_of, fragment, named_end}
-use Rattle.ep_defrag.specs.Fragments.{refusal_at}
+use Rattle.ep_fragments.specs.Fragments.{Fragment, end_conflict, end_of, fragment, named_end}
+use Rattle.ep_fragments.specs.Fragments.{refusal_at}
 use Rattle.ep_defrag.specs.IpFragId.{fragment_in, id_named, rule_over}
 use Rattle.ep_defrag.specs.OpenMessages.{IsOpenCount, NeverMore}
-use Rattle.ep_defrag.specs.Outcome.{Outcome, memory_error, outcome}
-use Rattle.ep_defrag.specs.Outcome.Outcome.{Clash, Completed, Refusal, Waiting}
+use Rattle.ep_fragments.specs.Outcome.{Outcome, memory_error, outcome}
+use Rattle.ep_fragments.specs.Outcome.Outcome.{Clash, Completed, Refusal, Waiting}
 use Rattle.ep_defrag.specs.PoolCalls.{Answered, HasMemory, Lists, Replies, Told, answer_to}
 use Rattle.ep_defrag.specs.PoolCalls.{answer_to_frame, answers, lists_after, lists_with}
 use Rattle.ep_defrag.specs.PoolCalls.{outcome_at, as_told, told_of, want_at, want_at_fragment}

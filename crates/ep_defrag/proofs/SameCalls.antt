@@ -9,7 +9,7 @@ use Rattle.ep_defrag.specs.IpDefragPool.{payload_told}
 use Rattle.ep_defrag.specs.PoolCalls.{as_told, call_told}
 use Rattle.ep_defrag.specs.PoolCalls.Asked.{Came, Stays}
 use Rattle.ep_defrag.specs.PoolCalls.Told.{Delivered, Refused, NotSliced}
-use Rattle.ep_defrag.specs.contracts.defrag.ip_defrag_error.IpDefragErrorPartialEq.TheImpl as refusals
+use Rattle.ep_fragments.specs.contracts.defrag.ip_defrag_error.IpDefragErrorPartialEq.TheImpl as refusals
 use Rattle.ep_defrag.specs.contracts.defrag.ip_defrag_payload_vec.IpDefragPayloadVecPartialEq.TheImpl as payloads
 use Rattle.ep_defrag.specs.contracts.defrag.pool_calls.PoolCallPartialEq.TheImpl as calls
 use Rattle.ep_defrag.specs.contracts.defrag.pool_calls.PoolReplyPartialEq.TheImpl as replies

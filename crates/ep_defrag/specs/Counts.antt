@@ -1,8 +1,8 @@
 -- How many messages a pool holds, and how many buffers are spare.
 use Rattle.std.specs.Prelude.{◌≡◌, ◌+◌, ◌-◌, ◌≤◌, ◌⊎◌, ℕ, Bool, Option, Some, None, Result, Ok, Err}
 use Rattle.std.specs.Prelude.{length, if◌then◌else◌}
-use Rattle.ep_defrag.specs.declared.defrag.ip_defrag_error.IpDefragError.{IpDefragError}
-use Rattle.ep_defrag.specs.IpDefragError.{is_overlap}
+use Rattle.ep_fragments.specs.declared.defrag.ip_defrag_error.IpDefragError.{IpDefragError}
+use Rattle.ep_fragments.specs.IpDefragError.{is_overlap}
 use Rattle.ep_defrag.specs.Streams.{Pool, stream_at}
 
 -- the messages that are on their way

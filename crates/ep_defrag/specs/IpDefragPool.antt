@@ -4,13 +4,13 @@ use Rattle.std.specs.Cmp.Lexicographic.{pointwise}
 use Rattle.ep_base.specs.declared.len_source.LenSource.{LenSource}
 use Rattle.ep_base.specs.declared.net.ip_number.IpNumber.{IpNumber}
 use Rattle.ep_defrag.specs.contracts.defrag.ip_frag_version_spec_id.IpFragVersionSpecIdPartialEq.TheImpl as versions
-use Rattle.ep_defrag.specs.declared.defrag.ip_defrag_error.IpDefragError.{IpDefragError}
+use Rattle.ep_fragments.specs.declared.defrag.ip_defrag_error.IpDefragError.{IpDefragError}
 use Rattle.ep_defrag.specs.declared.defrag.ip_defrag_payload_vec.IpDefragPayloadVec.{IpDefragPayloadVec}
 use Rattle.ep_defrag.specs.declared.defrag.ip_frag_id.IpFragId.{IpFragId}
-use Rattle.ep_defrag.specs.declared.defrag.overlap_rule.OverlapRule.{OverlapRule}
-use Rattle.ep_defrag.specs.Fragments.{Fragment}
+use Rattle.ep_fragments.specs.declared.defrag.overlap_rule.OverlapRule.{OverlapRule}
+use Rattle.ep_fragments.specs.Fragments.{Fragment}
 use Rattle.ep_defrag.specs.IpFragId.{len_source_of, overlap_rule_of}
-use Rattle.ep_defrag.specs.Outcome.{outcome}
+use Rattle.ep_fragments.specs.Outcome.{outcome}
 use Rattle.ep_defrag.specs.Streams.{Becomes, Pool, RefusesBy, ShowsStream, stream_at}
 
 -- a message that was put together: its protocol, what the lengths of its fragments came from, and

@@ -14,9 +14,9 @@ use Rattle.ep_defrag.specs.declared.defrag.ip_frag_id.IpFragId.{IpFragId}
 use Rattle.ep_defrag.specs.declared.defrag.ip_frag_version_spec_id.IpFragVersionSpecId.{IpFragVersionSpecId}
 use Rattle.ep_defrag.specs.declared.defrag.ip_frag_version_spec_id.IpFragVersionSpecId.TheVariants.{Ipv4}
 use Rattle.ep_defrag.specs.declared.defrag.ip_frag_version_spec_id.IpFragVersionSpecId.TheVariants.{Ipv6}
-use Rattle.ep_defrag.specs.declared.defrag.overlap_rule.OverlapRule.{OverlapRule}
-use Rattle.ep_defrag.specs.declared.defrag.overlap_rule.OverlapRule.TheVariants.{Overwrites, Refuses}
-use Rattle.ep_defrag.specs.Fragments.{Fragment, fragment}
+use Rattle.ep_fragments.specs.declared.defrag.overlap_rule.OverlapRule.{OverlapRule}
+use Rattle.ep_fragments.specs.declared.defrag.overlap_rule.OverlapRule.TheVariants.{Overwrites, Refuses}
+use Rattle.ep_fragments.specs.Fragments.{Fragment, fragment}
 
 abbrev pub spec_id : Addresses → ℕ → IpFragVersionSpecId
 spec_id (V4 source destination) identification = Ipv4 source destination identification

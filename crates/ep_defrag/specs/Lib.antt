@@ -1,15 +1,7 @@
 pub mod Counts
-pub mod Fragments
-pub mod IpDefragBuf
-pub mod IpDefragError
 pub mod IpDefragPool
 pub mod IpFragId
-pub mod IpFragRange
-pub mod Joined
-pub mod Member
 pub mod OpenMessages
-pub mod Outcome
-pub mod Picture
 pub mod PoolCalls
 pub mod Processed
 pub mod Refused

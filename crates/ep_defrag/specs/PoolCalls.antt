@@ -7,21 +7,21 @@ use Rattle.ep_packet.specs.Class.Class.{Whole, Cut, Other, Refused as Faulty}
 use Rattle.ep_packet.specs.Sliced.{sliced_ethernet}
 use Rattle.ep_packet.specs.declared.err.packet.slice_error.SliceError.{SliceError}
 use Rattle.ep_packet.specs.declared.sliced_packet.SlicedPacket.{SlicedPacket}
-use Rattle.ep_defrag.specs.declared.defrag.ip_defrag_error.IpDefragError.{IpDefragError}
-use Rattle.ep_defrag.specs.declared.defrag.ip_defrag_error.IpDefragError.TheVariants.{AllocationFailure}
+use Rattle.ep_fragments.specs.declared.defrag.ip_defrag_error.IpDefragError.{IpDefragError}
+use Rattle.ep_fragments.specs.declared.defrag.ip_defrag_error.IpDefragError.TheVariants.{AllocationFailure}
 use Rattle.ep_defrag.specs.declared.defrag.ip_defrag_payload_vec.IpDefragPayloadVec.{IpDefragPayloadVec}
 use Rattle.ep_defrag.specs.declared.defrag.ip_frag_id.IpFragId.{IpFragId}
-use Rattle.ep_defrag.specs.declared.defrag.overlap_rule.OverlapRule.{OverlapRule}
+use Rattle.ep_fragments.specs.declared.defrag.overlap_rule.OverlapRule.{OverlapRule}
 use Rattle.ep_defrag.specs.declared.defrag.pool_calls.PoolCall.{PoolCall}
 use Rattle.ep_defrag.specs.declared.defrag.pool_calls.PoolCall.TheVariants.{Frame, RetainFrom}
 use Rattle.ep_defrag.specs.declared.defrag.pool_calls.PoolReply.{PoolReply}
 use Rattle.ep_defrag.specs.declared.defrag.pool_calls.PoolReply.TheVariants as reply
 use Rattle.ep_defrag.specs.declared.defrag.stream.Stream.{Stream}
-use Rattle.ep_defrag.specs.Fragments.{Fragment, fragment}
+use Rattle.ep_fragments.specs.Fragments.{Fragment, fragment}
 use Rattle.ep_defrag.specs.IpDefragPool.{Payload, payload_of, payload_told, same_id}
 use Rattle.ep_defrag.specs.IpFragId.{fragment_in, id_named, rule_over, same_name}
-use Rattle.ep_defrag.specs.Outcome.{Held, Outcome, held_after, memory_error, outcome}
-use Rattle.ep_defrag.specs.Outcome.Outcome.{Clash, Completed, Refusal, Waiting}
+use Rattle.ep_fragments.specs.Outcome.{Held, Outcome, held_after, memory_error, outcome}
+use Rattle.ep_fragments.specs.Outcome.Outcome.{Clash, Completed, Refusal, Waiting}
 use Rattle.ep_defrag.specs.Streams.{Pool, ShowsStream, stream_at}
 
 -- the list of each name and channel

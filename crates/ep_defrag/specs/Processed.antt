@@ -3,7 +3,7 @@ use Rattle.std.specs.Prelude.{◌≡◌, ℕ, nat_eq, Option, None, Some, Result
 use Rattle.ep_packet.specs.Class.{Class}
 use Rattle.ep_packet.specs.Class.Class.{Refused}
 use Rattle.ep_packet.specs.declared.err.packet.slice_error.SliceError.{SliceError}
-use Rattle.ep_defrag.specs.declared.defrag.ip_defrag_error.IpDefragError.{IpDefragError}
+use Rattle.ep_fragments.specs.declared.defrag.ip_defrag_error.IpDefragError.{IpDefragError}
 use Rattle.ep_defrag.specs.declared.defrag.ip_defrag_payload_vec.IpDefragPayloadVec.{IpDefragPayloadVec}
 use Rattle.ep_defrag.specs.declared.defrag.ip_frag_id.IpFragId.{IpFragId}
 use Rattle.ep_defrag.specs.IpDefragPool.{Accepts, Refuses, same_id}

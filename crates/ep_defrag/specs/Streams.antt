@@ -5,14 +5,14 @@ use Rattle.std.specs.Prelude.{◌≡◌, ◌≢◌, ◌⊎◌, ℕ, Bool, true, 
 use Rattle.std.specs.Prelude.{Result, List, [], IfErr, IsSomeAnd}
 use Rattle.std.specs.Map.{lookup}
 use Rattle.ep_packet.specs.declared.class.Part.{Part}
-use Rattle.ep_defrag.specs.declared.defrag.ip_defrag_error.IpDefragError.{IpDefragError}
-use Rattle.ep_defrag.specs.declared.defrag.overlap_rule.OverlapRule.{OverlapRule}
+use Rattle.ep_fragments.specs.declared.defrag.ip_defrag_error.IpDefragError.{IpDefragError}
+use Rattle.ep_fragments.specs.declared.defrag.overlap_rule.OverlapRule.{OverlapRule}
 use Rattle.ep_defrag.specs.declared.defrag.stream.Stream.{Stream}
-use Rattle.ep_defrag.specs.Fragments.{Fragment, fragment}
-use Rattle.ep_defrag.specs.IpDefragBuf.{Shows, rule_of}
-use Rattle.ep_defrag.specs.IpDefragError.{is_overlap}
-use Rattle.ep_defrag.specs.Outcome.{Outcome, error_of, memory_error, outcome}
-use Rattle.ep_defrag.specs.Outcome.Outcome.{Clash, Completed, Refusal, Waiting}
+use Rattle.ep_fragments.specs.Fragments.{Fragment, fragment}
+use Rattle.ep_fragments.specs.IpDefragBuf.{Shows, rule_of}
+use Rattle.ep_fragments.specs.IpDefragError.{is_overlap}
+use Rattle.ep_fragments.specs.Outcome.{Outcome, error_of, memory_error, outcome}
+use Rattle.ep_fragments.specs.Outcome.Outcome.{Clash, Completed, Refusal, Waiting}
 
 -- the fragment that a part of a message is
 abbrev pub fragment_of : Part → Fragment

@@ -1,34 +1,21 @@
 //! Reassembly of fragmented IP packets (RFC 791, section 3.2; RFC 8200, section 4.5).
 
-pub(crate) mod ip_defrag_buf;
-mod ip_defrag_error;
 mod ip_defrag_payload_vec;
 mod ip_defrag_pool;
 mod ip_frag_id;
-mod ip_frag_range;
 mod ip_frag_version_spec_id;
-mod member;
-mod overlap_rule;
 mod part;
 mod pool_calls;
 mod retain_streams;
-mod sections;
 mod spare_buffers;
 mod stream;
 mod streams;
 
-pub use ip_defrag_buf::IpDefragBuf;
-pub use ip_defrag_error::IpDefragError;
+pub use ep_fragments::defrag::{
+    IpDefragBuf, IpDefragError, IpFragRange, MAX_IP_DEFRAG_LEN, MAX_IP_DEFRAG_LEN_U16, OverlapRule,
+};
 pub use ip_defrag_payload_vec::IpDefragPayloadVec;
 pub use ip_defrag_pool::IpDefragPool;
 pub use ip_frag_id::IpFragId;
-pub use ip_frag_range::IpFragRange;
 pub use ip_frag_version_spec_id::IpFragVersionSpecId;
-pub use overlap_rule::OverlapRule;
 pub use pool_calls::{PoolCall, PoolReply, run_calls};
-
-/// The greatest length of a message, in bytes.
-pub const MAX_IP_DEFRAG_LEN: usize = 65535;
-
-/// The same as a number of 16 bits.
-pub const MAX_IP_DEFRAG_LEN_U16: u16 = 65535;

@@ -38,3 +38,5 @@ mod pool_reuse;
 mod pools;
 #[cfg(test)]
 mod ranges;
+#[cfg(test)]
+mod rules;

@@ -2,6 +2,7 @@ pub use Rattle.ep_base.specs as base
 pub use Rattle.ep_build.specs as build
 pub use Rattle.ep_defrag.specs as defrag
 pub use Rattle.ep_ext.specs as ext
+pub use Rattle.ep_fragments.specs as fragments
 pub use Rattle.ep_icmp.specs as icmp
 pub use Rattle.ep_ip.specs as ip
 pub use Rattle.ep_ipslice.specs as ipslice

@@ -5,6 +5,7 @@ pub use ep_base::laws as base;
 pub use ep_build::laws as build;
 pub use ep_defrag::laws as defrag;
 pub use ep_ext::laws as ext;
+pub use ep_fragments::laws as fragments;
 pub use ep_icmp::laws as icmp;
 pub use ep_ip::laws as ip;
 pub use ep_ipslice::laws as ipslice;

@@ -6,12 +6,12 @@ use Rattle.etherparse.specs.defrag.IpDefragPool.{Payload, payload_told}
 use Rattle.etherparse.specs.defrag.PoolCalls.{FrameAnswered, Lists, Told}
 use Rattle.etherparse.specs.defrag.PoolCalls.Told.{Delivered, NoMemory, NotSliced, Nothing, Refused}
 use Rattle.etherparse.specs.defrag.PoolCalls.Told.{Retained}
-use Rattle.etherparse.specs.defrag.declared.defrag.ip_defrag_error.IpDefragError.{IpDefragError}
-use Rattle.etherparse.specs.defrag.declared.defrag.ip_defrag_error.IpDefragError.TheVariants.{UnalignedFragmentPayloadLen}
-use Rattle.etherparse.specs.defrag.declared.defrag.ip_defrag_error.IpDefragError.TheVariants.{SegmentTooBig}
-use Rattle.etherparse.specs.defrag.declared.defrag.ip_defrag_error.IpDefragError.TheVariants.{ConflictingEnd}
-use Rattle.etherparse.specs.defrag.declared.defrag.ip_defrag_error.IpDefragError.TheVariants.{AllocationFailure}
-use Rattle.etherparse.specs.defrag.declared.defrag.ip_defrag_error.IpDefragError.TheVariants.{OverlappingFragment}
+use Rattle.etherparse.specs.fragments.declared.defrag.ip_defrag_error.IpDefragError.{IpDefragError}
+use Rattle.etherparse.specs.fragments.declared.defrag.ip_defrag_error.IpDefragError.TheVariants.{UnalignedFragmentPayloadLen}
+use Rattle.etherparse.specs.fragments.declared.defrag.ip_defrag_error.IpDefragError.TheVariants.{SegmentTooBig}
+use Rattle.etherparse.specs.fragments.declared.defrag.ip_defrag_error.IpDefragError.TheVariants.{ConflictingEnd}
+use Rattle.etherparse.specs.fragments.declared.defrag.ip_defrag_error.IpDefragError.TheVariants.{AllocationFailure}
+use Rattle.etherparse.specs.fragments.declared.defrag.ip_defrag_error.IpDefragError.TheVariants.{OverlappingFragment}
 use Rattle.etherparse.specs.packet.Class.{Class}
 use Rattle.etherparse.specs.packet.Class.Class.{Whole, Cut, Other, Refused as Faulty}
 use Rattle.etherparse.specs.packet.declared.addresses.Addresses.{Addresses}

@@ -1,10 +1,10 @@
 -- Why a part of a message is refused, as numbers.
-use Rattle.etherparse.specs.defrag.declared.defrag.ip_defrag_error.IpDefragError.{IpDefragError}
-use Rattle.etherparse.specs.defrag.declared.defrag.ip_defrag_error.IpDefragError.TheVariants.{UnalignedFragmentPayloadLen}
-use Rattle.etherparse.specs.defrag.declared.defrag.ip_defrag_error.IpDefragError.TheVariants.{SegmentTooBig}
-use Rattle.etherparse.specs.defrag.declared.defrag.ip_defrag_error.IpDefragError.TheVariants.{ConflictingEnd}
-use Rattle.etherparse.specs.defrag.declared.defrag.ip_defrag_error.IpDefragError.TheVariants.{AllocationFailure}
-use Rattle.etherparse.specs.defrag.declared.defrag.ip_defrag_error.IpDefragError.TheVariants.{OverlappingFragment}
+use Rattle.etherparse.specs.fragments.declared.defrag.ip_defrag_error.IpDefragError.{IpDefragError}
+use Rattle.etherparse.specs.fragments.declared.defrag.ip_defrag_error.IpDefragError.TheVariants.{UnalignedFragmentPayloadLen}
+use Rattle.etherparse.specs.fragments.declared.defrag.ip_defrag_error.IpDefragError.TheVariants.{SegmentTooBig}
+use Rattle.etherparse.specs.fragments.declared.defrag.ip_defrag_error.IpDefragError.TheVariants.{ConflictingEnd}
+use Rattle.etherparse.specs.fragments.declared.defrag.ip_defrag_error.IpDefragError.TheVariants.{AllocationFailure}
+use Rattle.etherparse.specs.fragments.declared.defrag.ip_defrag_error.IpDefragError.TheVariants.{OverlappingFragment}
 use Rattle.etherparse_c.specs.declared.part_refusal.EpPartRefusal.{EpPartRefusal}
 
 abbrev pub no_part_refusal : EpPartRefusal

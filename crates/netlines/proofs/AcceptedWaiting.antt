@@ -1,9 +1,9 @@
 -- Fragments that wait behind one another are accepted, and so is one that completes their message.
 use Rattle.std.proofs.Common.{◌≡◌, ◌∙◌, ap, refl, sym, List, [], ◌∷◌, ◌++◌, append-nil, append_assoc}
 use Rattle.std.proofs.Common.{None}
-use Rattle.etherparse.specs.defrag.declared.defrag.overlap_rule.OverlapRule.{OverlapRule}
-use Rattle.etherparse.specs.defrag.Fragments.{Fragment, IsAccepted, refusal_of, with_accepted}
-use Rattle.etherparse.specs.defrag.Fragments.{with_all_accepted}
+use Rattle.etherparse.specs.fragments.declared.defrag.overlap_rule.OverlapRule.{OverlapRule}
+use Rattle.etherparse.specs.fragments.Fragments.{Fragment, IsAccepted, refusal_of, with_accepted}
+use Rattle.etherparse.specs.fragments.Fragments.{with_all_accepted}
 use Rattle.etherparse.proofs.Found.{accepted_is}
 use Rattle.netlines.proofs.ShapeLemmas.{waits_if}
 use Rattle.netlines.proofs.WaitingLemmas.{AllWait}

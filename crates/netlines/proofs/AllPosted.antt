@@ -6,10 +6,10 @@ use Rattle.std.specs.Prelude.{IsTrue, codes, nat_lt, Contains}
 use Rattle.std.specs.List.{AllByRecursion}
 use Rattle.std.proofs.lemmas.Bool.{cases_Bool}
 use Rattle.std.proofs.lemmas.List.Elements.{recursion_from_All}
-use Rattle.etherparse.specs.defrag.Fragments.{Fragment, is_complete}
+use Rattle.etherparse.specs.fragments.Fragments.{Fragment, is_complete}
 use Rattle.etherparse.specs.defrag.IpFragId.{same_name}
-use Rattle.etherparse.specs.defrag.Outcome.{Held, Outcome, held_after, outcome}
-use Rattle.etherparse.specs.defrag.Outcome.Outcome.{Completed, Waiting}
+use Rattle.etherparse.specs.fragments.Outcome.{Held, Outcome, held_after, outcome}
+use Rattle.etherparse.specs.fragments.Outcome.Outcome.{Completed, Waiting}
 use Rattle.etherparse.specs.defrag.PoolCalls.{no_lists}
 use Rattle.etherparse.specs.packet.Class.{Class, FragmentName, class_of}
 use Rattle.etherparse.specs.packet.Class.Class.{Whole, Cut, Refused}
@@ -40,11 +40,11 @@ use Rattle.netlines.proofs.PostedFrames.{frame_is_whole}
 use Rattle.netlines.proofs.PostedPieces.{goes_from_start, is_good, posted_cut}
 use Rattle.netlines.proofs.ReplayLemmas.{waiting_hands_nothing}
 use Rattle.netlines.proofs.UnrefusedLemmas.{carried_whole, unrefused}
-use Rattle.etherparse.specs.defrag.declared.defrag.overlap_rule.OverlapRule.{OverlapRule}
-use Rattle.etherparse.specs.defrag.declared.defrag.overlap_rule.OverlapRule.TheVariants.{Refuses}
+use Rattle.etherparse.specs.fragments.declared.defrag.overlap_rule.OverlapRule.{OverlapRule}
+use Rattle.etherparse.specs.fragments.declared.defrag.overlap_rule.OverlapRule.TheVariants.{Refuses}
 use Rattle.etherparse.specs.defrag.IpFragId.{rule_over}
-use Rattle.etherparse.specs.defrag.Outcome.Outcome.{Clash}
-use Rattle.etherparse.specs.defrag.Fragments.{overlap_of}
+use Rattle.etherparse.specs.fragments.Outcome.Outcome.{Clash}
+use Rattle.etherparse.specs.fragments.Fragments.{overlap_of}
 use Rattle.netlines.proofs.InertLemmas.{refuses_if}
 use Rattle.netlines.proofs.ReplayLemmas.{overlap_hands_nothing}
 

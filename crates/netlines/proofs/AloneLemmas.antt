@@ -4,9 +4,9 @@ use Rattle.std.proofs.Common.{Bool, true, false, not, cond, List, [], ◌∷◌,
 use Rattle.std.proofs.Common.{get_or, append_assoc, length-append}
 use Rattle.std.specs.Prelude.{◌==◌, IsTrue, codes}
 use Rattle.std.proofs.lemmas.Bool.{and_parts, cases_Bool, eqb-true, true≢false}
-use Rattle.etherparse.specs.defrag.Fragments.{Fragment, fragment}
+use Rattle.etherparse.specs.fragments.Fragments.{Fragment, fragment}
 use Rattle.etherparse.specs.defrag.IpFragId.{same_name}
-use Rattle.etherparse.specs.defrag.Outcome.{Held, Outcome, held_after, outcome}
+use Rattle.etherparse.specs.fragments.Outcome.{Held, Outcome, held_after, outcome}
 use Rattle.etherparse.specs.defrag.PoolCalls.{Lists, after_frame, outcome_at}
 use Rattle.etherparse.specs.packet.Class.{Class, FragmentName, class_of}
 use Rattle.etherparse.specs.packet.Class.Class.{Whole, Cut, Other, Refused}

@@ -4,7 +4,7 @@ use Rattle.std.proofs.Common.{[], ◌∷◌, ◌++◌, length, arith}
 use Rattle.std.specs.Prelude.{IsTrue}
 use Rattle.etherparse.specs.packet.Class.{FragmentName}
 use Rattle.etherparse.specs.defrag.declared.defrag.ip_frag_id.IpFragId.{IpFragId}
-use Rattle.etherparse.specs.defrag.Outcome.{Held}
+use Rattle.etherparse.specs.fragments.Outcome.{Held}
 use Rattle.etherparse.specs.defrag.PoolCalls.{Lists, ShowsLists, no_lists}
 use Rattle.etherparse.specs.defrag.Streams.{Pool}
 use Rattle.netlines.specs.Answers.{answer_after, command_answer, command_takes_memory}

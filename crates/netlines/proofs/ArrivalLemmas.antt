@@ -6,9 +6,9 @@ use Rattle.std.specs.Prelude.{IsTrue, nat_eq}
 use Rattle.std.specs.Cmp.Lexicographic.{pointwise}
 use Rattle.std.proofs.lemmas.Bool.{and_parts, cases_Bool, cases_lt, eq-eqb, eqb-true, le-ltb}
 use Rattle.std.proofs.lemmas.Bool.{lt-ltb}
-use Rattle.etherparse.specs.defrag.Fragments.{Fragment, fragment}
+use Rattle.etherparse.specs.fragments.Fragments.{Fragment, fragment}
 use Rattle.etherparse.specs.defrag.IpFragId.{fragment_in, same_addresses, same_name}
-use Rattle.etherparse.specs.defrag.Outcome.{Held, Outcome, held_after, outcome}
+use Rattle.etherparse.specs.fragments.Outcome.{Held, Outcome, held_after, outcome}
 use Rattle.etherparse.specs.defrag.PoolCalls.{Lists, after_fragment, after_frame, outcome_at}
 use Rattle.etherparse.specs.defrag.PoolCalls.{retained_from}
 use Rattle.etherparse.specs.packet.Class.{Class, FragmentName, class_of}

@@ -17,9 +17,9 @@ use Rattle.std.proofs.lemmas.List.FromFn.{fill_by_all, get_or-map-range_with_len
 use Rattle.std.proofs.lemmas.List.FromFn.{length-map-range_with_len}
 use Rattle.etherparse.specs.base.Bytes.{IsBytes}
 use Rattle.etherparse.specs.base.Sum.{total}
-use Rattle.etherparse.specs.defrag.Fragments.{AgreesWith, Fragment, Holds, end_of, holds, named_end}
-use Rattle.etherparse.specs.defrag.Fragments.{start_of}
-use Rattle.etherparse.specs.defrag.Picture.{byte_at, byte_of, text_of}
+use Rattle.etherparse.specs.fragments.Fragments.{AgreesWith, Fragment, Holds, end_of, holds, named_end}
+use Rattle.etherparse.specs.fragments.Fragments.{start_of}
+use Rattle.etherparse.specs.fragments.Picture.{byte_at, byte_of, text_of}
 use Rattle.etherparse.proofs.Members.{AnyOf, AnyOf-from_Any, AnyOf-right, Any-from_AnyOf}
 use Rattle.etherparse.proofs.Push.{byte_of-here}
 use Rattle.netlines.specs.ChangedWord.{DifferAt, DifferInOneWord}

@@ -3,12 +3,12 @@ use Rattle.std.proofs.Common.{◌≡◌, ◌∙◌, ap, refl, subst, sym, ◌↔
 use Rattle.std.proofs.Common.{length, map, arith, length-append, append-nil, append_assoc, Option}
 use Rattle.std.proofs.Common.{None, is_some, if◌then◌else◌}
 use Rattle.std.specs.Prelude.{All, IsTrue, codes}
-use Rattle.etherparse.specs.defrag.declared.defrag.ip_defrag_error.IpDefragError.{IpDefragError}
-use Rattle.etherparse.specs.defrag.Fragments.{AgreesWith, Fragment, IsAccepted, MembersAgree}
-use Rattle.etherparse.specs.defrag.Fragments.{refusal_of, with_accepted, with_all_accepted}
+use Rattle.etherparse.specs.fragments.declared.defrag.ip_defrag_error.IpDefragError.{IpDefragError}
+use Rattle.etherparse.specs.fragments.Fragments.{AgreesWith, Fragment, IsAccepted, MembersAgree}
+use Rattle.etherparse.specs.fragments.Fragments.{refusal_of, with_accepted, with_all_accepted}
 use Rattle.etherparse.specs.defrag.IpFragId.{same_name}
 use Rattle.etherparse.specs.defrag.PoolCalls.{outcome_at}
-use Rattle.etherparse.specs.defrag.Picture.{text_of}
+use Rattle.etherparse.specs.fragments.Picture.{text_of}
 use Rattle.etherparse.specs.packet.Class.{FragmentName, class_of}
 use Rattle.etherparse.specs.packet.Class.Class.{Cut}
 use Rattle.commands.specs.Commands.Command.{Frame}
@@ -25,11 +25,11 @@ use Rattle.netlines.proofs.ReplayLemmas.{answered_among, handed_out}
 use Rattle.netlines.proofs.ShapeLemmas.{AllSameShape, SameShape, completes_if, own_shape, same_completed}
 use Rattle.netlines.proofs.ShapeLemmas.{same_wait, waits_if}
 use Rattle.netlines.proofs.WaitingLemmas.{AllWait, HandIn, HandIn-push, are_waiting, none_held}
-use Rattle.etherparse.specs.defrag.declared.defrag.overlap_rule.OverlapRule.{OverlapRule}
-use Rattle.etherparse.specs.defrag.declared.defrag.overlap_rule.OverlapRule.TheVariants.{Overwrites}
+use Rattle.etherparse.specs.fragments.declared.defrag.overlap_rule.OverlapRule.{OverlapRule}
+use Rattle.etherparse.specs.fragments.declared.defrag.overlap_rule.OverlapRule.TheVariants.{Overwrites}
 use Rattle.etherparse.specs.defrag.IpFragId.{rule_over}
-use Rattle.etherparse.specs.defrag.Outcome.{outcome}
-use Rattle.etherparse.specs.defrag.Outcome.Outcome.{Completed}
+use Rattle.etherparse.specs.fragments.Outcome.{outcome}
+use Rattle.etherparse.specs.fragments.Outcome.Outcome.{Completed}
 use Rattle.etherparse.proofs.Found.{accepted_is}
 
 waits_alike : (xs ys : List (List ℕ)) → length xs ≡ length ys

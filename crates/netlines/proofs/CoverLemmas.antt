@@ -5,13 +5,13 @@ use Rattle.std.proofs.Common.{false, None, IsSome, List, [], ◌∷◌, ◌++◌
 use Rattle.std.proofs.Common.{arith}
 use Rattle.std.specs.List.{AllByRecursion, Contains}
 use Rattle.std.proofs.lemmas.Bool.{cases_Bool, false_from_ne_true}
-use Rattle.etherparse.specs.defrag.Fragments.{Fragment, Holds, end_of, is_complete, named_end}
-use Rattle.etherparse.specs.defrag.Fragments.{overlaps, refusal_of, start_of}
-use Rattle.etherparse.specs.defrag.declared.defrag.overlap_rule.OverlapRule.{OverlapRule}
-use Rattle.etherparse.specs.defrag.declared.defrag.overlap_rule.OverlapRule.TheVariants.{Overwrites}
-use Rattle.etherparse.specs.defrag.declared.defrag.overlap_rule.OverlapRule.TheVariants.{Refuses}
-use Rattle.etherparse.specs.defrag.Outcome.{outcome}
-use Rattle.etherparse.specs.defrag.Outcome.Outcome.{Completed}
+use Rattle.etherparse.specs.fragments.Fragments.{Fragment, Holds, end_of, is_complete, named_end}
+use Rattle.etherparse.specs.fragments.Fragments.{overlaps, refusal_of, start_of}
+use Rattle.etherparse.specs.fragments.declared.defrag.overlap_rule.OverlapRule.{OverlapRule}
+use Rattle.etherparse.specs.fragments.declared.defrag.overlap_rule.OverlapRule.TheVariants.{Overwrites}
+use Rattle.etherparse.specs.fragments.declared.defrag.overlap_rule.OverlapRule.TheVariants.{Refuses}
+use Rattle.etherparse.specs.fragments.Outcome.{outcome}
+use Rattle.etherparse.specs.fragments.Outcome.Outcome.{Completed}
 use Rattle.etherparse.proofs.Clash.{no_clash}
 use Rattle.etherparse.proofs.Complete.{complete_Decides}
 use Rattle.etherparse.proofs.Members.{AllByRecursion-push, Any-from_AnyOf, AnyOf, AnyOf-from_Any}

@@ -5,7 +5,7 @@ use Rattle.std.proofs.Common.{suc, [], ◌∷◌, ◌++◌, map, None, arith}
 use Rattle.std.specs.Prelude.{IsTrue, Contains}
 use Rattle.std.specs.List.{AllByRecursion}
 use Rattle.std.proofs.lemmas.List.Elements.{All-contains, recursion_from_All}
-use Rattle.etherparse.specs.defrag.Fragments.{Fragment}
+use Rattle.etherparse.specs.fragments.Fragments.{Fragment}
 use Rattle.etherparse.specs.defrag.IpFragId.{same_name}
 use Rattle.etherparse.specs.packet.Class.{FragmentName, class_of}
 use Rattle.etherparse.proofs.Members.{AllByRecursion-push}

@@ -9,14 +9,14 @@ use Rattle.std.proofs.lemmas.Bool.{cases_lt, eq-eqb, le-ltb}
 use Rattle.std.proofs.lemmas.Bool.Decides.{nat_tests}
 use Rattle.std.proofs.lemmas.List.{get_or-append_right, get_or_append_left}
 use Rattle.std.proofs.lemmas.List.FromFn.{fill_by_all}
-use Rattle.etherparse.specs.defrag.declared.defrag.ip_defrag_error.IpDefragError.{IpDefragError}
-use Rattle.etherparse.specs.defrag.Fragments.{Fragment, Holds, end_of, greatest_end, is_complete}
-use Rattle.etherparse.specs.defrag.Fragments.{named_end, overlaps, refusal_at, refusal_of, start_of}
-use Rattle.etherparse.specs.defrag.Fragments.{Covered}
-use Rattle.etherparse.specs.defrag.declared.defrag.overlap_rule.OverlapRule.{OverlapRule}
-use Rattle.etherparse.specs.defrag.declared.defrag.overlap_rule.OverlapRule.TheVariants.{Overwrites}
-use Rattle.etherparse.specs.defrag.declared.defrag.overlap_rule.OverlapRule.TheVariants.{Refuses}
-use Rattle.etherparse.specs.defrag.Picture.{byte_at, byte_of, text_of}
+use Rattle.etherparse.specs.fragments.declared.defrag.ip_defrag_error.IpDefragError.{IpDefragError}
+use Rattle.etherparse.specs.fragments.Fragments.{Fragment, Holds, end_of, greatest_end, is_complete}
+use Rattle.etherparse.specs.fragments.Fragments.{named_end, overlaps, refusal_at, refusal_of, start_of}
+use Rattle.etherparse.specs.fragments.Fragments.{Covered}
+use Rattle.etherparse.specs.fragments.declared.defrag.overlap_rule.OverlapRule.{OverlapRule}
+use Rattle.etherparse.specs.fragments.declared.defrag.overlap_rule.OverlapRule.TheVariants.{Overwrites}
+use Rattle.etherparse.specs.fragments.declared.defrag.overlap_rule.OverlapRule.TheVariants.{Refuses}
+use Rattle.etherparse.specs.fragments.Picture.{byte_at, byte_of, text_of}
 use Rattle.etherparse.proofs.Clash.{no_clash}
 use Rattle.etherparse.proofs.Complete.{complete_Decides}
 use Rattle.etherparse.proofs.Disjoint.{greatest_of}

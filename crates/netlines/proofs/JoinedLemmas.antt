@@ -1,13 +1,13 @@
 -- A message over IPv6, by the fragments that it is joined from.
 use Rattle.std.proofs.Common.{◌≡◌, ◌∙◌, ap, sym, subst, ◌↔◌, ℕ, List, [], ◌∷◌, ◌++◌}
 use Rattle.std.specs.Prelude.{IsTrue}
-use Rattle.etherparse.specs.defrag.declared.defrag.overlap_rule.OverlapRule.{OverlapRule}
-use Rattle.etherparse.specs.defrag.declared.defrag.overlap_rule.OverlapRule.TheVariants.{Refuses}
-use Rattle.etherparse.specs.defrag.Fragments.{Fragment}
+use Rattle.etherparse.specs.fragments.declared.defrag.overlap_rule.OverlapRule.{OverlapRule}
+use Rattle.etherparse.specs.fragments.declared.defrag.overlap_rule.OverlapRule.TheVariants.{Refuses}
+use Rattle.etherparse.specs.fragments.Fragments.{Fragment}
 use Rattle.etherparse.specs.defrag.IpFragId.{rule_over, same_name}
-use Rattle.etherparse.specs.defrag.Joined.{IsJoined, NoOverlap}
-use Rattle.etherparse.specs.defrag.Outcome.{outcome}
-use Rattle.etherparse.specs.defrag.Outcome.Outcome.{Completed}
+use Rattle.etherparse.specs.fragments.Joined.{IsJoined, NoOverlap}
+use Rattle.etherparse.specs.fragments.Outcome.{outcome}
+use Rattle.etherparse.specs.fragments.Outcome.Outcome.{Completed}
 use Rattle.etherparse.specs.defrag.PoolCalls.{outcome_at}
 use Rattle.etherparse.specs.packet.Class.{FragmentName}
 use Rattle.etherparse.proofs.Complete.{complete_Decides}

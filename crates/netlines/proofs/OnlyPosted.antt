@@ -2,7 +2,7 @@
 use Rattle.std.proofs.Common.{◌≡◌, ◌∙◌, ap, refl, subst, sym, inl, ◌↔◌, ℕ, true, List}
 use Rattle.std.proofs.Common.{[], ◌∷◌, ◌++◌, get_or, Result, Ok, Err, arith}
 use Rattle.std.specs.Prelude.{IsTrue, codes}
-use Rattle.etherparse.specs.defrag.Fragments.{Fragment, fragment}
+use Rattle.etherparse.specs.fragments.Fragments.{Fragment, fragment}
 use Rattle.etherparse.specs.defrag.IpFragId.{same_name}
 use Rattle.etherparse.specs.packet.Class.{FragmentName, class_of}
 use Rattle.etherparse.specs.packet.Readable.{ReadMessage, message_at}

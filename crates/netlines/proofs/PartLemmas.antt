@@ -2,10 +2,10 @@
 use Rattle.std.proofs.Common.{inl, inr, ◌≡◌, ◌∙◌, sym, ap, subst, refl, ℕ, Bool, true, Option}
 use Rattle.std.proofs.Common.{None, Result, is_some, List, []}
 use Rattle.std.specs.Prelude.{codes}
-use Rattle.etherparse.specs.defrag.Fragments.{fragment}
-use Rattle.etherparse.specs.defrag.Outcome.{Outcome}
-use Rattle.etherparse.specs.defrag.Outcome.Outcome.{Completed, Refusal, Waiting}
-use Rattle.etherparse.specs.defrag.declared.defrag.ip_defrag_error.IpDefragError.{IpDefragError}
+use Rattle.etherparse.specs.fragments.Fragments.{fragment}
+use Rattle.etherparse.specs.fragments.Outcome.{Outcome}
+use Rattle.etherparse.specs.fragments.Outcome.Outcome.{Completed, Refusal, Waiting}
+use Rattle.etherparse.specs.fragments.declared.defrag.ip_defrag_error.IpDefragError.{IpDefragError}
 use Rattle.etherparse.specs.defrag.declared.defrag.ip_defrag_payload_vec.IpDefragPayloadVec.{IpDefragPayloadVec}
 use Rattle.etherparse.specs.defrag.declared.defrag.ip_frag_id.IpFragId.{IpFragId}
 use Rattle.etherparse.specs.defrag.IpFragId.{id_named}
@@ -24,9 +24,9 @@ use Rattle.netlines.specs.Answers.{outcome_answer, refusal_answer}
 use Rattle.etherparse.specs.packet.declared.addresses.Addresses.{Addresses}
 use Rattle.etherparse.specs.packet.declared.class.Class.TheVariants as class_told
 use Rattle.etherparse.specs.packet.declared.class.CutMessage.{CutMessage}
-use Rattle.etherparse.specs.defrag.declared.defrag.overlap_rule.OverlapRule.{OverlapRule}
-use Rattle.etherparse.specs.defrag.Fragments.{Fragment}
-use Rattle.etherparse.specs.defrag.Outcome.{outcome}
+use Rattle.etherparse.specs.fragments.declared.defrag.overlap_rule.OverlapRule.{OverlapRule}
+use Rattle.etherparse.specs.fragments.Fragments.{Fragment}
+use Rattle.etherparse.specs.fragments.Outcome.{outcome}
 use Rattle.etherparse.proofs.OutcomeLemmas.{by_outcome}
 use Rattle.etherparse.specs.defrag.IpFragId.{rule_over}
 

@@ -7,10 +7,10 @@ use Rattle.std.specs.List.{AllByRecursion, range_with_len}
 use Rattle.std.proofs.lemmas.Bool.{cases_Bool, eq-eqb, le-ltb, false≢true}
 use Rattle.std.proofs.lemmas.Bool.Decides.{nat_tests}
 use Rattle.std.proofs.lemmas.List.FromFn.{fill_by_all}
-use Rattle.etherparse.specs.defrag.Fragments.{Fragment, Holds, end_of, end_conflict, greatest_end, holds}
-use Rattle.etherparse.specs.defrag.Fragments.{is_complete, named_end, refusal_at, start_of}
-use Rattle.etherparse.specs.defrag.declared.defrag.ip_defrag_error.IpDefragError.{IpDefragError}
-use Rattle.etherparse.specs.defrag.Picture.{byte_at, text_of}
+use Rattle.etherparse.specs.fragments.Fragments.{Fragment, Holds, end_of, end_conflict, greatest_end, holds}
+use Rattle.etherparse.specs.fragments.Fragments.{is_complete, named_end, refusal_at, start_of}
+use Rattle.etherparse.specs.fragments.declared.defrag.ip_defrag_error.IpDefragError.{IpDefragError}
+use Rattle.etherparse.specs.fragments.Picture.{byte_at, text_of}
 use Rattle.etherparse.proofs.Complete.{complete_Decides}
 use Rattle.etherparse.proofs.Members.{AnyOf, AnyOf-from_Any}
 use Rattle.etherparse.proofs.Push.{byte_of-here}

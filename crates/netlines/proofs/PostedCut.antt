@@ -5,7 +5,7 @@ use Rattle.std.proofs.Common.{get_or, arith}
 use Rattle.std.specs.List.{AllByRecursion}
 use Rattle.std.proofs.lemmas.Bool.{cases_lt}
 use Rattle.std.proofs.lemmas.List.{get_or-drop, get_or-take}
-use Rattle.etherparse.specs.defrag.Fragments.{Fragment, Holds, end_of, fragment, start_of}
+use Rattle.etherparse.specs.fragments.Fragments.{Fragment, Holds, end_of, fragment, start_of}
 use Rattle.netlines.specs.Posted.{Piece, pieces_from}
 use Rattle.etherparse.proofs.Members.{AnyOf}
 use Rattle.netlines.proofs.CoverLemmas.{IsCutOf, IsIn, all-in}

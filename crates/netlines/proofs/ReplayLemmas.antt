@@ -4,15 +4,15 @@ use Rattle.std.proofs.Common.{◌≡◌, ◌∙◌, ap, refl, subst, sym, inl, i
 use Rattle.std.proofs.Common.{true, false, cond, List, [], ◌∷◌, ◌++◌, length, map, get_or, arith}
 use Rattle.std.proofs.Common.{append-nil, append_assoc}
 use Rattle.std.specs.Prelude.{IsTrue, codes}
-use Rattle.etherparse.specs.defrag.declared.defrag.ip_defrag_error.IpDefragError.{IpDefragError}
-use Rattle.etherparse.specs.defrag.declared.defrag.ip_defrag_error.IpDefragError.TheVariants.{AllocationFailure}
-use Rattle.etherparse.specs.defrag.declared.defrag.ip_defrag_error.IpDefragError.TheVariants.{ConflictingEnd}
-use Rattle.etherparse.specs.defrag.declared.defrag.ip_defrag_error.IpDefragError.TheVariants.{SegmentTooBig}
-use Rattle.etherparse.specs.defrag.declared.defrag.ip_defrag_error.IpDefragError.TheVariants.{UnalignedFragmentPayloadLen}
-use Rattle.etherparse.specs.defrag.Fragments.{Fragment}
+use Rattle.etherparse.specs.fragments.declared.defrag.ip_defrag_error.IpDefragError.{IpDefragError}
+use Rattle.etherparse.specs.fragments.declared.defrag.ip_defrag_error.IpDefragError.TheVariants.{AllocationFailure}
+use Rattle.etherparse.specs.fragments.declared.defrag.ip_defrag_error.IpDefragError.TheVariants.{ConflictingEnd}
+use Rattle.etherparse.specs.fragments.declared.defrag.ip_defrag_error.IpDefragError.TheVariants.{SegmentTooBig}
+use Rattle.etherparse.specs.fragments.declared.defrag.ip_defrag_error.IpDefragError.TheVariants.{UnalignedFragmentPayloadLen}
+use Rattle.etherparse.specs.fragments.Fragments.{Fragment}
 use Rattle.etherparse.specs.defrag.IpFragId.{same_name}
-use Rattle.etherparse.specs.defrag.Outcome.{Held, Outcome, held_after, outcome}
-use Rattle.etherparse.specs.defrag.Outcome.Outcome.{Completed, Refusal, Waiting}
+use Rattle.etherparse.specs.fragments.Outcome.{Held, Outcome, held_after, outcome}
+use Rattle.etherparse.specs.fragments.Outcome.Outcome.{Completed, Refusal, Waiting}
 use Rattle.etherparse.specs.defrag.PoolCalls.{outcome_at}
 use Rattle.etherparse.specs.packet.Class.{Class, FragmentName}
 use Rattle.commands.specs.Commands.{command_of}
@@ -26,8 +26,8 @@ use Rattle.netlines.proofs.ArrivalLemmas.{fragment_answered, held_with_fragment}
 use Rattle.netlines.proofs.InertLemmas.{first_byte, refusal_other}
 use Rattle.netlines.proofs.WaitingLemmas.{AllWait, HandIn, are_waiting, none_held}
 use Rattle.etherparse.specs.defrag.IpFragId.{rule_over}
-use Rattle.etherparse.specs.defrag.declared.defrag.ip_defrag_error.IpDefragError.TheVariants.{OverlappingFragment}
-use Rattle.etherparse.specs.defrag.Outcome.Outcome.{Clash}
+use Rattle.etherparse.specs.fragments.declared.defrag.ip_defrag_error.IpDefragError.TheVariants.{OverlappingFragment}
+use Rattle.etherparse.specs.fragments.Outcome.Outcome.{Clash}
 
 -- what is answered where a message is completed, and where it isn't
 pub not_message : (answer : List ℕ) → (get_or answer 0 0 ≡ 109 → ⊥)

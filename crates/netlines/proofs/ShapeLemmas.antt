@@ -4,19 +4,19 @@ use Rattle.std.proofs.Common.{true, false, if◌then◌else◌, Option, Some, No
 use Rattle.std.proofs.Common.{◌∷◌, ◌++◌, length, max, arith}
 use Rattle.std.specs.Prelude.{nat_le, nat_lt}
 use Rattle.std.specs.List.{AllZip, list_any}
-use Rattle.etherparse.specs.defrag.declared.defrag.ip_defrag_error.IpDefragError.TheVariants.{ConflictingEnd}
-use Rattle.etherparse.specs.defrag.declared.defrag.ip_defrag_error.IpDefragError.TheVariants.{SegmentTooBig}
-use Rattle.etherparse.specs.defrag.declared.defrag.ip_defrag_error.IpDefragError.TheVariants.{UnalignedFragmentPayloadLen}
-use Rattle.etherparse.specs.defrag.Fragments.{Fragment, all_below, end_conflict, end_of, greatest_end}
-use Rattle.etherparse.specs.defrag.Fragments.{holds, is_complete, named_end, refusal_of, start_of}
-use Rattle.etherparse.specs.defrag.Outcome.{Outcome, outcome}
-use Rattle.etherparse.specs.defrag.Outcome.Outcome.{Completed, Waiting}
-use Rattle.etherparse.specs.defrag.Picture.{text_of}
+use Rattle.etherparse.specs.fragments.declared.defrag.ip_defrag_error.IpDefragError.TheVariants.{ConflictingEnd}
+use Rattle.etherparse.specs.fragments.declared.defrag.ip_defrag_error.IpDefragError.TheVariants.{SegmentTooBig}
+use Rattle.etherparse.specs.fragments.declared.defrag.ip_defrag_error.IpDefragError.TheVariants.{UnalignedFragmentPayloadLen}
+use Rattle.etherparse.specs.fragments.Fragments.{Fragment, all_below, end_conflict, end_of, greatest_end}
+use Rattle.etherparse.specs.fragments.Fragments.{holds, is_complete, named_end, refusal_of, start_of}
+use Rattle.etherparse.specs.fragments.Outcome.{Outcome, outcome}
+use Rattle.etherparse.specs.fragments.Outcome.Outcome.{Completed, Waiting}
+use Rattle.etherparse.specs.fragments.Picture.{text_of}
 use Rattle.etherparse.proofs.OutcomeLemmas.{by_outcome, is_completed, is_waiting}
 use Rattle.netlines.proofs.WaitingLemmas.{AllWait}
-use Rattle.etherparse.specs.defrag.declared.defrag.overlap_rule.OverlapRule.{OverlapRule}
-use Rattle.etherparse.specs.defrag.declared.defrag.overlap_rule.OverlapRule.TheVariants.{Overwrites}
-use Rattle.etherparse.specs.defrag.Fragments.{refusal_at}
+use Rattle.etherparse.specs.fragments.declared.defrag.overlap_rule.OverlapRule.{OverlapRule}
+use Rattle.etherparse.specs.fragments.declared.defrag.overlap_rule.OverlapRule.TheVariants.{Overwrites}
+use Rattle.etherparse.specs.fragments.Fragments.{refusal_at}
 use Rattle.etherparse.proofs.OutcomeLemmas.{is_taken}
 use Rattle.etherparse.proofs.OutcomeLemmas.{unrefused}
 

@@ -5,10 +5,10 @@ use Rattle.std.proofs.Common.{Bool, true, false, cond, List, [], ◌∷◌, ◌+
 use Rattle.std.specs.Prelude.{IsTrue, nat_lt}
 use Rattle.std.specs.List.{AllZip}
 use Rattle.std.proofs.lemmas.Bool.{and_parts, cases_Bool, eqb-true}
-use Rattle.etherparse.specs.defrag.Fragments.{Fragment, fragment}
+use Rattle.etherparse.specs.fragments.Fragments.{Fragment, fragment}
 use Rattle.etherparse.specs.defrag.IpFragId.{fragment_in, same_name}
-use Rattle.etherparse.specs.defrag.Outcome.{Held, Outcome, held_after, outcome}
-use Rattle.etherparse.specs.defrag.Outcome.Outcome.{Waiting}
+use Rattle.etherparse.specs.fragments.Outcome.{Held, Outcome, held_after, outcome}
+use Rattle.etherparse.specs.fragments.Outcome.Outcome.{Waiting}
 use Rattle.etherparse.specs.defrag.PoolCalls.{after_frame, no_lists}
 use Rattle.etherparse.specs.packet.Class.{Class, FragmentName, class_of}
 use Rattle.etherparse.specs.packet.Class.Class.{Whole, Cut, Other, Refused}
@@ -18,7 +18,7 @@ use Rattle.commands.specs.Commands.Command.{Frame, Forget, Bad}
 use Rattle.netlines.specs.Arrivals.{HandsInFragment, held_behind, held_with_line, lists_after_lines}
 use Rattle.netlines.specs.Waiting.{waiting_behind, waiting_lines, waiting_with, waiting_with_line}
 use Rattle.netlines.specs.Waiting.{waiting_with_part}
-use Rattle.etherparse.specs.defrag.declared.defrag.overlap_rule.OverlapRule.{OverlapRule}
+use Rattle.etherparse.specs.fragments.declared.defrag.overlap_rule.OverlapRule.{OverlapRule}
 use Rattle.etherparse.specs.defrag.IpFragId.{rule_over}
 
 -- each is accepted behind those before it, and none completes the message

@@ -2,8 +2,8 @@
 -- hands in a fragment of the message adds it as its outcome says, a `forget` line drops what came
 -- before a line, and no other line matters.
 use Rattle.std.specs.Prelude.{◌≡◌, ℕ, ◌+◌, List, [], ◌∷◌, ◌++◌}
-use Rattle.etherparse.specs.defrag.Fragments.{Fragment}
-use Rattle.etherparse.specs.defrag.Outcome.{Held}
+use Rattle.etherparse.specs.fragments.Fragments.{Fragment}
+use Rattle.etherparse.specs.fragments.Outcome.{Held}
 use Rattle.etherparse.specs.defrag.PoolCalls.{Lists, after_frame, no_lists, retained_from}
 use Rattle.etherparse.specs.packet.Class.{FragmentName, class_of}
 use Rattle.etherparse.specs.packet.Class.Class.{Cut}

@@ -1,11 +1,11 @@
 -- The lines of one message among others, and those whose fragments wait for the rest of it.
 use Rattle.std.specs.Prelude.{◌≡◌, ◌⊎◌, ℕ, ◌+◌, ◌&&◌, ◌==◌, nat_lt, if◌then◌else◌, Option, Some}
 use Rattle.std.specs.Prelude.{None, List, [], ◌∷◌, ◌++◌, codes, map}
-use Rattle.etherparse.specs.defrag.Fragments.{Fragment}
+use Rattle.etherparse.specs.fragments.Fragments.{Fragment}
 use Rattle.etherparse.specs.defrag.IpFragId.{fragment_in, rule_over, same_name}
-use Rattle.etherparse.specs.defrag.Joined.{IsJoined}
-use Rattle.etherparse.specs.defrag.Outcome.{Held, Outcome, outcome}
-use Rattle.etherparse.specs.defrag.Outcome.Outcome.{Clash, Completed, Refusal, Waiting}
+use Rattle.etherparse.specs.fragments.Joined.{IsJoined}
+use Rattle.etherparse.specs.fragments.Outcome.{Held, Outcome, outcome}
+use Rattle.etherparse.specs.fragments.Outcome.Outcome.{Clash, Completed, Refusal, Waiting}
 use Rattle.etherparse.specs.defrag.PoolCalls.{no_lists, outcome_at}
 use Rattle.etherparse.specs.packet.Class.{FragmentName, class_of}
 use Rattle.etherparse.specs.packet.Readable.{message_at}

@@ -10,23 +10,23 @@ use Rattle.std.proofs.lemmas.Map.Entries.{option_filter}
 use Rattle.std.specs.Option.{IsSomeAnd, option_map}
 use Rattle.std.specs.Prelude.{◌↔◌, IsTrue, IfOk, MatchResult, unwrap_or}
 use Rattle.indexmap.specs.IndexMap.{IsUnchanged, IsUnique, get}
-use Rattle.etherparse.specs.defrag.Fragments.{Fragment, end_conflict, end_of, fragment, is_complete}
-use Rattle.etherparse.specs.defrag.Fragments.{named_end, overlap_of, overlaps, refusal_at}
-use Rattle.etherparse.specs.defrag.IpDefragError.{is_overlap}
+use Rattle.etherparse.specs.fragments.Fragments.{Fragment, end_conflict, end_of, fragment, is_complete}
+use Rattle.etherparse.specs.fragments.Fragments.{named_end, overlap_of, overlaps, refusal_at}
+use Rattle.etherparse.specs.fragments.IpDefragError.{is_overlap}
 use Rattle.etherparse.specs.defrag.IpDefragPool.{same_id}
 use Rattle.etherparse.specs.defrag.IpFragId.{id_named, rule_over, same_name}
-use Rattle.etherparse.specs.defrag.Outcome.{Held, Outcome, held_after, outcome_unless}
-use Rattle.etherparse.specs.defrag.Outcome.Outcome.{Completed, Waiting}
-use Rattle.etherparse.specs.defrag.Picture.{text_of}
+use Rattle.etherparse.specs.fragments.Outcome.{Held, Outcome, held_after, outcome_unless}
+use Rattle.etherparse.specs.fragments.Outcome.Outcome.{Completed, Waiting}
+use Rattle.etherparse.specs.fragments.Picture.{text_of}
 use Rattle.etherparse.specs.defrag.PoolCalls.{HasMemory, Lists, outcome_at, told_of, told_outcome}
 use Rattle.etherparse.specs.defrag.PoolCalls.{lists_with_frame, retained_from}
 use Rattle.etherparse.specs.defrag.PoolCalls.Told.{Nothing, Refused}
-use Rattle.etherparse.specs.defrag.declared.defrag.ip_defrag_error.IpDefragError.{IpDefragError}
-use Rattle.etherparse.specs.defrag.declared.defrag.ip_defrag_error.IpDefragError.TheVariants.{UnalignedFragmentPayloadLen}
-use Rattle.etherparse.specs.defrag.declared.defrag.ip_defrag_error.IpDefragError.TheVariants.{SegmentTooBig}
-use Rattle.etherparse.specs.defrag.declared.defrag.ip_defrag_error.IpDefragError.TheVariants.{ConflictingEnd}
-use Rattle.etherparse.specs.defrag.declared.defrag.ip_defrag_error.IpDefragError.TheVariants.{AllocationFailure}
-use Rattle.etherparse.specs.defrag.declared.defrag.ip_defrag_error.IpDefragError.TheVariants.{OverlappingFragment}
+use Rattle.etherparse.specs.fragments.declared.defrag.ip_defrag_error.IpDefragError.{IpDefragError}
+use Rattle.etherparse.specs.fragments.declared.defrag.ip_defrag_error.IpDefragError.TheVariants.{UnalignedFragmentPayloadLen}
+use Rattle.etherparse.specs.fragments.declared.defrag.ip_defrag_error.IpDefragError.TheVariants.{SegmentTooBig}
+use Rattle.etherparse.specs.fragments.declared.defrag.ip_defrag_error.IpDefragError.TheVariants.{ConflictingEnd}
+use Rattle.etherparse.specs.fragments.declared.defrag.ip_defrag_error.IpDefragError.TheVariants.{AllocationFailure}
+use Rattle.etherparse.specs.fragments.declared.defrag.ip_defrag_error.IpDefragError.TheVariants.{OverlappingFragment}
 use Rattle.etherparse.specs.defrag.declared.defrag.ip_defrag_payload_vec.IpDefragPayloadVec.{IpDefragPayloadVec}
 use Rattle.etherparse.specs.defrag.declared.defrag.ip_frag_id.IpFragId.{IpFragId}
 use Rattle.etherparse.specs.packet.Class.{FragmentName}

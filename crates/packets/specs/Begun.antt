@@ -2,12 +2,12 @@
 use Rattle.std.specs.Prelude.{◌≡◌, ℕ, ◌==◌, ◌&&◌, nat_eq, nat_lt, if◌then◌else◌, List, [], ◌∷◌, Option}
 use Rattle.std.specs.Prelude.{Some, None, IsSomeAnd, unwrap_or, Result, Ok, Err, MatchResult}
 use Rattle.indexmap.specs.IndexMap.{IsUnique, get}
-use Rattle.etherparse.specs.defrag.Fragments.{Fragment}
-use Rattle.etherparse.specs.defrag.IpDefragError.{is_overlap}
+use Rattle.etherparse.specs.fragments.Fragments.{Fragment}
+use Rattle.etherparse.specs.fragments.IpDefragError.{is_overlap}
 use Rattle.etherparse.specs.defrag.IpDefragPool.{same_id}
 use Rattle.etherparse.specs.defrag.IpFragId.{fragment_in, id_named, same_name}
 use Rattle.etherparse.specs.defrag.PoolCalls.{Lists, ShowsLists, lists_with_frame}
-use Rattle.etherparse.specs.defrag.declared.defrag.ip_defrag_error.IpDefragError.{IpDefragError}
+use Rattle.etherparse.specs.fragments.declared.defrag.ip_defrag_error.IpDefragError.{IpDefragError}
 use Rattle.etherparse.specs.defrag.declared.defrag.ip_defrag_payload_vec.IpDefragPayloadVec.{IpDefragPayloadVec}
 use Rattle.etherparse.specs.packet.Class.{Class, FragmentName}
 use Rattle.etherparse.specs.packet.Class.Class.{Cut, Other, Refused as Faulty, Whole}

@@ -2,7 +2,7 @@
 use Rattle.std.specs.Prelude.{◌≡◌, ℕ, ◌+◌, ◌*◌, ◌<◌, ◌≤◌, List, [], ◌∷◌, ◌++◌, Some, None}
 use Rattle.std.specs.List.{AllByRecursion}
 use Rattle.captures.specs.declared.packet.Packet.{Packet}
-use Rattle.etherparse.specs.defrag.Outcome.{Held}
+use Rattle.etherparse.specs.fragments.Outcome.{Held}
 use Rattle.etherparse.specs.defrag.PoolCalls.{after_frame}
 use Rattle.etherparse.specs.packet.Class.{FragmentName}
 use Rattle.packets.specs.Courses.{Course, class_of, course_after, next_course}

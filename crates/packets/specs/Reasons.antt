@@ -1,6 +1,6 @@
 -- Why a packet is refused, without the numbers of its bytes.
-use Rattle.etherparse.specs.defrag.declared.defrag.ip_defrag_error.IpDefragError.{IpDefragError}
-use Rattle.etherparse.specs.defrag.declared.defrag.ip_defrag_error.IpDefragError.TheVariants as part
+use Rattle.etherparse.specs.fragments.declared.defrag.ip_defrag_error.IpDefragError.{IpDefragError}
+use Rattle.etherparse.specs.fragments.declared.defrag.ip_defrag_error.IpDefragError.TheVariants as part
 use Rattle.etherparse.specs.ext.declared.err.ip_auth.header_error.HeaderError.{HeaderError as AuthFault}
 use Rattle.etherparse.specs.ext.declared.err.ip_auth.header_error.HeaderError.TheVariants as auth
 use Rattle.etherparse.specs.ext.declared.err.ipv6_exts.header_error.HeaderError.{HeaderError as ExtsFault}

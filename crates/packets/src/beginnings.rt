@@ -1,7 +1,7 @@
 //! Where the messages that are on their way began.
 ghost use Rattle.std.specs.Prelude.{◌≡◌, ◌≤◌, if◌then◌else◌, nat_eq, nat_le, option_map, ℕ, OnOk, None};
 ghost use Rattle.indexmap.specs.IndexMap.{IsUnchanged, IsUnique, get, spare};
-ghost use Rattle.etherparse.specs.defrag.IpDefragError.{is_overlap};
+ghost use Rattle.etherparse.specs.fragments.IpDefragError.{is_overlap};
 ghost use Rattle.etherparse.specs.defrag.IpDefragPool.{same_id};
 ghost use Rattle.etherparse.specs.defrag.PoolCalls.{Lists, no_lists, retained_from};
 ghost use Rattle.etherparse.specs.defrag.declared.defrag.ip_frag_id.IpFragId.{IpFragId};

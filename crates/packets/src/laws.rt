@@ -4,7 +4,7 @@ ghost use Rattle.std.specs.Prelude.{List, [], ◌∷◌, Some, None};
 ghost use Rattle.std.specs.Hash as fed;
 ghost use Rattle.captures.specs.declared.packet.Packet.{Packet};
 ghost use Rattle.etherparse.specs.base.Traits.{IsPlainData, VariantFeeds};
-ghost use Rattle.etherparse.specs.defrag.Fragments.{Fragment};
+ghost use Rattle.etherparse.specs.fragments.Fragments.{Fragment};
 ghost use Rattle.etherparse.specs.defrag.PoolCalls.{Lists};
 ghost use Rattle.etherparse.specs.packet.Class.{FragmentName};
 ghost use Rattle.packets.specs.Courses.{Course, course_after, lists_at, no_course};

@@ -13,10 +13,9 @@ ghost use Rattle.ep_defrag.specs.IpFragId.{fragment_in, id_named};
 ghost use Rattle.ep_defrag.specs.Streams.{MayAsk, OthersStay, RefusesBy, Retained, Stays};
 ghost use Rattle.ep_defrag.specs.Streams.{fragment_of, stream_at};
 
-use super::overlap_rule::OverlapRule;
 use super::part::spec_id;
 use super::streams::Streams;
-use super::{IpDefragError, IpDefragPayloadVec, IpFragId};
+use super::{IpDefragError, IpDefragPayloadVec, IpFragId, OverlapRule};
 use ep_packet::{Class, CutMessage, Part, SlicedPacket};
 use std::alloc::{AllocError, Global};
 use std::hash::{BuildHasher, BuildHasherDefault, FoldHasher, Hash};

@@ -4,7 +4,7 @@ ghost use Rattle.std.specs.Cmp.Rules.{hashing};
 ghost use Rattle.std.proofs.Common.{rules};
 ghost use Rattle.ep_defrag.specs.IpFragId.{hashed_as};
 
-use super::overlap_rule::OverlapRule;
+use super::OverlapRule;
 use ep_base::LenSource;
 use std::hash::{Hash, Hasher};
 

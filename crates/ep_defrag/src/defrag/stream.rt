@@ -4,20 +4,18 @@ ghost use Rattle.std.specs.Prelude.{◌≡◌, ◌++◌, ◌∷◌, ◌+◌, ◌
 ghost use Rattle.std.specs.Prelude.{OnErr, IfErr, IfOk, IfSome, if◌then◌else◌, length, option_map, vec_len};
 ghost use Rattle.indexmap.specs.IndexMap.{get, index_map_len};
 ghost use Rattle.ep_defrag.specs.Counts.{held_after, spare_after};
-ghost use Rattle.ep_defrag.specs.Fragments.{Fragment, refusal_of, refusal_at, end_of};
-ghost use Rattle.ep_defrag.specs.IpDefragBuf.{AnswersAdd, Shows, rule_of};
-ghost use Rattle.ep_defrag.specs.IpDefragError.{is_overlap};
-ghost use Rattle.ep_defrag.specs.Outcome.{outcome};
-ghost use Rattle.ep_defrag.specs.declared.defrag.overlap_rule.OverlapRule.{OverlapRule};
+ghost use Rattle.ep_fragments.specs.Fragments.{Fragment, refusal_of, refusal_at, end_of};
+ghost use Rattle.ep_fragments.specs.IpDefragBuf.{AnswersAdd, Shows, rule_of};
+ghost use Rattle.ep_fragments.specs.IpDefragError.{is_overlap};
+ghost use Rattle.ep_fragments.specs.Outcome.{outcome};
+ghost use Rattle.ep_fragments.specs.declared.defrag.overlap_rule.OverlapRule.{OverlapRule};
 ghost use Rattle.ep_defrag.specs.SpareBuffers.{HasPlaces, SameCounts};
 ghost use Rattle.ep_defrag.specs.Streams.{Becomes, IsErrorOf, IsStreamOf, ShowsStream};
 ghost use Rattle.ep_defrag.specs.Streams.{fragment_of};
 ghost use Rattle.ep_defrag.specs.Refused.{error_in, refused_by};
 
-use super::ip_defrag_buf::checked_end;
-use super::overlap_rule::OverlapRule;
 use super::spare_buffers::SpareBuffers;
-use super::{IpDefragBuf, IpDefragError};
+use ep_fragments::defrag::{IpDefragBuf, IpDefragError, OverlapRule, checked_end};
 use ep_packet::Part;
 use indexmap::IndexMap;
 use indexmap::map::Entry;

@@ -6,13 +6,13 @@ ghost use Rattle.std.specs.Hash as fed;
 ghost use Rattle.std.specs.Ordering.{nat_cmp};
 ghost use Rattle.ep_base.specs.Traits.{CopyIsValue, CopyNeverFails, EqualIsSame, HashIsOf};
 ghost use Rattle.ep_base.specs.Traits.{IsPlainData};
-ghost use Rattle.ep_defrag.specs.IpDefragError.{hashed_as, ordered_as};
+ghost use Rattle.ep_fragments.specs.IpDefragError.{hashed_as, ordered_as};
 ghost use Rattle.ep_defrag.specs.IpDefragPool.{payload_told};
 ghost use Rattle.ep_defrag.specs.PoolCalls.{as_told, call_told};
-ghost use Rattle.ep_defrag.specs.declared.defrag.ip_defrag_error.IpDefragError.{IpDefragError};
+ghost use Rattle.ep_fragments.specs.declared.defrag.ip_defrag_error.IpDefragError.{IpDefragError};
 ghost use Rattle.ep_defrag.specs.declared.defrag.ip_defrag_payload_vec.IpDefragPayloadVec.{IpDefragPayloadVec};
 ghost use Rattle.ep_defrag.specs.declared.defrag.ip_frag_id.IpFragId.{IpFragId};
-ghost use Rattle.ep_defrag.specs.declared.defrag.ip_frag_range.IpFragRange.{IpFragRange};
+ghost use Rattle.ep_fragments.specs.declared.defrag.ip_frag_range.IpFragRange.{IpFragRange};
 ghost use Rattle.ep_defrag.specs.declared.defrag.ip_frag_version_spec_id.IpFragVersionSpecId.TheVariants.{Ipv4};
 ghost use Rattle.ep_defrag.specs.declared.defrag.ip_frag_version_spec_id.IpFragVersionSpecId.TheVariants.{Ipv6};
 ghost use Rattle.ep_defrag.specs.declared.defrag.pool_calls.PoolCall.{PoolCall};
@@ -27,10 +27,7 @@ use std::hash::Hash;
 
 /// A copy is the value and takes no memory. Equal are the values that are the same.
 pub fn types_are_plain_data()
-    ensures ip_defrag_error { IsPlainData ⟦<IpDefragError as Value>⟧ }
-    ensures ip_frag_range { IsPlainData ⟦<IpFragRange as Value>⟧ }
     ensures ip_frag_version_spec_id { IsPlainData ⟦<IpFragVersionSpecId as Value>⟧ }
-    ensures overlap_rule { IsPlainData ⟦<OverlapRule as Value>⟧ }
 {}
 
 /// A copy is the value.
@@ -43,11 +40,6 @@ pub fn copies_are_values<'a>()
 pub fn copies_never_fail<'a>()
     ensures ip_frag_id { CopyNeverFails ⟦<IpFragId<u32> as Clone>⟧.is_infallible }
     ensures pool_call { CopyNeverFails ⟦<PoolCall<'a> as Clone>⟧.is_infallible }
-{}
-
-/// Equal are the buffers that are the same: all fields, also the order of their sections.
-pub fn equals_are_same()
-    ensures { EqualIsSame ⟦<IpDefragBuf as PartialEq>⟧.eq }
 {}
 
 /// Messages that were put together are equal where protocol, source of the lengths and bytes are.
@@ -64,26 +56,11 @@ pub fn equal_calls_are_told_alike<'a>()
     ensures replies { (a b : PoolReply) → IsTrue (⟦<PoolReply as PartialEq>⟧.eq a b)
         ↔ (as_told a ≡ as_told b) }
 {
+    ep_fragments::laws::traits::types_are_plain_data();
     types_are_plain_data();
     equal_payloads_are_told_alike();
     ep_packet::laws::traits::types_are_plain_data();
 }
-
-/// Refusals are ordered as they are declared, and one kind by its fields in their order; a hasher
-/// is fed the kind and the fields.
-pub fn errors_by_kind_and_fields()
-    ensures order { (a b : IpDefragError) → ⟦<IpDefragError as Ord>⟧.cmp a b
-        ≡ slice_cmp nat_cmp (ordered_as a) (ordered_as b) }
-    ensures hash { HashIsOf hashed_as ⟦<IpDefragError as Hash>⟧.hash_input }
-{}
-
-/// Ranges are ordered by where they start, then by where they end; a hasher is fed both.
-pub fn ranges_by_start_and_end()
-    ensures order { (a b : IpFragRange) → ⟦<IpFragRange as Ord>⟧.cmp a b
-        ≡ slice_cmp nat_cmp (a.start ∷ a.end ∷ []) (b.start ∷ b.end ∷ []) }
-    ensures hash { HashIsOf (λ a. fed.u16 a.start ++ fed.u16 a.end)
-        ⟦<IpFragRange as Hash>⟧.hash_input }
-{}
 
 /// A hasher is fed source and destination of a name's packets, each as one piece, and the
 /// identification, its low byte first.

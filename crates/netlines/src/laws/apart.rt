@@ -1,8 +1,8 @@
 //! Laws of one message among others.
 ghost use Rattle.std.specs.Prelude.{◌≡◌, ℕ, List, [], ◌∷◌, ◌++◌, codes, IfSome, OnOk};
-ghost use Rattle.etherparse.specs.defrag.Fragments.{Fragment};
+ghost use Rattle.etherparse.specs.fragments.Fragments.{Fragment};
 ghost use Rattle.etherparse.specs.defrag.IpFragId.{rule_over};
-ghost use Rattle.etherparse.specs.defrag.declared.defrag.overlap_rule.OverlapRule.TheVariants.{Refuses};
+ghost use Rattle.etherparse.specs.fragments.declared.defrag.overlap_rule.OverlapRule.TheVariants.{Refuses};
 ghost use Rattle.etherparse.specs.packet.Class.{FragmentName, class_of};
 ghost use Rattle.etherparse.specs.packet.Class.Class.{Whole};
 ghost use Rattle.etherparse.specs.packet.Readable.{ReadMessage};

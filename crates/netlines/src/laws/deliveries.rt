@@ -1,9 +1,9 @@
 //! Laws of messages that are put together from fragments.
 ghost use Rattle.std.specs.Prelude.{◌≡◌, ◌⊎◌, ℕ, true, List, [], ◌∷◌, ◌++◌, codes, map, None};
 ghost use Rattle.std.specs.List.{AllZip};
-ghost use Rattle.etherparse.specs.defrag.Fragments.{Fragment};
+ghost use Rattle.etherparse.specs.fragments.Fragments.{Fragment};
 ghost use Rattle.etherparse.specs.defrag.IpFragId.{rule_over};
-ghost use Rattle.etherparse.specs.defrag.declared.defrag.overlap_rule.OverlapRule.TheVariants.{Refuses};
+ghost use Rattle.etherparse.specs.fragments.declared.defrag.overlap_rule.OverlapRule.TheVariants.{Refuses};
 ghost use Rattle.etherparse.specs.packet.Class.{FragmentName};
 ghost use Rattle.commands.specs.Commands.{command_of};
 ghost use Rattle.commands.specs.Commands.Command.{Frame};

@@ -1,8 +1,8 @@
 //! Laws of lines behind lines.
 ghost use Rattle.std.specs.Prelude.{◌≡◌, ◌≢◌, ◌<◌, ◌≤◌, ◌+◌, ◌-◌, ◌^◌, ℕ, Bool, false, List, []};
 ghost use Rattle.std.specs.Prelude.{◌∷◌, ◌++◌, None, Err};
-ghost use Rattle.etherparse.specs.defrag.Fragments.{Fragment};
-ghost use Rattle.etherparse.specs.defrag.Outcome.{held_after};
+ghost use Rattle.etherparse.specs.fragments.Fragments.{Fragment};
+ghost use Rattle.etherparse.specs.fragments.Outcome.{held_after};
 ghost use Rattle.etherparse.specs.defrag.PoolCalls.{no_lists, outcome_at};
 ghost use Rattle.etherparse.specs.packet.Class.{FragmentName};
 ghost use Rattle.netlines.specs.Answers.{answer_after, frame_meaning, outcome_answer, takes_memory};

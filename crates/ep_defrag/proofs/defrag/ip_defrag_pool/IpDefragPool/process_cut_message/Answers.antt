@@ -3,7 +3,7 @@ use Rattle.std.specs.Prelude.{IfErr}
 use Rattle.ep_defrag.specs.IpDefragPool.{Accepts, AcceptsBy, Refuses, same_id}
 use Rattle.ep_defrag.specs.Streams.{RefusesBy, Stays, fragment_of}
 use Rattle.ep_defrag.specs.declared.defrag.ip_frag_version_spec_id.IpFragVersionSpecId.{IpFragVersionSpecId}
-use Rattle.ep_defrag.specs.declared.defrag.overlap_rule.OverlapRule.{OverlapRule}
+use Rattle.ep_fragments.specs.declared.defrag.overlap_rule.OverlapRule.{OverlapRule}
 use Rattle.ep_defrag.proofs.defrag.ip_defrag_pool.IpDefragPool.process_cut_message.Goals as goal
 
 pub returns-clause-accepted : goal.returns-clause-accepted

@@ -1,0 +1,32 @@
+//! Buffers of each rule, and where a fragment ends.
+
+use ep_base::{IpFragOffset, IpNumber};
+use ep_fragments::defrag::{IpDefragBuf, IpDefragError, OverlapRule, checked_end};
+
+#[test]
+fn buffers_of_each_rule(rt: HostRuntime) {
+    let alloc = rt.alloc();
+    for rule in [OverlapRule::Overwrites, OverlapRule::Refuses].iter() {
+        let bytes = Vec::new(alloc);
+        let buf = IpDefragBuf::of_rule(*rule, alloc, IpNumber::UDP, bytes, Vec::new(alloc));
+        assert!(rt; buf.overlap_rule() == *rule);
+    }
+}
+
+// Eight bytes at byte 16 end at 24.
+#[test]
+fn ends_of_fragments(rt: HostRuntime) {
+    let Ok(offset) = IpFragOffset::try_new(2) else {
+        panic!(rt; "no offset");
+    };
+    let conflict = IpDefragError::ConflictingEnd {
+        previous_end: 16,
+        conflicting_end: 24,
+    };
+    let ends = [
+        checked_end(None, offset, true, &[0; 8]) == Ok(24),
+        checked_end(Some(24), offset, false, &[0; 8]) == Ok(24),
+        checked_end(Some(16), offset, true, &[0; 8]) == Err(conflict),
+    ];
+    assert!(rt; ends == [true; 3]);
+}

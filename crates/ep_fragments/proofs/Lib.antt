@@ -1,0 +1,20 @@
+-- for the crates above, beside what is proved of each function
+pub mod Clash
+pub mod Complete
+pub mod Disjoint
+pub mod Found
+pub mod Members
+pub mod Push
+mod Accepted
+mod AcceptedLists
+mod Added
+mod Halving
+mod HasBytesLemmas
+mod Joining
+mod Kept
+mod Lengths
+mod MemberOrder
+mod Ordered
+mod SameBuffers
+mod Sharing
+mod Written

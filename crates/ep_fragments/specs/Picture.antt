@@ -1,0 +1,44 @@
+-- What accepted fragments, the oldest first, show of their message: each byte is that of the last
+-- one that holds its place.
+use Rattle.std.specs.Prelude.{◌≡◌, ℕ, ◌-◌, ◌≤◌, if◌then◌else◌, Option, Some, None, unwrap_or, List}
+use Rattle.std.specs.Prelude.{[], ◌∷◌, ◌++◌, map, slice_index, Any}
+use Rattle.std.specs.Option.{option_or}
+use Rattle.std.specs.List.{range_with_len}
+use Rattle.ep_fragments.specs.Fragments.{Fragment, start_of, end_of, named_end, greatest_end, holds}
+use Rattle.ep_fragments.specs.Fragments.{Holds, Covered}
+
+-- the byte that a fragment holds at a place
+abbrev pub byte_of : Fragment → ℕ → Option ℕ
+byte_of f p = (if holds f p then Some (slice_index f.bytes (p - start_of f)) else None)
+
+-- that of the last member that holds the place
+abbrev pub byte_at : List Fragment → ℕ → Option ℕ
+byte_at [] p = None
+byte_at (f ∷ fs) p = option_or (byte_at fs p) (byte_of f p)
+
+-- each byte is that of the last member that holds its place
+abbrev pub LastByteCounts : Type 0
+LastByteCounts = (before behind : List Fragment) (f : Fragment) (p : ℕ) → Holds f p
+    → (Covered behind p → ⊥) → byte_at (before ++ f ∷ behind) p
+    ≡ Some (slice_index f.bytes (p - start_of f))
+
+-- an open place has none
+abbrev pub OpenPlaceHasNone : Type 0
+OpenPlaceHasNone = (fs : List Fragment) (p : ℕ) → (Covered fs p → ⊥) → byte_at fs p ≡ None
+
+-- the bytes below this end, with 0 at each place that no member holds
+abbrev pub bytes_below : List Fragment → ℕ → List ℕ
+bytes_below fs end = map (λ p. unwrap_or (byte_at fs p) 0) (range_with_len 0 end)
+
+-- the message: the bytes below its end
+abbrev pub text_of : List Fragment → List ℕ
+text_of fs = bytes_below fs (unwrap_or (named_end fs) 0)
+
+-- the bytes that are kept: those of the message, and up to the greatest end while its end isn't
+-- named
+abbrev pub kept_bytes : List Fragment → List ℕ
+kept_bytes fs = bytes_below fs (unwrap_or (named_end fs) (greatest_end fs))
+
+-- the number lies between start and end of a member, both included
+abbrev pub Touched : List Fragment → ℕ → Type 0
+Touched fs n = Any (λ f. (start_of f ≤ n) × (n ≤ end_of f)) fs
