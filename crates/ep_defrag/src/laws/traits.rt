@@ -57,7 +57,6 @@ pub fn equal_calls_are_told_alike<'a>()
         ↔ (as_told a ≡ as_told b) }
 {
     ep_fragments::laws::traits::types_are_plain_data();
-    types_are_plain_data();
     equal_payloads_are_told_alike();
     ep_packet::laws::traits::types_are_plain_data();
 }
