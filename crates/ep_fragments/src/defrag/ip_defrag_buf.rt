@@ -107,6 +107,20 @@ fn write_at(buffer: &mut Vec<u8>, start: usize, bytes: &[u8])
     }
 }
 
+// For how many bytes beside those that are there a fragment takes room. The first one, where more
+// follow it, takes it for a second one of its length too: a message of two is never moved then.
+fn missing_room(there: usize, member: Member) -> usize
+    ensures { member.end ≤ there + result }
+{
+    let end = if there == 0 && member.more_fragments {
+        let len = member.end.saturating_sub(member.start);
+        member.end.saturating_add(len)
+    } else {
+        member.end
+    };
+    usize::from(end).saturating_sub(there)
+}
+
 // Whether an end is known, and there is one section, from 0 on.
 fn is_one_whole(end: Option<u16>, sections: &[IpFragRange]) -> bool
     ensures { result ≡ (is_some end && is_one_from_zero sections.now) }
@@ -266,7 +280,8 @@ impl<Number: Drop> IpDefragBuf<Number> {
     /// overlaps takes a fragment that it took already, with the same offset, flag and bytes, and
     /// nothing changes; it refuses any other one that holds a place of a fragment that is there, and
     /// a last one that ends at or before such a place, **and is empty then**, as it was made. Else
-    /// a fragment is refused where no memory is left for it, and nothing changes.
+    /// a fragment is refused where no memory is left for it, and nothing changes. The first one,
+    /// where more follow it, wants memory for a second one of its length too.
     pub fn add(
         &mut self,
         offset: IpFragOffset,
@@ -352,7 +367,7 @@ impl<Number: Drop> IpDefragBuf<Number> {
     {
         // All growths come before any change.
         let len = usize::from(member.end);
-        let missing = len.saturating_sub(self.data.len());
+        let missing = missing_room(self.data.len(), member);
         if self.data.try_reserve(missing).is_err()
             || self.sections.try_reserve(1).is_err()
             || !reserve_member(&mut self.members)
