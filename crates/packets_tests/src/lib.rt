@@ -1,8 +1,6 @@
-//! Tests of `packets` over its public calls.
+//! Tests of `packets` over its public calls: what is told of a packet.
 #![tactic(auto)]
 
-#[cfg(test)]
-mod captured;
 #[cfg(test)]
 mod conditions;
 #[cfg(test)]
@@ -10,18 +8,10 @@ mod icmp_texts;
 #[cfg(test)]
 mod json;
 #[cfg(test)]
-mod memory;
-#[cfg(test)]
 mod names;
 #[cfg(test)]
 mod refusals;
 #[cfg(test)]
-mod report;
-#[cfg(test)]
-mod run_faults;
-#[cfg(test)]
 mod show;
 #[cfg(test)]
-mod summaries;
-#[cfg(test)]
-mod whole_captures;
+mod texts;

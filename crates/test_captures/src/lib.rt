@@ -1,11 +1,16 @@
-//! Captures of frames that are written in hex.
+//! Classic captures for tests, of frames that are written in hex. Tests alone call these functions,
+//! and are run: so none has a contract.
+#![tactic(auto)]
 
+mod frames;
+
+pub use frames::{FRAMES, REFUSED_WHOLE};
+use hex::FromHexError;
 use std::alloc::Global;
-use std::test::Fail;
 
-/// A classic capture of these frames, high byte first, on links of this type. The first came at
+/// A capture of these frames, high byte first, on links of this type. The first came at
 /// 1700000000 s, and each other one 1500 us after the one before it.
-pub(super) fn capture_of(alloc: Global, link_type: u32, frames: &[&str]) -> Result<Vec<u8>, Fail> {
+pub fn capture_of(alloc: Global, link_type: u32, frames: &[&str]) -> Result<Vec<u8>, FromHexError> {
     let mut capture = header(alloc, link_type)?;
     let mut microseconds = 0u32;
     for frame in frames {
@@ -16,7 +21,7 @@ pub(super) fn capture_of(alloc: Global, link_type: u32, frames: &[&str]) -> Resu
 }
 
 /// A capture of Ethernet frames, each so many seconds after 1700000000 s.
-pub(super) fn timed_capture_of(alloc: Global, frames: &[(u32, &str)]) -> Result<Vec<u8>, Fail> {
+pub fn timed_capture_of(alloc: Global, frames: &[(u32, &str)]) -> Result<Vec<u8>, FromHexError> {
     let mut capture = header(alloc, 1)?;
     for (seconds, frame) in frames {
         add_frame(alloc, &mut capture, *seconds, 0, *frame)?;
@@ -24,7 +29,7 @@ pub(super) fn timed_capture_of(alloc: Global, frames: &[(u32, &str)]) -> Result<
     Ok(capture)
 }
 
-fn header(alloc: Global, link_type: u32) -> Result<Vec<u8>, Fail> {
+fn header(alloc: Global, link_type: u32) -> Result<Vec<u8>, FromHexError> {
     let mut capture = Vec::from_slice(
         alloc,
         b"\xa1\xb2\xc3\xd4\x00\x02\x00\x04\0\0\0\0\0\0\0\0\x00\x04\x00\x00",
@@ -39,9 +44,9 @@ fn add_frame(
     seconds: u32,
     microseconds: u32,
     frame: &str,
-) -> Result<(), Fail> {
+) -> Result<(), FromHexError> {
     let bytes = hex::decode(alloc, frame)?;
-    let len = u32::try_from(bytes.len())?.to_be_bytes();
+    let len = ((bytes.len() % 0x1_0000_0000) as u32).to_be_bytes();
     let seconds = 1_700_000_000u32.wrapping_add(seconds);
     capture.extend_from_slice(&seconds.to_be_bytes())?;
     capture.extend_from_slice(&microseconds.to_be_bytes())?;

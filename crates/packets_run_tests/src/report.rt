@@ -1,11 +1,12 @@
 //! Reports of captures, written by hand.
 
-use crate::captured::capture_of;
-use crate::conditions::FRAMES as MIXED;
+use crate::outcomes::add_all;
 use captures::{Packets, Skipped, Unfit};
-use packets::{Condition, Dissector, Filter, Report, Summary};
-use std::alloc::Global;
+use packets::{Dissector, Report, Summary};
+use std::alloc::{AllocError, Global};
+use std::process::Abort;
 use std::test::Fail;
+use test_captures::{FRAMES as MIXED, capture_of};
 
 // Twelve IPv4 headers of no protocol that is known, from 10.0.0.1 to 10.0.0.12. The last comes again.
 const FRAMES: [&str; 13] = [
@@ -54,49 +55,42 @@ packets a second, by spans of 0.001953125 s: 1024 at most
 passed over: 0 of other links, 1 too long, 0 without a frame
 ";
 
-#[test]
-fn a_report(rt: HostRuntime) -> Result<(), Fail> {
-    let capture = capture_of(rt.alloc(), 101, &FRAMES)?;
-    let mut dissector = Dissector::new(rt.alloc());
-    let mut summary = Summary::new(rt.alloc());
-    for packet in Packets::new(Unfit::Refuse, capture.as_slice()) {
-        let dissection = dissector.dissect(&packet)?;
-        summary.add(&dissection)?;
-        dissector.give_back(dissection);
-    }
+fn is_reported(
+    rt: &impl Abort,
+    alloc: Global,
+    summary: &Summary,
+    open: usize,
+    skipped: Skipped,
+    wanted: &str,
+) -> Result<(), Fail> {
     let report = Report {
-        summary: &summary,
-        open: dissector.open(),
-        skipped: Skipped {
-            too_long: 1,
-            ..Skipped::NONE
-        },
+        summary,
+        open,
+        skipped,
     };
-    let text = format!(in rt.alloc(); "{report}")?;
-    assert_eq!(rt; text.as_str(), TEXT);
+    let text = format!(in alloc; "{report}")?;
+    assert_eq!(rt; text.as_str(), wanted);
     Ok(())
 }
 
-// The report of the packets that meet a condition, of a capture that ends with an open message.
-fn report_of(alloc: Global, word: &str) -> Result<String, Fail> {
-    let capture = capture_of(alloc, 1, &MIXED)?;
-    let mut filter = Filter::new(alloc);
-    filter.add(word.parse::<Condition>()?)?;
-    let mut dissector = Dissector::new(alloc);
-    let mut summary = Summary::new(alloc);
-    for packet in Packets::new(Unfit::Refuse, capture.as_slice()) {
-        let dissection = dissector.dissect(&packet)?;
-        if filter.matches(&dissection) {
-            summary.add(&dissection)?;
-        }
-        dissector.give_back(dissection);
-    }
-    let report = Report {
-        summary: &summary,
-        open: dissector.open(),
-        skipped: Skipped::NONE,
+#[test]
+fn a_report(rt: HostRuntime) -> Result<(), Fail> {
+    let capture = capture_of(rt.alloc(), 101, &FRAMES)?;
+    let mut summary = Summary::new(rt.alloc());
+    let open = add_all(rt.alloc(), &[], &mut summary, capture.as_slice())?;
+    let skipped = Skipped {
+        too_long: 1,
+        ..Skipped::NONE
     };
-    Ok(format!(in alloc; "{report}")?)
+    is_reported(&rt, rt.alloc(), &summary, open, skipped, TEXT)
+}
+
+// The report of the packets that meet a condition, of a capture that ends with an open message.
+fn is_reported_of(rt: &impl Abort, alloc: Global, word: &str, wanted: &str) -> Result<(), Fail> {
+    let capture = capture_of(alloc, 1, &MIXED)?;
+    let mut summary = Summary::new(alloc);
+    let open = add_all(alloc, &[word], &mut summary, capture.as_slice())?;
+    is_reported(rt, alloc, &summary, open, Skipped::NONE, wanted)
 }
 
 const OF_ARP: &str = "   packets   share           bytes   share     first  protocol
@@ -116,11 +110,32 @@ packets a second, by spans of 0.001953125 s: 512 at most
 // Open messages are told where their fragments aren't among the packets.
 #[test]
 fn messages_that_are_open(rt: HostRuntime) -> Result<(), Fail> {
-    assert_eq!(rt; report_of(rt.alloc(), "arp")?.as_str(), OF_ARP);
-    assert_eq!(rt;
-        report_of(rt.alloc(), "gre")?.as_str(),
-        "no packets\n\nmessages open at the end: 1\n"
-    );
+    is_reported_of(&rt, rt.alloc(), "arp", OF_ARP)?;
+    is_reported_of(
+        &rt,
+        rt.alloc(),
+        "gre",
+        "no packets\n\nmessages open at the end: 1\n",
+    )
+}
+
+const SHARES: &str = "      4000 100.0 %          135980 100.0 %         1  all packets
+         1   0.0 %              14   0.0 %      4000  Ethernet
+      3999  99.9 %          135966  99.9 %         1  IPv4
+";
+
+// So many times the packets of a capture.
+fn add_times(
+    times: u32,
+    capture: &[u8],
+    dissector: &mut Dissector,
+    summary: &mut Summary,
+) -> Result<(), AllocError> {
+    for packet in Packets::new(Unfit::Refuse, capture) {
+        for _ in 0..times {
+            summary.add(&dissector.dissect(&packet)?)?;
+        }
+    }
     Ok(())
 }
 
@@ -135,24 +150,14 @@ fn a_share_of_all_but_one(rt: HostRuntime) -> Result<(), Fail> {
     let other = capture_of(rt.alloc(), 1, &["02000000000202000000000188cc"])?;
     let mut dissector = Dissector::new(rt.alloc());
     let mut summary = Summary::new(rt.alloc());
-    for packet in Packets::new(Unfit::Refuse, capture.as_slice()) {
-        for _ in 0..3999 {
-            summary.add(&dissector.dissect(&packet)?)?;
-        }
-    }
-    for packet in Packets::new(Unfit::Refuse, other.as_slice()) {
-        summary.add(&dissector.dissect(&packet)?)?;
-    }
+    add_times(3999, capture.as_slice(), &mut dissector, &mut summary)?;
+    add_times(1, other.as_slice(), &mut dissector, &mut summary)?;
     let report = Report {
         summary: &summary,
         open: 0,
         skipped: Skipped::NONE,
     };
     let text = format!(in rt.alloc(); "{report}")?;
-    let wanted = "      4000 100.0 %          135980 100.0 %         1  all packets
-         1   0.0 %              14   0.0 %      4000  Ethernet
-      3999  99.9 %          135966  99.9 %         1  IPv4
-";
-    assert!(rt; text.as_str().contains(wanted));
+    assert!(rt; text.as_str().contains(SHARES));
     Ok(())
 }

@@ -2,10 +2,10 @@
 //! then a call tells of it and of nothing else, what it worked on is as before, and the same call
 //! succeeds after it. All growths are those of the calls.
 
-use crate::whole_captures::{LINES, rules};
-use captures::{Packets, RunError, Skipped, Unfit};
-use packets::{Dissector, NoProgress, Summary, Tally, summarize, write_lines};
-use std::alloc::Global;
+use crate::outcomes::{LINES, rules};
+use captures::{Packet, Packets, RunError, Skipped, Unfit};
+use packets::{Dissection, Dissector, NoProgress, Summary, Tally, summarize, write_lines};
+use std::alloc::{AllocError, Global};
 use std::process::Abort;
 use std::test::Fail;
 
@@ -81,6 +81,33 @@ fn counts_want_memory(rt: HostRuntime) -> Result<(), Fail> {
     Ok(())
 }
 
+fn dissected<'a>(
+    dissector: &mut Dissector,
+    packet: &Packet<'a>,
+) -> Result<Dissection<'a>, AllocError> {
+    match dissector.dissect(packet) {
+        Ok(dissection) => Ok(dissection),
+        Err(_) => dissector.dissect(packet),
+    }
+}
+
+// Adds a packet behind so many.
+fn add(
+    rt: &impl Abort,
+    summary: &mut Summary,
+    packet: &Dissection<'_>,
+    number: u64,
+) -> Result<(), AllocError> {
+    if summary.add(packet).is_ok() {
+        return Ok(());
+    }
+    assert_eq!(rt;
+        (summary.all.packets, summary.refused),
+        (number, Tally::NONE)
+    );
+    summary.add(packet)
+}
+
 // Where memory is wanting for a packet, it is told and counted the next time.
 #[test]
 fn packets_want_memory(rt: HostRuntime) -> Result<(), Fail> {
@@ -88,21 +115,14 @@ fn packets_want_memory(rt: HostRuntime) -> Result<(), Fail> {
     let mut summary = Summary::new(rt.alloc());
     let mut number = 0u64;
     for packet in Packets::new(Unfit::Refuse, CAPTURE) {
-        let dissection = match dissector.dissect(&packet) {
-            Ok(dissection) => dissection,
-            Err(_) => dissector.dissect(&packet)?,
-        };
-        if summary.add(&dissection).is_err() {
-            assert_eq!(rt; summary.all.packets, number);
-            assert_eq!(rt; summary.refused, Tally::NONE);
-            summary.add(&dissection)?;
-        }
+        let dissection = dissected(&mut dissector, &packet)?;
+        add(&rt, &mut summary, &dissection, number)?;
         number = number.saturating_add(1);
         assert_eq!(rt; (dissection.number, summary.all.packets), (number, number));
         dissector.give_back(dissection);
     }
-    assert_eq!(rt; (number, dissector.open()), (3, 0));
-    assert_eq!(rt; summary.parts.completing.packets, 1);
+    let counted = (number, dissector.open(), summary.parts.completing.packets);
+    assert_eq!(rt; counted, (3, 0, 1));
     assert_eq!(rt; (summary.reasons.len(), summary.talkers.len()), (1, 1));
     Ok(())
 }

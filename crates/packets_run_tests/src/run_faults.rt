@@ -1,0 +1,392 @@
+//! Runs that fail on the way, pass packets over or tell how far they are, and when lines are
+//! written.
+
+use crate::outcomes::{LINES, are_counted, are_written, end_of_lines, rules};
+use captures::{CaptureError, Place, RunError, Skipped, Unfit};
+use fault_devices::{Fault, FaultReader, FaultWriter};
+use hex::FromHexError;
+use packets::{Dissection, Ending, LineWriter, Progress, Rules, Summary, summarize};
+use std::alloc::{AllocError, Global};
+use std::cell::Cell;
+use std::io::{self, ErrorKind, Read, Write};
+use std::process::Abort;
+use std::test::Fail;
+use test_captures::{FRAMES, capture_of};
+
+// The file header, and the first record: its header and a frame of 54 bytes.
+const FIRST_END: usize = 24 + 16 + 54;
+
+const READ_FAILED: Ending = Ending {
+    open: 0,
+    skipped: Skipped::NONE,
+    result: Err(RunError::Read),
+};
+
+// Each read gives a byte. That behind the first packet fails.
+fn is_failed_by_read(rt: &impl Abort, alloc: Global, kind: ErrorKind) -> Result<(), Fail> {
+    let capture = capture_of(alloc, 1, &FRAMES)?;
+    let rules = rules(alloc, &[])?;
+    let fails = Fault::Fails(kind);
+    let reader = FaultReader::failing(capture.as_slice(), 1, FIRST_END, fails);
+    are_written(
+        rt,
+        alloc,
+        &rules,
+        &LINES,
+        reader,
+        Err(RunError::Read),
+        b"    1   0.00\n",
+    );
+    let reader = FaultReader::failing(capture.as_slice(), 1, FIRST_END, fails);
+    are_counted(rt, alloc, &rules, reader, READ_FAILED, 1);
+    Ok(())
+}
+
+#[test]
+fn readers_that_fail(rt: HostRuntime) -> Result<(), Fail> {
+    is_failed_by_read(&rt, rt.alloc(), ErrorKind::Other)?;
+    is_failed_by_read(&rt, rt.alloc(), ErrorKind::Interrupted)
+}
+
+// The first write takes 20 bytes, and the next one fails or takes none.
+fn is_failed_by_write(
+    rt: &impl Abort,
+    alloc: Global,
+    fault: Fault,
+    wanted: RunError,
+) -> Result<(), Fail> {
+    let capture = capture_of(alloc, 1, &FRAMES)?;
+    let rules = rules(alloc, &[])?;
+    let mut writer = FaultWriter::failing(alloc, 20, 1, fault);
+    let (result, _) = end_of_lines(alloc, &rules, &LINES, capture.as_slice(), &mut writer);
+    assert_eq!(rt; (result, writer.calls), (Err(wanted), 2));
+    assert_eq!(rt;
+        writer.taken.as_slice(),
+        b"    1   0.00\n    2  ".as_slice()
+    );
+    Ok(())
+}
+
+#[test]
+fn what_failing_writers_took(rt: HostRuntime) -> Result<(), Fail> {
+    is_failed_by_write(
+        &rt,
+        rt.alloc(),
+        Fault::Fails(ErrorKind::Other),
+        RunError::Write,
+    )?;
+    is_failed_by_write(
+        &rt,
+        rt.alloc(),
+        Fault::Fails(ErrorKind::Interrupted),
+        RunError::Write,
+    )?;
+    is_failed_by_write(&rt, rt.alloc(), Fault::MovesNone, RunError::WriteZero)
+}
+
+// Tells of each packet in so many bytes, and wants memory at one of them.
+#[derive(Drop)]
+struct LongLines {
+    len: usize,
+    wanting: u64,
+}
+
+impl LineWriter for LongLines {
+    // Its texts are compared here.
+    ghost tells = { λ lines packet text. Unit {0} };
+
+    fn write_line(&self, packet: &Dissection<'_>, out: &mut Vec<u8>) -> Result<(), AllocError> {
+        if packet.number == self.wanting {
+            return Err(AllocError);
+        }
+        out.resize(self.len, b'x')
+    }
+}
+
+// What comes before is written.
+#[test]
+fn no_memory_for_a_line(rt: HostRuntime) -> Result<(), Fail> {
+    let capture = capture_of(rt.alloc(), 1, &FRAMES)?;
+    are_written(
+        &rt,
+        rt.alloc(),
+        &rules(rt.alloc(), &[])?,
+        &LongLines { len: 2, wanting: 4 },
+        capture.as_slice(),
+        Err(RunError::Memory),
+        b"xx\nxx\nxx\n",
+    );
+    Ok(())
+}
+
+fn is_long_line(line: &[u8]) -> bool {
+    match line.split_last() {
+        Some((end, text)) => {
+            *end == b'\n' && text.len() == 40_000 && text.iter().all(|byte| *byte == b'x')
+        }
+        None => false,
+    }
+}
+
+// Lines wait for a read that isn't there, up to 64 KB: here two lines each time, and then the rest.
+#[test]
+fn long_output_is_written_in_pieces(rt: HostRuntime) -> Result<(), Fail> {
+    let (front, _) = FRAMES.split_at(5);
+    let capture = capture_of(rt.alloc(), 1, front)?;
+    let rules = rules(rt.alloc(), &[])?;
+    let lines = LongLines {
+        len: 40_000,
+        wanting: 0,
+    };
+    let mut writer = FaultWriter::new(rt.alloc(), usize::MAX);
+    let (result, _) = end_of_lines(rt.alloc(), &rules, &lines, capture.as_slice(), &mut writer);
+    let written = (result, writer.calls, writer.taken.len());
+    assert_eq!(rt; written, (Ok(()), 3, 5 * 40_001));
+    assert!(rt; writer.taken.as_slice().chunks(40_001).all(is_long_line));
+    Ok(())
+}
+
+// A text of three lines.
+#[derive(Drop)]
+struct ThreeLines;
+
+impl LineWriter for ThreeLines {
+    // Its text is compared here.
+    ghost tells = { λ lines packet text. Unit {0} };
+
+    fn write_line(&self, _packet: &Dissection<'_>, out: &mut Vec<u8>) -> Result<(), AllocError> {
+        out.extend_from_slice(b"\none\ntwo\r\n\n")
+    }
+}
+
+// Other ends than that of the line are left out.
+#[test]
+fn a_packet_has_one_line(rt: HostRuntime) -> Result<(), Fail> {
+    let (front, _) = FRAMES.split_at(2);
+    let capture = capture_of(rt.alloc(), 1, front)?;
+    are_written(
+        &rt,
+        rt.alloc(),
+        &rules(rt.alloc(), &[])?,
+        &ThreeLines,
+        capture.as_slice(),
+        Ok(()),
+        b"onetwo\r\nonetwo\r\n",
+    );
+    Ok(())
+}
+
+// Gives the file header, and then a record a call. Each call finds the lines of all records that
+// were given, or tells that they are late.
+#[derive(Drop)]
+struct WatchingReader<'a> {
+    rest: &'a [u8],
+    piece: usize,
+    lines: usize,
+    written: &'a Cell<usize>,
+    late: &'a Cell<bool>,
+}
+
+impl Read for WatchingReader<'_> {
+    fn read(&mut self, buf: &mut [u8]) -> io::Result<usize> {
+        if self.written.get() != self.lines {
+            self.late.set(true);
+        }
+        let count = self.piece.min(buf.len()).min(self.rest.len());
+        let (given, rest) = self.rest.split_at(count);
+        buf[..count].copy_from_slice(given);
+        if count == RECORD {
+            self.lines = self.lines.saturating_add(LINE);
+        }
+        self.rest = rest;
+        self.piece = RECORD;
+        Ok(count)
+    }
+}
+
+// Counts what it takes.
+#[derive(Drop)]
+struct WatchedWriter<'a>(&'a Cell<usize>);
+
+impl Write for WatchedWriter<'_> {
+    fn write(&mut self, buf: &[u8]) -> io::Result<usize> {
+        self.0.set(self.0.get().saturating_add(buf.len()));
+        Ok(buf.len())
+    }
+
+    fn flush(&mut self) -> io::Result<()> {
+        Ok(())
+    }
+}
+
+// A record of a frame of 42 bytes, and its line.
+const RECORD: usize = 16 + 42;
+
+const LINE: usize = 13;
+
+#[test]
+fn lines_are_written_before_the_next_read(rt: HostRuntime) -> Result<(), Fail> {
+    let [_, _, arp, ..] = FRAMES;
+    let capture = capture_of(rt.alloc(), 1, &[arp, arp, arp, arp])?;
+    let rules = rules(rt.alloc(), &[])?;
+    let (written, late) = (Cell::new(0usize), Cell::new(false));
+    let reader = WatchingReader {
+        rest: capture.as_slice(),
+        piece: 24,
+        lines: 0,
+        written: &written,
+        late: &late,
+    };
+    let mut writer = WatchedWriter(&written);
+    let (result, _) = end_of_lines(rt.alloc(), &rules, &LINES, reader, &mut writer);
+    assert_eq!(rt;
+        (result, written.get(), late.get()),
+        (Ok(()), 4 * LINE, false)
+    );
+    Ok(())
+}
+
+// Bytes that begin like no IP packet, between two that do.
+const RAW: [&str; 3] = [
+    "450000140001000040fd00000a0000010a000063",
+    "00",
+    "450000140001000040fd00000a0000020a000063",
+];
+
+// Behind the file header and the first record.
+const NO_FRAME: RunError = RunError::Capture(
+    CaptureError::NoFrame,
+    Place {
+        packet: 2,
+        offset: 24 + 16 + 20,
+        block: None,
+    },
+);
+
+const ONE_SKIPPED: Skipped = Skipped {
+    without_frame: 1,
+    ..Skipped::NONE
+};
+
+// A run that ends so, with lines of so many bytes, of so many packets.
+fn passes_over(
+    rt: &impl Abort,
+    alloc: Global,
+    unfit: Unfit,
+    ending: Ending,
+    len: usize,
+    packets: u64,
+) -> Result<(), Fail> {
+    let capture = capture_of(alloc, 101, &RAW)?;
+    let rules = Rules {
+        unfit,
+        ..rules(alloc, &[])?
+    };
+    let mut out = Vec::new(alloc);
+    let ended = end_of_lines(alloc, &rules, &LINES, capture.as_slice(), &mut out);
+    assert_eq!(rt; (ended, out.len()), ((ending.result, ending.skipped), len));
+    are_counted(rt, alloc, &rules, capture.as_slice(), ending, packets);
+    Ok(())
+}
+
+const REFUSED: Ending = Ending {
+    open: 0,
+    skipped: Skipped::NONE,
+    result: Err(NO_FRAME),
+};
+
+const PASSED_OVER: Ending = Ending {
+    open: 0,
+    skipped: ONE_SKIPPED,
+    result: Ok(()),
+};
+
+#[test]
+fn packets_that_are_passed_over(rt: HostRuntime) -> Result<(), Fail> {
+    passes_over(&rt, rt.alloc(), Unfit::Refuse, REFUSED, LINE, 1)?;
+    passes_over(&rt, rt.alloc(), Unfit::Skip, PASSED_OVER, 2 * LINE, 2)
+}
+
+const ONE_OPEN: Ending = Ending {
+    open: 1,
+    skipped: Skipped::NONE,
+    result: Ok(()),
+};
+
+// One message waits at the end, also where the filter keeps its fragment back.
+#[test]
+fn messages_that_are_open_at_the_end(rt: HostRuntime) -> Result<(), Fail> {
+    let capture = capture_of(rt.alloc(), 1, &FRAMES)?;
+    are_counted(
+        &rt,
+        rt.alloc(),
+        &rules(rt.alloc(), &[])?,
+        capture.as_slice(),
+        ONE_OPEN,
+        10,
+    );
+    are_counted(
+        &rt,
+        rt.alloc(),
+        &rules(rt.alloc(), &["arp"])?,
+        capture.as_slice(),
+        ONE_OPEN,
+        1,
+    );
+    Ok(())
+}
+
+// Keeps what it was told last, and counts.
+#[derive(Drop)]
+struct Steps {
+    count: usize,
+    last: u64,
+}
+
+impl Progress for Steps {
+    fn tell(&mut self, passed: u64) {
+        self.count = self.count.saturating_add(1);
+        self.last = passed;
+    }
+}
+
+// A packet of 90,000 bytes, of an ether type that isn't looked into.
+fn long_record(alloc: Global) -> Result<Vec<u8>, FromHexError> {
+    let mut record = hex::decode(
+        alloc,
+        "6553f1000000000000015f9000015f9002000000000202000000000188b5",
+    )?;
+    record.resize(16 + 90_000, 0)?;
+    Ok(record)
+}
+
+// 100 of them.
+fn long_capture(alloc: Global) -> Result<Vec<u8>, FromHexError> {
+    let mut capture = capture_of(alloc, 1, &[])?;
+    let record = long_record(alloc)?;
+    for _ in 0..100 {
+        capture.extend_from_slice(record.as_slice())?;
+    }
+    Ok(capture)
+}
+
+// Each 4 MiB are told, before the read behind them.
+#[test]
+fn progress_is_told(rt: HostRuntime) -> Result<(), Fail> {
+    let capture = long_capture(rt.alloc())?;
+    let rules = rules(rt.alloc(), &[])?;
+    let mut summary = Summary::new(rt.alloc());
+    let mut steps = Steps { count: 0, last: 0 };
+    let ending = summarize(
+        rt.alloc(),
+        &rules,
+        &mut summary,
+        capture.as_slice(),
+        &mut steps,
+    );
+    let counted = (ending.result, summary.all.packets, summary.all.bytes);
+    assert_eq!(rt; counted, (Ok(()), 100, 9_000_000));
+    // The second step came within a read of 64 KB and a packet of its end.
+    assert!(rt; steps.count == 2 && steps.last >= 1 << 23 && steps.last < (1 << 23) + 262_144);
+    Ok(())
+}
