@@ -1,4 +1,5 @@
-//! The benchmarks of `benchmarks::reassembly` in plain Rust, with the same arguments and the same lines.
+//! The benchmarks of `reassembly_benchmarks` and `colliding_benchmarks` in plain Rust, with the same arguments and the
+//! same lines.
 
 // The answers to lines need more of a packet.
 #[allow(dead_code)]

@@ -1,6 +1,9 @@
 //! What the programs of benchmarks share: the arguments name the benchmarks, each of which tells a
-//! sum of all that it computed and, if it is asked to, its time.
+//! sum of all that it computed and, if it is asked to, its time; and pools that put messages together.
 #![tactic(auto)]
+
+pub mod interleaved;
+pub mod pools;
 
 use std::process::ExitCode;
 use std::time::Duration;

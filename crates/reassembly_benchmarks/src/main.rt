@@ -6,14 +6,13 @@
 //! fastest time.
 #![tactic(auto)]
 
-mod colliding;
-mod interleaved;
 mod order;
-mod pools;
 mod reassembly;
 
 use crate::order::Order;
-use benchmark_runs::{Benchmarks, Measured, Repeats};
+use benchmark_runs::interleaved::Interleaved;
+use benchmark_runs::{Benchmarks, Measured, Repeats, pools};
+use etherparse::defrag::IpDefragPool;
 use std::io;
 use std::process::ExitCode;
 
@@ -29,7 +28,11 @@ impl Benchmarks for ReassemblyBenchmarks {
             "descending" => Order::Descending,
             "even_first" => Order::EvenFirst,
             "shuffled" => Order::Shuffled,
-            _ => return pools::measure(rt, name, repeats.turns),
+            "interleaved" => {
+                let pool = IpDefragPool::new(rt.alloc());
+                return pools::measure(rt, pool, &Interleaved, repeats.turns).map(Some);
+            }
+            _ => return Ok(None),
         };
         reassembly::measure(rt, order, repeats.turns).map(Some)
     }
