@@ -2,10 +2,8 @@
 //! description.
 ghost use Rattle.std.specs.Prelude.{◌+◌, ◌≤◌, length};
 
-use crate::lines::{LINES, lines_of, refused};
-use captures::{CaptureError, RunError};
-use std::alloc::{AllocError, Global};
-use std::test::Fail;
+use crate::lines::{LINES, refused, tells};
+use captures::CaptureError;
 
 const SCAPY: &[u8; 208] = b"\
     \x0a\x0d\x0d\x0a\x1c\x00\x00\x00\x4d\x3c\x2b\x1a\x01\x00\x00\x00\x00\x00\x00\x00\
@@ -48,11 +46,8 @@ pub(super) const TWO_SECTIONS_LINES: &[u8; 64] = b"frame 1 0102030405\n\
     frame 3 5566\n";
 
 #[test]
-fn file_of_scapy(rt: HostRuntime) -> Result<(), Fail> {
-    let (result, lines) = lines_of(rt.alloc(), SCAPY)?;
-    assert!(rt; result == Ok(()));
-    assert!(rt; lines.as_slice() == LINES.as_slice());
-    Ok(())
+fn file_of_scapy(rt: HostRuntime) {
+    tells(&rt, SCAPY, Ok(()), LINES);
 }
 
 const SECTION: u32 = 0x0a0d_0d0a;
@@ -75,21 +70,20 @@ fn block_at(n: usize) -> (u64, usize, u32) {
     }
 }
 
-// How many bytes of lines a front of the two sections gives.
-fn line_bytes(n: usize) -> usize {
+// The lines that a front of the two sections gives.
+fn lines_before(n: usize) -> &'static [u8] {
     match n {
-        0..=131 => 0,
-        132..=151 => 19,
-        152..=251 => 34,
-        252..=287 => 51,
-        _ => 64,
+        0..=131 => b"",
+        132..=151 => &TWO_SECTIONS_LINES[..19],
+        152..=251 => &TWO_SECTIONS_LINES[..34],
+        252..=287 => &TWO_SECTIONS_LINES[..51],
+        _ => TWO_SECTIONS_LINES,
     }
 }
 
 #[test]
-fn each_front_of_two_sections(rt: HostRuntime) -> Result<(), Fail> {
+fn each_front_of_two_sections(rt: HostRuntime) {
     for n in 0..=320 {
-        let (result, lines) = lines_of(rt.alloc(), &TWO_SECTIONS[..n])?;
         let (packet, offset, kind) = block_at(n);
         // Four bytes of a block tell its type.
         let block = if n.saturating_sub(offset) < 4 {
@@ -102,107 +96,93 @@ fn each_front_of_two_sections(rt: HostRuntime) -> Result<(), Fail> {
             28 | 48 | 68 | 88 | 132 | 152 | 192 | 212 | 232 | 252 | 288 | 320 => Ok(()),
             _ => refused(CaptureError::CutOff, packet, offset as u64, block),
         };
-        assert!(rt; result == wanted);
-        let len = line_bytes(n);
-        assert!(rt; len <= TWO_SECTIONS_LINES.len());
-        assert!(rt; lines.as_slice() == &TWO_SECTIONS_LINES[..len]);
+        tells(&rt, &TWO_SECTIONS[..n], wanted, lines_before(n));
     }
-    Ok(())
 }
 
-// The result and the lines with other bytes at a place of the two sections.
-fn with_bytes(
-    alloc: Global,
-    at: usize,
-    bytes: &[u8],
-) -> Result<(Result<(), RunError>, Vec<u8>), AllocError>
+// The two sections with other bytes at a place.
+fn with_bytes(at: usize, bytes: &[u8]) -> [u8; 320]
     requires { at + length bytes.now ≤ 320 }
 {
     let mut file = *TWO_SECTIONS;
     file[at..at + bytes.len()].copy_from_slice(bytes);
-    lines_of(alloc, &file)
+    file
 }
 
 #[test]
-fn each_refusal(rt: HostRuntime) -> Result<(), Fail> {
+fn each_refusal(rt: HostRuntime) {
     let bad = CaptureError::BadBlock;
-    for (at, bytes, error, len, (packet, offset, block)) in [
+    let none = b"".as_slice();
+    let two = lines_before(152);
+    let three = lines_before(252);
+    for (at, bytes, error, lines, (packet, offset, block)) in [
         // no kind of a section header
         (
             0,
             b"\x0b".as_slice(),
             CaptureError::NotCapture,
-            0,
+            none,
             (1, 0, None),
         ),
         // no byte order magic
         (
             8,
-            b"\x4e".as_slice(),
+            b"\x4e",
             CaptureError::NotCapture,
-            0,
+            none,
             (1, 0, Some(SECTION)),
         ),
         // version 2
-        (12, b"\x02".as_slice(), bad, 0, (1, 0, Some(SECTION))),
+        (12, b"\x02", bad, none, (1, 0, Some(SECTION))),
         // another length at the end
-        (24, b"\x20".as_slice(), bad, 0, (1, 0, Some(SECTION))),
+        (24, b"\x20", bad, none, (1, 0, Some(SECTION))),
         // less than a block has
-        (4, b"\x08".as_slice(), bad, 0, (1, 0, Some(SECTION))),
+        (4, b"\x08", bad, none, (1, 0, Some(SECTION))),
         // no whole words
-        (32, b"\x15".as_slice(), bad, 0, (1, 28, Some(1))),
+        (32, b"\x15", bad, none, (1, 28, Some(1))),
         // link type of PPP
         (
             36,
-            b"\x09".as_slice(),
+            b"\x09",
             CaptureError::LinkType(9),
-            0,
+            none,
             (1, 28, Some(1)),
         ),
         // 4 bytes above the limit
         (
             32,
-            b"\x04\x00\x04".as_slice(),
+            b"\x04\x00\x04",
             CaptureError::BlockTooLong(262_148),
-            0,
+            none,
             (1, 28, Some(1)),
         ),
         // an interface that is not described
-        (96, b"\x02".as_slice(), bad, 0, (1, 88, Some(6))),
+        (96, b"\x02", bad, none, (1, 88, Some(6))),
         // more bytes than the block has
-        (108, b"\x0d".as_slice(), bad, 0, (1, 88, Some(6))),
+        (108, b"\x0d", bad, none, (1, 88, Some(6))),
         // a second section without byte order magic
-        (160, b"\x1b".as_slice(), bad, 34, (3, 152, Some(SECTION))),
+        (160, b"\x1b", bad, two, (3, 152, Some(SECTION))),
         // a simple packet of 4 bytes, and other blocks in place of the interfaces before it
         (
             192,
             b"\x00\x00\x00\x05\x00\x00\x00\x14\x00\x01\x00\x00\x00\x00\x00\x04\
             \x00\x00\x00\x14\x00\x00\x00\x05\x00\x00\x00\x14\x00\x01\x00\x00\
             \x00\x00\x00\x09\x00\x00\x00\x14\x00\x00\x00\x03\x00\x00\x00\x14\
-            \x00\x00\x00\x04"
-                .as_slice(),
+            \x00\x00\x00\x04",
             bad,
-            34,
+            two,
             (3, 232, Some(3)),
         ),
         // a packet of the third interface of the file, in a section of two
-        (
-            260,
-            b"\x00\x00\x00\x02".as_slice(),
-            bad,
-            51,
-            (4, 252, Some(6)),
-        ),
+        (260, b"\x00\x00\x00\x02", bad, three, (4, 252, Some(6))),
     ] {
-        let (result, lines) = with_bytes(rt.alloc(), at, bytes)?;
-        assert!(rt; result == refused(error, packet, offset, block));
-        assert!(rt; lines.len() == len);
+        let wanted = refused(error, packet, offset, block);
+        tells(&rt, &with_bytes(at, bytes), wanted, lines);
     }
-    Ok(())
 }
 
 #[test]
-fn fields_that_are_ignored(rt: HostRuntime) -> Result<(), Fail> {
+fn fields_that_are_ignored(rt: HostRuntime) {
     for (at, bytes) in [
         // minor version 2, which is to be read as 0
         (14, b"\x02".as_slice()),
@@ -219,9 +199,6 @@ fn fields_that_are_ignored(rt: HostRuntime) -> Result<(), Fail> {
         (121, b"\xff\xff\xff"),
         (147, b"\xff"),
     ] {
-        let (result, lines) = with_bytes(rt.alloc(), at, bytes)?;
-        assert!(rt; result == Ok(()));
-        assert!(rt; lines.as_slice() == TWO_SECTIONS_LINES.as_slice());
+        tells(&rt, &with_bytes(at, bytes), Ok(()), TWO_SECTIONS_LINES);
     }
-    Ok(())
 }

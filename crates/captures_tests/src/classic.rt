@@ -1,10 +1,9 @@
 //! Classic captures. The files were written by scapy 2.5.0.
 ghost use Rattle.std.specs.Prelude.{◌+◌, ◌≤◌, length};
 
-use crate::lines::{LINES, lines_of, refused};
-use captures::{CaptureError, RunError};
-use std::alloc::{AllocError, Global};
-use std::test::Fail;
+use crate::checks::joined;
+use crate::lines::{LINES, refused, tells};
+use captures::CaptureError;
 
 pub(super) const LITTLE_MICROSECONDS: &[u8; 148] = b"\
     \xd4\xc3\xb2\xa1\x02\x00\x04\x00\x00\x00\x00\x00\x00\x00\x00\x00\xff\xff\x00\x00\
@@ -51,92 +50,77 @@ pub(super) const BIG_NANOSECONDS: &[u8; 148] = b"\
 ";
 
 #[test]
-fn each_byte_order_and_time_unit(rt: HostRuntime) -> Result<(), Fail> {
-    let alloc = rt.alloc();
+fn each_byte_order_and_time_unit(rt: HostRuntime) {
     for file in [
-        LITTLE_MICROSECONDS.as_slice(),
-        BIG_MICROSECONDS.as_slice(),
-        LITTLE_NANOSECONDS.as_slice(),
-        BIG_NANOSECONDS.as_slice(),
+        LITTLE_MICROSECONDS,
+        BIG_MICROSECONDS,
+        LITTLE_NANOSECONDS,
+        BIG_NANOSECONDS,
     ] {
-        let (result, lines) = lines_of(alloc, file)?;
-        assert!(rt; result == Ok(()));
-        assert!(rt; lines.as_slice() == LINES.as_slice());
+        tells(&rt, file, Ok(()), LINES);
     }
-    Ok(())
 }
 
 // The file header has 24 bytes, the packet records 16 + 50 and 16 + 42; the lines 109 and 93.
 #[test]
-fn each_front(rt: HostRuntime) -> Result<(), Fail> {
+fn each_front(rt: HostRuntime) {
     for n in 0..=148 {
-        let (result, lines) = lines_of(rt.alloc(), &BIG_MICROSECONDS[..n])?;
-        let (wanted, len) = match n {
-            0..=23 => (refused(CaptureError::NotCapture, 1, 0, None), 0),
-            24 => (Ok(()), 0),
-            25..=89 => (refused(CaptureError::CutOff, 1, 24, None), 0),
-            90 => (Ok(()), 109),
-            91..=147 => (refused(CaptureError::CutOff, 2, 90, None), 109),
-            _ => (Ok(()), 202),
+        let (wanted, lines) = match n {
+            0..=23 => (
+                refused(CaptureError::NotCapture, 1, 0, None),
+                b"".as_slice(),
+            ),
+            24 => (Ok(()), b"".as_slice()),
+            25..=89 => (refused(CaptureError::CutOff, 1, 24, None), b"".as_slice()),
+            90 => (Ok(()), &LINES[..109]),
+            91..=147 => (refused(CaptureError::CutOff, 2, 90, None), &LINES[..109]),
+            _ => (Ok(()), LINES.as_slice()),
         };
-        assert!(rt; result == wanted);
-        assert!(rt; lines.as_slice() == &LINES[..len]);
+        tells(&rt, &BIG_MICROSECONDS[..n], wanted, lines);
     }
-    Ok(())
 }
 
-// The result and the lines with other bytes at a place.
-fn with_bytes(
-    alloc: Global,
-    at: usize,
-    bytes: &[u8],
-) -> Result<(Result<(), RunError>, Vec<u8>), AllocError>
+// The file with other bytes at a place.
+fn with_bytes(at: usize, bytes: &[u8]) -> [u8; 148]
     requires { at + length bytes.now ≤ 148 }
 {
     let mut file = *BIG_MICROSECONDS;
     file[at..at + bytes.len()].copy_from_slice(bytes);
-    lines_of(alloc, &file)
+    file
 }
 
 #[test]
-fn each_refusal(rt: HostRuntime) -> Result<(), Fail> {
-    for (at, bytes, error, len, packet, offset) in [
+fn each_refusal(rt: HostRuntime) {
+    let none = b"".as_slice();
+    let first = &LINES[..109];
+    for &(at, bytes, error, lines, packet, offset) in &[
         // Another magic number.
-        (3, b"\xd5".as_slice(), CaptureError::NotCapture, 0, 1, 0),
+        (3, b"\xd5".as_slice(), CaptureError::NotCapture, none, 1, 0),
         // Version 2.3.
-        (7, b"\x03".as_slice(), CaptureError::NotCapture, 0, 1, 0),
+        (7, b"\x03", CaptureError::NotCapture, none, 1, 0),
         // Version 1.4.
-        (5, b"\x01".as_slice(), CaptureError::NotCapture, 0, 1, 0),
+        (5, b"\x01", CaptureError::NotCapture, none, 1, 0),
         // The link type of PPP.
-        (23, b"\x09".as_slice(), CaptureError::LinkType(9), 0, 1, 0),
+        (23, b"\x09", CaptureError::LinkType(9), none, 1, 0),
         // 99,992 bytes of the second packet.
         (
             98,
-            b"\x00\x01\x86\x98".as_slice(),
+            b"\x00\x01\x86\x98",
             CaptureError::FrameTooLong(99_992),
-            109,
+            first,
             2,
             90,
         ),
         // 99,991 bytes, which aren't there.
-        (
-            98,
-            b"\x00\x01\x86\x97".as_slice(),
-            CaptureError::CutOff,
-            109,
-            2,
-            90,
-        ),
+        (98, b"\x00\x01\x86\x97", CaptureError::CutOff, first, 2, 90),
     ] {
-        let (result, lines) = with_bytes(rt.alloc(), at, bytes)?;
-        assert!(rt; result == refused(error, packet, offset, None));
-        assert!(rt; lines.len() == len);
+        let wanted = refused(error, packet, offset, None);
+        tells(&rt, &with_bytes(at, bytes), wanted, lines);
     }
-    Ok(())
 }
 
 #[test]
-fn fields_that_are_ignored(rt: HostRuntime) -> Result<(), Fail> {
+fn fields_that_are_ignored(rt: HostRuntime) {
     for (at, bytes) in [
         // The two reserved numbers of the file header.
         (8, b"\xff\xff\xff\xff\xff\xff\xff\xff".as_slice()),
@@ -148,20 +132,14 @@ fn fields_that_are_ignored(rt: HostRuntime) -> Result<(), Fail> {
         (36, b"\x00\x00\x05\xdc"),
         (36, b"\x00\x00\x00\x01"),
     ] {
-        let (result, lines) = with_bytes(rt.alloc(), at, bytes)?;
-        assert!(rt; result == Ok(()));
-        assert!(rt; lines.as_slice() == LINES.as_slice());
+        tells(&rt, &with_bytes(at, bytes), Ok(()), LINES);
     }
-    Ok(())
 }
 
 // A packet of which no byte was captured stands between the header and nothing else.
 #[test]
-fn packet_of_no_bytes(rt: HostRuntime) -> Result<(), Fail> {
-    let mut file = Vec::from_slice(rt.alloc(), &LITTLE_MICROSECONDS[..24])?;
-    file.extend_from_slice(b"\0\0\0\0\0\0\0\0\0\0\0\0\x3c\0\0\0")?;
-    let (result, lines) = lines_of(rt.alloc(), file.as_slice())?;
-    assert!(rt; result == Ok(()));
-    assert!(rt; lines.len() == 0);
-    Ok(())
+fn packet_of_no_bytes(rt: HostRuntime) {
+    let record = b"\0\0\0\0\0\0\0\0\0\0\0\0\x3c\0\0\0";
+    let file = joined(&rt, &[&LITTLE_MICROSECONDS[..24], record]);
+    tells(&rt, file.as_slice(), Ok(()), b"");
 }

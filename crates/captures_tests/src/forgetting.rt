@@ -1,26 +1,32 @@
 //! Lines that have messages dropped, worked by hand.
-use crate::times::lines_with;
-use captures::{Extra, RunError, Skipped, Unfit, run};
+use crate::checks::{append, equal, joined};
+use crate::lines::tells_all;
+use captures::{Extra, Skipped, Unfit, run};
 use fault_devices::FaultReader;
-use std::alloc::{AllocError, Global};
-use std::test::Fail;
+use std::process::Abort;
 
 // A classic capture, high byte first, of packets of one byte at these seconds and microseconds.
-fn capture_at(alloc: Global, times: &[(u32, u32)]) -> Result<Vec<u8>, AllocError> {
-    let mut file = Vec::from_slice(
-        alloc,
-        b"\xa1\xb2\xc3\xd4\x00\x02\x00\x04\0\0\0\0\0\0\0\0\x00\x04\x00\x00\0\0\0\x01",
-    )?;
+fn capture_at(rt: &(impl Abort + AllocGlobal), times: &[(u32, u32)]) -> Vec<u8> {
+    let mut file = joined(
+        rt,
+        &[b"\xa1\xb2\xc3\xd4\x00\x02\x00\x04\0\0\0\0\0\0\0\0\x00\x04\x00\x00\0\0\0\x01"],
+    );
     for (seconds, microseconds) in times {
-        file.extend_from_slice(&seconds.to_be_bytes())?;
-        file.extend_from_slice(&microseconds.to_be_bytes())?;
-        file.extend_from_slice(b"\0\0\0\x01\0\0\0\x01\x01")?;
+        append(
+            rt,
+            &mut file,
+            &[
+                &seconds.to_be_bytes(),
+                &microseconds.to_be_bytes(),
+                b"\0\0\0\x01\0\0\0\x01\x01",
+            ],
+        );
     }
-    Ok(file)
+    file
 }
 
 #[test]
-fn spans_that_pass(rt: HostRuntime) -> Result<(), Fail> {
+fn spans_that_pass(rt: HostRuntime) {
     for (seconds, times, wanted) in [
         (10, [].as_slice(), ""),
         (10, &[(100, 0)], "frame 0 01\n"),
@@ -58,31 +64,35 @@ fn spans_that_pass(rt: HostRuntime) -> Result<(), Fail> {
             "frame 0 01\nframe 0 01\nforget 1\nframe 0 01\n",
         ),
     ] {
-        let file = capture_at(rt.alloc(), times)?;
-        let (result, lines) = lines_with(rt.alloc(), Extra::Forget(seconds), file.as_slice())?;
-        assert!(rt; result == Ok(()));
-        assert!(rt; lines.as_slice() == wanted.as_bytes());
+        let file = capture_at(&rt, times);
+        tells_all(
+            &rt,
+            Extra::Forget(seconds),
+            file.as_slice(),
+            wanted.as_bytes(),
+        );
     }
-    Ok(())
 }
 
 // Spans go on over reads, and over what has no line: no byte was captured, or it is passed over.
 #[test]
-fn spans_over_reads(rt: HostRuntime) -> Result<(), Fail> {
-    let mut file = Vec::from_slice(
-        rt.alloc(),
-        b"\xa1\xb2\xc3\xd4\x00\x02\x00\x04\0\0\0\0\0\0\0\0\x00\x04\x00\x00\0\0\0\x65",
-    )?;
+fn spans_over_reads(rt: HostRuntime) {
     // At 100 seconds IPv4, at 110 nothing, at 120 no version of IP, at 130 and 135 IPv4.
-    file.extend_from_slice(b"\0\0\0\x64\0\0\0\0\0\0\0\x01\0\0\0\x01\x45")?;
-    file.extend_from_slice(b"\0\0\0\x6e\0\0\0\0\0\0\0\x00\0\0\0\x01")?;
-    file.extend_from_slice(b"\0\0\0\x78\0\0\0\0\0\0\0\x01\0\0\0\x01\x55")?;
-    file.extend_from_slice(b"\0\0\0\x82\0\0\0\0\0\0\0\x01\0\0\0\x01\x45")?;
-    file.extend_from_slice(b"\0\0\0\x87\0\0\0\0\0\0\0\x01\0\0\0\x01\x45")?;
+    let file = joined(
+        &rt,
+        &[
+            b"\xa1\xb2\xc3\xd4\x00\x02\x00\x04\0\0\0\0\0\0\0\0\x00\x04\x00\x00\0\0\0\x65",
+            b"\0\0\0\x64\0\0\0\0\0\0\0\x01\0\0\0\x01\x45",
+            b"\0\0\0\x6e\0\0\0\0\0\0\0\x00\0\0\0\x01",
+            b"\0\0\0\x78\0\0\0\0\0\0\0\x01\0\0\0\x01\x55",
+            b"\0\0\0\x82\0\0\0\0\0\0\0\x01\0\0\0\x01\x45",
+            b"\0\0\0\x87\0\0\0\0\0\0\0\x01\0\0\0\x01\x45",
+        ],
+    );
     let mut reader = FaultReader::new(file.as_slice(), 1);
     let mut lines = Vec::new(rt.alloc());
     let mut skipped = Skipped::NONE;
-    let result: Result<(), RunError> = run(
+    let result = run(
         rt.alloc(),
         Extra::Forget(10),
         Unfit::Skip,
@@ -90,10 +100,9 @@ fn spans_over_reads(rt: HostRuntime) -> Result<(), Fail> {
         &mut lines,
         &mut skipped,
     );
-    assert!(rt; result == Ok(()));
-    let frame = "frame 0 000000000000000000000000080045\n";
-    assert!(rt; skipped.without_frame == 1);
-    let wanted = format!(in rt.alloc(); "{frame}forget 1\n{frame}{frame}")?;
-    assert!(rt; lines.as_slice() == wanted.as_bytes());
-    Ok(())
+    equal(&rt, &result, &Ok(()));
+    equal(&rt, &skipped.without_frame, &1);
+    let wanted = b"frame 0 000000000000000000000000080045\nforget 1\n\
+        frame 0 000000000000000000000000080045\nframe 0 000000000000000000000000080045\n";
+    equal(&rt, &lines.as_slice(), &wanted.as_slice());
 }

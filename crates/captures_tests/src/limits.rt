@@ -1,40 +1,32 @@
 //! Blocks of least and greatest lengths, in a section with one Ethernet interface that cuts
 //! nothing.
-use crate::lines::{lines_of, refused};
+use crate::checks::{append, joined, repeated};
+use crate::lines::{refused, tells, tells_bytes};
 use captures::CaptureError;
-use std::alloc::{AllocError, Global};
-use std::test::Fail;
+use std::process::Abort;
 
 const FRONT: &[u8; 48] = b"\
     \x0a\x0d\x0d\x0a\x1c\x00\x00\x00\x4d\x3c\x2b\x1a\x01\x00\x00\x00\xff\xff\xff\xff\
     \xff\xff\xff\xff\x1c\x00\x00\x00\x01\x00\x00\x00\x14\x00\x00\x00\x01\x00\x00\x00\
     \x00\x00\x00\x00\x14\x00\x00\x00";
 
-// A block of this kind and length, 0 but for these words behind its two lengths.
-fn append_block(file: &mut Vec<u8>, kind: u32, len: u32, words: &[u32]) -> Result<(), AllocError> {
-    file.extend_from_slice(&kind.to_le_bytes())?;
-    file.extend_from_slice(&len.to_le_bytes())?;
+// The front and a block of this kind and length, 0 but for these words behind its two lengths.
+fn with_block(rt: &(impl Abort + AllocGlobal), kind: u32, len: u32, words: &[u32]) -> Vec<u8> {
+    let mut file = joined(rt, &[FRONT, &kind.to_le_bytes(), &len.to_le_bytes()]);
     let mut left = (len as usize).saturating_sub(12);
     for word in words {
         if left >= 4 {
-            file.extend_from_slice(&word.to_le_bytes())?;
+            append(rt, &mut file, &[&word.to_le_bytes()]);
             left -= 4;
         }
     }
-    for _ in 0..left {
-        file.push(0)?;
-    }
-    file.extend_from_slice(&len.to_le_bytes())
-}
-
-fn with_block(alloc: Global, kind: u32, len: u32, words: &[u32]) -> Result<Vec<u8>, AllocError> {
-    let mut file = Vec::from_slice(alloc, FRONT)?;
-    append_block(&mut file, kind, len, words)?;
-    Ok(file)
+    let zeros = repeated(rt, b"\0", left);
+    append(rt, &mut file, &[zeros.as_slice(), &len.to_le_bytes()]);
+    file
 }
 
 #[test]
-fn each_length(rt: HostRuntime) -> Result<(), Fail> {
+fn each_length(rt: HostRuntime) {
     let bad = Err(CaptureError::BadBlock);
     let too_long = Err(CaptureError::FrameTooLong(99_992));
     let block_too_long = Err(CaptureError::BlockTooLong(262_148));
@@ -100,27 +92,23 @@ fn each_length(rt: HostRuntime) -> Result<(), Fail> {
         (5, 262_148, [].as_slice(), Ok(()), 0),
         (5, 262_149, [].as_slice(), bad, 0),
     ] {
-        let file = with_block(rt.alloc(), kind, len, words)?;
-        let (result, lines) = lines_of(rt.alloc(), file.as_slice())?;
+        let file = with_block(&rt, kind, len, words);
         // The block stands behind the 48 bytes of the front.
         let wanted = match wanted {
             Ok(()) => Ok(()),
             Err(error) => refused(error, 1, 48, Some(kind)),
         };
-        assert!(rt; result == wanted);
-        assert!(rt; lines.len() == line_len);
+        tells_bytes(&rt, file.as_slice(), wanted, line_len);
     }
-    Ok(())
 }
 
 // Fewer bytes than a file header has are no capture, whatever their lengths are.
 #[test]
-fn front_of_a_bad_section(rt: HostRuntime) -> Result<(), Fail> {
+fn front_of_a_bad_section(rt: HostRuntime) {
     let mut file = *FRONT;
     file[4] = 7;
-    let (result, _) = lines_of(rt.alloc(), &file[..20])?;
-    assert!(rt; result == refused(CaptureError::NotCapture, 1, 0, Some(0x0a0d_0d0a)));
-    let (result, _) = lines_of(rt.alloc(), &file[..24])?;
-    assert!(rt; result == refused(CaptureError::BadBlock, 1, 0, Some(0x0a0d_0d0a)));
-    Ok(())
+    for (len, error) in [(20, CaptureError::NotCapture), (24, CaptureError::BadBlock)] {
+        let wanted = refused(error, 1, 0, Some(0x0a0d_0d0a));
+        tells(&rt, &file[..len], wanted, b"");
+    }
 }

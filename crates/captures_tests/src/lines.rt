@@ -1,7 +1,9 @@
 //! The lines that the captures of these tests hold, and what a run gives.
+use crate::checks::equal;
 use captures::{CaptureError, Extra, Place, RunError, Skipped, Unfit, run};
-use std::alloc::{AllocError, Global};
+use std::alloc::Global;
 use std::io::{Read, Write};
+use std::process::Abort;
 
 // The packets that the files hold.
 pub const LINES: &[u8; 202] =
@@ -25,12 +27,6 @@ pub fn refused(
     ))
 }
 
-pub fn lines_of(alloc: Global, file: &[u8]) -> Result<(Result<(), RunError>, Vec<u8>), AllocError> {
-    let mut lines = Vec::new(alloc);
-    let result = lines_to(alloc, &mut &*file, &mut lines);
-    Ok((result, lines))
-}
-
 // A run that ends where a packet can't be told.
 pub fn lines_to<R: Read, W: Write>(
     alloc: Global,
@@ -48,25 +44,89 @@ pub fn lines_to<R: Read, W: Write>(
     )
 }
 
-// How a run ended that passes over packets that can't be told, its lines, and how many it passed
-// over. It doesn't add to what stood there.
-pub fn lines_skipping(
-    alloc: Global,
-    file: &[u8],
-) -> Result<(Result<(), RunError>, Vec<u8>, Skipped), AllocError> {
-    let mut lines = Vec::new(alloc);
+/// The lines of a run that tells this beside frames and ends so.
+pub fn lines_of<R: Read>(
+    rt: &(impl Abort + AllocGlobal),
+    extra: Extra,
+    reader: &mut R,
+    wanted: Result<(), RunError>,
+) -> Vec<u8> {
+    let mut lines = Vec::new(rt.alloc());
+    let mut skipped = Skipped::NONE;
+    let result = run(
+        rt.alloc(),
+        extra,
+        Unfit::Refuse,
+        reader,
+        &mut lines,
+        &mut skipped,
+    );
+    equal(rt, &result, &wanted);
+    lines
+}
+
+/// A run over what is read ends so, and these are its lines.
+pub fn tells_read<R: Read>(
+    rt: &(impl Abort + AllocGlobal),
+    reader: &mut R,
+    wanted: Result<(), RunError>,
+    lines: &[u8],
+) {
+    let told = lines_of(rt, Extra::Nothing, reader, wanted);
+    equal(rt, &told.as_slice(), &lines);
+}
+
+/// The same of a capture.
+pub fn tells(
+    rt: &(impl Abort + AllocGlobal),
+    capture: &[u8],
+    wanted: Result<(), RunError>,
+    lines: &[u8],
+) {
+    tells_read(rt, &mut &*capture, wanted, lines);
+}
+
+/// The same where only the number of the lines' bytes is told.
+pub fn tells_bytes(
+    rt: &(impl Abort + AllocGlobal),
+    capture: &[u8],
+    wanted: Result<(), RunError>,
+    count: usize,
+) {
+    let told = lines_of(rt, Extra::Nothing, &mut &*capture, wanted);
+    equal(rt, &told.len(), &count);
+}
+
+/// A run that tells this beside frames tells the whole capture by these lines.
+pub fn tells_all(rt: &(impl Abort + AllocGlobal), extra: Extra, capture: &[u8], lines: &[u8]) {
+    let told = lines_of(rt, extra, &mut &*capture, Ok(()));
+    equal(rt, &told.as_slice(), &lines);
+}
+
+/// A run that passes over packets that can't be told ends so, after these lines, and has passed over
+/// so many. It doesn't add to what stood there.
+pub fn tells_skipping(
+    rt: &(impl Abort + AllocGlobal),
+    capture: &[u8],
+    wanted: Result<(), RunError>,
+    lines: &[u8],
+    passed: Skipped,
+) {
+    let mut told = Vec::new(rt.alloc());
     let mut skipped = Skipped {
         of_other_links: 7,
         too_long: 8,
         without_frame: 9,
     };
     let result = run(
-        alloc,
+        rt.alloc(),
         Extra::Nothing,
         Unfit::Skip,
-        &mut &*file,
-        &mut lines,
+        &mut &*capture,
+        &mut told,
         &mut skipped,
     );
-    Ok((result, lines, skipped))
+    equal(rt, &result, &wanted);
+    equal(rt, &told.as_slice(), &lines);
+    equal(rt, &skipped, &passed);
 }

@@ -1,10 +1,10 @@
 //! Blocks that are skipped and longer than what a run holds, in a section with one Ethernet
 //! interface. The files are made by hand from the format's description.
-use crate::lines::{lines_to, refused};
-use captures::{CaptureError, RunError};
+use crate::checks::{append, joined, repeated};
+use crate::lines::{refused, tells_read};
+use captures::CaptureError;
 use fault_devices::FaultReader;
-use std::alloc::{AllocError, Global};
-use std::test::Fail;
+use std::process::Abort;
 
 // A section header, and an interface of link type 1 that cuts nothing.
 const FRONT: &[u8; 48] = b"\
@@ -19,64 +19,55 @@ const PACKET: &[u8; 20] = b"\
 // The kind of a custom block.
 pub(super) const CUSTOM: u32 = 0x0bad;
 
-// A block of this kind and length, which ends with another one.
-fn append_block(file: &mut Vec<u8>, kind: u32, len: u32, second: u32) -> Result<(), AllocError> {
-    file.extend_from_slice(&kind.to_le_bytes())?;
-    file.extend_from_slice(&len.to_le_bytes())?;
-    // What could be taken for the end of the block stands within it.
+// What stands within a block of this length: what could be taken for its end too.
+fn words_within(rt: &(impl Abort + AllocGlobal), len: u32) -> Vec<u8> {
+    let mut words = Vec::new(rt.alloc());
     for place in 0..len.saturating_sub(12) / 4 {
         let word = if place % 3 == 0 { len } else { place };
-        file.extend_from_slice(&word.to_le_bytes())?;
+        append(rt, &mut words, &[&word.to_le_bytes()]);
     }
-    file.extend_from_slice(&second.to_le_bytes())
+    words
 }
 
-// A packet, such a block, and two packets.
+// A packet, a block of this kind and length, which ends with another one, and two packets.
 pub(super) fn with_long_block(
-    alloc: Global,
+    rt: &(impl Abort + AllocGlobal),
     kind: u32,
     len: u32,
     second: u32,
-) -> Result<Vec<u8>, AllocError> {
-    let mut file = Vec::from_slice(alloc, FRONT)?;
-    file.extend_from_slice(PACKET)?;
-    append_block(&mut file, kind, len, second)?;
-    file.extend_from_slice(PACKET)?;
-    file.extend_from_slice(PACKET)?;
-    Ok(file)
-}
-
-fn lines_by_pieces(
-    alloc: Global,
-    file: &[u8],
-    size: usize,
-) -> Result<(Result<(), RunError>, Vec<u8>), AllocError> {
-    let mut lines = Vec::new(alloc);
-    let mut reader = FaultReader::new(file, size);
-    let result = lines_to(alloc, &mut reader, &mut lines);
-    Ok((result, lines))
+) -> Vec<u8> {
+    joined(
+        rt,
+        &[
+            FRONT,
+            PACKET,
+            &kind.to_le_bytes(),
+            &len.to_le_bytes(),
+            words_within(rt, len).as_slice(),
+            &second.to_le_bytes(),
+            PACKET,
+            PACKET,
+        ],
+    )
 }
 
 // A word longer than what a run holds, and some times as long, however reads cut it.
 #[test]
-fn long_blocks_are_skipped(rt: HostRuntime) -> Result<(), Fail> {
+fn long_blocks_are_skipped(rt: HostRuntime) {
+    let lines = b"frame 0 abcd\nframe 0 abcd\nframe 0 abcd\n";
     for len in [262_148, 262_152, 1_000_000] {
-        let file = with_long_block(rt.alloc(), CUSTOM, len, len)?;
+        let file = with_long_block(&rt, CUSTOM, len, len);
         for size in [1, 3, 4_096, 262_144] {
-            let (result, lines) = lines_by_pieces(rt.alloc(), file.as_slice(), size)?;
-            assert!(rt; result == Ok(()));
-            assert!(rt;
-                lines.as_slice() == b"frame 0 abcd\nframe 0 abcd\nframe 0 abcd\n".as_slice()
-            );
+            let mut reader = FaultReader::new(file.as_slice(), size);
+            tells_read(&rt, &mut reader, Ok(()), lines);
         }
     }
-    Ok(())
 }
 
 // The kinds that are read are refused, and so are lengths of no whole words and ends with another
 // length. The packet in front of each is told.
 #[test]
-fn long_blocks_that_are_refused(rt: HostRuntime) -> Result<(), Fail> {
+fn long_blocks_that_are_refused(rt: HostRuntime) {
     let too_long = CaptureError::BlockTooLong(262_148);
     for (kind, len, second, error) in [
         (1, 262_148, 262_148, too_long),
@@ -86,20 +77,19 @@ fn long_blocks_that_are_refused(rt: HostRuntime) -> Result<(), Fail> {
         (CUSTOM, 262_148, 262_144, CaptureError::BadBlock),
         (CUSTOM, 1_000_000, 1_000_001, CaptureError::BadBlock),
     ] {
-        let file = with_long_block(rt.alloc(), kind, len, second)?;
+        let file = with_long_block(&rt, kind, len, second);
+        let wanted = refused(error, 2, 68, Some(kind));
         for size in [3, 262_144] {
-            let (result, lines) = lines_by_pieces(rt.alloc(), file.as_slice(), size)?;
-            assert!(rt; result == refused(error, 2, 68, Some(kind)));
-            assert!(rt; lines.as_slice() == b"frame 0 abcd\n".as_slice());
+            let mut reader = FaultReader::new(file.as_slice(), size);
+            tells_read(&rt, &mut reader, wanted, b"frame 0 abcd\n");
         }
     }
-    Ok(())
 }
 
 // The block has the bytes from 68 to 600,068.
 #[test]
-fn long_block_cut_off(rt: HostRuntime) -> Result<(), Fail> {
-    let file = with_long_block(rt.alloc(), CUSTOM, 600_000, 600_000)?;
+fn long_block_cut_off(rt: HostRuntime) {
+    let file = with_long_block(&rt, CUSTOM, 600_000, 600_000);
     let cut = refused(CaptureError::CutOff, 2, 68, Some(CUSTOM));
     for (len, wanted) in [
         // One byte tells no type.
@@ -114,39 +104,44 @@ fn long_block_cut_off(rt: HostRuntime) -> Result<(), Fail> {
     ] {
         assert!(rt; len <= file.len());
         for size in [3, 262_144] {
-            let (result, lines) = lines_by_pieces(rt.alloc(), &file.as_slice()[..len], size)?;
-            assert!(rt; result == wanted);
-            assert!(rt; lines.as_slice() == b"frame 0 abcd\n".as_slice());
+            let mut reader = FaultReader::new(&file.as_slice()[..len], size);
+            tells_read(&rt, &mut reader, wanted, b"frame 0 abcd\n");
         }
     }
-    Ok(())
 }
+
+// A section of the other byte order with an interface, and a long block of it around what it holds.
+const OTHER_SECTION: &[u8; 48] = b"\
+    \x0a\x0d\x0d\x0a\x00\x00\x00\x1c\x1a\x2b\x3c\x4d\x00\x01\x00\x00\xff\xff\xff\xff\
+    \xff\xff\xff\xff\x00\x00\x00\x1c\x00\x00\x00\x01\x00\x00\x00\x14\x00\x01\x00\x00\
+    \x00\x00\x00\x00\x00\x00\x00\x14";
+
+const HEAD: &[u8; 8] = b"\x00\x00\x00\x05\x00\x04\x00\x04";
+
+const END: &[u8; 4] = b"\x00\x04\x00\x04";
 
 // Two long blocks in a row, and a section of the other byte order that has one.
 #[test]
-fn long_blocks_of_both_byte_orders(rt: HostRuntime) -> Result<(), Fail> {
-    let mut file = with_long_block(rt.alloc(), CUSTOM, 300_000, 300_000)?;
-    file.extend_from_slice(
-        b"\x0a\x0d\x0d\x0a\x00\x00\x00\x1c\x1a\x2b\x3c\x4d\x00\x01\x00\x00\xff\xff\xff\xff\
-        \xff\xff\xff\xff\x00\x00\x00\x1c\x00\x00\x00\x01\x00\x00\x00\x14\x00\x01\x00\x00\
-        \x00\x00\x00\x00\x00\x00\x00\x14",
-    )?;
-    for _ in 0..2 {
-        file.extend_from_slice(b"\x00\x00\x00\x05\x00\x04\x00\x04")?;
-        for _ in 0..262_136 {
-            file.push(0xff)?;
-        }
-        file.extend_from_slice(b"\x00\x04\x00\x04")?;
-    }
-    file.extend_from_slice(
-        b"\x00\x00\x00\x03\x00\x00\x00\x14\x00\x00\x00\x01\xef\x00\x00\x00\x00\x00\x00\x14",
-    )?;
+fn long_blocks_of_both_byte_orders(rt: HostRuntime) {
+    let low_order = with_long_block(&rt, CUSTOM, 300_000, 300_000);
+    let within = repeated(&rt, b"\xff", 262_136);
+    let file = joined(
+        &rt,
+        &[
+            low_order.as_slice(),
+            OTHER_SECTION,
+            HEAD,
+            within.as_slice(),
+            END,
+            HEAD,
+            within.as_slice(),
+            END,
+            b"\x00\x00\x00\x03\x00\x00\x00\x14\x00\x00\x00\x01\xef\x00\x00\x00\x00\x00\x00\x14",
+        ],
+    );
+    let lines = b"frame 0 abcd\nframe 0 abcd\nframe 0 abcd\nframe 1 ef\n";
     for size in [7, 100_000, 262_144] {
-        let (result, lines) = lines_by_pieces(rt.alloc(), file.as_slice(), size)?;
-        assert!(rt; result == Ok(()));
-        assert!(rt;
-            lines.as_slice() == b"frame 0 abcd\nframe 0 abcd\nframe 0 abcd\nframe 1 ef\n".as_slice()
-        );
+        let mut reader = FaultReader::new(file.as_slice(), size);
+        tells_read(&rt, &mut reader, Ok(()), lines);
     }
-    Ok(())
 }

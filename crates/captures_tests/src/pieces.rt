@@ -1,52 +1,43 @@
 //! Runs whose reads and writes move one byte, fail, or move none.
 use crate::blocks::{TWO_SECTIONS, TWO_SECTIONS_LINES};
+use crate::checks::equal;
 use crate::classic::LITTLE_NANOSECONDS;
-use crate::lines::{LINES, lines_to};
+use crate::lines::{LINES, lines_to, tells_read};
+use crate::text::capture_of;
 use captures::{CaptureError, Place, RunError, TimeUnit, write_capture};
 use fault_devices::{Fault, FaultReader, FaultWriter};
 use std::io::ErrorKind;
-use std::test::Fail;
 
 // What a call ends by that fails.
 const FAILS: Fault = Fault::Fails(ErrorKind::Other);
 
 #[test]
-fn one_byte_a_call(rt: HostRuntime) -> Result<(), Fail> {
+fn one_byte_a_call(rt: HostRuntime) {
     for (file, lines) in [
         (LITTLE_NANOSECONDS.as_slice(), LINES.as_slice()),
-        (TWO_SECTIONS.as_slice(), TWO_SECTIONS_LINES.as_slice()),
+        (TWO_SECTIONS, TWO_SECTIONS_LINES),
     ] {
         let mut reader = FaultReader::new(file, 1);
         let mut writer = FaultWriter::new(rt.alloc(), 1);
-        assert!(rt; lines_to(rt.alloc(), &mut reader, &mut writer) == Ok(()));
-        assert!(rt; writer.taken.as_slice() == lines);
+        let result = lines_to(rt.alloc(), &mut reader, &mut writer);
+        equal(&rt, &result, &Ok(()));
+        equal(&rt, &writer.taken.as_slice(), &lines);
     }
-    Ok(())
 }
 
 #[test]
-fn reads_that_fail(rt: HostRuntime) -> Result<(), Fail> {
-    let mut capture = Vec::new(rt.alloc());
+fn reads_that_fail(rt: HostRuntime) {
+    let failed = Err(RunError::Read);
     // The first line, and a byte of the second.
     let mut reader = FaultReader::failing(&LINES[..110], 1, 110, FAILS);
-    assert!(rt;
-        write_capture(
-            rt.alloc(),
-            TimeUnit::Microseconds,
-            &mut reader,
-            &mut capture
-        ) == Err(RunError::Read)
-    );
-    assert!(rt; capture.len() == 90);
-    let mut lines = Vec::new(rt.alloc());
+    let capture = capture_of(&rt, TimeUnit::Microseconds, &mut reader, failed);
+    equal(&rt, &capture.len(), &90);
     let mut reader = FaultReader::failing(capture.as_slice(), 1, 90, FAILS);
-    assert!(rt; lines_to(rt.alloc(), &mut reader, &mut lines) == Err(RunError::Read));
-    assert!(rt; lines.as_slice() == &LINES[..109]);
-    Ok(())
+    tells_read(&rt, &mut reader, failed, &LINES[..109]);
 }
 
 #[test]
-fn writes_that_fail(rt: HostRuntime) -> Result<(), Fail> {
+fn writes_that_fail(rt: HostRuntime) {
     // Within the header, and within the second packet's head.
     for room in [0, 23, 100] {
         let mut writer = FaultWriter::failing(rt.alloc(), 1, room, FAILS);
@@ -56,24 +47,22 @@ fn writes_that_fail(rt: HostRuntime) -> Result<(), Fail> {
             &mut LINES.as_slice(),
             &mut writer,
         );
-        assert!(rt; result == Err(RunError::Write));
-        assert!(rt; writer.taken.len() == room);
+        equal(&rt, &result, &Err(RunError::Write));
+        equal(&rt, &writer.taken.len(), &room);
     }
-    Ok(())
 }
 
 #[test]
-fn writer_without_room(rt: HostRuntime) -> Result<(), Fail> {
+fn writer_without_room(rt: HostRuntime) {
     let mut room = [0u8; 111];
     let mut reader = LITTLE_NANOSECONDS.as_slice();
     let result = lines_to(rt.alloc(), &mut reader, &mut room.as_mut_slice());
-    assert!(rt; result == Err(RunError::WriteZero));
-    assert!(rt; room.as_slice() == &LINES[..111]);
-    Ok(())
+    equal(&rt, &result, &Err(RunError::WriteZero));
+    equal(&rt, &room.as_slice(), &&LINES[..111]);
 }
 
 #[test]
-fn texts_of_errors(rt: HostRuntime) -> Result<(), Fail> {
+fn texts_of_errors(rt: HostRuntime) {
     for (error, block, text) in [
         (
             CaptureError::LinkType(9),
@@ -96,8 +85,8 @@ fn texts_of_errors(rt: HostRuntime) -> Result<(), Fail> {
             offset: 48,
             block,
         };
-        let told = format!(in rt.alloc(); "{}", RunError::Capture(error, place))?;
-        assert!(rt; told.as_str() == text);
+        let told = format!(in rt.alloc(); "{}", RunError::Capture(error, place));
+        let told = told.expect(&rt, "no memory");
+        equal(&rt, &told.as_str(), &text);
     }
-    Ok(())
 }

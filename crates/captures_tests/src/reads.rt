@@ -1,15 +1,15 @@
 //! Runs of which one read fails or gives nothing, before and after the last byte of each header and
 //! packet, and runs of few reads. Each other read gives a byte.
-use crate::lines::{lines_to, refused};
+use crate::checks::equal;
+use crate::lines::{refused, tells_read};
+use crate::text::capture_of;
 use captures::device::ReaderWriter;
 use captures::{
-    CaptureError, Extra, RunError, Skipped, TimeUnit, Unfit, run_over, write_capture,
-    write_capture_over,
+    CaptureError, Extra, RunError, Skipped, TimeUnit, Unfit, run_over, write_capture_over,
 };
 use fault_devices::{Fault, FaultReader};
 use std::alloc::Global;
 use std::io::ErrorKind;
-use std::test::Fail;
 
 // A header of 24 bytes, and packets of one byte and of two.
 const CAPTURE: &[u8; 59] = b"\
@@ -46,26 +46,22 @@ fn end_of_capture(n: usize) -> Result<(), RunError> {
 }
 
 #[test]
-fn each_read_of_a_run(rt: HostRuntime) -> Result<(), Fail> {
+fn each_read_of_a_run(rt: HostRuntime) {
     for fault in [INTERRUPTED, FAILS, Fault::MovesNone] {
-        for before in [0, 23, 24, 40, 41, 58, 59] {
-            let mut reader = FaultReader::failing(CAPTURE, 1, before, fault);
-            let mut lines = Vec::new(rt.alloc());
-            let result = lines_to(rt.alloc(), &mut reader, &mut lines);
+        for before in [0usize, 23, 24, 40, 41, 58, 59] {
             let wanted = match fault {
                 Fault::MovesNone => end_of_capture(before),
                 _ => Err(RunError::Read),
             };
-            assert!(rt; result == wanted);
-            assert!(rt; reader.calls == before.saturating_add(1));
-            assert!(rt; lines.as_slice() == lines_of(before));
+            let mut reader = FaultReader::failing(CAPTURE, 1, before, fault);
+            tells_read(&rt, &mut reader, wanted, lines_of(before));
+            equal(&rt, &reader.calls, &before.saturating_add(1));
         }
     }
-    Ok(())
 }
 
 // The front of the capture that a front of the lines gives, where more may come.
-fn capture_of(n: usize) -> &'static [u8] {
+fn front_of(n: usize) -> &'static [u8] {
     match n {
         0..=14 => &CAPTURE[..24],
         15..=31 => &CAPTURE[..41],
@@ -74,23 +70,16 @@ fn capture_of(n: usize) -> &'static [u8] {
 }
 
 #[test]
-fn each_read_of_lines(rt: HostRuntime) -> Result<(), Fail> {
+fn each_read_of_lines(rt: HostRuntime) {
     for fault in [INTERRUPTED, FAILS] {
-        for before in [0, 14, 15, 31, 32] {
+        for before in [0usize, 14, 15, 31, 32] {
             let mut reader = FaultReader::failing(TIMED_LINES, 1, before, fault);
-            let mut capture = Vec::new(rt.alloc());
-            let result = write_capture(
-                rt.alloc(),
-                TimeUnit::Microseconds,
-                &mut reader,
-                &mut capture,
-            );
-            assert!(rt; result == Err(RunError::Read));
-            assert!(rt; reader.calls == before.saturating_add(1));
-            assert!(rt; capture.as_slice() == capture_of(before));
+            let wanted = Err(RunError::Read);
+            let capture = capture_of(&rt, TimeUnit::Microseconds, &mut reader, wanted);
+            equal(&rt, &reader.calls, &before.saturating_add(1));
+            equal(&rt, &capture.as_slice(), &front_of(before));
         }
     }
-    Ok(())
 }
 
 fn run_of(
@@ -111,23 +100,25 @@ fn run_of(
     )
 }
 
+// What a run answers that may make so many reads, where it needs this many, and how many it makes.
+fn end_of_reads(reads: u8, needed: u8) -> (Result<(), RunError>, usize) {
+    if reads < needed {
+        (Err(RunError::TooManyReads), usize::from(reads))
+    } else {
+        (Ok(()), usize::from(needed))
+    }
+}
+
 // The read that gives nothing counts: so a run of 59 bytes makes 60 reads.
 #[test]
-fn runs_of_few_reads(rt: HostRuntime) -> Result<(), Fail> {
+fn runs_of_few_reads(rt: HostRuntime) {
     for reads in [0u8, 1, 41, 59, 60, 61] {
         let mut reader = FaultReader::new(CAPTURE, 1);
         let mut lines = Vec::new(rt.alloc());
         let result = run_of(rt.alloc(), &mut reader, &mut lines, reads);
-        let (wanted, calls) = if reads < 60 {
-            (Err(RunError::TooManyReads), reads)
-        } else {
-            (Ok(()), 60)
-        };
-        assert!(rt; result == wanted);
-        assert!(rt; reader.calls == usize::from(calls));
-        assert!(rt; lines.as_slice() == lines_of(usize::from(reads)));
+        equal(&rt, &(result, reader.calls), &end_of_reads(reads, 60));
+        equal(&rt, &lines.as_slice(), &lines_of(usize::from(reads)));
     }
-    Ok(())
 }
 
 fn run_of_lines(
@@ -141,19 +132,12 @@ fn run_of_lines(
 }
 
 #[test]
-fn runs_of_few_reads_of_lines(rt: HostRuntime) -> Result<(), Fail> {
+fn runs_of_few_reads_of_lines(rt: HostRuntime) {
     for reads in [0u8, 1, 15, 32, 33, 34] {
         let mut reader = FaultReader::new(TIMED_LINES, 1);
         let mut capture = Vec::new(rt.alloc());
         let result = run_of_lines(rt.alloc(), &mut reader, &mut capture, reads);
-        let (wanted, calls) = if reads < 33 {
-            (Err(RunError::TooManyReads), reads)
-        } else {
-            (Ok(()), 33)
-        };
-        assert!(rt; result == wanted);
-        assert!(rt; reader.calls == usize::from(calls));
-        assert!(rt; capture.as_slice() == capture_of(usize::from(reads)));
+        equal(&rt, &(result, reader.calls), &end_of_reads(reads, 33));
+        equal(&rt, &capture.as_slice(), &front_of(usize::from(reads)));
     }
-    Ok(())
 }

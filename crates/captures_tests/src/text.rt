@@ -1,40 +1,53 @@
 //! Captures that are written of lines.
-use crate::lines::{LINES, lines_of};
+use crate::checks::{equal, joined, repeated};
+use crate::lines::{LINES, tells};
 use captures::{RunError, TimeUnit, write_capture};
 use fault_devices::{Fault, FaultReader};
-use std::alloc::{AllocError, Global};
 use std::io::{ErrorKind, Read};
-use std::test::Fail;
+use std::process::Abort;
 
 // The file header, by the draft: low byte first, microseconds, version 2.4, snap length 262,144,
 // Ethernet.
 const HEADER: &[u8; 24] = b"\
     \xd4\xc3\xb2\xa1\x02\x00\x04\x00\x00\x00\x00\x00\x00\x00\x00\x00\x00\x00\x04\x00\x01\x00\x00\x00";
 
-fn capture_of(alloc: Global, text: &[u8]) -> Result<(Result<(), RunError>, Vec<u8>), AllocError> {
-    let mut capture = Vec::new(alloc);
-    let mut reader = text;
-    let result = write_capture(alloc, TimeUnit::Microseconds, &mut reader, &mut capture);
-    Ok((result, capture))
+/// The capture that a run makes of what is read, which ends so.
+pub fn capture_of<R: Read>(
+    rt: &(impl Abort + AllocGlobal),
+    time_unit: TimeUnit,
+    reader: &mut R,
+    wanted: Result<(), RunError>,
+) -> Vec<u8> {
+    let mut capture = Vec::new(rt.alloc());
+    let result = write_capture(rt.alloc(), time_unit, reader, &mut capture);
+    equal(rt, &result, &wanted);
+    capture
+}
+
+// Compares what follows the file header too.
+fn writes<R: Read>(
+    rt: &(impl Abort + AllocGlobal),
+    reader: &mut R,
+    wanted: Result<(), RunError>,
+    packets: &[u8],
+) {
+    let capture = capture_of(rt, TimeUnit::Microseconds, reader, wanted);
+    equal(rt, &capture.as_slice().strip_prefix(HEADER), &Some(packets));
 }
 
 #[test]
-fn lines_come_back(rt: HostRuntime) -> Result<(), Fail> {
-    let alloc = rt.alloc();
-    let (result, capture) = capture_of(alloc, LINES)?;
-    assert!(rt; result == Ok(()));
-    assert!(rt; capture.len() >= 40);
-    assert!(rt; &capture.as_slice()[..24] == HEADER.as_slice());
-    assert!(rt; &capture.as_slice()[24..40] == b"\0\0\0\0\0\0\0\0\x32\0\0\0\x32\0\0\0".as_slice());
-    let (result, lines) = lines_of(alloc, capture.as_slice())?;
-    assert!(rt; result == Ok(()));
-    assert!(rt; lines.as_slice() == LINES.as_slice());
-    Ok(())
+fn lines_come_back(rt: HostRuntime) {
+    let capture = capture_of(&rt, TimeUnit::Microseconds, &mut LINES.as_slice(), Ok(()));
+    let capture = capture.as_slice();
+    let record = b"\0\0\0\0\0\0\0\0\x32\0\0\0\x32\0\0\0".as_slice();
+    equal(&rt, &capture.get(..24), &Some(HEADER.as_slice()));
+    equal(&rt, &capture.get(24..40), &Some(record));
+    tells(&rt, capture, Ok(()), LINES);
 }
 
 // Each with what follows the file header.
 #[test]
-fn each_line(rt: HostRuntime) -> Result<(), Fail> {
+fn each_line(rt: HostRuntime) {
     let bad = Err(RunError::BadLine(1));
     for (text, wanted, packets) in [
         (b"".as_slice(), Ok(()), b"".as_slice()),
@@ -86,13 +99,8 @@ fn each_line(rt: HostRuntime) -> Result<(), Fail> {
             b"\0\0\0\0\0\0\0\0\x01\0\0\0\x01\0\0\0\x01",
         ),
     ] {
-        let (result, capture) = capture_of(rt.alloc(), text)?;
-        assert!(rt; result == wanted);
-        assert!(rt; capture.len() >= 24);
-        assert!(rt; &capture.as_slice()[..24] == HEADER.as_slice());
-        assert!(rt; &capture.as_slice()[24..] == packets);
+        writes(&rt, &mut &*text, wanted, packets);
     }
-    Ok(())
 }
 
 // The lines end at 17 and 28. What is left of a line at the end is one too, where it hands a frame
@@ -120,73 +128,47 @@ fn front_of_two(n: usize) -> (Result<(), RunError>, &'static [u8]) {
 }
 
 #[test]
-fn each_front_of_a_text(rt: HostRuntime) -> Result<(), Fail> {
+fn each_front_of_a_text(rt: HostRuntime) {
     for n in 0..=28 {
         let (wanted, packets) = front_of_two(n);
-        let (result, capture) = capture_of(rt.alloc(), &TWO_LINES[..n])?;
-        assert!(rt; result == wanted);
-        assert!(rt; capture.len() >= 24);
-        assert!(rt; &capture.as_slice()[..24] == HEADER.as_slice());
-        assert!(rt; &capture.as_slice()[24..] == packets);
-        let mut bytewise = Vec::new(rt.alloc());
-        let mut reader = FaultReader::new(&TWO_LINES[..n], 1);
-        assert!(rt;
-            write_capture(
-                rt.alloc(),
-                TimeUnit::Microseconds,
-                &mut reader,
-                &mut bytewise
-            ) == wanted
-        );
-        assert!(rt; bytewise.as_slice() == capture.as_slice());
+        let text = &TWO_LINES[..n];
+        writes(&rt, &mut &*text, wanted, packets);
+        writes(&rt, &mut FaultReader::new(text, 1), wanted, packets);
     }
-    Ok(())
-}
-
-// A line of so many bytes of a frame, all of them 0.
-fn long_line(alloc: Global, len: usize) -> Result<Vec<u8>, AllocError> {
-    let mut line = Vec::from_slice(alloc, b"frame 0000000000 ")?;
-    for _ in 0..len {
-        line.extend_from_slice(b"00")?;
-    }
-    line.extend_from_slice(b" 0000000000 0000000000 0000000000")?;
-    Ok(line)
 }
 
 #[test]
-fn longest_frame(rt: HostRuntime) -> Result<(), Fail> {
+fn longest_frame(rt: HostRuntime) {
     let bad = Err(RunError::BadLine(1));
     for (len, wanted, size) in [
         (99_991, Ok(()), 24 + 16 + 99_991),
         (99_992, bad, 24),
         (200_000, bad, 24),
     ] {
-        let line = long_line(rt.alloc(), len)?;
-        let (result, capture) = capture_of(rt.alloc(), line.as_slice())?;
-        assert!(rt; result == wanted);
-        assert!(rt; capture.len() == size);
+        // A frame of so many bytes, all of them 0.
+        let line = joined(
+            &rt,
+            &[
+                b"frame 0000000000 ",
+                repeated(&rt, b"00", len).as_slice(),
+                b" 0000000000 0000000000 0000000000",
+            ],
+        );
+        let capture = capture_of(&rt, TimeUnit::Microseconds, &mut line.as_slice(), wanted);
+        equal(&rt, &capture.len(), &size);
     }
-    Ok(())
 }
 
 // The longest line that hands a frame in has 200,032 bytes. After one more nothing is read.
 #[test]
-fn line_without_end(rt: HostRuntime) -> Result<(), Fail> {
+fn line_without_end(rt: HostRuntime) {
     for (len, wanted) in [(200_032, RunError::Read), (200_033, RunError::BadLine(1))] {
-        let text = vec![in rt.alloc(); b'0'; len]?;
+        let text = repeated(&rt, b"0", len);
         let fault = Fault::Fails(ErrorKind::Other);
         let mut reader = text
             .as_slice()
             .chain(FaultReader::failing(b"", 1, 0, fault));
-        let mut capture = Vec::new(rt.alloc());
-        let result = write_capture(
-            rt.alloc(),
-            TimeUnit::Microseconds,
-            &mut reader,
-            &mut capture,
-        );
-        assert!(rt; result == Err(wanted));
-        assert!(rt; capture.len() == 24);
+        let capture = capture_of(&rt, TimeUnit::Microseconds, &mut reader, Err(wanted));
+        equal(&rt, &capture.len(), &24);
     }
-    Ok(())
 }

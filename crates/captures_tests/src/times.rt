@@ -1,28 +1,11 @@
 //! The times of packets, in lines and in captures that are written of them. The files are made by
 //! hand from the formats' descriptions.
+use crate::checks::{append, equal, joined};
 use crate::classic::{BIG_MICROSECONDS, BIG_NANOSECONDS, LITTLE_MICROSECONDS, LITTLE_NANOSECONDS};
-use captures::{Extra, RunError, Skipped, TimeUnit, Unfit, run, write_capture};
-use std::alloc::{AllocError, Global};
-use std::test::Fail;
-
-// How a run ended that tells this beside frames, and its lines.
-pub fn lines_with(
-    alloc: Global,
-    extra: Extra,
-    file: &[u8],
-) -> Result<(Result<(), RunError>, Vec<u8>), AllocError> {
-    let mut lines = Vec::new(alloc);
-    let mut skipped = Skipped::NONE;
-    let result = run(
-        alloc,
-        extra,
-        Unfit::Refuse,
-        &mut &*file,
-        &mut lines,
-        &mut skipped,
-    );
-    Ok((result, lines))
-}
+use crate::lines::tells_all;
+use crate::text::capture_of;
+use captures::{Extra, RunError, TimeUnit};
+use std::process::Abort;
 
 const TIMED_LINES: &[u8; 238] =
     b"frame 0 02000000000202000000000108004500002400010000401166c60a0000010a000002000100020010dbb40102030405060708 1700000000 250000\n\
@@ -30,45 +13,24 @@ const TIMED_LINES: &[u8; 238] =
 
 // The files of scapy, of which a capture in either unit is written, and read again.
 #[test]
-fn times_of_scapy(rt: HostRuntime) -> Result<(), Fail> {
+fn times_of_scapy(rt: HostRuntime) {
     for file in [
-        LITTLE_MICROSECONDS.as_slice(),
-        BIG_MICROSECONDS.as_slice(),
-        LITTLE_NANOSECONDS.as_slice(),
-        BIG_NANOSECONDS.as_slice(),
+        LITTLE_MICROSECONDS,
+        BIG_MICROSECONDS,
+        LITTLE_NANOSECONDS,
+        BIG_NANOSECONDS,
     ] {
-        let (result, lines) = lines_with(rt.alloc(), Extra::Times, file)?;
-        assert!(rt; result == Ok(()));
-        assert!(rt; lines.as_slice() == TIMED_LINES.as_slice());
+        tells_all(&rt, Extra::Times, file, TIMED_LINES);
     }
     for time_unit in [TimeUnit::Microseconds, TimeUnit::Nanoseconds] {
-        let mut file = Vec::new(rt.alloc());
-        let made = write_capture(
-            rt.alloc(),
-            time_unit,
-            &mut TIMED_LINES.as_slice(),
-            &mut file,
-        );
-        assert!(rt; made == Ok(()));
-        let (result, lines) = lines_with(rt.alloc(), Extra::Times, file.as_slice())?;
-        assert!(rt; result == Ok(()));
-        assert!(rt; lines.as_slice() == TIMED_LINES.as_slice());
+        let file = capture_of(&rt, time_unit, &mut TIMED_LINES.as_slice(), Ok(()));
+        tells_all(&rt, Extra::Times, file.as_slice(), TIMED_LINES);
     }
-    Ok(())
-}
-
-// A classic capture, high byte first, of one packet of one byte.
-fn classic_file(alloc: Global, magic: &[u8], time: &[u8]) -> Result<Vec<u8>, AllocError> {
-    let mut file = Vec::from_slice(alloc, magic)?;
-    file.extend_from_slice(b"\x00\x02\x00\x04\0\0\0\0\0\0\0\0\x00\x04\x00\x00\0\0\0\x01")?;
-    file.extend_from_slice(time)?;
-    file.extend_from_slice(b"\0\0\0\x01\0\0\0\x01\x01")?;
-    Ok(file)
 }
 
 // Parts of a second may be more than one, and no time is later than the last one of 32 bits.
 #[test]
-fn times_of_classic_captures(rt: HostRuntime) -> Result<(), Fail> {
+fn times_of_classic_captures(rt: HostRuntime) {
     let micro = b"\xa1\xb2\xc3\xd4".as_slice();
     let nano = b"\xa1\xb2\x3c\x4d".as_slice();
     for (magic, time, line) in [
@@ -91,12 +53,18 @@ fn times_of_classic_captures(rt: HostRuntime) -> Result<(), Fail> {
         (nano, b"\0\0\0\0\0\0\0\x07", "frame 0 01 0 0 7\n"),
         (nano, b"\0\0\0\x01\x3b\x9a\xca\x00", "frame 0 01 2 0\n"),
     ] {
-        let file = classic_file(rt.alloc(), magic, time)?;
-        let (result, lines) = lines_with(rt.alloc(), Extra::Times, file.as_slice())?;
-        assert!(rt; result == Ok(()));
-        assert!(rt; lines.as_slice() == line.as_bytes());
+        // High byte first, with one packet of one byte.
+        let file = joined(
+            &rt,
+            &[
+                magic,
+                b"\x00\x02\x00\x04\0\0\0\0\0\0\0\0\x00\x04\x00\x00\0\0\0\x01",
+                time,
+                b"\0\0\0\x01\0\0\0\x01\x01",
+            ],
+        );
+        tells_all(&rt, Extra::Times, file.as_slice(), line.as_bytes());
     }
-    Ok(())
 }
 
 // A section header, low byte first.
@@ -104,23 +72,35 @@ const SECTION: &[u8; 28] = b"\
     \x0a\x0d\x0d\x0a\x1c\0\0\0\x4d\x3c\x2b\x1a\x01\0\0\0\xff\xff\xff\xff\xff\xff\xff\xff\x1c\0\0\0";
 
 // The description of an Ethernet interface with these options.
-fn describe(file: &mut Vec<u8>, options: &[u8]) -> Result<(), AllocError> {
+fn describe(rt: &impl Abort, file: &mut Vec<u8>, options: &[u8]) {
     let len = 20u8.saturating_add((options.len() % 256) as u8);
-    file.extend_from_slice(&[1, 0, 0, 0, len, 0, 0, 0, 1, 0, 0, 0, 0, 0, 0, 0])?;
-    file.extend_from_slice(options)?;
-    file.extend_from_slice(&[len, 0, 0, 0])
+    append(
+        rt,
+        file,
+        &[
+            &[1, 0, 0, 0, len, 0, 0, 0, 1, 0, 0, 0, 0, 0, 0, 0],
+            options,
+            &[len, 0, 0, 0],
+        ],
+    );
 }
 
 // An enhanced packet of one byte, at this count of its clock's parts.
-fn add_packet(file: &mut Vec<u8>, interface: u8, count: u64) -> Result<(), AllocError> {
-    file.extend_from_slice(&[6, 0, 0, 0, 36, 0, 0, 0, interface, 0, 0, 0])?;
-    file.extend_from_slice(&((count >> 32) as u32).to_le_bytes())?;
-    file.extend_from_slice(&((count % 0x1_0000_0000) as u32).to_le_bytes())?;
-    file.extend_from_slice(b"\x01\0\0\0\x01\0\0\0\x01\0\0\0\x24\0\0\0")
+fn add_packet(rt: &impl Abort, file: &mut Vec<u8>, interface: u8, count: u64) {
+    append(
+        rt,
+        file,
+        &[
+            &[6, 0, 0, 0, 36, 0, 0, 0, interface, 0, 0, 0],
+            &((count >> 32) as u32).to_le_bytes(),
+            &((count % 0x1_0000_0000) as u32).to_le_bytes(),
+            b"\x01\0\0\0\x01\0\0\0\x01\0\0\0\x24\0\0\0",
+        ],
+    );
 }
 
 #[test]
-fn clocks_of_interfaces(rt: HostRuntime) -> Result<(), Fail> {
+fn clocks_of_interfaces(rt: HostRuntime) {
     for (options, count, line) in [
         // Microseconds, where no option tells another unit.
         (
@@ -203,68 +183,57 @@ fn clocks_of_interfaces(rt: HostRuntime) -> Result<(), Fail> {
         (b"\x09\0\x02\0\x00\0\0\0", 5, "frame 0 01 0 5\n"),
         (b"\x0e\0\x08\0\x10\x0e\0\0", 5, "frame 0 01 0 5\n"),
     ] {
-        let mut file = Vec::from_slice(rt.alloc(), SECTION)?;
-        describe(&mut file, options)?;
-        add_packet(&mut file, 0, count)?;
-        let (result, lines) = lines_with(rt.alloc(), Extra::Times, file.as_slice())?;
-        assert!(rt; result == Ok(()));
-        assert!(rt; lines.as_slice() == line.as_bytes());
+        let mut file = joined(&rt, &[SECTION]);
+        describe(&rt, &mut file, options);
+        add_packet(&rt, &mut file, 0, count);
+        tells_all(&rt, Extra::Times, file.as_slice(), line.as_bytes());
     }
-    Ok(())
 }
 
 // An obsolete packet of interface 0 at a second, 16 dropped; a simple one, which has no time; and a
 // section in the other byte order, whose interface counts seconds.
 #[test]
-fn times_of_other_blocks(rt: HostRuntime) -> Result<(), Fail> {
-    let mut file = Vec::from_slice(rt.alloc(), SECTION)?;
-    describe(&mut file, b"")?;
-    file.extend_from_slice(
-        b"\x02\0\0\0\x24\0\0\0\0\0\x10\0\0\0\0\0\x40\x42\x0f\0\x01\0\0\0\x01\0\0\0\x02\0\0\0\x24\0\0\0",
-    )?;
-    file.extend_from_slice(b"\x03\0\0\0\x14\0\0\0\x01\0\0\0\x03\0\0\0\x14\0\0\0")?;
-    file.extend_from_slice(
-        b"\x0a\x0d\x0d\x0a\0\0\0\x1c\x1a\x2b\x3c\x4d\0\x01\0\0\xff\xff\xff\xff\xff\xff\xff\xff\0\0\0\x1c",
-    )?;
-    file.extend_from_slice(
-        b"\0\0\0\x01\0\0\0\x28\0\x01\0\0\0\0\0\0\0\x09\0\x01\x00\0\0\0\0\x0e\0\x08\0\0\0\0\0\0\0\x02\0\0\0\x28",
-    )?;
-    file.extend_from_slice(
-        b"\0\0\0\x06\0\0\0\x24\0\0\0\0\0\0\0\0\0\0\0\x05\0\0\0\x01\0\0\0\x01\x04\0\0\0\0\0\0\x24",
-    )?;
-    let (result, lines) = lines_with(rt.alloc(), Extra::Times, file.as_slice())?;
-    assert!(rt; result == Ok(()));
-    let wanted = "frame 0 02 1 0\nframe 0 03 0 0\nframe 1 04 7 0\n";
-    assert!(rt; lines.as_slice() == wanted.as_bytes());
-    Ok(())
+fn times_of_other_blocks(rt: HostRuntime) {
+    let mut file = joined(&rt, &[SECTION]);
+    describe(&rt, &mut file, b"");
+    append(
+        &rt,
+        &mut file,
+        &[
+            b"\x02\0\0\0\x24\0\0\0\0\0\x10\0\0\0\0\0\x40\x42\x0f\0\x01\0\0\0\x01\0\0\0\x02\0\0\0\x24\0\0\0",
+            b"\x03\0\0\0\x14\0\0\0\x01\0\0\0\x03\0\0\0\x14\0\0\0",
+            b"\x0a\x0d\x0d\x0a\0\0\0\x1c\x1a\x2b\x3c\x4d\0\x01\0\0\xff\xff\xff\xff\xff\xff\xff\xff\0\0\0\x1c",
+            b"\0\0\0\x01\0\0\0\x28\0\x01\0\0\0\0\0\0\0\x09\0\x01\x00\0\0\0\0\x0e\0\x08\0\0\0\0\0\0\0\x02\0\0\0\x28",
+            b"\0\0\0\x06\0\0\0\x24\0\0\0\0\0\0\0\0\0\0\0\x05\0\0\0\x01\0\0\0\x01\x04\0\0\0\0\0\0\x24",
+        ],
+    );
+    let lines = b"frame 0 02 1 0\nframe 0 03 0 0\nframe 1 04 7 0\n";
+    tells_all(&rt, Extra::Times, file.as_slice(), lines);
 }
 
 // The first 32 interfaces have clocks of their own. Behind them all have that of the last one.
 #[test]
-fn clocks_behind_the_32nd(rt: HostRuntime) -> Result<(), Fail> {
-    let mut file = Vec::from_slice(rt.alloc(), SECTION)?;
+fn clocks_behind_the_32nd(rt: HostRuntime) {
+    let mut file = joined(&rt, &[SECTION]);
     for _ in 0..31 {
-        describe(&mut file, b"")?;
+        describe(&rt, &mut file, b"");
     }
-    describe(&mut file, b"\x09\0\x01\0\x03\0\0\0")?;
-    describe(&mut file, b"\x09\0\x01\0\x00\0\0\0")?;
-    add_packet(&mut file, 31, 1)?;
-    add_packet(&mut file, 32, 1)?;
-    describe(&mut file, b"")?;
-    add_packet(&mut file, 32, 1)?;
-    add_packet(&mut file, 31, 1)?;
-    add_packet(&mut file, 0, 1)?;
-    let (result, lines) = lines_with(rt.alloc(), Extra::Times, file.as_slice())?;
-    assert!(rt; result == Ok(()));
-    let wanted =
-        "frame 31 01 0 1000\nframe 32 01 1 0\nframe 32 01 0 1\nframe 31 01 0 1000\nframe 0 01 0 1\n";
-    assert!(rt; lines.as_slice() == wanted.as_bytes());
-    Ok(())
+    describe(&rt, &mut file, b"\x09\0\x01\0\x03\0\0\0");
+    describe(&rt, &mut file, b"\x09\0\x01\0\x00\0\0\0");
+    add_packet(&rt, &mut file, 31, 1);
+    add_packet(&rt, &mut file, 32, 1);
+    describe(&rt, &mut file, b"");
+    add_packet(&rt, &mut file, 32, 1);
+    add_packet(&rt, &mut file, 31, 1);
+    add_packet(&rt, &mut file, 0, 1);
+    let lines =
+        b"frame 31 01 0 1000\nframe 32 01 1 0\nframe 32 01 0 1\nframe 31 01 0 1000\nframe 0 01 0 1\n";
+    tells_all(&rt, Extra::Times, file.as_slice(), lines);
 }
 
 // What follows the file header of a capture in microseconds, and in nanoseconds.
 #[test]
-fn nanoseconds_of_lines(rt: HostRuntime) -> Result<(), Fail> {
+fn nanoseconds_of_lines(rt: HostRuntime) {
     let bad = Err(RunError::BadLine(1));
     let none = b"".as_slice();
     for (text, wanted, micro, nano) in [
@@ -294,13 +263,9 @@ fn nanoseconds_of_lines(rt: HostRuntime) -> Result<(), Fail> {
             ),
             (TimeUnit::Nanoseconds, b"\x4d\x3c\xb2\xa1", nano),
         ] {
-            let mut file = Vec::new(rt.alloc());
-            let result = write_capture(rt.alloc(), time_unit, &mut text.as_bytes(), &mut file);
-            assert!(rt; result == wanted);
-            assert!(rt; file.len() >= 24);
-            assert!(rt; &file.as_slice()[..4] == magic);
-            assert!(rt; &file.as_slice()[24..] == packets);
+            let file = capture_of(&rt, time_unit, &mut text.as_bytes(), wanted);
+            equal(&rt, &file.as_slice().get(..4), &Some(magic));
+            equal(&rt, &file.as_slice().get(24..), &Some(packets));
         }
     }
-    Ok(())
 }
