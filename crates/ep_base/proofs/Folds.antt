@@ -1,6 +1,6 @@
 -- Laws of `fold`.
 use Rattle.std.proofs.Common.{not, ◌&&◌, ◌==◌, ◌≡◌, Bool, true, false, ◌^◌, ◌⊎◌, ℕ, zero, suc, ◌+◌}
-use Rattle.std.proofs.Common.{◌-◌, ◌*◌, ◌/◌, ◌%◌, ◌<◌, ◌≤◌, sym, ap, ◌∙◌, refl, arith, inl, inr}
+use Rattle.std.proofs.Common.{◌-◌, ◌*◌, ◌/◌, ◌%◌, ◌<◌, ◌≤◌, sym, ap, ap₂, ◌∙◌, refl, arith, inl, inr}
 use Rattle.std.proofs.Math.Nat.{add-mul-mod_self_left}
 use Rattle.std.specs.Bool.{FalseIff}
 use Rattle.std.specs.Int.{swap_bytes, w16}
@@ -153,6 +153,13 @@ fold_halves n =
     let whole : n ≡ n % 4294967296 + 4294967296 * (n / 4294967296) = omega arith in
     sym (ap fold whole ∙ fold_around_32 (n % 4294967296) (n / 4294967296))
 
+pub fold_wide_halves : (n : ℕ)
+    → fold (n % 18446744073709551616 + n / 18446744073709551616) ≡ fold n
+fold_wide_halves n =
+    let whole : n ≡ n % 18446744073709551616 + 18446744073709551616 * (n / 18446744073709551616) =
+    omega arith in
+    sym (ap fold whole ∙ fold_around_64 (n % 18446744073709551616) (n / 18446744073709551616))
+
 pub fold_words : (n : ℕ) → fold (n % 65536 + n / 65536) ≡ fold n
 fold_words n =
     let whole : n ≡ n % 65536 + 65536 * (n / 65536) = omega arith in
@@ -220,6 +227,15 @@ pub accumulator_sum_halves : (n : ℕ)
 accumulator_sum_halves n =
     sym (accumulator_sum-add (n % 4294967296) (n / 4294967296))
     ∙ accumulator_sum_cong _ n (fold_halves n)
+
+pub accumulator_sum_wide_halves : (n low high sum : ℕ) → low ≡ n % 18446744073709551616
+    → high ≡ n / 18446744073709551616
+    → accumulator_sum sum ≡ fold (accumulator_sum low + accumulator_sum high)
+    → accumulator_sum sum ≡ accumulator_sum n
+accumulator_sum_wide_halves n low high sum is_low is_high so =
+    so ∙ sym (accumulator_sum-add low high)
+    ∙ ap₂ (λ l h. accumulator_sum (l + h)) is_low is_high
+    ∙ accumulator_sum_cong _ n (fold_wide_halves n)
 
 -- the complement of a number's fold is that of its sum with the bytes swapped
 pub complement_of_accumulator_sum : (n : ℕ)

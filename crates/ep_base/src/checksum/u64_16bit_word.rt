@@ -3,7 +3,7 @@
 //! Such a number stands for the sum `accumulator_sum`, high byte first, of its words, which are
 //! added to it low byte first. It may begin at any number.
 
-ghost use Rattle.std.specs.Prelude.{◌≡◌, ◌+◌, ◌-◌};
+ghost use Rattle.std.specs.Prelude.{◌≡◌, ◌+◌, ◌-◌, ◌<◌, ◌≤◌, ◌^◌};
 ghost use Rattle.std.specs.Int.{swap_bytes, w16};
 ghost use Rattle.ep_base.specs.Sum.{accumulator_sum, fold, no_zero, total};
 
@@ -67,16 +67,33 @@ fn add_rest(start: u64, slice: &[u8]) -> u64
     add_words(sum, rest)
 }
 
-// The same by eight bytes at once.
+// The words of a block, with room for all carries: 128 bits hold those of 2^64 blocks.
+fn add_wide(sum: u128, value: [u8; 8]) -> u128
+    requires { sum + 2 ^ 64 ≤ 2 ^ 128 }
+    ensures sum { accumulator_sum result ≡ fold (accumulator_sum sum + total value) }
+    ensures less { result < sum + 2 ^ 64 }
+{
+    sum + u128::from(u64::from_le_bytes(value))
+}
+
+// The carries added back.
+fn narrowed(sum: u128) -> u64
+    ensures { accumulator_sum result ≡ accumulator_sum sum }
+{
+    add_carrying((sum & 0xffff_ffff_ffff_ffff) as u64, (sum >> 64) as u64)
+}
+
+// The same by eight bytes at once: their carries are counted, and added at the end, so that no
+// block waits for the one before it.
 fn add_short(start: u64, slice: &[u8]) -> u64
     ensures { accumulator_sum result ≡ fold (accumulator_sum start + total slice.now) }
 {
     let (blocks, rest) = slice.as_chunks::<8>();
-    let mut sum = start;
+    let mut sum = u128::from(start);
     for block in blocks {
-        sum = add_8bytes(sum, *block);
+        sum = add_wide(sum, *block);
     }
-    add_rest(sum, rest)
+    add_rest(narrowed(sum), rest)
 }
 
 /// The number with the words of a slice added. An odd last byte is followed by a zero byte.

@@ -171,7 +171,9 @@ fn of_size(options: &[u8], size: u8) -> Result<(), TcpOptionReadError>
     Ok(())
 }
 
-// The selective acknowledgement at the front of the bytes, or its fault.
+// The selective acknowledgement at the front of the bytes, or its fault. Inlined, the walk waits for
+// a fault's length, which is stored in pieces and loaded at once.
+#[inline(never)]
 fn acknowledgement_at(options: &[u8]) -> Result<TcpOptionElement, TcpOptionReadError>
     requires { 0 < length options.now }
     ensures { result ≡ acknowledgement_at options.now }
