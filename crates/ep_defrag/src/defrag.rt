@@ -13,6 +13,7 @@ mod streams;
 
 pub use ep_fragments::defrag::{
     IpDefragBuf, IpDefragError, IpFragRange, MAX_IP_DEFRAG_LEN, MAX_IP_DEFRAG_LEN_U16, OverlapRule,
+    checked_end,
 };
 pub use ip_defrag_payload_vec::IpDefragPayloadVec;
 pub use ip_defrag_pool::IpDefragPool;
