@@ -1,7 +1,8 @@
 //! Extension headers in a row, from readers.
 
+use crate::checks::equal;
 use crate::ipv4_extensions::AUTH;
-use crate::ipv6_extensions::CHAIN;
+use crate::ipv6_extensions::{CHAIN, all_headers};
 use ep_base::IpNumber;
 use ep_ext::err::ip_auth;
 use ep_ext::err::ipv6_exts::{HeaderError, HeaderReadError};
@@ -36,12 +37,11 @@ fn is_chain(
 
 #[test]
 fn a_chain_is_read_in_pieces(rt: HostRuntime) {
-    let bytes = CHAIN;
-    let (headers, _, _, _) = Ipv6Extensions::from_slice_lax(IpNumber(0), &bytes);
-    for piece in [1usize, 5, 100] {
-        let mut reader = FaultReader::new(&bytes, piece);
+    let headers = all_headers();
+    for piece in &[1usize, 5, 100] {
+        let mut reader = FaultReader::new(&CHAIN, *piece);
         let is_read = is_chain(read_kind(&mut reader, 0), &headers);
-        assert!(rt; (is_read, reader.rest) == (true, &bytes[72..]));
+        equal(&rt, &(is_read, reader.rest), &(true, &CHAIN[72..]));
     }
 }
 
@@ -55,32 +55,41 @@ fn why_unread(reader: &mut FaultReader<'_>, first: u8) -> Option<Result<HeaderEr
 
 #[test]
 fn each_read_of_a_chain_fails(rt: HostRuntime) {
-    let bytes = CHAIN;
     let reset = ErrorKind::ConnectionReset;
     for call in 0..72usize {
-        let mut reader = FaultReader::failing(&bytes, 1, call, Fault::Fails(reset));
-        assert!(rt; why_unread(&mut reader, 0) == Some(Err(reset)));
+        let mut reader = FaultReader::failing(&CHAIN, 1, call, Fault::Fails(reset));
+        equal(&rt, &why_unread(&mut reader, 0), &Some(Err(reset)));
     }
 }
 
 #[test]
 fn a_reader_ends_within_a_chain(rt: HostRuntime) {
-    let bytes = CHAIN;
     for len in 0..72usize {
-        let mut reader = FaultReader::new(&bytes[..len], 100);
-        assert!(rt; why_unread(&mut reader, 0) == Some(Err(ErrorKind::UnexpectedEof)));
+        let mut reader = FaultReader::new(&CHAIN[..len], 100);
+        equal(
+            &rt,
+            &why_unread(&mut reader, 0),
+            &Some(Err(ErrorKind::UnexpectedEof)),
+        );
     }
+}
+
+// Why headers of zeros were not read, if they were not, and how many bytes of 16 are left.
+fn zeros_read(first: u8) -> (Option<Result<HeaderError, ErrorKind>>, usize) {
+    let mut reader = FaultReader::new(&[0u8; 16], 100);
+    let fault = why_unread(&mut reader, first);
+    (fault, reader.rest.len())
 }
 
 #[test]
 fn faults_of_a_chain_that_is_read(rt: HostRuntime) {
-    let mut misplaced = FaultReader::new(&[0u8; 16], 100);
-    let found = (why_unread(&mut misplaced, 60), misplaced.rest.len());
-    assert!(rt; found == (Some(Ok(HeaderError::HopByHopNotAtStart)), 8));
-    let mut zero = FaultReader::new(&[0u8; 16], 100);
-    let found = (why_unread(&mut zero, 51), zero.rest.len());
-    let fault = HeaderError::IpAuth(ip_auth::HeaderError::ZeroPayloadLen);
-    assert!(rt; found == (Some(Ok(fault)), 4));
+    equal(
+        &rt,
+        &zeros_read(60),
+        &(Some(Ok(HeaderError::HopByHopNotAtStart)), 8),
+    );
+    let zero = HeaderError::IpAuth(ip_auth::HeaderError::ZeroPayloadLen);
+    equal(&rt, &zeros_read(51), &(Some(Ok(zero)), 4));
 }
 
 // How the header of IPv4 was read: its length and the number behind it, the kind of a failed read,
@@ -98,33 +107,35 @@ fn ipv4_kind(
 
 #[test]
 fn the_header_of_ipv4_is_read(rt: HostRuntime) {
-    let bytes = AUTH;
-    let mut reader = FaultReader::new(&bytes, 1);
-    let found = (ipv4_kind(&mut reader, 51), reader.rest);
-    assert!(rt; found == (Ok((16, IpNumber(6))), &bytes[16..]));
+    let mut reader = FaultReader::new(&AUTH, 1);
+    let read = ipv4_kind(&mut reader, 51);
+    equal(
+        &rt,
+        &(read, reader.rest),
+        &(Ok((16, IpNumber(6))), &AUTH[16..]),
+    );
 }
 
 #[test]
 fn another_number_than_51_leaves_a_reader(rt: HostRuntime) {
-    let bytes = AUTH;
-    let mut reader = FaultReader::new(&bytes, 1);
-    let found = (ipv4_kind(&mut reader, 6), reader.calls);
-    assert!(rt; found == (Ok((0, IpNumber(6))), 0));
+    let mut reader = FaultReader::new(&AUTH, 1);
+    let read = ipv4_kind(&mut reader, 6);
+    equal(&rt, &(read, reader.calls), &(Ok((0, IpNumber(6))), 0));
 }
 
 #[test]
 fn each_read_of_the_header_of_ipv4_fails(rt: HostRuntime) {
-    let bytes = AUTH;
     let reset = ErrorKind::ConnectionReset;
     for call in 0..16usize {
-        let mut reader = FaultReader::failing(&bytes, 1, call, Fault::Fails(reset));
-        assert!(rt; ipv4_kind(&mut reader, 51) == Err(Err(reset)));
+        let mut reader = FaultReader::failing(&AUTH, 1, call, Fault::Fails(reset));
+        equal(&rt, &ipv4_kind(&mut reader, 51), &Err(Err(reset)));
     }
 }
 
 #[test]
 fn a_length_field_of_zero_behind_ipv4_is_read(rt: HostRuntime) {
     let mut reader = FaultReader::new(&[0; 16], 100);
-    let found = (ipv4_kind(&mut reader, 51), reader.rest.len());
-    assert!(rt; found == (Err(Ok(ip_auth::HeaderError::ZeroPayloadLen)), 4));
+    let read = ipv4_kind(&mut reader, 51);
+    let zero = ip_auth::HeaderError::ZeroPayloadLen;
+    equal(&rt, &(read, reader.rest.len()), &(Err(Ok(zero)), 4));
 }

@@ -1,6 +1,8 @@
 //! Single extension headers in slices.
 ghost use Rattle.std.specs.Prelude.{◌≡◌};
 
+use crate::checks::{equal, holds};
+use crate::kinds::{Header, is_appended};
 use ep_base::err::{Layer, LenError};
 use ep_base::{IpFragOffset, IpNumber, LenSource};
 use ep_ext::err::ip_auth;
@@ -10,7 +12,6 @@ use ep_ext::{
     IpAuthHeader, IpAuthHeaderSlice, Ipv6FragmentHeader, Ipv6FragmentHeaderSlice, Ipv6RawExtHeader,
     Ipv6RawExtHeaderSlice,
 };
-use std::alloc::Global;
 use std::test::*;
 
 // Hop-by-hop options by RFC 8200, section 4.3: padding options of 6 and 8 bytes. Two bytes follow.
@@ -39,38 +40,25 @@ fn want(required_len: usize, len: usize, layer: Layer) -> LenError
 
 #[test]
 fn a_raw_header_and_its_rest(rt: HostRuntime) {
-    let bytes = RAW;
-    let Ok((header, rest)) = Ipv6RawExtHeader::from_slice(&bytes) else {
+    let Ok((header, rest)) = Ipv6RawExtHeader::from_slice(&RAW) else {
         panic!(rt; "no header");
     };
-    let written = header.to_bytes();
-    let found = (
-        header.next_header,
-        header.header_len(),
-        header.payload(),
-        rest,
-        written.as_slice(),
+    equal(
+        &rt,
+        &(header.next_header, header.header_len()),
+        &(IpNumber::UDP, 16),
     );
-    assert!(rt; found == (IpNumber::UDP, 16, &bytes[2..16], &bytes[16..], &bytes[..16]));
-}
-
-// Whether these stand behind the byte that was there.
-fn are_appended(buffer: &[u8], bytes: &[u8]) -> bool {
-    buffer.first() == Some(&0x55) && buffer.get(1..) == Some(bytes)
-}
-
-fn raw_is_appended(alloc: Global, header: &Ipv6RawExtHeader, bytes: &[u8]) -> bool {
-    let mut buffer = Vec::new(alloc);
-    buffer.push(0x55).is_ok() && header.write(&mut buffer).is_ok() && are_appended(&buffer, bytes)
+    let written = header.to_bytes();
+    let found = [header.payload(), rest, written.as_slice()];
+    equal(&rt, &found, &[&RAW[2..16], &RAW[16..], &RAW[..16]]);
 }
 
 #[test]
 fn a_raw_header_is_appended(rt: HostRuntime) {
-    let bytes = RAW;
-    let Ok((header, _)) = Ipv6RawExtHeader::from_slice(&bytes) else {
-        panic!(rt; "no header");
-    };
-    assert!(rt; raw_is_appended(rt.alloc(), &header, &bytes[..16]));
+    holds(
+        &rt,
+        is_appended::<Ipv6RawExtHeader>(rt.alloc(), &RAW, &RAW[..16]),
+    );
 }
 
 // What a view of a raw header shows: its bytes, its number and its payload.
@@ -94,9 +82,12 @@ fn raw_view_is_itself(bytes: &[u8]) -> bool {
 
 #[test]
 fn a_view_of_a_raw_header(rt: HostRuntime) {
-    let bytes = RAW;
-    assert!(rt; raw_view(&bytes) == Some((&bytes[..16], IpNumber::UDP, &bytes[2..16])));
-    assert!(rt; raw_view_is_itself(&bytes));
+    equal(
+        &rt,
+        &raw_view(&RAW),
+        &Some((&RAW[..16], IpNumber::UDP, &RAW[2..16])),
+    );
+    holds(&rt, raw_view_is_itself(&RAW));
 }
 
 // The refusal of a slice of so many bytes, where a header needs a least length and then its own.
@@ -106,14 +97,13 @@ fn refused(len: usize, least: usize, size: usize, layer: Layer) -> LenError {
 
 #[test]
 fn every_front_of_a_raw_header_is_refused(rt: HostRuntime) {
-    let bytes = RAW;
     for len in 0..16usize {
         let error = Some(refused(len, 8, 16, Layer::Ipv6ExtHeader));
         let found = (
-            Ipv6RawExtHeader::from_slice(&bytes[..len]).err(),
-            Ipv6RawExtHeaderSlice::from_slice(&bytes[..len]).err(),
+            Ipv6RawExtHeader::from_slice(&RAW[..len]).err(),
+            Ipv6RawExtHeaderSlice::from_slice(&RAW[..len]).err(),
         );
-        assert!(rt; found == (error, error));
+        equal(&rt, &found, &(error, error));
     }
 }
 
@@ -125,7 +115,7 @@ fn numbers_of_raw_headers(rt: HostRuntime) {
             Ipv6RawExtHeader::header_type_supported(IpNumber(number)),
             Ipv6RawExtHeaderSlice::header_type_supported(IpNumber(number)),
         ];
-        assert!(rt; found == [has_layout; 2]);
+        equal(&rt, &found, &[has_layout; 2]);
     }
 }
 
@@ -143,26 +133,28 @@ fn raw_lens(len: usize) -> Result<(usize, usize), ExtPayloadLenError> {
 
 #[test]
 fn lengths_of_raw_payloads(rt: HostRuntime) {
-    for len in [6usize, 14, 22, 2038, 2046] {
-        assert!(rt; raw_lens(len) == Ok((len, len + 2)));
+    for len in [6, 14, 22, 2038, 2046].iter() {
+        equal(&rt, &raw_lens(*len), &Ok((*len, len + 2)));
     }
 }
 
+const REFUSED_PAYLOADS: [(usize, ExtPayloadLenError); 10] = [
+    (0, ExtPayloadLenError::TooSmall(0)),
+    (5, ExtPayloadLenError::TooSmall(5)),
+    (7, ExtPayloadLenError::Unaligned(7)),
+    (8, ExtPayloadLenError::Unaligned(8)),
+    (13, ExtPayloadLenError::Unaligned(13)),
+    (15, ExtPayloadLenError::Unaligned(15)),
+    (2045, ExtPayloadLenError::Unaligned(2045)),
+    (2047, ExtPayloadLenError::TooBig(2047)),
+    (2048, ExtPayloadLenError::TooBig(2048)),
+    (2054, ExtPayloadLenError::TooBig(2054)),
+];
+
 #[test]
 fn refused_lengths_of_raw_payloads(rt: HostRuntime) {
-    for (len, error) in [
-        (0usize, ExtPayloadLenError::TooSmall(0)),
-        (5, ExtPayloadLenError::TooSmall(5)),
-        (7, ExtPayloadLenError::Unaligned(7)),
-        (8, ExtPayloadLenError::Unaligned(8)),
-        (13, ExtPayloadLenError::Unaligned(13)),
-        (15, ExtPayloadLenError::Unaligned(15)),
-        (2045, ExtPayloadLenError::Unaligned(2045)),
-        (2047, ExtPayloadLenError::TooBig(2047)),
-        (2048, ExtPayloadLenError::TooBig(2048)),
-        (2054, ExtPayloadLenError::TooBig(2054)),
-    ] {
-        assert!(rt; raw_lens(len) == Err(error));
+    for (len, error) in REFUSED_PAYLOADS.iter() {
+        equal(&rt, &raw_lens(*len), &Err(*error));
     }
 }
 
@@ -171,17 +163,18 @@ fn a_raw_payload_is_changed(rt: HostRuntime) {
     let Ok(mut header) = raw_of_len(14) else {
         panic!(rt; "no header");
     };
-    let changed = header.set_payload(&[1, 2, 3, 4, 5, 6]);
+    equal(&rt, &header.set_payload(&[1, 2, 3, 4, 5, 6]), &Ok(()));
     let written = header.to_bytes();
-    let unaligned = header.set_payload(&[9; 7]);
-    let small = header.set_payload(&[9; 5]);
-    let refused = (
-        Err(ExtPayloadLenError::Unaligned(7)),
-        Err(ExtPayloadLenError::TooSmall(5)),
-    );
-    assert!(rt; (changed, (unaligned, small)) == (Ok(()), refused));
+    let unaligned = ExtPayloadLenError::Unaligned(7);
+    equal(&rt, &header.set_payload(&[9; 7]), &Err(unaligned));
+    let small = ExtPayloadLenError::TooSmall(5);
+    equal(&rt, &header.set_payload(&[9; 5]), &Err(small));
     let bytes = [6, 0, 1, 2, 3, 4, 5, 6];
-    assert!(rt; (written.as_slice(), header.payload()) == (bytes.as_slice(), &bytes[2..]));
+    equal(
+        &rt,
+        &[written.as_slice(), header.payload()],
+        &[&bytes, &bytes[2..]],
+    );
 }
 
 #[test]
@@ -191,9 +184,12 @@ fn the_greatest_raw_header(rt: HostRuntime) {
     let Ok((header, rest)) = Ipv6RawExtHeader::from_slice(&bytes) else {
         panic!(rt; "no header");
     };
-    let written = header.to_bytes();
-    let found = (rest.len(), header.header_len(), written.as_slice());
-    assert!(rt; found == (1, Ipv6RawExtHeader::MAX_LEN, &bytes[..2048]));
+    equal(
+        &rt,
+        &(rest.len(), header.header_len()),
+        &(1, Ipv6RawExtHeader::MAX_LEN),
+    );
+    holds(&rt, header.to_bytes().as_slice() == &bytes[..2048]);
 }
 
 #[test]
@@ -201,37 +197,42 @@ fn the_greatest_raw_header_without_its_last_byte(rt: HostRuntime) {
     let mut bytes = [3; 2047];
     bytes[1] = 255;
     let error = want(2048, 2047, Layer::Ipv6ExtHeader);
-    assert!(rt; Ipv6RawExtHeader::from_slice(&bytes).err() == Some(error));
+    equal(
+        &rt,
+        &Ipv6RawExtHeader::from_slice(&bytes).err(),
+        &Some(error),
+    );
 }
 
 #[test]
 fn a_fragment_header_and_its_rest(rt: HostRuntime) {
-    let bytes = FRAGMENT;
-    let Ok((header, rest)) = Ipv6FragmentHeader::from_slice(&bytes) else {
-        panic!(rt; "no header");
-    };
     let Ok(offset) = IpFragOffset::try_new(0x1579) else {
         panic!(rt; "no offset");
     };
     let made = Ipv6FragmentHeader::new(IpNumber::IPV6_ICMP, offset, true, 0x1234_5678);
-    assert!(rt; (header, rest) == (made, [0xaa, 0xbb].as_slice()));
-}
-
-fn fragment_is_appended(alloc: Global, header: &Ipv6FragmentHeader, bytes: &[u8]) -> bool {
-    let mut buffer = Vec::new(alloc);
-    buffer.push(0x55).is_ok() && header.write(&mut buffer).is_ok() && are_appended(&buffer, bytes)
+    equal(
+        &rt,
+        &Ipv6FragmentHeader::from_slice(&FRAGMENT),
+        &Ok((made, &[0xaa, 0xbb])),
+    );
 }
 
 #[test]
 fn a_fragment_header_is_appended(rt: HostRuntime) {
-    let bytes = FRAGMENT;
-    let Ok((header, _)) = Ipv6FragmentHeader::from_slice(&bytes) else {
-        panic!(rt; "no header");
-    };
     // Reserved bits are cleared.
     let written = [58, 0, 0xab, 0xc9, 0x12, 0x34, 0x56, 0x78];
-    let appended = fragment_is_appended(rt.alloc(), &header, &written);
-    assert!(rt; (header.header_len(), header.to_bytes(), appended) == (8, written, true));
+    holds(
+        &rt,
+        is_appended::<Ipv6FragmentHeader>(rt.alloc(), &FRAGMENT, &written),
+    );
+    let Ok((header, _)) = Ipv6FragmentHeader::from_slice(&FRAGMENT) else {
+        panic!(rt; "no header");
+    };
+    equal(
+        &rt,
+        &(header.header_len(), header.to_bytes()),
+        &(8, written),
+    );
 }
 
 // What a view of a fragment header shows: its bytes and its fields.
@@ -261,10 +262,15 @@ fn fragment_view_is_itself(bytes: &[u8]) -> bool {
 
 #[test]
 fn a_view_of_a_fragment_header(rt: HostRuntime) {
-    let bytes = FRAGMENT;
-    let shown = (&bytes[..8], IpNumber::IPV6_ICMP, 0x1579, true, 0x1234_5678);
-    assert!(rt; fragment_view(&bytes) == Some(shown));
-    assert!(rt; fragment_view_is_itself(&bytes));
+    let shown = (
+        &FRAGMENT[..8],
+        IpNumber::IPV6_ICMP,
+        0x1579,
+        true,
+        0x1234_5678,
+    );
+    equal(&rt, &fragment_view(&FRAGMENT), &Some(shown));
+    holds(&rt, fragment_view_is_itself(&FRAGMENT));
 }
 
 #[test]
@@ -272,9 +278,12 @@ fn every_front_of_a_fragment_header_is_refused(rt: HostRuntime) {
     let bytes = FRAGMENT;
     for len in 0..8usize {
         let error = want(8, len, Layer::Ipv6FragHeader);
-        let refused = Ipv6FragmentHeader::from_slice(&bytes[..len]) == Err(error);
+        holds(
+            &rt,
+            Ipv6FragmentHeader::from_slice(&bytes[..len]) == Err(error),
+        );
         let found = Ipv6FragmentHeaderSlice::from_slice(&bytes[..len]).err();
-        assert!(rt; (refused, found) == (true, Some(error)));
+        equal(&rt, &found, &Some(error));
     }
 }
 
@@ -289,61 +298,67 @@ fn is_fragmenting(bytes: &[u8]) -> Option<(bool, bool)> {
     }
 }
 
+// An offset, the flag, the greatest offset; and reserved bits alone, and nothing.
+const FRAGMENTING: [(u8, u8, bool); 6] = [
+    (1, 0, true),
+    (0, 8, true),
+    (0, 1, true),
+    (0xff, 0xf8, true),
+    (0, 6, false),
+    (0, 0, false),
+];
+
 #[test]
 fn which_fragment_headers_fragment(rt: HostRuntime) {
-    // An offset, the flag, the greatest offset; and reserved bits alone, and nothing.
-    for (offset, more, fragments) in [
-        (1u8, 0u8, true),
-        (0, 8, true),
-        (0, 1, true),
-        (0xff, 0xf8, true),
-        (0, 6, false),
-        (0, 0, false),
-    ] {
-        let bytes = [0, 0, offset, more, 1, 2, 3, 4];
-        assert!(rt; is_fragmenting(&bytes) == Some((fragments, fragments)));
+    for (offset, more, fragments) in FRAGMENTING.iter() {
+        let bytes = [0, 0, *offset, *more, 1, 2, 3, 4];
+        equal(
+            &rt,
+            &is_fragmenting(&bytes),
+            &Some((*fragments, *fragments)),
+        );
     }
 }
 
 #[test]
 fn an_authentication_header_and_its_rest(rt: HostRuntime) {
-    let bytes = AUTH;
-    let Ok((header, rest)) = IpAuthHeader::from_slice(&bytes) else {
+    let Ok((header, rest)) = IpAuthHeader::from_slice(&AUTH) else {
         panic!(rt; "no header");
     };
-    let numbers = (header.next_header, header.spi, header.sequence_number);
-    let found = (numbers, header.raw_icv(), header.header_len(), rest);
-    let numbers = (IpNumber::TCP, 0x0102_0304, 0x0506_0708);
-    assert!(rt; found == (numbers, &bytes[12..24], 24, &bytes[24..]));
+    let found = (
+        header.next_header,
+        header.spi,
+        header.sequence_number,
+        header.header_len(),
+    );
+    equal(&rt, &found, &(IpNumber::TCP, 0x0102_0304, 0x0506_0708, 24));
+    equal(
+        &rt,
+        &[header.raw_icv(), rest],
+        &[&AUTH[12..24], &AUTH[24..]],
+    );
 }
 
 #[test]
 fn an_authentication_header_of_fields(rt: HostRuntime) {
-    let bytes = AUTH;
-    let Ok((header, _)) = IpAuthHeader::from_slice(&bytes) else {
-        panic!(rt; "no header");
-    };
-    let made = IpAuthHeader::new(IpNumber::TCP, 0x0102_0304, 0x0506_0708, &bytes[12..24]);
-    assert!(rt; made == Ok(header));
-}
-
-fn auth_is_appended(alloc: Global, header: &IpAuthHeader, bytes: &[u8]) -> bool {
-    let mut buffer = Vec::new(alloc);
-    buffer.push(0x55).is_ok() && header.write(&mut buffer).is_ok() && are_appended(&buffer, bytes)
+    let made = IpAuthHeader::new(IpNumber::TCP, 0x0102_0304, 0x0506_0708, &AUTH[12..24]);
+    holds(&rt, made.ok() == IpAuthHeader::of_front(&AUTH));
 }
 
 #[test]
 fn an_authentication_header_is_appended(rt: HostRuntime) {
     let mut bytes = AUTH;
-    let Ok((header, _)) = IpAuthHeader::from_slice(&bytes) else {
-        panic!(rt; "no header");
-    };
     // Reserved bytes are cleared.
     bytes[2] = 0;
     bytes[3] = 0;
-    let written = header.to_bytes();
-    let appended = auth_is_appended(rt.alloc(), &header, &bytes[..24]);
-    assert!(rt; (written.as_slice(), appended) == (&bytes[..24], true));
+    holds(
+        &rt,
+        is_appended::<IpAuthHeader>(rt.alloc(), &AUTH, &bytes[..24]),
+    );
+    let Some(header) = IpAuthHeader::of_front(&AUTH) else {
+        panic!(rt; "no header");
+    };
+    equal(&rt, &header.to_bytes().as_slice(), &&bytes[..24]);
 }
 
 // What a view of an authentication header shows: its bytes and its fields.
@@ -373,24 +388,22 @@ fn auth_view_is_itself(bytes: &[u8]) -> bool {
 
 #[test]
 fn a_view_of_an_authentication_header(rt: HostRuntime) {
-    let bytes = AUTH;
-    let icv = &bytes[12..24];
-    let shown = (&bytes[..24], IpNumber::TCP, 0x0102_0304, 0x0506_0708, icv);
-    assert!(rt; auth_view(&bytes) == Some(shown));
-    assert!(rt; auth_view_is_itself(&bytes));
+    let icv = &AUTH[12..24];
+    let shown = (&AUTH[..24], IpNumber::TCP, 0x0102_0304, 0x0506_0708, icv);
+    equal(&rt, &auth_view(&AUTH), &Some(shown));
+    holds(&rt, auth_view_is_itself(&AUTH));
 }
 
 #[test]
 fn every_front_of_an_authentication_header_is_refused(rt: HostRuntime) {
-    let bytes = AUTH;
     for len in 0..24usize {
         let want = refused(len, 12, 24, Layer::IpAuthHeader);
         let error = Some(ip_auth::HeaderSliceError::Len(want));
         let found = (
-            IpAuthHeader::from_slice(&bytes[..len]).err(),
-            IpAuthHeaderSlice::from_slice(&bytes[..len]).err(),
+            IpAuthHeader::from_slice(&AUTH[..len]).err(),
+            IpAuthHeaderSlice::from_slice(&AUTH[..len]).err(),
         );
-        assert!(rt; found == (error, error));
+        equal(&rt, &found, &(error, error));
     }
 }
 
@@ -403,10 +416,15 @@ fn a_length_byte_of_zero(rt: HostRuntime) {
         IpAuthHeader::from_slice(&bytes).err(),
     );
     let zero = ip_auth::HeaderSliceError::Content(ip_auth::HeaderError::ZeroPayloadLen);
-    let short = ip_auth::HeaderSliceError::Len(want(12, 11, Layer::IpAuthHeader));
-    assert!(rt; found == (Some(short), Some(zero), Some(zero)));
-    let moved = ip_auth::HeaderSliceError::Len(want(12, 11, Layer::IpAuthHeader).add_offset(40));
-    assert!(rt; (short_moved(), zero.add_slice_offset(40)) == (moved, zero));
+    let short = want(12, 11, Layer::IpAuthHeader);
+    let refused = ip_auth::HeaderSliceError::Len(short);
+    equal(&rt, &found, &(Some(refused), Some(zero), Some(zero)));
+    let moved = ip_auth::HeaderSliceError::Len(short.add_offset(40));
+    equal(
+        &rt,
+        &(short_moved(), zero.add_slice_offset(40)),
+        &(moved, zero),
+    );
 }
 
 fn short_moved() -> ip_auth::HeaderSliceError {
@@ -427,24 +445,26 @@ fn auth_lens(len: usize) -> Result<(usize, usize), IcvLenError> {
 
 #[test]
 fn lengths_of_check_values(rt: HostRuntime) {
-    for len in [0usize, 4, 8, 1012, 1016] {
-        assert!(rt; auth_lens(len) == Ok((len, len + 12)));
+    for len in [0, 4, 8, 1012, 1016].iter() {
+        equal(&rt, &auth_lens(*len), &Ok((*len, len + 12)));
     }
 }
 
+const REFUSED_CHECK_VALUES: [(usize, IcvLenError); 8] = [
+    (1, IcvLenError::Unaligned(1)),
+    (2, IcvLenError::Unaligned(2)),
+    (3, IcvLenError::Unaligned(3)),
+    (5, IcvLenError::Unaligned(5)),
+    (1015, IcvLenError::Unaligned(1015)),
+    (1017, IcvLenError::TooBig(1017)),
+    (1020, IcvLenError::TooBig(1020)),
+    (1100, IcvLenError::TooBig(1100)),
+];
+
 #[test]
 fn refused_lengths_of_check_values(rt: HostRuntime) {
-    for (len, error) in [
-        (1usize, IcvLenError::Unaligned(1)),
-        (2, IcvLenError::Unaligned(2)),
-        (3, IcvLenError::Unaligned(3)),
-        (5, IcvLenError::Unaligned(5)),
-        (1015, IcvLenError::Unaligned(1015)),
-        (1017, IcvLenError::TooBig(1017)),
-        (1020, IcvLenError::TooBig(1020)),
-        (1100, IcvLenError::TooBig(1100)),
-    ] {
-        assert!(rt; auth_lens(len) == Err(error));
+    for (len, error) in REFUSED_CHECK_VALUES.iter() {
+        equal(&rt, &auth_lens(*len), &Err(*error));
     }
 }
 
@@ -453,17 +473,18 @@ fn a_check_value_is_changed(rt: HostRuntime) {
     let Ok(mut header) = auth_of_len(0) else {
         panic!(rt; "no header");
     };
-    let changed = header.set_raw_icv(&[1, 2, 3, 4]);
+    equal(&rt, &header.set_raw_icv(&[1, 2, 3, 4]), &Ok(()));
     let written = header.to_bytes();
-    let unaligned = header.set_raw_icv(&[9; 5]);
-    let big = header.set_raw_icv(&[9; 1020]);
-    let refused = (
-        Err(IcvLenError::Unaligned(5)),
-        Err(IcvLenError::TooBig(1020)),
-    );
-    assert!(rt; (changed, (unaligned, big)) == (Ok(()), refused));
+    let unaligned = IcvLenError::Unaligned(5);
+    equal(&rt, &header.set_raw_icv(&[9; 5]), &Err(unaligned));
+    let big = IcvLenError::TooBig(1020);
+    equal(&rt, &header.set_raw_icv(&[9; 1020]), &Err(big));
     let bytes = [6, 2, 0, 0, 0, 0, 0, 1, 0, 0, 0, 2, 1, 2, 3, 4];
-    assert!(rt; (written.as_slice(), header.raw_icv()) == (bytes.as_slice(), &bytes[12..]));
+    equal(
+        &rt,
+        &[written.as_slice(), header.raw_icv()],
+        &[&bytes, &bytes[12..]],
+    );
 }
 
 #[test]
@@ -475,7 +496,7 @@ fn the_greatest_authentication_header(rt: HostRuntime) {
         panic!(rt; "no header");
     };
     let lens = (rest.len(), header.header_len(), header.raw_icv().len());
-    let written = header.to_bytes();
     let greatest = (1, IpAuthHeader::MAX_LEN, IpAuthHeader::MAX_ICV_LEN);
-    assert!(rt; (lens, written.as_slice()) == (greatest, &bytes[..1028]));
+    equal(&rt, &lens, &greatest);
+    holds(&rt, header.to_bytes().as_slice() == &bytes[..1028]);
 }

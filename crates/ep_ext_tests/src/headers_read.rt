@@ -1,6 +1,7 @@
 //! Single extension headers from readers.
 ghost use Rattle.std.specs.Prelude.{◌<◌};
 
+use crate::checks::equal;
 use crate::extensions_read_limited::Refusal;
 use ep_base::LenSource;
 use ep_base::err::{Layer, LenError};
@@ -11,6 +12,7 @@ use ep_ext::io::LimitedReader;
 use ep_ext::{IpAuthHeader, Ipv6FragmentHeader, Ipv6RawExtHeader};
 use fault_devices::{Fault, FaultReader};
 use std::io::ErrorKind;
+use std::process::Abort;
 use std::test::*;
 
 // Each header with two bytes behind it.
@@ -22,23 +24,33 @@ const AUTH: [u8; 18] = [
     6, 2, 0, 0, 1, 2, 3, 4, 5, 6, 7, 8, 9, 10, 11, 12, 0xaa, 0xbb,
 ];
 
-// Whether the header that is read has these bytes, or why none is read.
-pub fn read_raw(reader: &mut FaultReader<'_>, bytes: &[u8]) -> Result<bool, ErrorKind> {
+/// A kind of header that stands alone.
+#[derive(Clone, Copy)]
+pub enum Kind {
+    Raw,
+    Fragment,
+    Auth,
+}
+
+/// Whether the header that is read has the bytes that are wanted, or the kind of the failed read;
+/// no kind where the header breaks its format.
+pub type Read = Result<bool, Option<ErrorKind>>;
+
+fn read_raw(reader: &mut FaultReader<'_>, bytes: &[u8]) -> Read {
     match Ipv6RawExtHeader::read(reader) {
         Ok(header) => Ok(header.to_bytes().as_slice() == bytes),
-        Err(error) => Err(error.kind()),
+        Err(error) => Err(Some(error.kind())),
     }
 }
 
-pub fn read_fragment(reader: &mut FaultReader<'_>, bytes: &[u8]) -> Result<bool, ErrorKind> {
+fn read_fragment(reader: &mut FaultReader<'_>, bytes: &[u8]) -> Read {
     match Ipv6FragmentHeader::read(reader) {
         Ok(header) => Ok(header.to_bytes().as_slice() == bytes),
-        Err(error) => Err(error.kind()),
+        Err(error) => Err(Some(error.kind())),
     }
 }
 
-// The same, with no kind where the header breaks its format.
-pub fn read_auth(reader: &mut FaultReader<'_>, bytes: &[u8]) -> Result<bool, Option<ErrorKind>> {
+fn read_auth(reader: &mut FaultReader<'_>, bytes: &[u8]) -> Read {
     match IpAuthHeader::read(reader) {
         Ok(header) => Ok(header.to_bytes().as_slice() == bytes),
         Err(HeaderReadError::Io(error)) => Err(Some(error.kind())),
@@ -46,131 +58,182 @@ pub fn read_auth(reader: &mut FaultReader<'_>, bytes: &[u8]) -> Result<bool, Opt
     }
 }
 
+/// Reads a header of this kind. It has no contract: tests alone call it, and are run.
+pub fn read(kind: Kind, reader: &mut FaultReader<'_>, bytes: &[u8]) -> Read {
+    match kind {
+        Kind::Raw => read_raw(reader, bytes),
+        Kind::Fragment => read_fragment(reader, bytes),
+        Kind::Auth => read_auth(reader, bytes),
+    }
+}
+
+// The header, and the two bytes behind it.
+fn parts(bytes: &[u8]) -> (&[u8], &[u8]) {
+    bytes.split_at(bytes.len().saturating_sub(2))
+}
+
+// However few bytes a call gives, the header is read, and nothing behind it.
+fn is_read_in_pieces(rt: &impl Abort, kind: Kind, bytes: &[u8]) {
+    let (header, behind) = parts(bytes);
+    for piece in [1usize, 3, 100] {
+        let mut reader = FaultReader::new(bytes, piece);
+        let read = read(kind, &mut reader, header);
+        equal(rt, &(read, reader.rest), &(Ok(true), behind));
+    }
+}
+
 #[test]
 fn headers_are_read_in_pieces(rt: HostRuntime) {
-    let bytes = RAW;
-    let behind = [0xaa, 0xbb];
-    for piece in [1usize, 3, 100] {
-        let mut reader = FaultReader::new(&bytes, piece);
-        let read = read_raw(&mut reader, &bytes[..16]);
-        assert!(rt; (read, reader.rest) == (Ok(true), behind.as_slice()));
-    }
+    is_read_in_pieces(&rt, Kind::Raw, &RAW);
 }
 
 #[test]
 fn fragment_headers_are_read_in_pieces(rt: HostRuntime) {
-    let bytes = FRAGMENT;
-    let behind = [0xaa, 0xbb];
-    for piece in [1usize, 3, 100] {
-        let mut reader = FaultReader::new(&bytes, piece);
-        let read = read_fragment(&mut reader, &bytes[..8]);
-        assert!(rt; (read, reader.rest) == (Ok(true), behind.as_slice()));
-    }
+    is_read_in_pieces(&rt, Kind::Fragment, &FRAGMENT);
 }
 
 #[test]
 fn authentication_headers_are_read_in_pieces(rt: HostRuntime) {
-    let bytes = AUTH;
-    let behind = [0xaa, 0xbb];
-    for piece in [1usize, 3, 100] {
-        let mut reader = FaultReader::new(&bytes, piece);
-        let read = read_auth(&mut reader, &bytes[..16]);
-        assert!(rt; (read, reader.rest) == (Ok(true), behind.as_slice()));
+    is_read_in_pieces(&rt, Kind::Auth, &AUTH);
+}
+
+// What is read from a reader of so many bytes a call, of which this call fails so; and how many
+// calls there were.
+fn read_failing(
+    kind: Kind,
+    bytes: &[u8],
+    piece: usize,
+    call: usize,
+    failure: ErrorKind,
+) -> (Read, usize) {
+    let mut reader = FaultReader::failing(bytes, piece, call, Fault::Fails(failure));
+    let (header, _) = parts(bytes);
+    let read = read(kind, &mut reader, header);
+    (read, reader.calls)
+}
+
+// Of a header that is read by so many calls, or byte by byte: each of them fails, or is made again
+// where it is interrupted, and none behind them is made.
+fn fails_by_each_call(rt: &impl Abort, kind: Kind, bytes: &[u8], whole_calls: usize) {
+    let denied = ErrorKind::PermissionDenied;
+    let (header, _) = parts(bytes);
+    for (piece, calls) in [(100usize, whole_calls), (1, header.len())] {
+        for call in 0..calls {
+            let (failing, _) = read_failing(kind, bytes, piece, call, denied);
+            let interrupt = ErrorKind::Interrupted;
+            let (interrupted, _) = read_failing(kind, bytes, piece, call, interrupt);
+            equal(rt, &(failing, interrupted), &(Err(Some(denied)), Ok(true)));
+        }
+        let read = read_failing(kind, bytes, piece, calls, denied);
+        equal(rt, &read, &(Ok(true), calls));
     }
 }
 
 #[test]
 fn a_raw_header_from_a_failing_reader(rt: HostRuntime) {
-    let denied = ErrorKind::PermissionDenied;
-    let bytes = RAW;
-    // The two reads of the header, whole; then byte by byte.
-    for (piece, calls) in [(100usize, 2usize), (1, 16)] {
-        for call in 0..calls {
-            let mut failing = FaultReader::failing(&bytes, piece, call, Fault::Fails(denied));
-            let mut interrupted = FaultReader::failing(
-                &bytes,
-                piece,
-                call,
-                Fault::Fails(ErrorKind::Interrupted),
-            );
-            let found = (
-                read_raw(&mut failing, &bytes[..16]),
-                read_raw(&mut interrupted, &bytes[..16]),
-            );
-            assert!(rt; found == (Err(denied), Ok(true)));
-        }
-        let mut reader = FaultReader::failing(&bytes, piece, calls, Fault::Fails(denied));
-        let read = read_raw(&mut reader, &bytes[..16]);
-        assert!(rt; (read, reader.calls) == (Ok(true), calls));
-    }
+    fails_by_each_call(&rt, Kind::Raw, &RAW, 2);
 }
 
 #[test]
 fn a_fragment_header_from_a_failing_reader(rt: HostRuntime) {
-    let denied = ErrorKind::PermissionDenied;
-    let bytes = FRAGMENT;
-    for (piece, calls) in [(100usize, 1usize), (1, 8)] {
-        for call in 0..calls {
-            let mut failing = FaultReader::failing(&bytes, piece, call, Fault::Fails(denied));
-            assert!(rt; read_fragment(&mut failing, &bytes[..8]) == Err(denied));
-        }
-        let mut reader = FaultReader::failing(&bytes, piece, calls, Fault::Fails(denied));
-        let read = read_fragment(&mut reader, &bytes[..8]);
-        assert!(rt; (read, reader.calls) == (Ok(true), calls));
-    }
+    fails_by_each_call(&rt, Kind::Fragment, &FRAGMENT, 1);
 }
 
 #[test]
 fn an_authentication_header_from_a_failing_reader(rt: HostRuntime) {
-    let denied = ErrorKind::PermissionDenied;
-    let bytes = AUTH;
-    for (piece, calls) in [(100usize, 2usize), (1, 16)] {
-        for call in 0..calls {
-            let mut failing = FaultReader::failing(&bytes, piece, call, Fault::Fails(denied));
-            assert!(rt; read_auth(&mut failing, &bytes[..16]) == Err(Some(denied)));
-        }
-        let mut reader = FaultReader::failing(&bytes, piece, calls, Fault::Fails(denied));
-        let read = read_auth(&mut reader, &bytes[..16]);
-        assert!(rt; (read, reader.calls) == (Ok(true), calls));
+    fails_by_each_call(&rt, Kind::Auth, &AUTH, 2);
+}
+
+fn fails_where_its_bytes_end(rt: &impl Abort, kind: Kind, bytes: &[u8]) {
+    let (header, _) = parts(bytes);
+    for len in 0..header.len() {
+        let read = read(kind, &mut FaultReader::new(&header[..len], 5), &[]);
+        equal(rt, &read, &Err(Some(ErrorKind::UnexpectedEof)));
     }
 }
 
 #[test]
 fn readers_that_end_within_a_header(rt: HostRuntime) {
-    let end = ErrorKind::UnexpectedEof;
-    let (raw, auth, fragment) = (RAW, AUTH, FRAGMENT);
-    for len in 0..16usize {
-        let found = (
-            read_raw(&mut FaultReader::new(&raw[..len], 5), &[]),
-            read_auth(&mut FaultReader::new(&auth[..len], 5), &[]),
-        );
-        assert!(rt; found == (Err(end), Err(Some(end))));
-    }
-    for len in 0..8usize {
-        let found = read_fragment(&mut FaultReader::new(&fragment[..len], 5), &[]);
-        assert!(rt; found == Err(end));
-    }
+    fails_where_its_bytes_end(&rt, Kind::Raw, &RAW);
+    fails_where_its_bytes_end(&rt, Kind::Auth, &AUTH);
+    fails_where_its_bytes_end(&rt, Kind::Fragment, &FRAGMENT);
 }
 
 #[test]
 fn a_length_byte_of_zero_is_read(rt: HostRuntime) {
     let mut reader = FaultReader::new(&[0; 16], 100);
-    let read = read_auth(&mut reader, &[]);
-    assert!(rt; (read, reader.rest.len()) == (Err(None), 4));
+    let read = read(Kind::Auth, &mut reader, &[]);
+    equal(&rt, &(read, reader.rest.len()), &(Err(None), 4));
+}
+
+pub type Limited<'a> = LimitedReader<FaultReader<'a>>;
+
+/// The same of a header that is read within a limit, or why none is read.
+pub type LimitedRead = Result<bool, Refusal>;
+
+fn refusal(error: LimitedReadError) -> Refusal {
+    match error {
+        LimitedReadError::Io(error) => Refusal::Io(error.kind()),
+        LimitedReadError::Len(error) => Refusal::Len(error),
+    }
+}
+
+fn limited_raw(reader: &mut Limited<'_>, bytes: &[u8]) -> LimitedRead {
+    match Ipv6RawExtHeader::read_limited(reader) {
+        Ok(header) => Ok(header.to_bytes().as_slice() == bytes),
+        Err(error) => Err(refusal(error)),
+    }
+}
+
+fn limited_fragment(reader: &mut Limited<'_>, bytes: &[u8]) -> LimitedRead {
+    match Ipv6FragmentHeader::read_limited(reader) {
+        Ok(header) => Ok(header.to_bytes().as_slice() == bytes),
+        Err(error) => Err(refusal(error)),
+    }
+}
+
+fn limited_auth(reader: &mut Limited<'_>, bytes: &[u8]) -> LimitedRead {
+    match IpAuthHeader::read_limited(reader) {
+        Ok(header) => Ok(header.to_bytes().as_slice() == bytes),
+        Err(HeaderLimitedReadError::Io(error)) => Err(Refusal::Io(error.kind())),
+        Err(HeaderLimitedReadError::Len(error)) => Err(Refusal::Len(error)),
+        Err(HeaderLimitedReadError::Content(fault)) => {
+            Err(Refusal::Content(ipv6_exts::HeaderError::IpAuth(fault)))
+        }
+    }
+}
+
+/// Reads a header of this kind within a limit; no contract, as `read`.
+pub fn read_limited(kind: Kind, reader: &mut Limited<'_>, bytes: &[u8]) -> LimitedRead {
+    match kind {
+        Kind::Raw => limited_raw(reader, bytes),
+        Kind::Fragment => limited_fragment(reader, bytes),
+        Kind::Auth => limited_auth(reader, bytes),
+    }
 }
 
 // A reader that gives three bytes a call, of which so many may be read, 10 bytes into a packet.
-fn limited(bytes: &[u8], max_len: usize) -> LimitedReader<FaultReader<'_>>
-    requires { max_len < 1000 }
-{
-    let source = LenSource::Ipv6HeaderPayloadLen;
+fn limited(bytes: &[u8], max_len: u8) -> Limited<'_> {
     LimitedReader::new(
         FaultReader::new(bytes, 3),
-        max_len,
-        source,
+        usize::from(max_len),
+        LenSource::Ipv6HeaderPayloadLen,
         10,
         Layer::Ipv6Header,
     )
+}
+
+// What is read within such a limit, how many bytes of which layer count as read, and what is left.
+fn read_within<'a>(
+    kind: Kind,
+    bytes: &'a [u8],
+    max_len: u8,
+    header: &[u8],
+) -> (LimitedRead, usize, Layer, &'a [u8]) {
+    let mut reader = limited(bytes, max_len);
+    let read = read_limited(kind, &mut reader, header);
+    let (read_len, layer) = (reader.read_len(), reader.layer());
+    (read, read_len, layer, reader.take_reader().rest)
 }
 
 // How a header is refused that wants so many bytes, of the ones that are there.
@@ -184,153 +247,100 @@ fn want(required_len: usize, len: usize, layer: Layer, layer_start_offset: usize
     })
 }
 
-pub type Limited<'a> = LimitedReader<FaultReader<'a>>;
-
-fn refusal(error: LimitedReadError) -> Refusal {
-    match error {
-        LimitedReadError::Io(error) => Refusal::Io(error.kind()),
-        LimitedReadError::Len(error) => Refusal::Len(error),
-    }
-}
-
-// Whether the header that is read has these bytes, or why none is read.
-pub fn limited_raw(reader: &mut Limited<'_>, bytes: &[u8]) -> Result<bool, Refusal> {
-    match Ipv6RawExtHeader::read_limited(reader) {
-        Ok(header) => Ok(header.to_bytes().as_slice() == bytes),
-        Err(error) => Err(refusal(error)),
-    }
-}
-
-pub fn limited_fragment(reader: &mut Limited<'_>, bytes: &[u8]) -> Result<bool, Refusal> {
-    match Ipv6FragmentHeader::read_limited(reader) {
-        Ok(header) => Ok(header.to_bytes().as_slice() == bytes),
-        Err(error) => Err(refusal(error)),
-    }
-}
-
-pub fn limited_auth(reader: &mut Limited<'_>, bytes: &[u8]) -> Result<bool, Refusal> {
-    match IpAuthHeader::read_limited(reader) {
-        Ok(header) => Ok(header.to_bytes().as_slice() == bytes),
-        Err(HeaderLimitedReadError::Io(error)) => Err(Refusal::Io(error.kind())),
-        Err(HeaderLimitedReadError::Len(error)) => Err(Refusal::Len(error)),
-        Err(HeaderLimitedReadError::Content(fault)) => {
-            Err(Refusal::Content(ipv6_exts::HeaderError::IpAuth(fault)))
-        }
+fn is_read_within_its_limit(rt: &impl Abort, kind: Kind, bytes: &[u8], limit: u8, layer: Layer) {
+    let (header, behind) = parts(bytes);
+    for limit in [limit, limit.saturating_add(1)] {
+        let read = read_within(kind, bytes, limit, header);
+        equal(rt, &read, &(Ok(true), header.len(), layer, behind));
     }
 }
 
 #[test]
 fn a_raw_header_within_its_limit(rt: HostRuntime) {
-    let bytes = RAW;
-    for limit in [16usize, 17] {
-        let mut reader = limited(&bytes, limit);
-        let read = limited_raw(&mut reader, &bytes[..16]);
-        let found = (read, reader.read_len(), reader.layer());
-        assert!(rt; found == (Ok(true), 16, Layer::Ipv6ExtHeader));
-        assert!(rt; reader.take_reader().rest.len() == 2);
+    is_read_within_its_limit(&rt, Kind::Raw, &RAW, 16, Layer::Ipv6ExtHeader);
+}
+
+#[test]
+fn an_authentication_header_within_its_limit(rt: HostRuntime) {
+    is_read_within_its_limit(&rt, Kind::Auth, &AUTH, 16, Layer::IpAuthHeader);
+}
+
+// The rows have the limit, the length that is asked for, and how many bytes are read.
+fn is_refused_beyond_its_limit(
+    rt: &impl Abort,
+    kind: Kind,
+    bytes: &[u8],
+    layer: Layer,
+    rows: &[(u8, usize, usize)],
+) {
+    for (limit, required_len, read_len) in rows {
+        let error = Err(want(*required_len, usize::from(*limit), layer, 10));
+        let (read, counted, layer_read, rest) = read_within(kind, bytes, *limit, &[]);
+        equal(rt, &(read, counted, layer_read), &(error, *read_len, layer));
+        equal(rt, &Some(rest), &bytes.get(*read_len..));
     }
 }
 
 #[test]
 fn a_raw_header_beyond_its_limit(rt: HostRuntime) {
-    let bytes = RAW;
-    // The limit, the length that is asked for, and how many bytes are read.
-    for (limit, required_len, read) in [
-        (0usize, 8usize, 0usize),
-        (7, 8, 0),
-        (8, 16, 8),
-        (15, 16, 8),
-    ] {
-        let mut reader = limited(&bytes, limit);
-        let found = (limited_raw(&mut reader, &[]), reader.read_len());
-        let error = want(required_len, limit, Layer::Ipv6ExtHeader, 10);
-        assert!(rt; found == (Err(error), read));
-        assert!(rt; reader.take_reader().rest == &bytes[read..]);
-    }
+    let rows = [(0, 8, 0), (7, 8, 0), (8, 16, 8), (15, 16, 8)];
+    is_refused_beyond_its_limit(&rt, Kind::Raw, &RAW, Layer::Ipv6ExtHeader, &rows);
 }
 
 #[test]
 fn a_fragment_header_at_its_limit(rt: HostRuntime) {
-    let bytes = FRAGMENT;
-    for limit in [8usize, 9] {
-        let mut reader = limited(&bytes, limit);
-        let read = limited_fragment(&mut reader, &bytes[..8]);
-        assert!(rt; (read, reader.take_reader().rest.len()) == (Ok(true), 2));
-    }
-    for limit in [0usize, 7] {
-        let mut reader = limited(&bytes, limit);
-        let read = limited_fragment(&mut reader, &[]);
-        let error = want(8, limit, Layer::Ipv6FragHeader, 10);
-        assert!(rt; (read, reader.take_reader().rest.len()) == (Err(error), 10));
-    }
-}
-
-#[test]
-fn an_authentication_header_within_its_limit(rt: HostRuntime) {
-    let bytes = AUTH;
-    for limit in [16usize, 17] {
-        let mut reader = limited(&bytes, limit);
-        let found = (limited_auth(&mut reader, &bytes[..16]), reader.layer());
-        assert!(rt; found == (Ok(true), Layer::IpAuthHeader));
-        assert!(rt; reader.take_reader().rest.len() == 2);
-    }
+    let layer = Layer::Ipv6FragHeader;
+    is_read_within_its_limit(&rt, Kind::Fragment, &FRAGMENT, 8, layer);
+    is_refused_beyond_its_limit(
+        &rt,
+        Kind::Fragment,
+        &FRAGMENT,
+        layer,
+        &[(0, 8, 0), (7, 8, 0)],
+    );
 }
 
 #[test]
 fn an_authentication_header_beyond_its_limit(rt: HostRuntime) {
-    let bytes = AUTH;
-    for (limit, required_len, read) in [
-        (0usize, 12usize, 0usize),
-        (11, 12, 0),
-        (12, 16, 12),
-        (15, 16, 12),
-    ] {
-        let mut reader = limited(&bytes, limit);
-        let found = limited_auth(&mut reader, &[]);
-        let error = want(required_len, limit, Layer::IpAuthHeader, 10);
-        assert!(rt; (found, reader.take_reader().rest) == (Err(error), &bytes[read..]));
-    }
+    let rows = [(0, 12, 0), (11, 12, 0), (12, 16, 12), (15, 16, 12)];
+    is_refused_beyond_its_limit(&rt, Kind::Auth, &AUTH, Layer::IpAuthHeader, &rows);
 }
 
 #[test]
 fn a_length_byte_of_zero_within_a_limit(rt: HostRuntime) {
-    let mut reader = limited(&[0; 16], 16);
-    let found = (limited_auth(&mut reader, &[]), reader.read_len());
+    let (read, read_len, _, _) = read_within(Kind::Auth, &[0; 16], 16, &[]);
     let fault = ipv6_exts::HeaderError::IpAuth(HeaderError::ZeroPayloadLen);
-    assert!(rt; found == (Err(Refusal::Content(fault)), 12));
+    equal(&rt, &(read, read_len), &(Err(Refusal::Content(fault)), 12));
 }
 
-// A reader of one byte a call that fails at this one, and of which so many may be read.
-fn failing_limited(bytes: &[u8], call: usize, max_len: usize) -> Limited<'_> {
+// What is read byte by byte where this call fails, and how many bytes count as read.
+fn limited_failing(kind: Kind, bytes: &[u8], call: usize) -> (LimitedRead, usize) {
     let inner = FaultReader::failing(bytes, 1, call, Fault::Fails(ErrorKind::PermissionDenied));
-    LimitedReader::new(inner, max_len, LenSource::Slice, 0, Layer::Ipv6Packet)
+    let mut reader = LimitedReader::new(inner, 16, LenSource::Slice, 0, Layer::Ipv6Packet);
+    let read = read_limited(kind, &mut reader, &[]);
+    (read, reader.read_len())
+}
+
+// Of a header that is read by so many bytes first, and then the rest: what was read of either
+// doesn't count where a call fails.
+fn fails_within_its_limit(rt: &impl Abort, kind: Kind, bytes: &[u8], first_len: usize) {
+    let (header, _) = parts(bytes);
+    for call in 0..header.len() {
+        let counted = if call < first_len { 0 } else { first_len };
+        let denied = Err(Refusal::Io(ErrorKind::PermissionDenied));
+        equal(rt, &limited_failing(kind, bytes, call), &(denied, counted));
+    }
 }
 
 #[test]
 fn limited_headers_from_failing_readers(rt: HostRuntime) {
-    let bytes = RAW;
-    let denied = Err(Refusal::Io(ErrorKind::PermissionDenied));
-    for call in 0..16usize {
-        let mut reader = failing_limited(&bytes, call, 16);
-        let read = limited_raw(&mut reader, &[]);
-        // What was read of the first eight bytes or of the rest doesn't count.
-        let counted = if call < 8 { 0 } else { 8 };
-        assert!(rt; (read, reader.read_len()) == (denied, counted));
-    }
+    fails_within_its_limit(&rt, Kind::Raw, &RAW, 8);
 }
 
 #[test]
 fn limited_authentication_headers_from_failing_readers(rt: HostRuntime) {
-    let denied = Err(Refusal::Io(ErrorKind::PermissionDenied));
-    let (auth, fragment) = (AUTH, FRAGMENT);
-    for call in 0..16usize {
-        let mut reader = failing_limited(&auth, call, 16);
-        assert!(rt; limited_auth(&mut reader, &[]) == denied);
-    }
-    for call in 0..8usize {
-        let mut reader = failing_limited(&fragment, call, 8);
-        assert!(rt; limited_fragment(&mut reader, &[]) == denied);
-    }
+    fails_within_its_limit(&rt, Kind::Auth, &AUTH, 12);
+    fails_within_its_limit(&rt, Kind::Fragment, &FRAGMENT, 8);
 }
 
 #[test]
@@ -344,35 +354,49 @@ fn headers_in_a_row_within_a_limit(rt: HostRuntime) {
         limited_raw(&mut reader, &raw[..16]),
         limited_fragment(&mut reader, &[]),
     );
-    assert!(rt; found == (Ok(true), Err(want(8, 7, Layer::Ipv6FragHeader, 26))));
+    equal(
+        &rt,
+        &found,
+        &(Ok(true), Err(want(8, 7, Layer::Ipv6FragHeader, 26))),
+    );
+}
+
+/// The length that a header of this kind names by its second byte; no contract but its bound.
+pub fn named_len(kind: Kind, words: u8) -> usize
+    ensures { result < 2049 }
+{
+    match kind {
+        Kind::Raw => (usize::from(words) + 1) * 8,
+        Kind::Fragment => 8,
+        Kind::Auth => (usize::from(words) + 2) * 4,
+    }
+}
+
+// Headers of each length from this one on, and behind them what is left of 2050 bytes.
+fn each_length_is_read(rt: &impl Abort, kind: Kind, least: u8) {
+    let mut bytes = [0x33; 2050];
+    // The reserved bytes of an authentication header.
+    bytes[2] = 0;
+    bytes[3] = 0;
+    for words in least..=255u8 {
+        bytes[1] = words;
+        let len = named_len(kind, words);
+        let mut whole = FaultReader::new(&bytes, 4096);
+        let found = read(kind, &mut whole, &bytes[..len]);
+        equal(rt, &(found, whole.rest.len()), &(Ok(true), 2050 - len));
+        let inner = FaultReader::new(&bytes, 4096);
+        let mut reader = LimitedReader::new(inner, len, LenSource::Slice, 0, Layer::Ipv6Packet);
+        let found = read_limited(kind, &mut reader, &bytes[..len]);
+        equal(rt, &(found, reader.read_len()), &(Ok(true), len));
+    }
 }
 
 #[test]
 fn raw_headers_of_every_length_are_read(rt: HostRuntime) {
-    let mut bytes = [0x33; 2050];
-    for words in 0..=255u8 {
-        bytes[1] = words;
-        let len = (usize::from(words) + 1) * 8;
-        let mut whole = FaultReader::new(&bytes, 4096);
-        let read = (read_raw(&mut whole, &bytes[..len]), whole.rest.len());
-        let inner = FaultReader::new(&bytes, 4096);
-        let mut reader = LimitedReader::new(inner, len, LenSource::Slice, 0, Layer::Ipv6Packet);
-        let limited = (limited_raw(&mut reader, &bytes[..len]), reader.read_len());
-        assert!(rt; (read, limited) == ((Ok(true), 2050 - len), (Ok(true), len)));
-    }
+    each_length_is_read(&rt, Kind::Raw, 0);
 }
 
 #[test]
 fn authentication_headers_of_every_length_are_read(rt: HostRuntime) {
-    let mut bytes = [0x33; 1030];
-    for words in 1..=255u8 {
-        bytes[1] = words;
-        let len = (usize::from(words) + 2) * 4;
-        let mut whole = FaultReader::new(&bytes, 4096);
-        let read = (read_auth(&mut whole, &[]).is_ok(), whole.rest.len());
-        let inner = FaultReader::new(&bytes, 4096);
-        let mut reader = LimitedReader::new(inner, len, LenSource::Slice, 0, Layer::Ipv6Packet);
-        let limited = (limited_auth(&mut reader, &[]).is_ok(), reader.read_len());
-        assert!(rt; (read, limited) == ((true, 1030 - len), (true, len)));
-    }
+    each_length_is_read(&rt, Kind::Auth, 1);
 }

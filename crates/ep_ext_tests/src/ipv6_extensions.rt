@@ -2,6 +2,7 @@
 
 ghost use Rattle.std.specs.Prelude.{◌≡◌};
 
+use crate::checks::{equal, holds};
 use ep_base::err::{Layer, LenError};
 use ep_base::{IpNumber, LenSource};
 use ep_ext::err::ip_auth;
@@ -65,11 +66,17 @@ fn cut_at(len: usize) -> (IpNumber, Layer, LenError) {
     (IpNumber(60), Layer::Ipv6DestOptionsHeader, error)
 }
 
-// Why the headers from this number on are refused, if they are.
-fn why_refused(first: u8, bytes: &[u8]) -> Option<HeaderSliceError> {
+/// The headers of `CHAIN`.
+pub fn all_headers() -> Ipv6Extensions {
+    Ipv6Extensions::from_slice_lax(IpNumber(0), &CHAIN).0
+}
+
+// The length of the headers from this number on, the number behind them and what is left, or why
+// they are refused.
+fn chain(first: u8, bytes: &[u8]) -> Result<(usize, IpNumber, &[u8]), HeaderSliceError> {
     match Ipv6Extensions::from_slice(IpNumber(first), bytes) {
-        Ok(_) => None,
-        Err(error) => Some(error),
+        Ok((headers, number, rest)) => Ok((headers.header_len(), number, rest)),
+        Err(error) => Err(error),
     }
 }
 
@@ -78,7 +85,11 @@ fn every_front_of_a_chain_is_refused(rt: HostRuntime) {
     let bytes = CHAIN;
     for len in 0..72usize {
         let (_, _, error) = cut_at(len);
-        assert!(rt; why_refused(0, &bytes[..len]) == Some(HeaderSliceError::Len(error)));
+        equal(
+            &rt,
+            &chain(0, &bytes[..len]),
+            &Err(HeaderSliceError::Len(error)),
+        );
     }
 }
 
@@ -98,8 +109,8 @@ fn every_front_of_a_chain_up_to_the_fault(rt: HostRuntime) {
     for len in 0..72usize {
         let (number, layer, error) = cut_at(len);
         let fault = Some((HeaderSliceError::Len(error), layer));
-        let found = up_to_the_fault(0, &bytes[..len]);
-        assert!(rt; found == (error.layer_start_offset, number, error.len, fault));
+        let wanted = (error.layer_start_offset, number, error.len, fault);
+        equal(&rt, &up_to_the_fault(0, &bytes[..len]), &wanted);
     }
 }
 
@@ -113,29 +124,32 @@ fn is_skipped_to_its_end(bytes: &[u8]) -> bool {
 #[test]
 fn all_six_headers(rt: HostRuntime) {
     let bytes = CHAIN;
-    let Ok((headers, number, rest)) = Ipv6Extensions::from_slice(IpNumber(0), &bytes) else {
-        panic!(rt; "refused");
-    };
-    let found = (
-        number,
-        rest,
-        headers.header_len(),
-        headers.is_fragmenting_payload(),
-        headers.is_empty(),
-        is_skipped_to_its_end(&bytes),
+    equal(
+        &rt,
+        &chain(0, &bytes),
+        &Ok((72, IpNumber(17), &bytes[72..])),
     );
-    assert!(rt; found == (IpNumber(17), &bytes[72..], 72, true, false, true));
+    let headers = all_headers();
+    let found = (headers.is_fragmenting_payload(), headers.is_empty());
+    equal(&rt, &found, &(true, false));
+    holds(&rt, is_skipped_to_its_end(&bytes));
+}
+
+// The length of a routing header and of the options behind it, and whether it has this payload.
+fn routing_is(headers: &Ipv6Extensions, payload: &[u8]) -> Option<(usize, bool)> {
+    match &headers.routing {
+        Some(header) => Some((header.header_len(), header.routing.payload() == payload)),
+        None => None,
+    }
 }
 
 #[test]
 fn the_routing_header_among_all(rt: HostRuntime) {
-    let bytes = CHAIN;
-    let (headers, _, _, _) = Ipv6Extensions::from_slice_lax(IpNumber(0), &bytes);
-    let Some(routing) = &headers.routing else {
-        panic!(rt; "no routing header");
-    };
-    let found = (routing.header_len(), routing.routing.payload());
-    assert!(rt; found == (24, &bytes[18..32]));
+    equal(
+        &rt,
+        &routing_is(&all_headers(), &CHAIN[18..32]),
+        &Some((24, true)),
+    );
 }
 
 // The numbers that options name, or None where there are none.
@@ -171,7 +185,8 @@ fn each_header_at_its_place(rt: HostRuntime) {
         identification_of(&headers.fragment),
         has_check_value(&headers.auth, &bytes[52..64]),
     );
-    assert!(rt; found == (None, Some(IpNumber(60)), Some(IpNumber(43)), Some(7), true));
+    let wanted = (None, Some(IpNumber(60)), Some(IpNumber(43)), Some(7), true);
+    equal(&rt, &found, &wanted);
 }
 
 #[test]
@@ -179,23 +194,14 @@ fn a_second_fragment_header_ends_the_chain(rt: HostRuntime) {
     let bytes = [
         0x2c, 0, 0, 1, 0, 0, 0, 7, 0x11, 0, 0, 0, 0, 0, 0, 7, 0xaa, 0xbb,
     ];
-    let Ok((headers, number, rest)) = Ipv6Extensions::from_slice(IpNumber(44), &bytes) else {
-        panic!(rt; "refused");
-    };
-    assert!(rt; (headers.header_len(), number, rest) == (8, IpNumber(44), &bytes[8..]));
+    equal(&rt, &chain(44, &bytes), &Ok((8, IpNumber(44), &bytes[8..])));
 }
 
 // Whether the headers from this number on end behind so many bytes, at the same kind of header
 // again.
 fn ends_again_at(first: u8, bytes: &[u8], again: u8, len: usize) -> bool {
-    match Ipv6Extensions::from_slice(IpNumber(first), bytes) {
-        Ok((headers, number, rest)) => {
-            number == IpNumber(again)
-                && headers.header_len() == len
-                && rest.len() == bytes.len() - len.min(bytes.len())
-        }
-        Err(_) => false,
-    }
+    let rest = bytes.get(len..).unwrap_or(&[]);
+    chain(first, bytes) == Ok((len, IpNumber(again), rest))
 }
 
 #[test]
@@ -204,20 +210,18 @@ fn a_second_header_of_a_kind_ends_the_chain(rt: HostRuntime) {
     // Routing headers, each of 8 bytes.
     bytes[0] = 43;
     bytes[8] = 17;
-    let routing = ends_again_at(43, &bytes, 43, 8);
+    holds(&rt, ends_again_at(43, &bytes, 43, 8));
     // Destination options behind destination options.
     bytes[0] = 60;
-    let destination = ends_again_at(60, &bytes, 60, 8);
+    holds(&rt, ends_again_at(60, &bytes, 60, 8));
     // The same behind a routing header, where one more has a place.
     bytes[8] = 60;
     bytes[16] = 17;
-    let final_destination = ends_again_at(43, &bytes, 60, 16);
+    holds(&rt, ends_again_at(43, &bytes, 60, 16));
     // Authentication headers, each of 12 bytes.
     let mut bytes = [1; 24];
     bytes[0] = 51;
-    let authentication = ends_again_at(51, &bytes, 51, 12);
-    let found = (routing, destination, final_destination, authentication);
-    assert!(rt; found == (true, true, true, true));
+    holds(&rt, ends_again_at(51, &bytes, 51, 12));
 }
 
 #[test]
@@ -227,17 +231,21 @@ fn hop_by_hop_options_behind_a_header_are_refused(rt: HostRuntime) {
     let (headers, number, rest, found) = Ipv6Extensions::from_slice_lax(IpNumber(60), &bytes);
     let options = headers.destination_options.is_some();
     let behind = Some((fault, Layer::Ipv6HopByHopHeader));
-    assert!(rt; (options, number, rest, found) == (true, IpNumber(0), &bytes[8..], behind));
-    assert!(rt; why_refused(60, &bytes) == Some(fault));
+    equal(
+        &rt,
+        &(options, number, rest, found),
+        &(true, IpNumber(0), &bytes[8..], behind),
+    );
+    equal(&rt, &chain(60, &bytes), &Err(fault));
 }
 
 #[test]
 fn an_authentication_header_of_length_zero_is_refused(rt: HostRuntime) {
     let zero = ip_auth::HeaderError::ZeroPayloadLen;
     let fault = HeaderSliceError::Content(HeaderError::IpAuth(zero));
-    let found = (up_to_the_fault(51, &[0; 12]), why_refused(51, &[0; 12]));
     let seen = (0, IpNumber(51), 12, Some((fault, Layer::IpAuthHeader)));
-    assert!(rt; found == (seen, Some(fault)));
+    equal(&rt, &up_to_the_fault(51, &[0; 12]), &seen);
+    equal(&rt, &chain(51, &[0; 12]), &Err(fault));
 }
 
 // Whether there is no header behind this number.
@@ -254,18 +262,15 @@ fn ends_at_once(number: u8, bytes: &[u8]) -> bool {
 fn numbers_without_a_place_end_the_chain(rt: HostRuntime) {
     // Mobility, host identity and shim6 headers end it too.
     for number in [6u8, 17, 50, 58, 59, 135, 139, 140, 253] {
-        assert!(rt; ends_at_once(number, &[1, 2, 3]));
+        holds(&rt, ends_at_once(number, &[1, 2, 3]));
     }
 }
 
 #[test]
 fn an_error_seen_from_further_in_front(rt: HostRuntime) {
-    let error = want(8, 7, Layer::Ipv6ExtHeader, 0);
-    let moved = want(8, 7, Layer::Ipv6ExtHeader, 40);
+    let error = HeaderSliceError::Len(want(8, 7, Layer::Ipv6ExtHeader, 0));
+    let moved = HeaderSliceError::Len(want(8, 7, Layer::Ipv6ExtHeader, 40));
+    equal(&rt, &error.add_slice_offset(40), &moved);
     let fault = HeaderSliceError::Content(HeaderError::HopByHopNotAtStart);
-    let found = (
-        HeaderSliceError::Len(error).add_slice_offset(40),
-        fault.add_slice_offset(40),
-    );
-    assert!(rt; found == (HeaderSliceError::Len(moved), fault));
+    equal(&rt, &fault.add_slice_offset(40), &fault);
 }

@@ -3,6 +3,8 @@
 #![tactic(auto)]
 
 #[cfg(test)]
+mod checks;
+#[cfg(test)]
 mod extensions_read;
 #[cfg(test)]
 mod extensions_read_limited;
@@ -20,6 +22,8 @@ mod ipv4_extensions;
 mod ipv6_extensions;
 #[cfg(test)]
 mod ipv6_extensions_follow;
+#[cfg(test)]
+mod kinds;
 #[cfg(test)]
 mod limited_reader;
 #[cfg(test)]
