@@ -127,9 +127,9 @@ fn is_told(rt: &impl Abort, alloc: Global, dissection: &Dissection<'_>) -> Resul
 fn of_a_part(rt: HostRuntime) -> Result<(), Fail> {
     let capture = capture_of(rt.alloc(), 1, &[PART])?;
     let mut dissector = Dissector::new(rt.alloc());
-    let error = IpDefragError::AllocationFailure { len: 8 };
     for packet in Packets::new(Unfit::Refuse, capture.as_slice()) {
         let mut dissection = dissector.dissect(&packet)?;
+        let error = IpDefragError::AllocationFailure { len: 8 };
         dissection.fragment = Some(Fragment::Refused { begun: None, error });
         is_told(&rt, rt.alloc(), &dissection)?;
     }
