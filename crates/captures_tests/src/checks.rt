@@ -1,5 +1,5 @@
-//! What tests compare, and bytes that they put together. A test ends here that finds another value or
-//! no memory.
+//! What tests compare, and bytes that they put together. A test ends here that finds another value
+//! or no memory.
 use std::fmt::Debug;
 use std::process::Abort;
 

@@ -1,6 +1,6 @@
 //! Tests of `captures` over its public calls. They stand in a crate of their own, so that they
-//! are proved beside it and not with each of its functions once more. Functions that they share have
-//! no contracts: tests alone call them, and are run.
+//! are proved beside it and not with each of its functions once more. Functions that they share
+//! have no contracts: tests alone call them, and are run.
 #![tactic(auto)]
 
 #[cfg(test)]

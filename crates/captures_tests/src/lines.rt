@@ -103,8 +103,8 @@ pub fn tells_all(rt: &(impl Abort + AllocGlobal), extra: Extra, capture: &[u8], 
     equal(rt, &told.as_slice(), &lines);
 }
 
-/// A run that passes over packets that can't be told ends so, after these lines, and has passed over
-/// so many. It doesn't add to what stood there.
+/// A run that passes over packets that can't be told ends so, after these lines, and has passed
+/// over so many. It doesn't add to what stood there.
 pub fn tells_skipping(
     rt: &(impl Abort + AllocGlobal),
     capture: &[u8],

@@ -20,6 +20,15 @@ const OF_TWO_SECTIONS: [(u32, u64, &[u8]); 4] = [
     (3, 4_294_967_298_000, b"\x55\x66"),
 ];
 
+// A reader of this input.
+fn reader_of<R: Read + Drop>(
+    rt: &(impl Abort + AllocGlobal),
+    unfit: Unfit,
+    input: R,
+) -> PacketReader<R> {
+    PacketReader::new(rt.alloc(), unfit, input).expect(rt, "no memory")
+}
+
 // The next packet of a reader.
 fn next_of<'a, R: Read + Drop>(rt: &impl Abort, reader: &'a mut PacketReader<R>) -> Packet<'a> {
     let next = reader.next_packet().expect(rt, "no packet");
@@ -42,10 +51,7 @@ fn is_of(rt: &impl Abort, packet: &Packet<'_>, wanted: &(u32, u64, &[u8])) {
 fn packets_of_two_sections(rt: HostRuntime) {
     for size in [1, 7, 320] {
         let input = FaultReader::new(TWO_SECTIONS, size);
-        let mut reader = PacketReader::new(rt.alloc(), Unfit::Refuse, input).expect(
-            &rt,
-            "no memory",
-        );
+        let mut reader = reader_of(&rt, Unfit::Refuse, input);
         let mut packets = Packets::new(Unfit::Refuse, TWO_SECTIONS);
         for wanted in &OF_TWO_SECTIONS {
             let packet = next_of(&rt, &mut reader);
@@ -111,10 +117,7 @@ fn made_headers(rt: HostRuntime) {
         ),
     ] {
         let file = capture(&rt, link_type, packet);
-        let mut reader = PacketReader::new(rt.alloc(), Unfit::Refuse, file.as_slice()).expect(
-            &rt,
-            "no memory",
-        );
+        let mut reader = reader_of(&rt, Unfit::Refuse, file.as_slice());
         let found = next_of(&rt, &mut reader);
         equal(&rt, &found.link, &link);
         equal(&rt, &found.frame.header(), &Some(&header));
@@ -140,10 +143,7 @@ fn ends_within_a_packet(rt: HostRuntime) {
     for (fault, wanted) in [(FAILS, ReadError::Read), (Fault::MovesNone, cut)] {
         let mut input = FaultReader::failing(LITTLE_MICROSECONDS, 1, 120, fault);
         {
-            let mut reader = PacketReader::new(rt.alloc(), Unfit::Refuse, &mut input).expect(
-                &rt,
-                "no memory",
-            );
+            let mut reader = reader_of(&rt, Unfit::Refuse, &mut input);
             next_of(&rt, &mut reader);
             for _ in 0..3 {
                 equal(&rt, &reader.next_packet().err(), &Some(wanted));
@@ -160,7 +160,7 @@ fn ends_within_a_packet(rt: HostRuntime) {
 fn passed_over(rt: HostRuntime) {
     let file = with_long_block(&rt, CUSTOM, 600_000, 600_000);
     let input = FaultReader::new(file.as_slice(), 100_000);
-    let mut reader = PacketReader::new(rt.alloc(), Unfit::Skip, input).expect(&rt, "no memory");
+    let mut reader = reader_of(&rt, Unfit::Skip, input);
     for _ in 0..3 {
         let packet = next_of(&rt, &mut reader);
         equal(&rt, &packet.frame.bytes(), &b"\xab\xcd".as_slice());
@@ -169,10 +169,7 @@ fn passed_over(rt: HostRuntime) {
     equal(&rt, &reader.consumed(), &(file.len() as u64));
     equal(&rt, &reader.skipped(), &Skipped::NONE);
     let other = capture(&rt, 105, b"\x45");
-    let mut wireless = PacketReader::new(rt.alloc(), Unfit::Skip, other.as_slice()).expect(
-        &rt,
-        "no memory",
-    );
+    let mut wireless = reader_of(&rt, Unfit::Skip, other.as_slice());
     ends(&rt, &mut wireless);
     equal(&rt, &wireless.skipped().of_other_links, &1);
 }
@@ -182,10 +179,7 @@ fn passed_over(rt: HostRuntime) {
 fn packets_that_are_held(rt: HostRuntime) {
     let mut input = FaultReader::new(LITTLE_MICROSECONDS, 148);
     {
-        let mut reader = PacketReader::new(rt.alloc(), Unfit::Refuse, &mut input).expect(
-            &rt,
-            "no memory",
-        );
+        let mut reader = reader_of(&rt, Unfit::Refuse, &mut input);
         equal(&rt, &reader.advance_held(), &Ok(false));
         holds(&rt, reader.packet().is_none());
         equal(&rt, &reader.advance(), &Ok(true));

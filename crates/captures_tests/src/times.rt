@@ -200,11 +200,15 @@ fn times_of_other_blocks(rt: HostRuntime) {
         &rt,
         &mut file,
         &[
-            b"\x02\0\0\0\x24\0\0\0\0\0\x10\0\0\0\0\0\x40\x42\x0f\0\x01\0\0\0\x01\0\0\0\x02\0\0\0\x24\0\0\0",
+            b"\x02\0\0\0\x24\0\0\0\0\0\x10\0\0\0\0\0\x40\x42\x0f\0\x01\0\0\0\x01\0\0\0\
+              \x02\0\0\0\x24\0\0\0",
             b"\x03\0\0\0\x14\0\0\0\x01\0\0\0\x03\0\0\0\x14\0\0\0",
-            b"\x0a\x0d\x0d\x0a\0\0\0\x1c\x1a\x2b\x3c\x4d\0\x01\0\0\xff\xff\xff\xff\xff\xff\xff\xff\0\0\0\x1c",
-            b"\0\0\0\x01\0\0\0\x28\0\x01\0\0\0\0\0\0\0\x09\0\x01\x00\0\0\0\0\x0e\0\x08\0\0\0\0\0\0\0\x02\0\0\0\x28",
-            b"\0\0\0\x06\0\0\0\x24\0\0\0\0\0\0\0\0\0\0\0\x05\0\0\0\x01\0\0\0\x01\x04\0\0\0\0\0\0\x24",
+            b"\x0a\x0d\x0d\x0a\0\0\0\x1c\x1a\x2b\x3c\x4d\0\x01\0\0\xff\xff\xff\xff\xff\
+              \xff\xff\xff\0\0\0\x1c",
+            b"\0\0\0\x01\0\0\0\x28\0\x01\0\0\0\0\0\0\0\x09\0\x01\x00\0\0\0\0\x0e\0\x08\
+              \0\0\0\0\0\0\0\x02\0\0\0\x28",
+            b"\0\0\0\x06\0\0\0\x24\0\0\0\0\0\0\0\0\0\0\0\x05\0\0\0\x01\0\0\0\x01\x04\0\
+              \0\0\0\0\0\x24",
         ],
     );
     let lines = b"frame 0 02 1 0\nframe 0 03 0 0\nframe 1 04 7 0\n";
@@ -226,8 +230,8 @@ fn clocks_behind_the_32nd(rt: HostRuntime) {
     add_packet(&rt, &mut file, 32, 1);
     add_packet(&rt, &mut file, 31, 1);
     add_packet(&rt, &mut file, 0, 1);
-    let lines =
-        b"frame 31 01 0 1000\nframe 32 01 1 0\nframe 32 01 0 1\nframe 31 01 0 1000\nframe 0 01 0 1\n";
+    let lines = b"frame 31 01 0 1000\nframe 32 01 1 0\nframe 32 01 0 1\n\
+        frame 31 01 0 1000\nframe 0 01 0 1\n";
     tells_all(&rt, Extra::Times, file.as_slice(), lines);
 }
 
