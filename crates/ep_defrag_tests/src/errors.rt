@@ -1,5 +1,6 @@
 //! Why fragments are refused: the texts and their order.
 
+use crate::checks::holds;
 use crate::fragments::offset;
 use ep_defrag::defrag::IpDefragError;
 use std::alloc::AllocError;
@@ -20,7 +21,7 @@ fn texts_of_refusals(rt: HostRuntime) -> Result<(), Fail> {
     };
     let text =
         "Payload length 15 of IP fragment (offset 123) is not a multiple of 8. This is only allowed for the last fragment packet.";
-    assert!(rt; reads_as(&rt, unaligned, text)?);
+    holds(&rt, reads_as(&rt, unaligned, text)?);
     let max = 65535;
     let long = IpDefragError::SegmentTooBig {
         offset,
@@ -29,7 +30,7 @@ fn texts_of_refusals(rt: HostRuntime) -> Result<(), Fail> {
     };
     let text =
         "Overall length of IP fragment (offset 123, payload len: 15) bigger then the maximum allowed size of 65535.";
-    assert!(rt; reads_as(&rt, long, text)?);
+    holds(&rt, reads_as(&rt, long, text)?);
     Ok(())
 }
 
@@ -43,10 +44,10 @@ fn texts_of_other_refusals(rt: HostRuntime) -> Result<(), Fail> {
     };
     let text =
         "Received a IP fragment (offset + len: 64) which conflicts a package that previously set the end to 48.";
-    assert!(rt; reads_as(&rt, end, text)?);
+    holds(&rt, reads_as(&rt, end, text)?);
     let memory = IpDefragError::AllocationFailure { len: 24 };
     let text = "Failed to allocate 24 bytes of memory to reconstruct the fragmented IP packets.";
-    assert!(rt; reads_as(&rt, memory, text)?);
+    holds(&rt, reads_as(&rt, memory, text)?);
     Ok(())
 }
 
@@ -60,7 +61,7 @@ fn text_of_an_overlap(rt: HostRuntime) -> Result<(), Fail> {
     };
     let text =
         "IP fragment (offset 123, payload len: 15) overlaps an earlier one. The fragments of its message are dropped.";
-    assert!(rt; reads_as(&rt, overlap, text)?);
+    holds(&rt, reads_as(&rt, overlap, text)?);
     Ok(())
 }
 
@@ -81,14 +82,14 @@ fn refusals_are_ordered_by_kind(rt: HostRuntime) {
         conflicting_end: 3,
     };
     let memory = IpDefragError::AllocationFailure { len: 2 };
-    assert!(rt; unaligned < long);
-    assert!(rt; long < end);
-    assert!(rt; end < memory);
-    assert!(rt; memory < IpDefragError::AllocationFailure { len: 3 });
+    holds(&rt, unaligned < long);
+    holds(&rt, long < end);
+    holds(&rt, end < memory);
+    holds(&rt, memory < IpDefragError::AllocationFailure { len: 3 });
     let payload_len = 1;
     let overlap = IpDefragError::OverlappingFragment {
         offset,
         payload_len,
     };
-    assert!(rt; memory < overlap);
+    holds(&rt, memory < overlap);
 }

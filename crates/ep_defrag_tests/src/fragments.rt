@@ -1,6 +1,7 @@
 //! Fragments and buffers, as the tests make them. The functions have no contracts: tests alone call
 //! them, and are run.
 
+use crate::checks::holds;
 use ep_base::{IpFragOffset, IpNumber};
 use ep_defrag::defrag::{IpDefragBuf, IpDefragError};
 use std::process::Abort;
@@ -44,21 +45,51 @@ pub fn add_zeros(
     buf.add(offset(rt, units), more_fragments, &ZEROS[..len])
 }
 
-/// Takes a fragment of so many zero bytes, and tells whether the message is complete; no contract,
-/// as above.
-pub fn completes(
+// Takes a fragment of so many zero bytes, and tells whether the message is complete; no contract,
+// as above.
+fn completes(
     rt: &impl Abort,
     buf: &mut IpDefragBuf,
     units: u16,
     more_fragments: bool,
     len: usize,
 ) -> bool {
-    assert!(rt; add_zeros(rt, buf, units, more_fragments, len).is_ok());
+    holds(rt, add_zeros(rt, buf, units, more_fragments, len).is_ok());
     buf.is_complete()
 }
 
+/// Takes a fragment of so many zero bytes, and the message stays open; no contract, as above.
+pub fn leaves_open(
+    rt: &impl Abort,
+    buf: &mut IpDefragBuf,
+    units: u16,
+    more_fragments: bool,
+    len: usize,
+) {
+    holds(rt, !completes(rt, buf, units, more_fragments, len));
+}
+
+/// Takes a fragment of so many zero bytes, and the message is complete; no contract, as above.
+pub fn makes_whole(
+    rt: &impl Abort,
+    buf: &mut IpDefragBuf,
+    units: u16,
+    more_fragments: bool,
+    len: usize,
+) {
+    holds(rt, completes(rt, buf, units, more_fragments, len));
+}
+
+/// Whether a buffer's copy is equal to it, or `None` without memory; no contract, as above.
+pub fn is_its_copy(buf: &IpDefragBuf) -> Option<bool> {
+    match buf.try_clone() {
+        Ok(copy) => Some(copy == *buf),
+        Err(_) => None,
+    }
+}
+
 /// Whether these are the bytes of a buffer; no contract, as above.
-pub fn holds(buf: &IpDefragBuf, bytes: &[u8]) -> bool {
+pub fn has_bytes(buf: &IpDefragBuf, bytes: &[u8]) -> bool {
     buf.data().as_slice() == bytes
 }
 

@@ -1,6 +1,7 @@
 //! Frames with the two halves of a UDP message, as the tests hand them in. The functions have no
 //! contracts: tests alone call them, and are run.
 
+use crate::checks::{equal, holds};
 use ep_defrag::defrag::{
     IpDefragError, IpDefragPayloadVec, IpDefragPool, PoolCall, PoolReply, run_calls,
 };
@@ -88,6 +89,68 @@ pub fn delivers<S: BuildHasher>(
         Ok(message) => message.is_some(),
         Err(error) => panic!(rt; "{error}"),
     }
+}
+
+/// Hands a frame in whose message waits for more; no contract, as above.
+pub fn waits<S: BuildHasher>(
+    rt: &impl Abort,
+    pool: &mut IpDefragPool<u64, u32, S>,
+    frame: &[u8],
+    timestamp: u64,
+    channel: u32,
+) {
+    holds(rt, !delivers(rt, pool, frame, timestamp, channel));
+}
+
+/// Hands a frame in that completes its message; no contract, as above.
+pub fn comes_whole<S: BuildHasher>(
+    rt: &impl Abort,
+    pool: &mut IpDefragPool<u64, u32, S>,
+    frame: &[u8],
+    timestamp: u64,
+    channel: u32,
+) {
+    holds(rt, delivers(rt, pool, frame, timestamp, channel));
+}
+
+/// Hands a frame in that completes a message of these bytes; no contract, as above.
+pub fn completes_as<S: BuildHasher>(
+    rt: &impl Abort,
+    pool: &mut IpDefragPool<u64, u32, S>,
+    frame: &[u8],
+    timestamp: u64,
+    channel: u32,
+    bytes: &[u8],
+) {
+    match process(rt, pool, frame, timestamp, channel) {
+        Ok(Some(message)) => equal(rt, &message.payload.as_slice(), &bytes),
+        _ => panic!(rt; "a frame doesn't complete its message"),
+    }
+}
+
+/// Hands a frame in that is refused so; no contract, as above.
+pub fn is_refused<S: BuildHasher>(
+    rt: &impl Abort,
+    pool: &mut IpDefragPool<u64, u32, S>,
+    frame: &[u8],
+    timestamp: u64,
+    channel: u32,
+    wanted: IpDefragError,
+) {
+    match process(rt, pool, frame, timestamp, channel) {
+        Ok(_) => panic!(rt; "a frame isn't refused"),
+        Err(error) => equal(rt, &error, &wanted),
+    }
+}
+
+/// Keeps the messages of this time and of later ones: from `u64::MAX` on there are none. No contract,
+/// as above.
+pub fn keep_from<S: BuildHasher>(
+    rt: &impl Abort,
+    pool: &mut IpDefragPool<u64, u32, S>,
+    least: u64,
+) {
+    holds(rt, pool.retain(|time: &u64| *time >= least).is_ok());
 }
 
 /// The replies to calls; no contract, as above.

@@ -1,6 +1,7 @@
 //! Pools with the hasher's state of a fixed seed and with random keys: the same answers, and names
 //! that were chosen to collide stay apart.
 
+use crate::checks::{equal, holds};
 use crate::frames::{IPV6_FIRST, IPV6_SECOND, delivers};
 use crate::pools::answers_calls_in_a_row;
 use ep_defrag::defrag::{IpDefragPool, IpFragVersionSpecId};
@@ -29,8 +30,8 @@ fn the_names_collide_by_the_fixed_seed_alone(rt: HostRuntime) -> Result<(), Fail
     let fixed = BuildHasherDefault::<FoldHasher>::new();
     let random = RandomState::new(&rt)?;
     for first in 1..=255 {
-        assert!(rt; hash_of(&fixed, first) == hash_of(&fixed, 0));
-        assert!(rt; hash_of(&random, first) != hash_of(&random, 0));
+        equal(&rt, &hash_of(&fixed, first), &hash_of(&fixed, 0));
+        holds(&rt, hash_of(&random, first) != hash_of(&random, 0));
     }
     Ok(())
 }
@@ -55,9 +56,12 @@ fn keeps_names_apart<S: BuildHasher + Drop>(
 
 #[test]
 fn names_that_collide_stay_apart(rt: HostRuntime) -> Result<(), Fail> {
-    assert!(rt; keeps_names_apart(&rt, IpDefragPool::new(rt.alloc())));
+    holds(&rt, keeps_names_apart(&rt, IpDefragPool::new(rt.alloc())));
     let state = RandomState::new(&rt)?;
-    assert!(rt; keeps_names_apart(&rt, IpDefragPool::with_hasher(rt.alloc(), state)));
+    holds(
+        &rt,
+        keeps_names_apart(&rt, IpDefragPool::with_hasher(rt.alloc(), state)),
+    );
     Ok(())
 }
 

@@ -5,6 +5,8 @@
 #[cfg(test)]
 mod buffers;
 #[cfg(test)]
+mod checks;
+#[cfg(test)]
 mod errors;
 #[cfg(test)]
 mod fragments;

@@ -1,6 +1,7 @@
 //! Fragments that overlap, where a buffer refuses that (RFC 5722; RFC 8200, section 4.5).
 
-use crate::fragments::{ZEROS, empty, holds, is_one_section, offset, refusing};
+use crate::checks::{equal, holds};
+use crate::fragments::{ZEROS, empty, has_bytes, is_one_section, offset, refusing};
 use ep_defrag::defrag::{IpDefragBuf, IpDefragError, OverlapRule};
 use std::process::Abort;
 use std::test::*;
@@ -23,6 +24,11 @@ fn add_units(
     assert!(rt; from <= to && to <= 4);
     let bytes = &BYTES[8 * usize::from(from)..8 * usize::from(to)];
     buf.add(offset(rt, from), more_fragments, bytes)
+}
+
+// Takes such bytes without a refusal; no contract, as above.
+fn takes(rt: &impl Abort, buf: &mut IpDefragBuf, from: u16, to: u16, more_fragments: bool) {
+    holds(rt, add_units(rt, buf, from, to, more_fragments).is_ok());
 }
 
 // Whether a buffer is as it was made; no contract, as above.
@@ -49,13 +55,17 @@ fn each_overlap_empties_the_buffer(rt: HostRuntime) {
     ];
     for (from, to, more_fragments) in ranges {
         let mut buf = refusing(&rt);
-        assert!(rt; add_units(&rt, &mut buf, 1, 3, true).is_ok());
+        takes(&rt, &mut buf, 1, 3, true);
         let overlap = IpDefragError::OverlappingFragment {
             offset: offset(&rt, from),
             payload_len: 8 * usize::from(to.saturating_sub(from)),
         };
-        assert!(rt; add_units(&rt, &mut buf, from, to, more_fragments) == Err(overlap));
-        assert!(rt; is_new(&rt, &buf));
+        equal(
+            &rt,
+            &add_units(&rt, &mut buf, from, to, more_fragments),
+            &Err(overlap),
+        );
+        holds(&rt, is_new(&rt, &buf));
     }
 }
 
@@ -75,62 +85,62 @@ fn what_is_no_overlap(rt: HostRuntime) {
     ];
     for (from, to, more_fragments) in ranges {
         let mut buf = refusing(&rt);
-        assert!(rt; add_units(&rt, &mut buf, 1, 3, true).is_ok());
-        assert!(rt; add_units(&rt, &mut buf, from, to, more_fragments).is_ok());
-        assert!(rt; buf.data().len() >= 24);
+        takes(&rt, &mut buf, 1, 3, true);
+        takes(&rt, &mut buf, from, to, more_fragments);
+        holds(&rt, buf.data().len() >= 24);
     }
 }
 
 #[test]
 fn other_bytes_at_the_same_place(rt: HostRuntime) {
     let mut buf = refusing(&rt);
-    assert!(rt; add_units(&rt, &mut buf, 0, 1, true).is_ok());
+    takes(&rt, &mut buf, 0, 1, true);
     let zero = offset(&rt, 0);
     let overlap = IpDefragError::OverlappingFragment {
         offset: zero,
         payload_len: 8,
     };
-    assert!(rt; buf.add(zero, true, &ZEROS[..8]) == Err(overlap));
-    assert!(rt; is_new(&rt, &buf));
+    equal(&rt, &buf.add(zero, true, &ZEROS[..8]), &Err(overlap));
+    holds(&rt, is_new(&rt, &buf));
     // The clashing fragment began nothing.
-    assert!(rt; add_units(&rt, &mut buf, 1, 2, false).is_ok());
-    assert!(rt; !buf.is_complete());
-    assert!(rt; add_units(&rt, &mut buf, 0, 1, true).is_ok());
-    assert!(rt; buf.is_complete());
-    assert!(rt; holds(&buf, &BYTES[..16]));
+    takes(&rt, &mut buf, 1, 2, false);
+    holds(&rt, !buf.is_complete());
+    takes(&rt, &mut buf, 0, 1, true);
+    holds(&rt, buf.is_complete());
+    holds(&rt, has_bytes(&buf, &BYTES[..16]));
 }
 
 #[test]
 fn fragments_in_any_order(rt: HostRuntime) {
     let mut buf = refusing(&rt);
     for unit in [3, 1, 2, 1, 3, 0] {
-        assert!(rt; !buf.is_complete());
-        assert!(rt; add_units(&rt, &mut buf, unit, unit + 1, unit != 3).is_ok());
+        holds(&rt, !buf.is_complete());
+        takes(&rt, &mut buf, unit, unit + 1, unit != 3);
     }
-    assert!(rt; buf.is_complete());
-    assert!(rt; is_one_section(&buf, 0, 32));
-    assert!(rt; holds(&buf, &BYTES));
+    holds(&rt, buf.is_complete());
+    holds(&rt, is_one_section(&buf, 0, 32));
+    holds(&rt, has_bytes(&buf, &BYTES));
 }
 
 #[test]
 fn refusals_before_an_overlap(rt: HostRuntime) {
     let mut buf = refusing(&rt);
-    assert!(rt; add_units(&rt, &mut buf, 1, 2, false).is_ok());
+    takes(&rt, &mut buf, 1, 2, false);
     let zero = offset(&rt, 0);
     let one = offset(&rt, 1);
     let conflict = IpDefragError::ConflictingEnd {
         previous_end: 16,
         conflicting_end: 24,
     };
-    assert!(rt; buf.add(one, true, &ZEROS[..16]) == Err(conflict));
+    equal(&rt, &buf.add(one, true, &ZEROS[..16]), &Err(conflict));
     let unaligned = IpDefragError::UnalignedFragmentPayloadLen {
         offset: one,
         payload_len: 7,
     };
-    assert!(rt; buf.add(one, true, &ZEROS[..7]) == Err(unaligned));
-    assert!(rt; buf.end() == Some(16));
-    assert!(rt; buf.add(zero, true, &ZEROS[..8]).is_ok());
-    assert!(rt; buf.is_complete());
+    equal(&rt, &buf.add(one, true, &ZEROS[..7]), &Err(unaligned));
+    equal(&rt, &buf.end(), &Some(16));
+    holds(&rt, buf.add(zero, true, &ZEROS[..8]).is_ok());
+    holds(&rt, buf.is_complete());
 }
 
 /// An overlap among fragments in a row is passed over, and they go on with the empty buffer.
@@ -146,24 +156,24 @@ fn all_go_on_behind_an_overlap(rt: HostRuntime) {
         (one, false, &BYTES[8..16]),
         (zero, true, &BYTES[..8]),
     ]);
-    assert!(rt; taken == Ok(4));
-    assert!(rt; buf.is_complete());
-    assert!(rt; holds(&buf, &BYTES[..16]));
+    equal(&rt, &taken, &Ok(4));
+    holds(&rt, buf.is_complete());
+    holds(&rt, has_bytes(&buf, &BYTES[..16]));
 }
 
 #[test]
 fn a_copy_refuses_overlaps_too(rt: HostRuntime) -> Result<(), Fail> {
     let mut buf = refusing(&rt);
-    assert!(rt; buf != empty(&rt));
-    assert!(rt; add_units(&rt, &mut buf, 0, 1, true).is_ok());
-    assert!(rt; add_units(&rt, &mut buf, 1, 1, true).is_ok());
+    holds(&rt, buf != empty(&rt));
+    takes(&rt, &mut buf, 0, 1, true);
+    takes(&rt, &mut buf, 1, 1, true);
     let mut copy = buf.try_clone()?;
-    assert!(rt; copy == buf);
-    assert!(rt; add_units(&rt, &mut copy, 0, 1, true).is_ok());
-    assert!(rt; copy == buf);
-    assert!(rt; add_units(&rt, &mut copy, 0, 2, true).is_err());
-    assert!(rt; is_new(&rt, &copy));
-    assert!(rt; buf != copy);
+    equal(&rt, &copy, &buf);
+    takes(&rt, &mut copy, 0, 1, true);
+    equal(&rt, &copy, &buf);
+    holds(&rt, add_units(&rt, &mut copy, 0, 2, true).is_err());
+    holds(&rt, is_new(&rt, &copy));
+    holds(&rt, buf != copy);
     Ok(())
 }
 
@@ -177,17 +187,17 @@ fn a_repeat_wants_no_memory(rt: HostRuntime) {
             Ok(()) => {}
             Err(error) => {
                 let len = 8 * usize::from(unit + 1);
-                assert!(rt; error == IpDefragError::AllocationFailure { len });
-                assert!(rt; add_units(&rt, &mut buf, unit, unit + 1, true).is_ok());
+                equal(&rt, &error, &IpDefragError::AllocationFailure { len });
+                takes(&rt, &mut buf, unit, unit + 1, true);
             }
         }
-        assert!(rt; add_units(&rt, &mut buf, unit, unit + 1, true).is_ok());
+        takes(&rt, &mut buf, unit, unit + 1, true);
     }
-    assert!(rt; buf.sections().len() == 2);
+    equal(&rt, &buf.sections().len(), &2);
 }
 
 #[test]
 fn rules_of_buffers(rt: HostRuntime) {
-    assert!(rt; empty(&rt).overlap_rule() == OverlapRule::Overwrites);
-    assert!(rt; refusing(&rt).overlap_rule() == OverlapRule::Refuses);
+    equal(&rt, &empty(&rt).overlap_rule(), &OverlapRule::Overwrites);
+    equal(&rt, &refusing(&rt).overlap_rule(), &OverlapRule::Refuses);
 }

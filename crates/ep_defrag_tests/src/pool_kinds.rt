@@ -1,7 +1,8 @@
 //! What a pool makes of packets that are no fragments, and of frames that aren't sliced: nothing.
 //! The frames were put together by hand after the RFCs that the comments name.
 
-use crate::frames::{FIRST, MESSAGE, SECOND, delivers, replies};
+use crate::checks::equal;
+use crate::frames::{FIRST, MESSAGE, SECOND, comes_whole, keep_from, replies, waits};
 use ep_base::LenSource;
 use ep_base::err::{Layer, LenError};
 use ep_defrag::defrag::{IpDefragPool, PoolCall, PoolReply};
@@ -75,23 +76,23 @@ const NO_FRAGMENTS: [&[u8]; 8] = [
 #[test]
 fn no_fragments(rt: HostRuntime) {
     let mut pool = IpDefragPool::new(rt.alloc());
-    assert!(rt; !delivers(&rt, &mut pool, &FIRST, 1, 0));
+    waits(&rt, &mut pool, &FIRST, 1, 0);
     for frame in NO_FRAGMENTS {
-        assert!(rt; !delivers(&rt, &mut pool, frame, 2, 0));
+        waits(&rt, &mut pool, frame, 2, 0);
     }
-    assert!(rt; delivers(&rt, &mut pool, &SECOND, 3, 0));
+    comes_whole(&rt, &mut pool, &SECOND, 3, 0);
 }
 
 /// The message whose half came at time 1 is dropped: nothing renewed its time.
 #[test]
 fn no_fragments_renew_no_time(rt: HostRuntime) {
     let mut pool = IpDefragPool::new(rt.alloc());
-    assert!(rt; !delivers(&rt, &mut pool, &FIRST, 1, 0));
+    waits(&rt, &mut pool, &FIRST, 1, 0);
     for frame in NO_FRAGMENTS {
-        assert!(rt; !delivers(&rt, &mut pool, frame, 2, 0));
+        waits(&rt, &mut pool, frame, 2, 0);
     }
-    assert!(rt; pool.retain(|time: &u64| *time >= 2).is_ok());
-    assert!(rt; !delivers(&rt, &mut pool, &SECOND, 3, 0));
+    keep_from(&rt, &mut pool, 2);
+    waits(&rt, &mut pool, &SECOND, 3, 0);
 }
 
 #[test]
@@ -129,7 +130,7 @@ fn frames_that_are_not_sliced(rt: HostRuntime) {
     else {
         panic!(rt; "the replies are others");
     };
-    assert!(rt; *short_frame == want(14, 13, Layer::Ethernet2Header, 0));
-    assert!(rt; *short_header == want(20, 1, Layer::Ipv4Header, 14));
-    assert!(rt; message.payload.as_slice() == &MESSAGE[..]);
+    equal(&rt, short_frame, &want(14, 13, Layer::Ethernet2Header, 0));
+    equal(&rt, short_header, &want(20, 1, Layer::Ipv4Header, 14));
+    equal(&rt, &message.payload.as_slice(), &MESSAGE.as_slice());
 }

@@ -1,7 +1,10 @@
 //! Want of memory in a pool. To be run with each allocation failing in turn, too: then one of the
 //! calls wants memory and leaves the pool as it was, and the next one gets it.
 
-use crate::frames::{FIRST, IPV6_FIRST, IPV6_SECOND, MESSAGE, SECOND, delivers, process};
+use crate::checks::{equal, holds};
+use crate::frames::{
+    FIRST, IPV6_FIRST, IPV6_SECOND, MESSAGE, SECOND, delivers, keep_from, process, waits,
+};
 use ep_defrag::defrag::{IpDefragError, IpDefragPool, PoolCall, PoolReply, run_calls};
 use std::alloc::Global;
 use std::process::Abort;
@@ -11,16 +14,16 @@ use std::test::*;
 fn a_message_wants_memory(rt: HostRuntime) {
     let mut pool = IpDefragPool::new(rt.alloc());
     if let Err(error) = process(&rt, &mut pool, &FIRST, 1, 0) {
-        assert!(rt; error == IpDefragError::AllocationFailure { len: 8 });
-        assert!(rt; !delivers(&rt, &mut pool, &FIRST, 1, 0));
+        equal(&rt, &error, &IpDefragError::AllocationFailure { len: 8 });
+        waits(&rt, &mut pool, &FIRST, 1, 0);
     }
     if let Err(error) = process(&rt, &mut pool, &SECOND, 2, 1) {
-        assert!(rt; error == IpDefragError::AllocationFailure { len: 16 });
-        assert!(rt; !delivers(&rt, &mut pool, &SECOND, 2, 1));
+        equal(&rt, &error, &IpDefragError::AllocationFailure { len: 16 });
+        waits(&rt, &mut pool, &SECOND, 2, 1);
     }
-    assert!(rt; pool.retain(|time: &u64| *time >= 2).is_ok());
-    assert!(rt; !delivers_at_last(&rt, &mut pool, &SECOND, 0, 16));
-    assert!(rt; delivers_at_last(&rt, &mut pool, &FIRST, 1, 8));
+    keep_from(&rt, &mut pool, 2);
+    holds(&rt, !delivers_at_last(&rt, &mut pool, &SECOND, 0, 16));
+    holds(&rt, delivers_at_last(&rt, &mut pool, &FIRST, 1, 8));
 }
 
 #[test]
@@ -38,12 +41,12 @@ fn a_list_of_calls_wants_memory(rt: HostRuntime) {
             let waiting = replies
                 .iter()
                 .filter(|reply| matches!(reply, PoolReply::Nothing));
-            assert!(rt; waiting.count() >= 1);
-            assert!(rt; delivers_at_last(&rt, &mut pool, &SECOND, 0, 16));
+            holds(&rt, waiting.count() >= 1);
+            holds(&rt, delivers_at_last(&rt, &mut pool, &SECOND, 0, 16));
         }
         Err(_) => {
-            assert!(rt; !delivers(&rt, &mut pool, &SECOND, 2, 0));
-            assert!(rt; run_calls(rt.alloc(), &mut pool, &calls).is_ok());
+            waits(&rt, &mut pool, &SECOND, 2, 0);
+            holds(&rt, run_calls(rt.alloc(), &mut pool, &calls).is_ok());
         }
     }
 }
@@ -60,7 +63,7 @@ fn delivers_at_last(
     match process(rt, pool, frame, 1, channel) {
         Ok(message) => message.is_some(),
         Err(error) => {
-            assert!(rt; error == IpDefragError::AllocationFailure { len: end });
+            equal(rt, &error, &IpDefragError::AllocationFailure { len: end });
             delivers(rt, pool, frame, 1, channel)
         }
     }
@@ -71,12 +74,18 @@ fn delivers_at_last(
 fn many_messages_want_memory(rt: HostRuntime) {
     let mut pool = IpDefragPool::new(rt.alloc());
     for channel in 0..10u32 {
-        assert!(rt; !delivers_at_last(&rt, &mut pool, &FIRST, channel, 8));
-        assert!(rt; !delivers_at_last(&rt, &mut pool, &IPV6_SECOND, channel, 16));
+        holds(&rt, !delivers_at_last(&rt, &mut pool, &FIRST, channel, 8));
+        holds(
+            &rt,
+            !delivers_at_last(&rt, &mut pool, &IPV6_SECOND, channel, 16),
+        );
     }
     for channel in 0..10u32 {
-        assert!(rt; delivers_at_last(&rt, &mut pool, &SECOND, channel, 16));
-        assert!(rt; delivers_at_last(&rt, &mut pool, &IPV6_FIRST, channel, 8));
+        holds(&rt, delivers_at_last(&rt, &mut pool, &SECOND, channel, 16));
+        holds(
+            &rt,
+            delivers_at_last(&rt, &mut pool, &IPV6_FIRST, channel, 8),
+        );
     }
 }
 
@@ -109,7 +118,7 @@ fn one_of_many_calls_wants_memory(rt: HostRuntime) {
     for pair in begun.iter().zip(ended.iter()) {
         match pair {
             (PoolReply::Nothing, PoolReply::Payload(message)) => {
-                assert!(rt; message.payload.as_slice() == &MESSAGE[..]);
+                equal(&rt, &message.payload.as_slice(), &MESSAGE.as_slice());
             }
             (PoolReply::Refused(IpDefragError::AllocationFailure { len: 8 }), PoolReply::Nothing)
             | (
@@ -121,7 +130,7 @@ fn one_of_many_calls_wants_memory(rt: HostRuntime) {
             _ => panic!(rt; "the replies are others"),
         }
     }
-    assert!(rt; wanting <= 1);
+    holds(&rt, wanting <= 1);
 }
 
 // The replies to calls, once there is room for them. It has no contract, as tests alone call it.

@@ -1,5 +1,6 @@
 //! A message of three fragments, in each order and with repeats.
 
+use crate::checks::{equal, holds};
 use crate::frames::process;
 use ep_base::{IpNumber, LenSource};
 use ep_defrag::defrag::IpDefragPool;
@@ -39,9 +40,9 @@ const ORDERS: [[&[u8]; 3]; 6] = [
 fn hands_out(rt: &impl Abort, pool: &mut IpDefragPool<u64, u32>, frame: &[u8]) -> bool {
     match process(rt, pool, frame, 1, 0) {
         Ok(Some(message)) => {
-            assert!(rt; message.ip_number == IpNumber::TCP);
-            assert!(rt; message.len_source == LenSource::Ipv4HeaderTotalLen);
-            assert!(rt; message.payload.as_slice() == &TCP_MESSAGE[..]);
+            equal(rt, &message.ip_number, &IpNumber::TCP);
+            equal(rt, &message.len_source, &LenSource::Ipv4HeaderTotalLen);
+            equal(rt, &message.payload.as_slice(), &TCP_MESSAGE.as_slice());
             true
         }
         Ok(None) => false,
@@ -49,23 +50,32 @@ fn hands_out(rt: &impl Abort, pool: &mut IpDefragPool<u64, u32>, frame: &[u8]) -
     }
 }
 
+// Hands frames in that wait, and a last one that hands the message out; no contract, as above.
+fn last_hands_out(
+    rt: &impl Abort,
+    pool: &mut IpDefragPool<u64, u32>,
+    waiting: &[&[u8]],
+    last: &[u8],
+) {
+    for frame in waiting {
+        holds(rt, !hands_out(rt, pool, frame));
+    }
+    holds(rt, hands_out(rt, pool, last));
+}
+
 #[test]
 fn each_order(rt: HostRuntime) {
     let mut pool = IpDefragPool::new(rt.alloc());
-    for [first, second, third] in ORDERS {
-        assert!(rt; !hands_out(&rt, &mut pool, first));
-        assert!(rt; !hands_out(&rt, &mut pool, second));
-        assert!(rt; hands_out(&rt, &mut pool, third));
+    for [first, second, third] in ORDERS.iter() {
+        last_hands_out(&rt, &mut pool, &[*first, *second], third);
     }
 }
 
 #[test]
 fn each_order_with_repeats(rt: HostRuntime) {
     let mut pool = IpDefragPool::new(rt.alloc());
-    for [first, second, third] in ORDERS {
-        for frame in [first, first, second, first, second] {
-            assert!(rt; !hands_out(&rt, &mut pool, frame));
-        }
-        assert!(rt; hands_out(&rt, &mut pool, third));
+    for [first, second, third] in ORDERS.iter() {
+        let waiting = [*first, *first, *second, *first, *second];
+        last_hands_out(&rt, &mut pool, &waiting, third);
     }
 }

@@ -1,9 +1,11 @@
 //! Overlaps that a pool refuses: over IPv6 they end their message (RFC 5722; RFC 8200, section 4.5),
 //! over IPv4 later bytes go over earlier ones (RFC 791, section 3.2).
 
+use crate::checks::equal;
 use crate::fragments::offset;
 use crate::frames::{
-    FIRST, IPV6_FIRST, IPV6_MESSAGE, IPV6_SECOND, SECOND, delivers, process, replies,
+    FIRST, IPV6_FIRST, IPV6_MESSAGE, IPV6_SECOND, SECOND, comes_whole, completes_as, is_refused,
+    keep_from, process, replies, waits,
 };
 use ep_defrag::defrag::{IpDefragError, IpDefragPool, PoolCall, PoolReply};
 use std::process::Abort;
@@ -34,74 +36,71 @@ fn second_with(low: u8) -> [u8; 70] {
 #[test]
 fn exact_repeat_waits(rt: HostRuntime) {
     let mut pool = IpDefragPool::new(rt.alloc());
-    assert!(rt; !delivers(&rt, &mut pool, &IPV6_FIRST, 1, 0));
-    assert!(rt; !delivers(&rt, &mut pool, &IPV6_FIRST, 2, 0));
-    assert!(rt; pool.open_len() == 1);
-    let Ok(Some(message)) = process(&rt, &mut pool, &IPV6_SECOND, 3, 0) else {
-        panic!(rt; "the second half doesn't complete the message");
-    };
-    assert!(rt; message.payload.as_slice() == &IPV6_MESSAGE[..]);
+    waits(&rt, &mut pool, &IPV6_FIRST, 1, 0);
+    waits(&rt, &mut pool, &IPV6_FIRST, 2, 0);
+    equal(&rt, &pool.open_len(), &1);
+    completes_as(&rt, &mut pool, &IPV6_SECOND, 3, 0, &IPV6_MESSAGE);
 }
 
 #[test]
 fn overlap_ends_the_message(rt: HostRuntime) {
     let mut pool = IpDefragPool::new(rt.alloc());
-    assert!(rt; !delivers(&rt, &mut pool, &IPV6_FIRST, 1, 0));
-    assert!(rt; process(&rt, &mut pool, &other_bytes(), 2, 0) == Err(overlap(&rt, 0)));
-    assert!(rt; pool.open_len() == 0);
-    assert!(rt; pool.spare_len() == 0);
-    assert!(rt; !delivers(&rt, &mut pool, &IPV6_SECOND, 3, 0));
-    assert!(rt; delivers(&rt, &mut pool, &IPV6_FIRST, 4, 0));
+    waits(&rt, &mut pool, &IPV6_FIRST, 1, 0);
+    is_refused(&rt, &mut pool, &other_bytes(), 2, 0, overlap(&rt, 0));
+    equal(&rt, &pool.open_len(), &0);
+    equal(&rt, &pool.spare_len(), &0);
+    waits(&rt, &mut pool, &IPV6_SECOND, 3, 0);
+    comes_whole(&rt, &mut pool, &IPV6_FIRST, 4, 0);
 }
 
 #[test]
 fn other_flag_is_an_overlap(rt: HostRuntime) {
     let mut pool = IpDefragPool::new(rt.alloc());
-    assert!(rt; !delivers(&rt, &mut pool, &second_with(9), 1, 0));
-    assert!(rt; process(&rt, &mut pool, &IPV6_SECOND, 2, 0) == Err(overlap(&rt, 1)));
+    waits(&rt, &mut pool, &second_with(9), 1, 0);
+    is_refused(&rt, &mut pool, &IPV6_SECOND, 2, 0, overlap(&rt, 1));
     // It began no message.
-    assert!(rt; !delivers(&rt, &mut pool, &IPV6_FIRST, 3, 0));
-    assert!(rt; delivers(&rt, &mut pool, &IPV6_SECOND, 4, 0));
+    waits(&rt, &mut pool, &IPV6_FIRST, 3, 0);
+    comes_whole(&rt, &mut pool, &IPV6_SECOND, 4, 0);
 }
 
 #[test]
 fn end_below_an_accepted_place(rt: HostRuntime) {
     let mut pool = IpDefragPool::new(rt.alloc());
-    assert!(rt; !delivers(&rt, &mut pool, &second_with(0x11), 1, 0));
-    assert!(rt; process(&rt, &mut pool, &IPV6_SECOND, 2, 0) == Err(overlap(&rt, 1)));
-    assert!(rt; pool.open_len() == 0);
+    waits(&rt, &mut pool, &second_with(0x11), 1, 0);
+    is_refused(&rt, &mut pool, &IPV6_SECOND, 2, 0, overlap(&rt, 1));
+    equal(&rt, &pool.open_len(), &0);
 }
 
 #[test]
 fn repeat_renews_the_time(rt: HostRuntime) {
     let mut pool = IpDefragPool::new(rt.alloc());
-    assert!(rt; !delivers(&rt, &mut pool, &IPV6_FIRST, 1, 0));
-    assert!(rt; !delivers(&rt, &mut pool, &IPV6_FIRST, 2, 0));
-    assert!(rt; pool.retain(|time: &u64| *time >= 2).is_ok());
-    assert!(rt; delivers(&rt, &mut pool, &IPV6_SECOND, 3, 0));
+    waits(&rt, &mut pool, &IPV6_FIRST, 1, 0);
+    waits(&rt, &mut pool, &IPV6_FIRST, 2, 0);
+    keep_from(&rt, &mut pool, 2);
+    comes_whole(&rt, &mut pool, &IPV6_SECOND, 3, 0);
 }
 
 #[test]
 fn other_messages_stay(rt: HostRuntime) {
     let mut pool = IpDefragPool::new(rt.alloc());
-    assert!(rt; !delivers(&rt, &mut pool, &IPV6_FIRST, 1, 0));
-    assert!(rt; !delivers(&rt, &mut pool, &IPV6_FIRST, 1, 1));
-    assert!(rt; process(&rt, &mut pool, &other_bytes(), 2, 1) == Err(overlap(&rt, 0)));
-    assert!(rt; pool.open_len() == 1);
-    assert!(rt; delivers(&rt, &mut pool, &IPV6_SECOND, 3, 0));
+    waits(&rt, &mut pool, &IPV6_FIRST, 1, 0);
+    waits(&rt, &mut pool, &IPV6_FIRST, 1, 1);
+    is_refused(&rt, &mut pool, &other_bytes(), 2, 1, overlap(&rt, 0));
+    equal(&rt, &pool.open_len(), &1);
+    comes_whole(&rt, &mut pool, &IPV6_SECOND, 3, 0);
 }
 
 #[test]
 fn overlap_over_ipv4_is_taken(rt: HostRuntime) {
     let mut pool = IpDefragPool::new(rt.alloc());
-    assert!(rt; !delivers(&rt, &mut pool, &FIRST, 1, 0));
+    waits(&rt, &mut pool, &FIRST, 1, 0);
     let mut other = FIRST;
     other[41] = 0xb5;
-    assert!(rt; !delivers(&rt, &mut pool, &other, 2, 0));
+    waits(&rt, &mut pool, &other, 2, 0);
     let Ok(Some(message)) = process(&rt, &mut pool, &SECOND, 3, 0) else {
         panic!(rt; "the second half doesn't complete the message");
     };
-    assert!(rt; message.payload.as_slice().get(7) == Some(&0xb5));
+    equal(&rt, &message.payload.as_slice().get(7), &Some(&0xb5));
 }
 
 #[test]

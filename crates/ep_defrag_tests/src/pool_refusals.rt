@@ -1,7 +1,10 @@
 //! What a pool refuses, over both versions, and that a refusal changes nothing.
 
+use crate::checks::holds;
 use crate::fragments::offset;
-use crate::frames::{FIRST, IPV6_FIRST, IPV6_SECOND, SECOND, delivers, process, replies};
+use crate::frames::{
+    FIRST, IPV6_FIRST, IPV6_SECOND, SECOND, comes_whole, is_refused, process, replies, waits,
+};
 use ep_defrag::defrag::{IpDefragError, IpDefragPool, PoolCall, PoolReply};
 use std::test::*;
 
@@ -28,23 +31,23 @@ fn refused_over_ipv4(rt: HostRuntime) {
         payload_len: 8,
         max: 65535,
     };
-    assert!(rt; process(&rt, &mut pool, &LONG, 1, 0) == Err(too_big));
+    is_refused(&rt, &mut pool, &LONG, 1, 0, too_big);
     let unaligned = IpDefragError::UnalignedFragmentPayloadLen {
         offset: zero,
         payload_len: 7,
     };
-    assert!(rt; process(&rt, &mut pool, &UNALIGNED, 1, 0) == Err(unaligned));
-    assert!(rt; !delivers(&rt, &mut pool, &SECOND, 1, 0));
+    is_refused(&rt, &mut pool, &UNALIGNED, 1, 0, unaligned);
+    waits(&rt, &mut pool, &SECOND, 1, 0);
     let mut behind = SECOND;
     behind[21] = 2;
     let conflict = IpDefragError::ConflictingEnd {
         previous_end: 16,
         conflicting_end: 24,
     };
-    assert!(rt; process(&rt, &mut pool, &behind, 1, 0) == Err(conflict));
-    assert!(rt; process(&rt, &mut pool, &LONG, 1, 0).is_err());
-    assert!(rt; process(&rt, &mut pool, &UNALIGNED, 1, 0).is_err());
-    assert!(rt; delivers(&rt, &mut pool, &FIRST, 1, 0));
+    is_refused(&rt, &mut pool, &behind, 1, 0, conflict);
+    holds(&rt, process(&rt, &mut pool, &LONG, 1, 0).is_err());
+    holds(&rt, process(&rt, &mut pool, &UNALIGNED, 1, 0).is_err());
+    comes_whole(&rt, &mut pool, &FIRST, 1, 0);
 }
 
 /// To be run with each allocation failing in turn, too: a message's first fragment is refused then
@@ -83,26 +86,26 @@ fn refused_over_ipv6(rt: HostRuntime) {
         payload_len: 8,
         max: 65535,
     };
-    assert!(rt; process(&rt, &mut pool, &long, 1, 0) == Err(too_big));
+    is_refused(&rt, &mut pool, &long, 1, 0, too_big);
     let mut short = IPV6_FIRST;
     short[19] = 0x0f;
     let unaligned = IpDefragError::UnalignedFragmentPayloadLen {
         offset: zero,
         payload_len: 7,
     };
-    assert!(rt; process(&rt, &mut pool, &short[..69], 1, 0) == Err(unaligned));
-    assert!(rt; !delivers(&rt, &mut pool, &IPV6_SECOND, 1, 0));
+    is_refused(&rt, &mut pool, &short[..69], 1, 0, unaligned);
+    waits(&rt, &mut pool, &IPV6_SECOND, 1, 0);
     let mut behind = IPV6_SECOND;
     behind[57] = 0x11;
     let conflict = |conflicting_end| IpDefragError::ConflictingEnd {
         previous_end: 16,
         conflicting_end,
     };
-    assert!(rt; process(&rt, &mut pool, &behind, 1, 0) == Err(conflict(24)));
+    is_refused(&rt, &mut pool, &behind, 1, 0, conflict(24));
     let mut lower = IPV6_SECOND;
     lower[19] = 0x0c;
-    assert!(rt; process(&rt, &mut pool, &lower[..66], 1, 0) == Err(conflict(12)));
-    assert!(rt; delivers(&rt, &mut pool, &IPV6_FIRST, 1, 0));
+    is_refused(&rt, &mut pool, &lower[..66], 1, 0, conflict(12));
+    comes_whole(&rt, &mut pool, &IPV6_FIRST, 1, 0);
 }
 
 #[test]

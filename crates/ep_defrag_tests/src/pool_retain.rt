@@ -1,6 +1,7 @@
 //! Which messages a pool keeps by their times, and how often it asks.
 
-use crate::frames::{FIRST, MESSAGE, SECOND, delivers, replies};
+use crate::checks::{equal, holds};
+use crate::frames::{FIRST, MESSAGE, SECOND, delivers, keep_from, replies, waits};
 use ep_defrag::defrag::{IpDefragPool, PoolCall, PoolReply};
 use std::cell::Cell;
 use std::test::*;
@@ -9,11 +10,11 @@ use std::test::*;
 fn a_time_at_the_bound(rt: HostRuntime) {
     let mut pool = IpDefragPool::new(rt.alloc());
     for (channel, time) in [(0, 1), (1, 2), (2, 3)] {
-        assert!(rt; !delivers(&rt, &mut pool, &FIRST, time, channel));
+        waits(&rt, &mut pool, &FIRST, time, channel);
     }
-    assert!(rt; pool.retain(|time: &u64| *time >= 2).is_ok());
+    keep_from(&rt, &mut pool, 2);
     for (channel, stays) in [(0, false), (1, true), (2, true)] {
-        assert!(rt; delivers(&rt, &mut pool, &SECOND, 4, channel) == stays);
+        equal(&rt, &delivers(&rt, &mut pool, &SECOND, 4, channel), &stays);
     }
 }
 
@@ -46,7 +47,7 @@ fn a_renewed_time_at_the_bound(rt: HostRuntime) {
     else {
         panic!(rt; "the replies are others");
     };
-    assert!(rt; message.payload.as_slice() == &MESSAGE[..]);
+    equal(&rt, &message.payload.as_slice(), &MESSAGE.as_slice());
 }
 
 /// No clause says how often the test is asked: once for each message, whether it stays or goes.
@@ -56,7 +57,7 @@ fn asked_once_for_each_message(rt: HostRuntime) {
     let asked = Cell::new(0u32);
     let times = Cell::new(0u64);
     for (channel, time) in [(0, 1), (1, 10), (2, 100), (3, 1000), (4, 10000)] {
-        assert!(rt; !delivers(&rt, &mut pool, &FIRST, time, channel));
+        waits(&rt, &mut pool, &FIRST, time, channel);
     }
     for (bound, left, sum) in [
         (100, 5, 11111),
@@ -71,7 +72,7 @@ fn asked_once_for_each_message(rt: HostRuntime) {
             times.set(times.get().wrapping_add(*time));
             *time >= bound
         });
-        assert!(rt; kept.is_ok());
-        assert!(rt; asked.get() == left && times.get() == sum);
+        holds(&rt, kept.is_ok());
+        holds(&rt, asked.get() == left && times.get() == sum);
     }
 }

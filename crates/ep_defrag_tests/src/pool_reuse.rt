@@ -1,8 +1,10 @@
 //! Buffers that are kept for messages to come: how many there are, and that nothing of what they
 //! held is seen.
 
+use crate::checks::{equal, holds};
 use crate::frames::{
-    FIRST, IPV6_FIRST, IPV6_MESSAGE, IPV6_SECOND, MESSAGE, SECOND, delivers, process, replies,
+    FIRST, IPV6_FIRST, IPV6_MESSAGE, IPV6_SECOND, MESSAGE, SECOND, comes_whole, keep_from, process,
+    replies, waits,
 };
 use crate::pool_refusals::UNALIGNED;
 use ep_base::{IpNumber, LenSource};
@@ -10,28 +12,31 @@ use ep_defrag::defrag::{IpDefragPayloadVec, IpDefragPool, PoolCall, PoolReply};
 use std::process::Abort;
 use std::test::*;
 
-// Whether so many messages are on their way, and so many buffers are spare. It has no contract, as
-// tests alone call it.
-fn holds(pool: &IpDefragPool<u64, u32>, open: usize, spare: usize) -> bool {
-    pool.open_len() == open && pool.spare_len() == spare
+// So many messages are on their way, and so many buffers are spare. It has no contract, as tests
+// alone call it.
+fn has_counts(rt: &impl Abort, pool: &IpDefragPool<u64, u32>, open: usize, spare: usize) {
+    equal(rt, &(pool.open_len(), pool.spare_len()), &(open, spare));
 }
 
 /// A message that is dropped leaves its buffer, and the next one takes it.
 #[test]
 fn a_message_that_is_dropped(rt: HostRuntime) {
     let mut pool = IpDefragPool::new(rt.alloc());
-    assert!(rt; holds(&pool, 0, 0));
+    has_counts(&rt, &pool, 0, 0);
     let call = |timestamp| PoolCall::Frame {
         frame: &FIRST[..],
         timestamp,
         channel: 0,
     };
     let told = replies(&rt, rt.alloc(), &mut pool, &[call(1)]);
-    assert!(rt; matches!(told.as_slice(), [PoolReply::Nothing]) && holds(&pool, 1, 0));
+    holds(&rt, matches!(told.as_slice(), [PoolReply::Nothing]));
+    has_counts(&rt, &pool, 1, 0);
     let told = replies(&rt, rt.alloc(), &mut pool, &[PoolCall::RetainFrom(2)]);
-    assert!(rt; matches!(told.as_slice(), [PoolReply::Retained]) && holds(&pool, 0, 1));
+    holds(&rt, matches!(told.as_slice(), [PoolReply::Retained]));
+    has_counts(&rt, &pool, 0, 1);
     let told = replies(&rt, rt.alloc(), &mut pool, &[call(3)]);
-    assert!(rt; matches!(told.as_slice(), [PoolReply::Nothing]) && holds(&pool, 1, 0));
+    holds(&rt, matches!(told.as_slice(), [PoolReply::Nothing]));
+    has_counts(&rt, &pool, 1, 0);
 }
 
 /// A pool takes the buffer of a message of another one, too.
@@ -45,8 +50,8 @@ fn a_message_that_is_given(rt: HostRuntime) -> Result<(), Fail> {
         len_source: LenSource::Ipv4HeaderTotalLen,
         payload,
     };
-    assert!(rt; pool.return_buf(message).is_ok());
-    assert!(rt; holds(&pool, 0, 1));
+    holds(&rt, pool.return_buf(message).is_ok());
+    has_counts(&rt, &pool, 0, 1);
     Ok(())
 }
 
@@ -54,12 +59,12 @@ fn a_message_that_is_given(rt: HostRuntime) -> Result<(), Fail> {
 #[test]
 fn a_refused_first_fragment(rt: HostRuntime) {
     let mut pool = IpDefragPool::new(rt.alloc());
-    assert!(rt; process(&rt, &mut pool, &UNALIGNED, 1, 0).is_err());
-    assert!(rt; holds(&pool, 0, 0));
-    assert!(rt; !delivers(&rt, &mut pool, &FIRST, 1, 0));
-    assert!(rt; pool.retain(|_time: &u64| false).is_ok());
-    assert!(rt; process(&rt, &mut pool, &UNALIGNED, 1, 0).is_err());
-    assert!(rt; holds(&pool, 0, 1));
+    holds(&rt, process(&rt, &mut pool, &UNALIGNED, 1, 0).is_err());
+    has_counts(&rt, &pool, 0, 0);
+    waits(&rt, &mut pool, &FIRST, 1, 0);
+    keep_from(&rt, &mut pool, u64::MAX);
+    holds(&rt, process(&rt, &mut pool, &UNALIGNED, 1, 0).is_err());
+    has_counts(&rt, &pool, 0, 1);
 }
 
 // Hands in the halves of a message and gives its buffer back; no contract, as above.
@@ -70,12 +75,12 @@ fn comes_and_goes(
     message: &[u8],
 ) {
     let [half, other] = halves;
-    assert!(rt; !delivers(rt, pool, half, 1, 0));
+    waits(rt, pool, half, 1, 0);
     let Ok(Some(whole)) = process(rt, pool, other, 2, 0) else {
         panic!(rt; "the other half doesn't complete the message");
     };
-    assert!(rt; whole.payload.as_slice() == message);
-    assert!(rt; pool.return_buf(whole).is_ok());
+    equal(rt, &whole.payload.as_slice(), &message);
+    holds(rt, pool.return_buf(whole).is_ok());
 }
 
 /// Messages in turn in the same memory, from the front and from the end.
@@ -85,7 +90,7 @@ fn ten_times_over(rt: HostRuntime) {
     for _ in 0..10 {
         comes_and_goes(&rt, &mut pool, [&FIRST, &SECOND], &MESSAGE);
         comes_and_goes(&rt, &mut pool, [&IPV6_SECOND, &IPV6_FIRST], &IPV6_MESSAGE);
-        assert!(rt; holds(&pool, 0, 1));
+        has_counts(&rt, &pool, 0, 1);
     }
 }
 
@@ -94,12 +99,12 @@ fn ten_times_over(rt: HostRuntime) {
 #[test]
 fn used_memory_shows_nothing(rt: HostRuntime) {
     let mut pool = IpDefragPool::new(rt.alloc());
-    assert!(rt; !delivers(&rt, &mut pool, &FIRST, 1, 0));
-    assert!(rt; pool.retain(|_time: &u64| false).is_ok());
-    assert!(rt; !delivers(&rt, &mut pool, &SECOND, 1, 0));
-    assert!(rt; holds(&pool, 1, 0));
-    assert!(rt; delivers(&rt, &mut pool, &FIRST, 1, 0));
-    assert!(rt; holds(&pool, 0, 0));
+    waits(&rt, &mut pool, &FIRST, 1, 0);
+    keep_from(&rt, &mut pool, u64::MAX);
+    waits(&rt, &mut pool, &SECOND, 1, 0);
+    has_counts(&rt, &pool, 1, 0);
+    comes_whole(&rt, &mut pool, &FIRST, 1, 0);
+    has_counts(&rt, &pool, 0, 0);
 }
 
 /// To be run with each allocation failing in turn, too: a fragment that finds no memory leaves
@@ -111,26 +116,29 @@ fn reuse_wants_memory(rt: HostRuntime) {
         let spare = pool.spare_len();
         let open = pool.open_len();
         if process(&rt, &mut pool, &FIRST, 1, channel).is_err() {
-            assert!(rt; holds(&pool, open, spare));
-            assert!(rt; !delivers(&rt, &mut pool, &FIRST, 1, channel));
+            has_counts(&rt, &pool, open, spare);
+            waits(&rt, &mut pool, &FIRST, 1, channel);
         }
     }
-    assert!(rt; holds(&pool, 3, 0));
-    assert!(rt; pool.retain(|_time: &u64| false).is_ok());
-    assert!(rt; holds(&pool, 0, 3));
+    has_counts(&rt, &pool, 3, 0);
+    keep_from(&rt, &mut pool, u64::MAX);
+    has_counts(&rt, &pool, 0, 3);
     for channel in 0..3u32 {
         // The half ends behind what the buffer held.
         if process(&rt, &mut pool, &SECOND, 1, channel).is_err() {
-            assert!(rt; !delivers(&rt, &mut pool, &SECOND, 1, channel));
+            waits(&rt, &mut pool, &SECOND, 1, channel);
         }
         let Ok(Some(whole)) = process(&rt, &mut pool, &FIRST, 1, channel) else {
             panic!(rt; "the first half doesn't complete the message");
         };
         let spare = pool.spare_len();
         if let Err(whole) = pool.return_buf(whole) {
-            assert!(rt; whole.payload.as_slice() == &MESSAGE[..] && pool.spare_len() == spare);
-            assert!(rt; pool.return_buf(whole).is_ok());
+            holds(
+                &rt,
+                whole.payload.as_slice() == &MESSAGE[..] && pool.spare_len() == spare,
+            );
+            holds(&rt, pool.return_buf(whole).is_ok());
         }
-        assert!(rt; pool.spare_len() > spare);
+        holds(&rt, pool.spare_len() > spare);
     }
 }

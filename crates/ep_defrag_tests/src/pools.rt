@@ -1,7 +1,9 @@
 //! Many messages put together at a time, with memory enough.
 
+use crate::checks::{equal, holds};
 use crate::frames::{
-    FIRST, IPV6_FIRST, IPV6_MESSAGE, IPV6_SECOND, MESSAGE, SECOND, delivers, process, replies,
+    FIRST, IPV6_FIRST, IPV6_MESSAGE, IPV6_SECOND, MESSAGE, SECOND, comes_whole, is_refused,
+    keep_from, process, replies, waits,
 };
 use ep_base::{IpNumber, LenSource};
 use ep_defrag::defrag::{IpDefragError, IpDefragPayloadVec, IpDefragPool, PoolCall, PoolReply};
@@ -22,13 +24,16 @@ fn is_udp(message: &IpDefragPayloadVec, len_source: LenSource, bytes: &[u8]) -> 
 #[test]
 fn two_fragments(rt: HostRuntime) {
     let mut pool = IpDefragPool::new(rt.alloc());
-    assert!(rt; !delivers(&rt, &mut pool, &FIRST, 1, 0));
+    waits(&rt, &mut pool, &FIRST, 1, 0);
     let Ok(Some(message)) = process(&rt, &mut pool, &SECOND, 2, 0) else {
         panic!(rt; "the second half doesn't complete the message");
     };
-    assert!(rt; is_udp(&message, LenSource::Ipv4HeaderTotalLen, &MESSAGE));
-    assert!(rt; pool.return_buf(message).is_ok());
-    assert!(rt; !delivers(&rt, &mut pool, &SECOND, 3, 0));
+    holds(
+        &rt,
+        is_udp(&message, LenSource::Ipv4HeaderTotalLen, &MESSAGE),
+    );
+    holds(&rt, pool.return_buf(message).is_ok());
+    waits(&rt, &mut pool, &SECOND, 3, 0);
 }
 
 // Hands in a part by its class; no contract, as above.
@@ -46,44 +51,50 @@ fn process_part(
 #[test]
 fn two_parts_by_their_class(rt: HostRuntime) {
     let mut pool = IpDefragPool::new(rt.alloc());
-    assert!(rt; process_part(&rt, &mut pool, &FIRST) == Ok(None));
+    equal(&rt, &process_part(&rt, &mut pool, &FIRST), &Ok(None));
     let Ok(Some(message)) = process_part(&rt, &mut pool, &SECOND) else {
         panic!(rt; "the second half doesn't complete the message");
     };
-    assert!(rt; is_udp(&message, LenSource::Ipv4HeaderTotalLen, &MESSAGE));
+    holds(
+        &rt,
+        is_udp(&message, LenSource::Ipv4HeaderTotalLen, &MESSAGE),
+    );
 }
 
 #[test]
 fn two_fragments_ipv6(rt: HostRuntime) {
     let mut pool = IpDefragPool::new(rt.alloc());
-    assert!(rt; !delivers(&rt, &mut pool, &IPV6_SECOND, 1, 0));
+    waits(&rt, &mut pool, &IPV6_SECOND, 1, 0);
     let Ok(Some(message)) = process(&rt, &mut pool, &IPV6_FIRST, 2, 0) else {
         panic!(rt; "the first half doesn't complete the message");
     };
-    assert!(rt; is_udp(&message, LenSource::Ipv6HeaderPayloadLen, &IPV6_MESSAGE));
+    holds(
+        &rt,
+        is_udp(&message, LenSource::Ipv6HeaderPayloadLen, &IPV6_MESSAGE),
+    );
 }
 
 #[test]
 fn channels_apart(rt: HostRuntime) {
     let mut pool = IpDefragPool::new(rt.alloc());
-    assert!(rt; !delivers(&rt, &mut pool, &FIRST, 1, 0));
-    assert!(rt; !delivers(&rt, &mut pool, &SECOND, 2, 1));
-    assert!(rt; delivers(&rt, &mut pool, &SECOND, 3, 0));
+    waits(&rt, &mut pool, &FIRST, 1, 0);
+    waits(&rt, &mut pool, &SECOND, 2, 1);
+    comes_whole(&rt, &mut pool, &SECOND, 3, 0);
 }
 
 #[test]
 fn refused_fragments_keep_the_time(rt: HostRuntime) {
     let mut pool = IpDefragPool::new(rt.alloc());
-    assert!(rt; !delivers(&rt, &mut pool, &SECOND, 1, 0));
+    waits(&rt, &mut pool, &SECOND, 1, 0);
     let mut behind = SECOND;
     behind[21] = 2;
     let conflict = IpDefragError::ConflictingEnd {
         previous_end: 16,
         conflicting_end: 24,
     };
-    assert!(rt; process(&rt, &mut pool, &behind, 5, 0) == Err(conflict));
-    assert!(rt; pool.retain(|time: &u64| *time >= 2).is_ok());
-    assert!(rt; !delivers(&rt, &mut pool, &FIRST, 6, 0));
+    is_refused(&rt, &mut pool, &behind, 5, 0, conflict);
+    keep_from(&rt, &mut pool, 2);
+    waits(&rt, &mut pool, &FIRST, 6, 0);
 }
 
 /// Makes calls of each kind, and fails where a reply is another than the row's. It has no contract,
@@ -116,7 +127,7 @@ pub fn answers_calls_in_a_row<S: BuildHasher + Drop>(
     else {
         panic!(rt; "the replies are others");
     };
-    assert!(rt; is_udp(message, LenSource::Ipv4HeaderTotalLen, &MESSAGE));
+    holds(rt, is_udp(message, LenSource::Ipv4HeaderTotalLen, &MESSAGE));
 }
 
 #[test]

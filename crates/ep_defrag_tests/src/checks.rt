@@ -1,0 +1,16 @@
+//! Assertions as functions: each is proved once, and a call of it costs the proof of a test little.
+//! They have no contracts: tests alone call them, and are run.
+
+use std::fmt::Debug;
+use std::process::Abort;
+use std::test::*;
+
+/// Fails where what is told is not what is wanted, and shows both.
+pub fn equal<T: PartialEq + Debug>(rt: &impl Abort, told: &T, wanted: &T) {
+    assert_eq!(rt; told, wanted);
+}
+
+/// Fails where it is not so.
+pub fn holds(rt: &impl Abort, is_so: bool) {
+    assert!(rt; is_so);
+}
