@@ -1,4 +1,4 @@
-//! Tests of `packets` over its public calls: runs over captures, and what is counted.
+//! Tests of `packets` over its public calls: runs over captures.
 #![tactic(auto)]
 
 #[cfg(test)]
@@ -6,10 +6,6 @@ mod memory;
 #[cfg(test)]
 mod outcomes;
 #[cfg(test)]
-mod report;
-#[cfg(test)]
 mod run_faults;
-#[cfg(test)]
-mod summaries;
 #[cfg(test)]
 mod whole_captures;

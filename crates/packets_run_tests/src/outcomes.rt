@@ -1,12 +1,11 @@
 //! Runs, and what is compared of them.
 
-use captures::{Packet, Packets, RunError, Skipped, Unfit};
+use captures::{RunError, Skipped, Unfit};
 use packets::{
-    Condition, Dissector, Ending, Filter, LineWriter, NoProgress, Rules, ShowOptions, Style,
-    Summary, TimeForm, summarize, write_lines,
+    Condition, Ending, Filter, LineWriter, NoProgress, Rules, ShowOptions, Style, Summary,
+    TimeForm, summarize, write_lines,
 };
-use std::alloc::{AllocError, Global};
-use std::hash::BuildHasher;
+use std::alloc::Global;
 use std::io::{Read, Write};
 use std::process::Abort;
 use std::test::Fail;
@@ -76,34 +75,4 @@ pub(super) fn are_counted<R: Read + Drop>(
     let mut summary = Summary::new(alloc);
     let ended = summarize(alloc, rules, &mut summary, reader, &mut NoProgress);
     assert_eq!(rt; (ended, summary.all.packets), (ending, packets));
-}
-
-fn add<S: BuildHasher>(
-    dissector: &mut Dissector,
-    filter: &Filter,
-    summary: &mut Summary<S>,
-    packet: &Packet<'_>,
-) -> Result<(), AllocError> {
-    let dissection = dissector.dissect(packet)?;
-    if filter.matches(&dissection) {
-        summary.add(&dissection)?;
-    }
-    dissector.give_back(dissection);
-    Ok(())
-}
-
-/// Adds the packets of a capture that meet these conditions, and tells how many messages are open
-/// then.
-pub(super) fn add_all<S: BuildHasher>(
-    alloc: Global,
-    words: &[&str],
-    summary: &mut Summary<S>,
-    capture: &[u8],
-) -> Result<usize, Fail> {
-    let filter = filter_of(alloc, words)?;
-    let mut dissector = Dissector::new(alloc);
-    for packet in Packets::new(Unfit::Refuse, capture) {
-        add(&mut dissector, &filter, summary, &packet)?;
-    }
-    Ok(dissector.open())
 }

@@ -1,6 +1,6 @@
 //! Reports of captures, written by hand.
 
-use crate::outcomes::add_all;
+use crate::counting::add_all;
 use captures::{Packets, Skipped, Unfit};
 use packets::{Dissector, Report, Summary};
 use std::alloc::{AllocError, Global};

@@ -1,7 +1,7 @@
 //! What filters and summaries take of packets. The frames are those of `test_captures`; what is
 //! taken of them was counted by hand.
 
-use crate::outcomes::add_all;
+use crate::counting::add_all;
 use captures::{Packet, Packets, Unfit};
 use etherparse::err::Layer;
 use etherparse::{Addresses, IpNumber};
