@@ -272,14 +272,15 @@ fn laws_of_the_builder() {
 /// Those of the traits of reassembly.
 #[test]
 fn laws_of_reassembly() {
+    laws::fragments::traits::types_are_plain_data();
+    laws::fragments::traits::equals_are_same();
+    laws::fragments::traits::errors_by_kind_and_fields();
+    laws::fragments::traits::ranges_by_start_and_end();
     laws::defrag::traits::types_are_plain_data();
     laws::defrag::traits::copies_are_values();
     laws::defrag::traits::copies_never_fail();
-    laws::defrag::traits::equals_are_same();
     laws::defrag::traits::equal_payloads_are_told_alike();
     laws::defrag::traits::equal_calls_are_told_alike();
-    laws::defrag::traits::errors_by_kind_and_fields();
-    laws::defrag::traits::ranges_by_start_and_end();
     laws::defrag::traits::names_by_addresses_and_identification();
     laws::defrag::traits::names_hash_all_fields::<u32>();
 }
