@@ -12,6 +12,9 @@ use super::lanes;
 // Below it, to fill the lanes and to join them costs more than they save.
 const LANES_FROM: usize = 128;
 
+// Below it, to fold a wide sum costs more than the carries.
+const WIDE_FROM: usize = 32;
+
 pub(crate) fn add_carrying(start: u64, word: u64) -> u64
     ensures { accumulator_sum result ≡ fold (accumulator_sum start + accumulator_sum word) }
 {
@@ -83,9 +86,21 @@ fn narrowed(sum: u128) -> u64
     add_carrying((sum & 0xffff_ffff_ffff_ffff) as u64, (sum >> 64) as u64)
 }
 
-// The same by eight bytes at once: their carries are counted, and added at the end, so that no
-// block waits for the one before it.
-fn add_short(start: u64, slice: &[u8]) -> u64
+// The same by eight bytes at once.
+fn add_few(start: u64, slice: &[u8]) -> u64
+    ensures { accumulator_sum result ≡ fold (accumulator_sum start + total slice.now) }
+{
+    let (blocks, rest) = slice.as_chunks::<8>();
+    let mut sum = start;
+    for block in blocks {
+        sum = add_8bytes(sum, *block);
+    }
+    add_rest(sum, rest)
+}
+
+// The same, where the carries are counted and added at the end, so that no block waits for the one
+// before it.
+fn add_many(start: u64, slice: &[u8]) -> u64
     ensures { accumulator_sum result ≡ fold (accumulator_sum start + total slice.now) }
 {
     let (blocks, rest) = slice.as_chunks::<8>();
@@ -94,6 +109,16 @@ fn add_short(start: u64, slice: &[u8]) -> u64
         sum = add_wide(sum, *block);
     }
     add_rest(narrowed(sum), rest)
+}
+
+// The same without lanes.
+fn add_short(start: u64, slice: &[u8]) -> u64
+    ensures { accumulator_sum result ≡ fold (accumulator_sum start + total slice.now) }
+{
+    if slice.len() < WIDE_FROM {
+        return add_few(start, slice);
+    }
+    add_many(start, slice)
 }
 
 /// The number with the words of a slice added. An odd last byte is followed by a zero byte.

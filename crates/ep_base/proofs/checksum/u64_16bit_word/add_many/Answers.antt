@@ -2,7 +2,7 @@ use Rattle.std.proofs.Common.{◌*◌, refl, sym, ap, ◌∙◌, arith}
 use Rattle.ep_base.specs.Sum.{accumulator_sum}
 use Rattle.ep_base.proofs.Blocks.{block_more, blocks_all}
 use Rattle.ep_base.proofs.Folds.{fold_plus_none}
-use Rattle.ep_base.proofs.checksum.u64_16bit_word.add_short.Goals as goal
+use Rattle.ep_base.proofs.checksum.u64_16bit_word.add_many.Goals as goal
 
 pub loop-block-init : goal.loop-block-init
 loop-block-init c = (
