@@ -1,7 +1,6 @@
 -- What becomes of a fragment, by those of its message that were accepted before it (RFC 791,
 -- section 3.2; RFC 8200, section 4.5). The fragments that are held after it, what is told of it,
--- the want of memory that may be told in place of that, and the answer to its line are each a
--- function of this one value.
+-- and the want of memory that may be told in place of that are each a function of this one value.
 use Rattle.std.specs.Prelude.{ℕ, Bool, if◌then◌else◌, Option, Some, None, List, [], ◌∷◌, ◌++◌}
 use Rattle.ep_fragments.specs.declared.defrag.ip_defrag_error.IpDefragError.{IpDefragError}
 use Rattle.ep_fragments.specs.declared.defrag.ip_defrag_error.IpDefragError.TheVariants.{AllocationFailure}

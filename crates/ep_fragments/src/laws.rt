@@ -58,8 +58,8 @@ pub fn clashes_are_tested()
     ensures clash { (fs : List Fragment) (f : Fragment) → IsTrue (clashes fs f) ↔ Clashes fs f }
 {}
 
-/// The greatest length of a message, as IPv4's 16 bits for the length allow it (RFC 791, section
-/// 3.1).
+/// The greatest length of a message: what the 16 bits of an IP header's length field can tell,
+/// whatever of it the headers take (RFC 791, section 3.1; RFC 8200, section 3).
 pub fn greatest_lengths()
     ensures len { MAX_IP_DEFRAG_LEN ≡ 65535 }
     ensures len_u16 { MAX_IP_DEFRAG_LEN_U16 ≡ 65535 }

@@ -1,8 +1,10 @@
 //! Laws of verdicts: the contract of each function is the law.
-ghost use Rattle.std.specs.Prelude.{◌≡◌, pos};
+ghost use Rattle.std.specs.Prelude.{◌≡◌, ◌++◌, [], ◌∷◌, pos, replicate};
 ghost use Rattle.std.specs.Hash as fed;
 ghost use Rattle.ep_base.specs.Traits.{HashIsOfPlace, IsPlainData};
-ghost use Rattle.verdicts.specs.Verdict.{verdict_place};
+ghost use Rattle.ep_packet.specs.Readable.ReadMessage.{Icmpv4, Icmpv6, Raw, Tcp, Udp};
+ghost use Rattle.ep_packet.specs.declared.addresses.Addresses.TheVariants.{V4, V6};
+ghost use Rattle.verdicts.specs.Verdict.{verdict_of, verdict_place};
 ghost use Rattle.verdicts.specs.declared.verdict.Verdict.TheVariants as verdict;
 
 use crate::Verdict;
@@ -19,4 +21,33 @@ pub fn verdicts_hash_their_place()
     ensures place { HashIsOfPlace verdict_place ⟦<Verdict as Hash>⟧.hash_input }
     ensures bad { ⟦<Verdict as Hash>⟧.hash_input verdict.Bad ≡ fed.isize (pos 1) }
     ensures no_checksum { ⟦<Verdict as Hash>⟧.hash_input verdict.None ≡ fed.isize (pos 2) }
+{}
+
+/// What the checksums of these messages tell, worked out by hand after RFC 768, 792, 4443 and 9293:
+/// over IPv4 from 10.0.0.1 to 10.0.0.2, over IPv6 from fd00::1 to fd00::2. ICMPv4 has no pseudo
+/// header.
+pub fn verdicts_by_hand()
+    ensures udp { verdict_of (V4 (10 ∷ 0 ∷ 0 ∷ 1 ∷ []) (10 ∷ 0 ∷ 0 ∷ 2 ∷ []))
+        (Udp (0 ∷ 1 ∷ 0 ∷ 2 ∷ 0 ∷ 16 ∷ 0xdb ∷ 0xb4 ∷ 1 ∷ 2 ∷ 3 ∷ 4 ∷ 5 ∷ 6 ∷ 7 ∷ 8 ∷ []))
+        ≡ verdict.Good }
+    ensures tcp { verdict_of (V4 (10 ∷ 0 ∷ 0 ∷ 1 ∷ []) (10 ∷ 0 ∷ 0 ∷ 2 ∷ []))
+        (Tcp (0 ∷ 1 ∷ 0 ∷ 2 ∷ 0 ∷ 0 ∷ 0 ∷ 3 ∷ 0 ∷ 0 ∷ 0 ∷ 0 ∷ 0x50 ∷ 2 ∷ 4 ∷ 0
+        ∷ 0x97 ∷ 0xda ∷ 0 ∷ 0 ∷ [])) ≡ verdict.Good }
+    ensures icmpv6 { verdict_of
+        (V6 (253 ∷ (replicate 14 0 ++ 1 ∷ [])) (253 ∷ (replicate 14 0 ++ 2 ∷ [])))
+        (Icmpv6 (0x80 ∷ 0 ∷ 0x24 ∷ 0x51 ∷ 0 ∷ 1 ∷ 0 ∷ 2 ∷ 0x61 ∷ 0x62 ∷ [])) ≡ verdict.Good }
+    ensures icmpv4 { verdict_of (V4 (10 ∷ 0 ∷ 0 ∷ 1 ∷ []) (10 ∷ 0 ∷ 0 ∷ 2 ∷ []))
+        (Icmpv4 (255 ∷ 255 ∷ replicate 6 0)) ≡ verdict.Good }
+    ensures zeros { verdict_of (V4 (10 ∷ 0 ∷ 0 ∷ 1 ∷ []) (10 ∷ 0 ∷ 0 ∷ 2 ∷ []))
+        (Icmpv4 (replicate 8 0)) ≡ verdict.Bad }
+    ensures icmpv4_over_ipv6 { verdict_of
+        (V6 (253 ∷ (replicate 14 0 ++ 1 ∷ [])) (253 ∷ (replicate 14 0 ++ 2 ∷ [])))
+        (Icmpv4 (255 ∷ 255 ∷ replicate 6 0)) ≡ verdict.None }
+    ensures icmpv6_over_ipv4 { verdict_of (V4 (10 ∷ 0 ∷ 0 ∷ 1 ∷ []) (10 ∷ 0 ∷ 0 ∷ 2 ∷ []))
+        (Icmpv6 (0x80 ∷ replicate 7 0)) ≡ verdict.None }
+    ensures no_checksum { verdict_of
+        (V6 (253 ∷ (replicate 14 0 ++ 1 ∷ [])) (253 ∷ (replicate 14 0 ++ 2 ∷ [])))
+        (Udp (0 ∷ 1 ∷ 0 ∷ 2 ∷ 0 ∷ 8 ∷ 0 ∷ 0 ∷ [])) ≡ verdict.None }
+    ensures raw { verdict_of (V4 (10 ∷ 0 ∷ 0 ∷ 1 ∷ []) (10 ∷ 0 ∷ 0 ∷ 2 ∷ [])) (Raw [])
+        ≡ verdict.None }
 {}

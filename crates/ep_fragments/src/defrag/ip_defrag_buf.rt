@@ -1,6 +1,6 @@
 //! One fragmented message, put together again.
 
-ghost use Rattle.std.specs.Prelude.{◌≡◌, ◌+◌, ◌<◌, ◌≤◌, ◌↔◌, ◌&&◌, List, [], ◌++◌, ◌∷◌};
+ghost use Rattle.std.specs.Prelude.{◌≡◌, ◌+◌, ◌*◌, ◌<◌, ◌≤◌, ◌↔◌, ◌&&◌, List, [], ◌++◌, ◌∷◌};
 ghost use Rattle.std.specs.Prelude.{if◌then◌else◌, length, map, nat_eq, vec_len, vec_capacity};
 ghost use Rattle.std.specs.Prelude.{is_some, not, false, None, Some, Ok, Err, OnOk, OnErr, IfOk, IfErr, IfSome};
 ghost use Rattle.std.specs.Prelude.{IsOk, IsTrue};
@@ -108,9 +108,12 @@ fn write_at(buffer: &mut Vec<u8>, start: usize, bytes: &[u8])
 }
 
 // For how many bytes beside those that are there a fragment takes room. The first one, where more
-// follow it, takes it for a second one of its length too: a message of two is never moved then.
+// follow it, takes it for a second one of its length too: a message of two, the second of which is
+// no longer, is never moved then.
 fn missing_room(there: usize, member: Member) -> usize
-    ensures { member.end ≤ there + result }
+    ensures enough { member.end ≤ there + result }
+    ensures fits { there ≤ 65535 → there + result ≤ 65535 }
+    ensures twice { result ≤ 2 * member.end }
 {
     let end = if there == 0 && member.more_fragments {
         let len = member.end.saturating_sub(member.start);
@@ -128,7 +131,8 @@ fn is_one_whole(end: Option<u16>, sections: &[IpFragRange]) -> bool
     end.is_some() && matches!(sections, [section] if section.start == 0)
 }
 
-/// Where a fragment ends, in bytes, if it isn't refused after this end of the message.
+/// Where a fragment ends, in bytes, or why every buffer refuses it whose message has this end, if one
+/// is named yet. Overlaps aren't looked for.
 pub fn checked_end(
     named_end: Option<u16>,
     offset: IpFragOffset,
@@ -209,6 +213,7 @@ impl<Number: Drop> IpDefragBuf<Number> {
         sections: Vec<IpFragRange>,
     ) -> IpDefragBuf<Number>
         ensures empty { Shows result [] }
+        ensures ip_number { result.ip_number ≡ ip_number }
         ensures rule { rule_of result ≡ rule }
     {
         match rule {
@@ -247,7 +252,7 @@ impl<Number: Drop> IpDefragBuf<Number> {
         &self.data
     }
 
-    /// The parts that are there, in no order. Parts that follow one another are one.
+    /// The parts that are there; their order is left open. Parts that follow one another are one.
     pub fn sections(&self) -> &Vec<IpFragRange>
         ensures { result.now.items ≡ self.now.sections }
     {

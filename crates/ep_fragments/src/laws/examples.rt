@@ -93,9 +93,9 @@ pub fn refusals()
         (fragment 0 false (replicate 16 0)) ≡ None }
 {}
 
-/// Fragments behind the first 8 bytes of a message, where overlaps are refused. The same fragment
+/// One fragment after another, more following both, where overlaps are refused. The same fragment
 /// again is taken, and so are neighbours and fragments without bytes. Other bytes at the same place,
-/// another flag, and places inside, across, around a fragment's own clash.
+/// and places inside, across and around the other one's, clash; over IPv4 they don't.
 pub fn overlaps_behind_a_front()
     ensures repeat { outcome Refuses (fragment 0 true (replicate 8 1) ∷ [])
         (fragment 0 true (replicate 8 1))
