@@ -111,25 +111,18 @@ fn add_many(start: u64, slice: &[u8]) -> u64
     add_rest(narrowed(sum), rest)
 }
 
-// The same without lanes.
-fn add_short(start: u64, slice: &[u8]) -> u64
+/// The number with the words of a slice added. An odd last byte is followed by a zero byte.
+pub fn add_slice(start: u64, slice: &[u8]) -> u64
     ensures { accumulator_sum result ≡ fold (accumulator_sum start + total slice.now) }
 {
     if slice.len() < WIDE_FROM {
         return add_few(start, slice);
     }
-    add_many(start, slice)
-}
-
-/// The number with the words of a slice added. An odd last byte is followed by a zero byte.
-pub fn add_slice(start: u64, slice: &[u8]) -> u64
-    ensures { accumulator_sum result ≡ fold (accumulator_sum start + total slice.now) }
-{
     if slice.len() < LANES_FROM {
-        return add_short(start, slice);
+        return add_many(start, slice);
     }
     let (blocks, rest) = slice.as_chunks::<32>();
-    add_short(lanes::add_blocks(start, blocks), rest)
+    add_few(lanes::add_blocks(start, blocks), rest)
 }
 
 // The number's own fold, low byte first.

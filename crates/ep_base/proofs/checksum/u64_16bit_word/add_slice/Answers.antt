@@ -6,6 +6,6 @@ use Rattle.ep_base.proofs.checksum.u64_16bit_word.add_slice.Goals as goal
 pub returns : goal.returns
 returns c =
     let cut = c.as_chunks.ensures in
-    c.add_short-2.ensures
+    c.add_few-2.ensures
     ∙ blocks_before 32 (accumulator_sum c.args.start) _ c.args.slice.now _ _ (omega arith) refl
     cut.front cut.back c.add_blocks.ensures
