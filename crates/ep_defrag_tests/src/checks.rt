@@ -10,7 +10,17 @@ pub fn equal<T: PartialEq + Debug>(rt: &impl Abort, told: &T, wanted: &T) {
     assert_eq!(rt; told, wanted);
 }
 
+/// The same for a row of a table, which is shown too.
+pub fn equal_in<T: PartialEq + Debug>(rt: &impl Abort, row: &str, told: &T, wanted: &T) {
+    assert_eq!(rt; told, wanted, "{row}");
+}
+
 /// Fails where it is not so.
 pub fn holds(rt: &impl Abort, is_so: bool) {
     assert!(rt; is_so);
+}
+
+/// The same for a row of a table, which is shown.
+pub fn holds_in(rt: &impl Abort, row: &str, is_so: bool) {
+    assert!(rt; is_so, "{row}");
 }

@@ -1,95 +1,72 @@
 //! Why fragments are refused: the texts and their order.
 
-use crate::checks::holds;
-use crate::fragments::offset;
-use ep_defrag::defrag::IpDefragError;
-use std::alloc::AllocError;
+use crate::checks::{equal_in, holds_in};
+use crate::refusals::Refusal::{Conflict, NoMemory, Overlap, TooBig, Unaligned};
+use crate::refusals::{Refusal, error_of};
+use std::alloc::Global;
+use std::process::Abort;
 use std::test::*;
 
-fn reads_as(rt: &HostRuntime, error: IpDefragError, text: &str) -> Result<bool, AllocError> {
-    let found = format!(in rt.alloc(); "{error}")?;
-    Ok(found.as_str() == text)
+const TEXTS: [(Refusal, &str); 5] = [
+    (
+        Unaligned(123, 15),
+        "Payload length 15 of IP fragment (offset 123) is not a multiple of 8. This is only allowed for the last fragment packet.",
+    ),
+    (
+        TooBig(123, 15, 65535),
+        "Overall length of IP fragment (offset 123, payload len: 15) bigger then the maximum allowed size of 65535.",
+    ),
+    (
+        Conflict(48, 64),
+        "Received a IP fragment (offset + len: 64) which conflicts a package that previously set the end to 48.",
+    ),
+    (
+        NoMemory(24),
+        "Failed to allocate 24 bytes of memory to reconstruct the fragmented IP packets.",
+    ),
+    (
+        Overlap(123, 15),
+        "IP fragment (offset 123, payload len: 15) overlaps an earlier one. The fragments of its message are dropped.",
+    ),
+];
+
+// Fails where a refusal reads otherwise. It has no contract, as tests alone call it.
+fn reads_as(rt: &impl Abort, alloc: Global, refusal: Refusal, text: &str) {
+    let error = error_of(rt, refusal);
+    match format!(in alloc; "{error}") {
+        Ok(found) => equal_in(rt, text, &found.as_str(), &text),
+        Err(_) => panic!(rt; "no memory for a text"),
+    }
 }
 
 #[test]
-fn texts_of_refusals(rt: HostRuntime) -> Result<(), Fail> {
-    let offset = offset(&rt, 123);
-    let payload_len = 15;
-    let unaligned = IpDefragError::UnalignedFragmentPayloadLen {
-        offset,
-        payload_len,
-    };
-    let text =
-        "Payload length 15 of IP fragment (offset 123) is not a multiple of 8. This is only allowed for the last fragment packet.";
-    holds(&rt, reads_as(&rt, unaligned, text)?);
-    let max = 65535;
-    let long = IpDefragError::SegmentTooBig {
-        offset,
-        payload_len,
-        max,
-    };
-    let text =
-        "Overall length of IP fragment (offset 123, payload len: 15) bigger then the maximum allowed size of 65535.";
-    holds(&rt, reads_as(&rt, long, text)?);
-    Ok(())
+fn texts_of_refusals(rt: HostRuntime) {
+    for (refusal, text) in TEXTS.iter() {
+        reads_as(&rt, rt.alloc(), *refusal, text);
+    }
 }
 
-#[test]
-fn texts_of_other_refusals(rt: HostRuntime) -> Result<(), Fail> {
-    let previous_end = 48;
-    let conflicting_end = 64;
-    let end = IpDefragError::ConflictingEnd {
-        previous_end,
-        conflicting_end,
-    };
-    let text =
-        "Received a IP fragment (offset + len: 64) which conflicts a package that previously set the end to 48.";
-    holds(&rt, reads_as(&rt, end, text)?);
-    let memory = IpDefragError::AllocationFailure { len: 24 };
-    let text = "Failed to allocate 24 bytes of memory to reconstruct the fragmented IP packets.";
-    holds(&rt, reads_as(&rt, memory, text)?);
-    Ok(())
-}
+// A refusal, and one that is greater.
+const ORDERED: [(&str, Refusal, Refusal); 5] = [
+    (
+        "the length before the end",
+        Unaligned(5, 9),
+        TooBig(5, 8, 1),
+    ),
+    ("the end before a conflict", TooBig(5, 8, 1), Conflict(4, 3)),
+    ("a conflict before memory", Conflict(4, 3), NoMemory(2)),
+    ("memory by its length", NoMemory(2), NoMemory(3)),
+    ("memory before an overlap", NoMemory(2), Overlap(5, 1)),
+];
 
-#[test]
-fn text_of_an_overlap(rt: HostRuntime) -> Result<(), Fail> {
-    let offset = offset(&rt, 123);
-    let payload_len = 15;
-    let overlap = IpDefragError::OverlappingFragment {
-        offset,
-        payload_len,
-    };
-    let text =
-        "IP fragment (offset 123, payload len: 15) overlaps an earlier one. The fragments of its message are dropped.";
-    holds(&rt, reads_as(&rt, overlap, text)?);
-    Ok(())
+// Whether one refusal is less than the other; no contract, as above.
+fn are_ordered(rt: &impl Abort, less: Refusal, greater: Refusal) -> bool {
+    error_of(rt, less) < error_of(rt, greater)
 }
 
 #[test]
 fn refusals_are_ordered_by_kind(rt: HostRuntime) {
-    let offset = offset(&rt, 5);
-    let unaligned = IpDefragError::UnalignedFragmentPayloadLen {
-        offset,
-        payload_len: 9,
-    };
-    let long = IpDefragError::SegmentTooBig {
-        offset,
-        payload_len: 8,
-        max: 1,
-    };
-    let end = IpDefragError::ConflictingEnd {
-        previous_end: 4,
-        conflicting_end: 3,
-    };
-    let memory = IpDefragError::AllocationFailure { len: 2 };
-    holds(&rt, unaligned < long);
-    holds(&rt, long < end);
-    holds(&rt, end < memory);
-    holds(&rt, memory < IpDefragError::AllocationFailure { len: 3 });
-    let payload_len = 1;
-    let overlap = IpDefragError::OverlappingFragment {
-        offset,
-        payload_len,
-    };
-    holds(&rt, memory < overlap);
+    for (row, less, greater) in ORDERED.iter() {
+        holds_in(&rt, row, are_ordered(&rt, *less, *greater));
+    }
 }

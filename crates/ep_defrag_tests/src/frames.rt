@@ -1,12 +1,11 @@
 //! Frames with the two halves of a UDP message, as the tests hand them in. The functions have no
 //! contracts: tests alone call them, and are run.
 
-use crate::checks::{equal, holds};
-use ep_defrag::defrag::{
-    IpDefragError, IpDefragPayloadVec, IpDefragPool, PoolCall, PoolReply, run_calls,
-};
+use crate::checks::holds;
+use crate::pool_scripts::Message;
+use ep_base::{IpNumber, LenSource};
+use ep_defrag::defrag::{IpDefragError, IpDefragPayloadVec, IpDefragPool};
 use ep_packet::SlicedPacket;
-use std::alloc::Global;
 use std::hash::BuildHasher;
 use std::process::Abort;
 use std::test::*;
@@ -35,6 +34,20 @@ pub const IPV6_MESSAGE: [u8; 16] = [
     0, 0x01, 0, 0x02, 0, 0x10, 0xf5, 0xb2, 0x01, 0x02, 0x03, 0x04, 0x05, 0x06, 0x07, 0x08,
 ];
 
+/// The message over IPv4 as it is handed out.
+pub const UDP: Message = Message {
+    ip_number: IpNumber::UDP,
+    len_source: LenSource::Ipv4HeaderTotalLen,
+    bytes: &MESSAGE,
+};
+
+/// The message over IPv6 as it is handed out.
+pub const IPV6_UDP: Message = Message {
+    ip_number: IpNumber::UDP,
+    len_source: LenSource::Ipv6HeaderPayloadLen,
+    bytes: &IPV6_MESSAGE,
+};
+
 /// The second half over IPv6, with identification 7.
 pub const IPV6_SECOND: [u8; 70] = [
     0x02, 0, 0, 0, 0, 0x02, 0x02, 0, 0, 0, 0, 0x01, 0x86, 0xdd, 0x60, 0, 0, 0, 0, 0x10, 0x2c, 0x40,
@@ -47,6 +60,20 @@ pub const IPV6_FIRST: [u8; 70] = [
     0x02, 0, 0, 0, 0, 0x02, 0x02, 0, 0, 0, 0, 0x01, 0x86, 0xdd, 0x60, 0, 0, 0, 0, 0x10, 0x2c, 0x40,
     0xfd, 0, 0, 0, 0, 0, 0, 0, 0, 0, 0, 0, 0, 0, 0, 0x01, 0xfd, 0, 0, 0, 0, 0, 0, 0, 0, 0, 0, 0, 0,
     0, 0, 0x02, 0x11, 0, 0, 0x01, 0, 0, 0, 0x07, 0, 0x01, 0, 0x02, 0, 0x10, 0xf5, 0xb2,
+];
+
+/// The second half 8 bytes further behind.
+pub const BEHIND: [u8; 42] = [
+    0x02, 0, 0, 0, 0, 0x02, 0x02, 0, 0, 0, 0, 0x01, 0x08, 0, 0x45, 0, 0, 0x1c, 0, 0x07, 0, 0x02,
+    0x40, 0x11, 0x66, 0xc7, 0x0a, 0, 0, 0x01, 0x0a, 0, 0, 0x02, 0x01, 0x02, 0x03, 0x04, 0x05, 0x06,
+    0x07, 0x08,
+];
+
+/// The second half over IPv6 8 bytes further behind, behind which more follow.
+pub const IPV6_BEHIND: [u8; 70] = [
+    0x02, 0, 0, 0, 0, 0x02, 0x02, 0, 0, 0, 0, 0x01, 0x86, 0xdd, 0x60, 0, 0, 0, 0, 0x10, 0x2c, 0x40,
+    0xfd, 0, 0, 0, 0, 0, 0, 0, 0, 0, 0, 0, 0, 0, 0, 0x01, 0xfd, 0, 0, 0, 0, 0, 0, 0, 0, 0, 0, 0, 0,
+    0, 0, 0x02, 0x11, 0, 0, 0x11, 0, 0, 0, 0x07, 0x01, 0x02, 0x03, 0x04, 0x05, 0x06, 0x07, 0x08,
 ];
 
 /// The first half over IPv4 behind three VLAN tags, of the identifiers 5, 6 and 7.
@@ -102,66 +129,12 @@ pub fn waits<S: BuildHasher>(
     holds(rt, !delivers(rt, pool, frame, timestamp, channel));
 }
 
-/// Hands a frame in that completes its message; no contract, as above.
-pub fn comes_whole<S: BuildHasher>(
-    rt: &impl Abort,
-    pool: &mut IpDefragPool<u64, u32, S>,
-    frame: &[u8],
-    timestamp: u64,
-    channel: u32,
-) {
-    holds(rt, delivers(rt, pool, frame, timestamp, channel));
-}
-
-/// Hands a frame in that completes a message of these bytes; no contract, as above.
-pub fn completes_as<S: BuildHasher>(
-    rt: &impl Abort,
-    pool: &mut IpDefragPool<u64, u32, S>,
-    frame: &[u8],
-    timestamp: u64,
-    channel: u32,
-    bytes: &[u8],
-) {
-    match process(rt, pool, frame, timestamp, channel) {
-        Ok(Some(message)) => equal(rt, &message.payload.as_slice(), &bytes),
-        _ => panic!(rt; "a frame doesn't complete its message"),
-    }
-}
-
-/// Hands a frame in that is refused so; no contract, as above.
-pub fn is_refused<S: BuildHasher>(
-    rt: &impl Abort,
-    pool: &mut IpDefragPool<u64, u32, S>,
-    frame: &[u8],
-    timestamp: u64,
-    channel: u32,
-    wanted: IpDefragError,
-) {
-    match process(rt, pool, frame, timestamp, channel) {
-        Ok(_) => panic!(rt; "a frame isn't refused"),
-        Err(error) => equal(rt, &error, &wanted),
-    }
-}
-
-/// Keeps the messages of this time and of later ones: from `u64::MAX` on there are none. No contract,
-/// as above.
+/// Keeps the messages of this time and of later ones: from `u64::MAX` on there are none. No
+/// contract, as above.
 pub fn keep_from<S: BuildHasher>(
     rt: &impl Abort,
     pool: &mut IpDefragPool<u64, u32, S>,
     least: u64,
 ) {
     holds(rt, pool.retain(|time: &u64| *time >= least).is_ok());
-}
-
-/// The replies to calls; no contract, as above.
-pub fn replies<S: BuildHasher>(
-    rt: &impl Abort,
-    alloc: Global,
-    pool: &mut IpDefragPool<u64, u32, S>,
-    calls: &[PoolCall<'_>],
-) -> Vec<PoolReply> {
-    let Ok(replies) = run_calls(alloc, pool, calls) else {
-        panic!(rt; "no room for the replies");
-    };
-    replies
 }

@@ -3,7 +3,8 @@
 
 use crate::checks::{equal, holds};
 use crate::frames::{IPV6_FIRST, IPV6_SECOND, delivers};
-use crate::pools::answers_calls_in_a_row;
+use crate::pool_scripts::goes_in_a_row;
+use crate::pools::CALLS_IN_A_ROW;
 use ep_defrag::defrag::{IpDefragPool, IpFragVersionSpecId};
 use std::hash::{BuildHasher, BuildHasherDefault, FoldHasher, RandomState};
 use std::process::Abort;
@@ -68,10 +69,7 @@ fn names_that_collide_stay_apart(rt: HostRuntime) -> Result<(), Fail> {
 #[test]
 fn calls_in_a_row_by_random_keys(rt: HostRuntime) -> Result<(), Fail> {
     let state = RandomState::new(&rt)?;
-    answers_calls_in_a_row(
-        &rt,
-        rt.alloc(),
-        IpDefragPool::with_hasher(rt.alloc(), state),
-    );
+    let pool = IpDefragPool::with_hasher(rt.alloc(), state);
+    goes_in_a_row(&rt, rt.alloc(), pool, &CALLS_IN_A_ROW);
     Ok(())
 }

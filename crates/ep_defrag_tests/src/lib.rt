@@ -3,6 +3,8 @@
 #![tactic(auto)]
 
 #[cfg(test)]
+mod buffer_scripts;
+#[cfg(test)]
 mod buffers;
 #[cfg(test)]
 mod checks;
@@ -14,8 +16,6 @@ mod fragments;
 mod frames;
 #[cfg(test)]
 mod hasher_states;
-#[cfg(test)]
-mod hostile;
 #[cfg(test)]
 mod memory;
 #[cfg(test)]
@@ -37,8 +37,12 @@ mod pool_retain;
 #[cfg(test)]
 mod pool_reuse;
 #[cfg(test)]
+mod pool_scripts;
+#[cfg(test)]
 mod pools;
 #[cfg(test)]
 mod ranges;
+#[cfg(test)]
+mod refusals;
 #[cfg(test)]
 mod rules;

@@ -1,74 +1,132 @@
 //! Names that differ in one part alone: their messages stay apart.
 
-use crate::checks::holds;
+use crate::checks::holds_in;
 use crate::frames::{
-    FIRST, IPV6_FIRST, IPV6_SECOND, SECOND, TAGGED_FIRST, TAGGED_SECOND, comes_whole, delivers,
-    waits,
+    FIRST, IPV6_FIRST, IPV6_SECOND, SECOND, TAGGED_FIRST, TAGGED_SECOND, UDP, delivers,
 };
+use crate::pool_scripts::Answer::{Hands, Nothing};
+use crate::pool_scripts::Call::Frame;
+use crate::pool_scripts::{Script, Step, runs_all};
 use ep_defrag::defrag::IpDefragPool;
 use std::alloc::Global;
 use std::process::Abort;
 use std::test::*;
 
-// Whether the second half, changed in one byte, completes the message all the same; it has no
+/// The halves of a message, and the byte of the second one that is of its name.
+const NAMES: [(&str, &[u8], &[u8], usize); 19] = [
+    ("first byte of the identification", &FIRST, &SECOND, 18),
+    ("last byte of the identification", &FIRST, &SECOND, 19),
+    ("protocol", &FIRST, &SECOND, 23),
+    ("first byte of the source", &FIRST, &SECOND, 26),
+    ("last byte of the source", &FIRST, &SECOND, 29),
+    ("first byte of the destination", &FIRST, &SECOND, 30),
+    ("last byte of the destination", &FIRST, &SECOND, 33),
+    (
+        "first byte of the source over IPv6",
+        &IPV6_FIRST,
+        &IPV6_SECOND,
+        22,
+    ),
+    (
+        "last byte of the source over IPv6",
+        &IPV6_FIRST,
+        &IPV6_SECOND,
+        37,
+    ),
+    (
+        "first byte of the destination over IPv6",
+        &IPV6_FIRST,
+        &IPV6_SECOND,
+        38,
+    ),
+    (
+        "last byte of the destination over IPv6",
+        &IPV6_FIRST,
+        &IPV6_SECOND,
+        53,
+    ),
+    ("protocol over IPv6", &IPV6_FIRST, &IPV6_SECOND, 54),
+    (
+        "identification over IPv6, byte 0",
+        &IPV6_FIRST,
+        &IPV6_SECOND,
+        58,
+    ),
+    (
+        "identification over IPv6, byte 1",
+        &IPV6_FIRST,
+        &IPV6_SECOND,
+        59,
+    ),
+    (
+        "identification over IPv6, byte 2",
+        &IPV6_FIRST,
+        &IPV6_SECOND,
+        60,
+    ),
+    (
+        "identification over IPv6, byte 3",
+        &IPV6_FIRST,
+        &IPV6_SECOND,
+        61,
+    ),
+    ("first identifier", &TAGGED_FIRST, &TAGGED_SECOND, 15),
+    ("second identifier", &TAGGED_FIRST, &TAGGED_SECOND, 19),
+    ("third identifier", &TAGGED_FIRST, &TAGGED_SECOND, 23),
+];
+
+// Whether the second half completes the message, and not where one byte is changed. It has no
 // contract, as tests alone call it.
-fn completes_with(
+fn stays_apart(
     rt: &impl Abort,
     alloc: Global,
     first: &[u8],
     second: &[u8],
     changed: usize,
 ) -> bool {
-    let mut pool = IpDefragPool::new(alloc);
-    waits(rt, &mut pool, first, 1, 0);
     let mut other = [0; 70];
     assert!(rt; second.len() <= other.len() && changed < second.len());
     other[..second.len()].copy_from_slice(second);
     other[changed] ^= 0x80;
-    let apart = !delivers(rt, &mut pool, &other[..second.len()], 2, 0);
-    comes_whole(rt, &mut pool, second, 3, 0);
-    !apart
+    let mut pool = IpDefragPool::new(alloc);
+    !delivers(rt, &mut pool, first, 1, 0)
+        && !delivers(rt, &mut pool, &other[..second.len()], 2, 0)
+        && delivers(rt, &mut pool, second, 3, 0)
 }
 
 #[test]
-fn ipv4_names(rt: HostRuntime) {
-    // Identification, protocol, source and destination, in their first and last bytes.
-    for changed in [18, 19, 23, 26, 29, 30, 33] {
-        holds(
-            &rt,
-            !completes_with(&rt, rt.alloc(), &FIRST, &SECOND, changed),
-        );
-    }
-    // The time to live names nothing.
-    let mut pool = IpDefragPool::new(rt.alloc());
-    let mut other = SECOND;
-    other[22] = 1;
-    waits(&rt, &mut pool, &FIRST, 1, 0);
-    comes_whole(&rt, &mut pool, &other, 2, 0);
-}
-
-#[test]
-fn ipv6_names(rt: HostRuntime) {
-    // Both addresses and the protocol in their first and last bytes, and each byte of the
-    // identification.
-    for changed in [22, 37, 38, 53, 54, 58, 59, 60, 61] {
-        holds(
-            &rt,
-            !completes_with(&rt, rt.alloc(), &IPV6_FIRST, &IPV6_SECOND, changed),
-        );
+fn names_in_each_part(rt: HostRuntime) {
+    for (row, first, second, changed) in NAMES.iter() {
+        let apart = stays_apart(&rt, rt.alloc(), first, second, *changed);
+        holds_in(&rt, row, apart);
     }
 }
 
+// The second half with a time to live of 1.
+const OTHER_TIME: [u8; 42] = [
+    0x02, 0, 0, 0, 0, 0x02, 0x02, 0, 0, 0, 0, 0x01, 0x08, 0, 0x45, 0, 0, 0x1c, 0, 0x07, 0, 0x01,
+    0x01, 0x11, 0x66, 0xc7, 0x0a, 0, 0, 0x01, 0x0a, 0, 0, 0x02, 0x01, 0x02, 0x03, 0x04, 0x05, 0x06,
+    0x07, 0x08,
+];
+
+const SCRIPTS: [Script; 2] = [
+    Script {
+        name: "the time to live names nothing",
+        steps: &[
+            Step(Frame(&FIRST, 1, 0), Nothing, 1, 0),
+            Step(Frame(&OTHER_TIME, 2, 0), Hands(&UDP), 0, 0),
+        ],
+    },
+    Script {
+        name: "tags and none",
+        steps: &[
+            Step(Frame(&TAGGED_FIRST, 1, 0), Nothing, 1, 0),
+            Step(Frame(&SECOND, 2, 0), Nothing, 2, 0),
+        ],
+    },
+];
+
 #[test]
-fn names_behind_tags(rt: HostRuntime) {
-    // Each of the three identifiers.
-    for changed in [15, 19, 23] {
-        holds(
-            &rt,
-            !completes_with(&rt, rt.alloc(), &TAGGED_FIRST, &TAGGED_SECOND, changed),
-        );
-    }
-    let mut pool = IpDefragPool::new(rt.alloc());
-    waits(&rt, &mut pool, &TAGGED_FIRST, 1, 0);
-    waits(&rt, &mut pool, &SECOND, 2, 0);
+fn names_with_other_parts(rt: HostRuntime) {
+    runs_all(&rt, rt.alloc(), &SCRIPTS);
 }

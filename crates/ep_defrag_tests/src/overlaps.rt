@@ -1,203 +1,391 @@
 //! Fragments that overlap, where a buffer refuses that (RFC 5722; RFC 8200, section 4.5).
 
+use crate::buffer_scripts::Answer::{Open, Refused, Whole};
+use crate::buffer_scripts::{Answer, Left, Script, Step, goes, goes_through, is_left_as, runs_all};
 use crate::checks::{equal, holds};
-use crate::fragments::{ZEROS, empty, has_bytes, is_one_section, offset, refusing};
-use ep_defrag::defrag::{IpDefragBuf, IpDefragError, OverlapRule};
-use std::process::Abort;
+use crate::fragments::{ZEROS, empty, offset, refusing};
+use crate::refusals::Refusal::{Conflict, Overlap, Unaligned};
+use ep_base::IpFragOffset;
+use ep_defrag::defrag::{IpFragRange, OverlapRule};
 use std::test::*;
 
-// The bytes that fragments of the tests are cut from, each other than its neighbours.
-const BYTES: [u8; 32] = [
+// The bytes from one place to another of a message whose bytes count from 1.
+const BYTES_0_8: [u8; 8] = [1, 2, 3, 4, 5, 6, 7, 8];
+
+const BYTES_8_16: [u8; 8] = [9, 10, 11, 12, 13, 14, 15, 16];
+
+const BYTES_16_24: [u8; 8] = [17, 18, 19, 20, 21, 22, 23, 24];
+
+const BYTES_24_32: [u8; 8] = [25, 26, 27, 28, 29, 30, 31, 32];
+
+const BYTES_0_16: [u8; 16] = [1, 2, 3, 4, 5, 6, 7, 8, 9, 10, 11, 12, 13, 14, 15, 16];
+
+const BYTES_8_24: [u8; 16] = [
+    9, 10, 11, 12, 13, 14, 15, 16, 17, 18, 19, 20, 21, 22, 23, 24,
+];
+
+const BYTES_16_32: [u8; 16] = [
+    17, 18, 19, 20, 21, 22, 23, 24, 25, 26, 27, 28, 29, 30, 31, 32,
+];
+
+const BYTES_0_24: [u8; 24] = [
+    1, 2, 3, 4, 5, 6, 7, 8, 9, 10, 11, 12, 13, 14, 15, 16, 17, 18, 19, 20, 21, 22, 23, 24,
+];
+
+const BYTES_8_32: [u8; 24] = [
+    9, 10, 11, 12, 13, 14, 15, 16, 17, 18, 19, 20, 21, 22, 23, 24, 25, 26, 27, 28, 29, 30, 31, 32,
+];
+
+const BYTES_0_32: [u8; 32] = [
     1, 2, 3, 4, 5, 6, 7, 8, 9, 10, 11, 12, 13, 14, 15, 16, 17, 18, 19, 20, 21, 22, 23, 24, 25, 26,
     27, 28, 29, 30, 31, 32,
 ];
 
-// Takes the bytes from 8 times one number to 8 times another; no contract, since tests alone call
-// it.
-fn add_units(
-    rt: &impl Abort,
-    buf: &mut IpDefragBuf,
-    from: u16,
-    to: u16,
-    more_fragments: bool,
-) -> Result<(), IpDefragError> {
-    assert!(rt; from <= to && to <= 4);
-    let bytes = &BYTES[8 * usize::from(from)..8 * usize::from(to)];
-    buf.add(offset(rt, from), more_fragments, bytes)
-}
+// Bytes 8 to 24 behind eight that are open.
+const OPEN_BYTES: [u8; 24] = [
+    0, 0, 0, 0, 0, 0, 0, 0, 9, 10, 11, 12, 13, 14, 15, 16, 17, 18, 19, 20, 21, 22, 23, 24,
+];
 
-// Takes such bytes without a refusal; no contract, as above.
-fn takes(rt: &impl Abort, buf: &mut IpDefragBuf, from: u16, to: u16, more_fragments: bool) {
-    holds(rt, add_units(rt, buf, from, to, more_fragments).is_ok());
-}
+// Units 1 and 2 of a message.
+const MIDDLE: Step = Step(1, true, &BYTES_8_24, Open, 24);
 
-// Whether a buffer is as it was made; no contract, as above.
-fn is_new(rt: &HostRuntime, buf: &IpDefragBuf) -> bool {
-    *buf == refusing(rt)
-}
+const CLASH_AT_0: Answer = Refused(Overlap(0, 8));
 
-/// Behind units 1 and 2 of a message each of these clashes, and the buffer is empty then: ranges of
-/// units inside, across the front, across the end and around, each with `true` for more fragments.
+// As it was made.
+const NEW: Left = Left {
+    end: None,
+    sections: &[],
+    data: &[],
+};
+
+/// Behind units 1 and 2 of a message each of these clashes, and the buffer is empty then.
+const CLASHES: [Script; 11] = [
+    Script {
+        name: "the first of the units",
+        rule: OverlapRule::Refuses,
+        steps: &[
+            MIDDLE,
+            Step(1, true, &BYTES_8_16, Refused(Overlap(1, 8)), 0),
+        ],
+        left: NEW,
+    },
+    Script {
+        name: "the second of the units",
+        rule: OverlapRule::Refuses,
+        steps: &[
+            MIDDLE,
+            Step(2, true, &BYTES_16_24, Refused(Overlap(2, 8)), 0),
+        ],
+        left: NEW,
+    },
+    Script {
+        name: "across the front",
+        rule: OverlapRule::Refuses,
+        steps: &[
+            MIDDLE,
+            Step(0, true, &BYTES_0_16, Refused(Overlap(0, 16)), 0),
+        ],
+        left: NEW,
+    },
+    Script {
+        name: "across the end",
+        rule: OverlapRule::Refuses,
+        steps: &[
+            MIDDLE,
+            Step(2, true, &BYTES_16_32, Refused(Overlap(2, 16)), 0),
+        ],
+        left: NEW,
+    },
+    Script {
+        name: "around",
+        rule: OverlapRule::Refuses,
+        steps: &[
+            MIDDLE,
+            Step(0, true, &BYTES_0_32, Refused(Overlap(0, 32)), 0),
+        ],
+        left: NEW,
+    },
+    Script {
+        name: "beyond the end",
+        rule: OverlapRule::Refuses,
+        steps: &[
+            MIDDLE,
+            Step(1, true, &BYTES_8_32, Refused(Overlap(1, 24)), 0),
+        ],
+        left: NEW,
+    },
+    Script {
+        name: "from before the front",
+        rule: OverlapRule::Refuses,
+        steps: &[
+            MIDDLE,
+            Step(0, true, &BYTES_0_24, Refused(Overlap(0, 24)), 0),
+        ],
+        left: NEW,
+    },
+    Script {
+        name: "the same as the last one",
+        rule: OverlapRule::Refuses,
+        steps: &[
+            MIDDLE,
+            Step(1, false, &BYTES_8_24, Refused(Overlap(1, 16)), 0),
+        ],
+        left: NEW,
+    },
+    Script {
+        name: "a last one before the front",
+        rule: OverlapRule::Refuses,
+        steps: &[MIDDLE, Step(0, false, &BYTES_0_8, CLASH_AT_0, 0)],
+        left: NEW,
+    },
+    Script {
+        name: "an empty last one at the front",
+        rule: OverlapRule::Refuses,
+        steps: &[MIDDLE, Step(1, false, &[], Refused(Overlap(1, 0)), 0)],
+        left: NEW,
+    },
+    Script {
+        name: "an empty last one inside",
+        rule: OverlapRule::Refuses,
+        steps: &[MIDDLE, Step(2, false, &[], Refused(Overlap(2, 0)), 0)],
+        left: NEW,
+    },
+];
+
 #[test]
 fn each_overlap_empties_the_buffer(rt: HostRuntime) {
-    let ranges: [(u16, u16, bool); 11] = [
-        (1, 2, true),
-        (2, 3, true),
-        (0, 2, true),
-        (2, 4, true),
-        (0, 4, true),
-        (1, 4, true),
-        (0, 3, true),
-        (1, 3, false),
-        (0, 1, false),
-        (1, 1, false),
-        (2, 2, false),
-    ];
-    for (from, to, more_fragments) in ranges {
-        let mut buf = refusing(&rt);
-        takes(&rt, &mut buf, 1, 3, true);
-        let overlap = IpDefragError::OverlappingFragment {
-            offset: offset(&rt, from),
-            payload_len: 8 * usize::from(to.saturating_sub(from)),
-        };
-        equal(
-            &rt,
-            &add_units(&rt, &mut buf, from, to, more_fragments),
-            &Err(overlap),
-        );
-        holds(&rt, is_new(&rt, &buf));
-    }
+    runs_all(&rt, rt.alloc(), &CLASHES);
 }
 
 /// Behind the same units these are taken: the same fragment, neighbours, fragments without bytes
 /// where more follow, and a last one behind them.
+const NO_OVERLAPS: [Script; 8] = [
+    Script {
+        name: "the same fragment",
+        rule: OverlapRule::Refuses,
+        steps: &[MIDDLE, MIDDLE],
+        left: Left {
+            end: None,
+            sections: &[IpFragRange { start: 8, end: 24 }],
+            data: &OPEN_BYTES,
+        },
+    },
+    Script {
+        name: "before the front",
+        rule: OverlapRule::Refuses,
+        steps: &[MIDDLE, Step(0, true, &BYTES_0_8, Open, 24)],
+        left: Left {
+            end: None,
+            sections: &[IpFragRange { start: 0, end: 24 }],
+            data: &BYTES_0_24,
+        },
+    },
+    Script {
+        name: "behind the end",
+        rule: OverlapRule::Refuses,
+        steps: &[MIDDLE, Step(3, true, &BYTES_24_32, Open, 32)],
+        left: Left {
+            end: None,
+            sections: &[IpFragRange { start: 8, end: 32 }],
+            data: &OPEN_BYTES,
+        },
+    },
+    Script {
+        name: "a last one behind the end",
+        rule: OverlapRule::Refuses,
+        steps: &[MIDDLE, Step(3, false, &BYTES_24_32, Open, 32)],
+        left: Left {
+            end: Some(32),
+            sections: &[IpFragRange { start: 8, end: 32 }],
+            data: &OPEN_BYTES,
+        },
+    },
+    Script {
+        name: "an empty last one at the end",
+        rule: OverlapRule::Refuses,
+        steps: &[MIDDLE, Step(3, false, &[], Open, 24)],
+        left: Left {
+            end: Some(24),
+            sections: &[IpFragRange { start: 8, end: 24 }],
+            data: &OPEN_BYTES,
+        },
+    },
+    Script {
+        name: "an empty one at the front",
+        rule: OverlapRule::Refuses,
+        steps: &[MIDDLE, Step(1, true, &[], Open, 24)],
+        left: Left {
+            end: None,
+            sections: &[IpFragRange { start: 8, end: 24 }],
+            data: &OPEN_BYTES,
+        },
+    },
+    Script {
+        name: "an empty one inside",
+        rule: OverlapRule::Refuses,
+        steps: &[MIDDLE, Step(2, true, &[], Open, 24)],
+        left: Left {
+            end: None,
+            sections: &[IpFragRange { start: 8, end: 24 }],
+            data: &OPEN_BYTES,
+        },
+    },
+    Script {
+        name: "an empty one at zero",
+        rule: OverlapRule::Refuses,
+        steps: &[MIDDLE, Step(0, true, &[], Open, 24)],
+        left: Left {
+            end: None,
+            sections: &[
+                IpFragRange { start: 0, end: 0 },
+                IpFragRange { start: 8, end: 24 },
+            ],
+            data: &OPEN_BYTES,
+        },
+    },
+];
+
 #[test]
 fn what_is_no_overlap(rt: HostRuntime) {
-    let ranges = [
-        (1, 3, true),
-        (0, 1, true),
-        (3, 4, true),
-        (3, 4, false),
-        (3, 3, false),
-        (1, 1, true),
-        (2, 2, true),
-        (0, 0, true),
-    ];
-    for (from, to, more_fragments) in ranges {
-        let mut buf = refusing(&rt);
-        takes(&rt, &mut buf, 1, 3, true);
-        takes(&rt, &mut buf, from, to, more_fragments);
-        holds(&rt, buf.data().len() >= 24);
-    }
+    runs_all(&rt, rt.alloc(), &NO_OVERLAPS);
 }
 
-#[test]
-fn other_bytes_at_the_same_place(rt: HostRuntime) {
-    let mut buf = refusing(&rt);
-    takes(&rt, &mut buf, 0, 1, true);
-    let zero = offset(&rt, 0);
-    let overlap = IpDefragError::OverlappingFragment {
-        offset: zero,
-        payload_len: 8,
-    };
-    equal(&rt, &buf.add(zero, true, &ZEROS[..8]), &Err(overlap));
-    holds(&rt, is_new(&rt, &buf));
-    // The clashing fragment began nothing.
-    takes(&rt, &mut buf, 1, 2, false);
-    holds(&rt, !buf.is_complete());
-    takes(&rt, &mut buf, 0, 1, true);
-    holds(&rt, buf.is_complete());
-    holds(&rt, has_bytes(&buf, &BYTES[..16]));
-}
+const MESSAGES: [Script; 6] = [
+    Script {
+        name: "a new buffer",
+        rule: OverlapRule::Refuses,
+        steps: &[],
+        left: NEW,
+    },
+    Script {
+        name: "other bytes at the same place",
+        rule: OverlapRule::Refuses,
+        steps: &[
+            Step(0, true, &BYTES_0_8, Open, 8),
+            Step(0, true, &[0; 8], CLASH_AT_0, 0),
+        ],
+        left: NEW,
+    },
+    Script {
+        name: "the clashing fragment began nothing",
+        rule: OverlapRule::Refuses,
+        steps: &[
+            Step(0, true, &BYTES_0_8, Open, 8),
+            Step(0, true, &[0; 8], CLASH_AT_0, 0),
+            Step(1, false, &BYTES_8_16, Open, 16),
+            Step(0, true, &BYTES_0_8, Whole, 16),
+        ],
+        left: Left {
+            end: Some(16),
+            sections: &[IpFragRange { start: 0, end: 16 }],
+            data: &BYTES_0_16,
+        },
+    },
+    Script {
+        name: "fragments in any order",
+        rule: OverlapRule::Refuses,
+        steps: &[
+            Step(3, false, &BYTES_24_32, Open, 32),
+            Step(1, true, &BYTES_8_16, Open, 32),
+            Step(2, true, &BYTES_16_24, Open, 32),
+            Step(1, true, &BYTES_8_16, Open, 32),
+            Step(3, false, &BYTES_24_32, Open, 32),
+            Step(0, true, &BYTES_0_8, Whole, 32),
+        ],
+        left: Left {
+            end: Some(32),
+            sections: &[IpFragRange { start: 0, end: 32 }],
+            data: &BYTES_0_32,
+        },
+    },
+    Script {
+        name: "refusals before an overlap",
+        rule: OverlapRule::Refuses,
+        steps: &[
+            Step(1, false, &BYTES_8_16, Open, 16),
+            Step(1, true, &[0; 16], Refused(Conflict(16, 24)), 16),
+            Step(1, true, &[0; 7], Refused(Unaligned(1, 7)), 16),
+        ],
+        left: Left {
+            end: Some(16),
+            sections: &[IpFragRange { start: 8, end: 16 }],
+            data: &[0, 0, 0, 0, 0, 0, 0, 0, 9, 10, 11, 12, 13, 14, 15, 16],
+        },
+    },
+    Script {
+        name: "a message behind the refusals",
+        rule: OverlapRule::Refuses,
+        steps: &[
+            Step(1, false, &BYTES_8_16, Open, 16),
+            Step(1, true, &[0; 16], Refused(Conflict(16, 24)), 16),
+            Step(1, true, &[0; 7], Refused(Unaligned(1, 7)), 16),
+            Step(0, true, &[0; 8], Whole, 16),
+        ],
+        left: Left {
+            end: Some(16),
+            sections: &[IpFragRange { start: 0, end: 16 }],
+            data: &[0, 0, 0, 0, 0, 0, 0, 0, 9, 10, 11, 12, 13, 14, 15, 16],
+        },
+    },
+];
 
 #[test]
-fn fragments_in_any_order(rt: HostRuntime) {
-    let mut buf = refusing(&rt);
-    for unit in [3, 1, 2, 1, 3, 0] {
-        holds(&rt, !buf.is_complete());
-        takes(&rt, &mut buf, unit, unit + 1, unit != 3);
-    }
-    holds(&rt, buf.is_complete());
-    holds(&rt, is_one_section(&buf, 0, 32));
-    holds(&rt, has_bytes(&buf, &BYTES));
+fn messages_without_overlaps(rt: HostRuntime) {
+    runs_all(&rt, rt.alloc(), &MESSAGES);
 }
 
-#[test]
-fn refusals_before_an_overlap(rt: HostRuntime) {
-    let mut buf = refusing(&rt);
-    takes(&rt, &mut buf, 1, 2, false);
-    let zero = offset(&rt, 0);
-    let one = offset(&rt, 1);
-    let conflict = IpDefragError::ConflictingEnd {
-        previous_end: 16,
-        conflicting_end: 24,
-    };
-    equal(&rt, &buf.add(one, true, &ZEROS[..16]), &Err(conflict));
-    let unaligned = IpDefragError::UnalignedFragmentPayloadLen {
-        offset: one,
-        payload_len: 7,
-    };
-    equal(&rt, &buf.add(one, true, &ZEROS[..7]), &Err(unaligned));
-    equal(&rt, &buf.end(), &Some(16));
-    holds(&rt, buf.add(zero, true, &ZEROS[..8]).is_ok());
-    holds(&rt, buf.is_complete());
-}
+const FROM_THE_FRONT: Left = Left {
+    end: Some(16),
+    sections: &[IpFragRange { start: 0, end: 16 }],
+    data: &BYTES_0_16,
+};
 
 /// An overlap among fragments in a row is passed over, and they go on with the empty buffer.
 #[test]
 fn all_go_on_behind_an_overlap(rt: HostRuntime) {
-    let zero = offset(&rt, 0);
-    let one = offset(&rt, 1);
-    let mut buf = refusing(&rt);
-    let taken = buf.add_all(&[
-        (zero, true, &BYTES[..8]),
-        (zero, true, &BYTES[..8]),
+    let zero = IpFragOffset::ZERO;
+    let all = [
+        (zero, true, &BYTES_0_8[..]),
+        (zero, true, &BYTES_0_8[..]),
         (zero, true, &ZEROS[..8]),
-        (one, false, &BYTES[8..16]),
-        (zero, true, &BYTES[..8]),
-    ]);
-    equal(&rt, &taken, &Ok(4));
-    holds(&rt, buf.is_complete());
-    holds(&rt, has_bytes(&buf, &BYTES[..16]));
+        (offset(&rt, 1), false, &BYTES_8_16[..]),
+        (zero, true, &BYTES_0_8[..]),
+    ];
+    let mut buf = refusing(rt.alloc());
+    equal(&rt, &buf.add_all(&all), &Ok(4));
+    equal(&rt, &buf.data().len(), &16);
+    holds(&rt, buf.is_complete() && is_left_as(&buf, &FROM_THE_FRONT));
 }
 
+const TO_BE_COPIED: Script = Script {
+    name: "to be copied",
+    rule: OverlapRule::Refuses,
+    steps: &[
+        Step(0, true, &BYTES_0_8, Open, 8),
+        Step(1, true, &[], Open, 8),
+    ],
+    left: Left {
+        end: None,
+        sections: &[IpFragRange { start: 0, end: 8 }],
+        data: &BYTES_0_8,
+    },
+};
+
+const REPEAT: Step = Step(0, true, &BYTES_0_8, Open, 8);
+
+const CLASH: Step = Step(0, true, &BYTES_0_16, Refused(Overlap(0, 16)), 0);
+
 #[test]
-fn a_copy_refuses_overlaps_too(rt: HostRuntime) -> Result<(), Fail> {
-    let mut buf = refusing(&rt);
-    holds(&rt, buf != empty(&rt));
-    takes(&rt, &mut buf, 0, 1, true);
-    takes(&rt, &mut buf, 1, 1, true);
-    let mut copy = buf.try_clone()?;
+fn a_copy_refuses_overlaps_too(rt: HostRuntime) {
+    let mut buf = refusing(rt.alloc());
+    holds(&rt, buf != empty(rt.alloc()));
+    goes_through(&rt, &mut buf, &TO_BE_COPIED);
+    let Ok(mut copy) = buf.try_clone() else {
+        panic!(rt; "no memory for a copy");
+    };
     equal(&rt, &copy, &buf);
-    takes(&rt, &mut copy, 0, 1, true);
+    goes(&rt, "a repeat in the copy", &mut copy, &REPEAT);
     equal(&rt, &copy, &buf);
-    holds(&rt, add_units(&rt, &mut copy, 0, 2, true).is_err());
-    holds(&rt, is_new(&rt, &copy));
-    holds(&rt, buf != copy);
-    Ok(())
-}
-
-/// To be run with each allocation failing in turn, too: one of the first two fragments wants memory
-/// then, and gets it at the next call. A fragment that is there already wants none.
-#[test]
-fn a_repeat_wants_no_memory(rt: HostRuntime) {
-    let mut buf = refusing(&rt);
-    for unit in [2, 0] {
-        match add_units(&rt, &mut buf, unit, unit + 1, true) {
-            Ok(()) => {}
-            Err(error) => {
-                let len = 8 * usize::from(unit + 1);
-                equal(&rt, &error, &IpDefragError::AllocationFailure { len });
-                takes(&rt, &mut buf, unit, unit + 1, true);
-            }
-        }
-        takes(&rt, &mut buf, unit, unit + 1, true);
-    }
-    equal(&rt, &buf.sections().len(), &2);
-}
-
-#[test]
-fn rules_of_buffers(rt: HostRuntime) {
-    equal(&rt, &empty(&rt).overlap_rule(), &OverlapRule::Overwrites);
-    equal(&rt, &refusing(&rt).overlap_rule(), &OverlapRule::Refuses);
+    goes(&rt, "a clash in the copy", &mut copy, &CLASH);
+    holds(&rt, copy == refusing(rt.alloc()) && buf != copy);
 }

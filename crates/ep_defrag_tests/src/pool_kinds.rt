@@ -1,11 +1,12 @@
 //! What a pool makes of packets that are no fragments, and of frames that aren't sliced: nothing.
 //! The frames were put together by hand after the RFCs that the comments name.
 
-use crate::checks::equal;
-use crate::frames::{FIRST, MESSAGE, SECOND, comes_whole, keep_from, replies, waits};
+use crate::frames::{FIRST, SECOND, UDP};
+use crate::pool_scripts::Answer::{Hands, NotSliced, Nothing, Retained};
+use crate::pool_scripts::Call::{Frame, KeepFrom};
+use crate::pool_scripts::{Script, Step, runs_all};
 use ep_base::LenSource;
 use ep_base::err::{Layer, LenError};
-use ep_defrag::defrag::{IpDefragPool, PoolCall, PoolReply};
 use ep_packet::err::packet::SliceError;
 use std::test::*;
 
@@ -62,75 +63,86 @@ const ENCRYPTED: [u8; 58] = [
     0x01, 0, 0x02, 0, 0x10, 0xdb, 0xb4, 0x01, 0x02, 0x03, 0x04, 0x05, 0x06, 0x07, 0x08,
 ];
 
-const NO_FRAGMENTS: [&[u8]; 8] = [
-    &UNCUT,
-    &IPV6_UNCUT,
-    &ATOMIC,
-    &FIRST_ATOMIC,
-    &ARP,
-    &FOUR_TAGS,
-    &NO_IP,
-    &ENCRYPTED,
+// One byte less than the header of Ethernet II.
+const SHORT_FRAME: [u8; 13] = [0x02, 0, 0, 0, 0, 0x02, 0x02, 0, 0, 0, 0, 0x01, 0x08];
+
+const TOO_SHORT_A_FRAME: SliceError = SliceError::Len(LenError {
+    required_len: 14,
+    len: 13,
+    len_source: LenSource::Slice,
+    layer: Layer::Ethernet2Header,
+    layer_start_offset: 0,
+});
+
+// One byte of the header of IPv4.
+const SHORT_HEADER: [u8; 15] = [
+    0x02, 0, 0, 0, 0, 0x02, 0x02, 0, 0, 0, 0, 0x01, 0x08, 0, 0x45,
+];
+
+const TOO_SHORT_A_HEADER: SliceError = SliceError::Len(LenError {
+    required_len: 20,
+    len: 1,
+    len_source: LenSource::Slice,
+    layer: Layer::Ipv4Header,
+    layer_start_offset: 14,
+});
+
+const SCRIPTS: [Script; 3] = [
+    Script {
+        name: "no fragments",
+        steps: &[
+            Step(Frame(&FIRST, 1, 0), Nothing, 1, 0),
+            Step(Frame(&UNCUT, 2, 0), Nothing, 1, 0),
+            Step(Frame(&IPV6_UNCUT, 2, 0), Nothing, 1, 0),
+            Step(Frame(&ATOMIC, 2, 0), Nothing, 1, 0),
+            Step(Frame(&FIRST_ATOMIC, 2, 0), Nothing, 1, 0),
+            Step(Frame(&ARP, 2, 0), Nothing, 1, 0),
+            Step(Frame(&FOUR_TAGS, 2, 0), Nothing, 1, 0),
+            Step(Frame(&NO_IP, 2, 0), Nothing, 1, 0),
+            Step(Frame(&ENCRYPTED, 2, 0), Nothing, 1, 0),
+            Step(Frame(&SECOND, 3, 0), Hands(&UDP), 0, 0),
+        ],
+    },
+    // The message whose half came at time 1 is dropped: nothing renewed its time.
+    Script {
+        name: "no fragments renew no time",
+        steps: &[
+            Step(Frame(&FIRST, 1, 0), Nothing, 1, 0),
+            Step(Frame(&UNCUT, 2, 0), Nothing, 1, 0),
+            Step(Frame(&IPV6_UNCUT, 2, 0), Nothing, 1, 0),
+            Step(Frame(&ATOMIC, 2, 0), Nothing, 1, 0),
+            Step(Frame(&FIRST_ATOMIC, 2, 0), Nothing, 1, 0),
+            Step(Frame(&ARP, 2, 0), Nothing, 1, 0),
+            Step(Frame(&FOUR_TAGS, 2, 0), Nothing, 1, 0),
+            Step(Frame(&NO_IP, 2, 0), Nothing, 1, 0),
+            Step(Frame(&ENCRYPTED, 2, 0), Nothing, 1, 0),
+            Step(KeepFrom(2), Retained, 0, 1),
+            Step(Frame(&SECOND, 3, 0), Nothing, 1, 0),
+        ],
+    },
+    Script {
+        name: "frames that are not sliced",
+        steps: &[
+            Step(Frame(&FIRST, 1, 0), Nothing, 1, 0),
+            Step(
+                Frame(&SHORT_FRAME, 1, 0),
+                NotSliced(&TOO_SHORT_A_FRAME),
+                1,
+                0,
+            ),
+            Step(
+                Frame(&SHORT_HEADER, 1, 0),
+                NotSliced(&TOO_SHORT_A_HEADER),
+                1,
+                0,
+            ),
+            Step(Frame(&UNCUT, 1, 0), Nothing, 1, 0),
+            Step(Frame(&SECOND, 1, 0), Hands(&UDP), 0, 0),
+        ],
+    },
 ];
 
 #[test]
-fn no_fragments(rt: HostRuntime) {
-    let mut pool = IpDefragPool::new(rt.alloc());
-    waits(&rt, &mut pool, &FIRST, 1, 0);
-    for frame in NO_FRAGMENTS {
-        waits(&rt, &mut pool, frame, 2, 0);
-    }
-    comes_whole(&rt, &mut pool, &SECOND, 3, 0);
-}
-
-/// The message whose half came at time 1 is dropped: nothing renewed its time.
-#[test]
-fn no_fragments_renew_no_time(rt: HostRuntime) {
-    let mut pool = IpDefragPool::new(rt.alloc());
-    waits(&rt, &mut pool, &FIRST, 1, 0);
-    for frame in NO_FRAGMENTS {
-        waits(&rt, &mut pool, frame, 2, 0);
-    }
-    keep_from(&rt, &mut pool, 2);
-    waits(&rt, &mut pool, &SECOND, 3, 0);
-}
-
-#[test]
-fn frames_that_are_not_sliced(rt: HostRuntime) {
-    let mut pool = IpDefragPool::new(rt.alloc());
-    let frame = |frame| PoolCall::Frame {
-        frame,
-        timestamp: 1,
-        channel: 0,
-    };
-    let calls = [
-        frame(&FIRST[..]),
-        frame(&FIRST[..13]),
-        frame(&FIRST[..15]),
-        frame(&UNCUT[..]),
-        frame(&SECOND[..]),
-    ];
-    let want = |required_len, len, layer, layer_start_offset| {
-        SliceError::Len(LenError {
-            required_len,
-            len,
-            len_source: LenSource::Slice,
-            layer,
-            layer_start_offset,
-        })
-    };
-    let replies = replies(&rt, rt.alloc(), &mut pool, &calls);
-    let [
-        PoolReply::Nothing,
-        PoolReply::NotSliced(short_frame),
-        PoolReply::NotSliced(short_header),
-        PoolReply::Nothing,
-        PoolReply::Payload(message),
-    ] = replies.as_slice()
-    else {
-        panic!(rt; "the replies are others");
-    };
-    equal(&rt, short_frame, &want(14, 13, Layer::Ethernet2Header, 0));
-    equal(&rt, short_header, &want(20, 1, Layer::Ipv4Header, 14));
-    equal(&rt, &message.payload.as_slice(), &MESSAGE.as_slice());
+fn what_is_no_fragment(rt: HostRuntime) {
+    runs_all(&rt, rt.alloc(), &SCRIPTS);
 }

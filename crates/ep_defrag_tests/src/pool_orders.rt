@@ -1,7 +1,8 @@
 //! A message of three fragments, in each order and with repeats.
 
-use crate::checks::{equal, holds};
-use crate::frames::process;
+use crate::pool_scripts::Answer::{Hands, Nothing};
+use crate::pool_scripts::Call::Frame;
+use crate::pool_scripts::{Message, Step, goes};
 use ep_base::{IpNumber, LenSource};
 use ep_defrag::defrag::IpDefragPool;
 use std::process::Abort;
@@ -27,55 +28,49 @@ const TCP_MESSAGE: [u8; 20] = [
     0, 0x01, 0, 0x02, 0, 0, 0, 0x03, 0, 0, 0, 0, 0x50, 0x02, 0x04, 0, 0x97, 0xda, 0, 0,
 ];
 
-const ORDERS: [[&[u8]; 3]; 6] = [
-    [&TCP_FIRST, &TCP_SECOND, &TCP_THIRD],
-    [&TCP_FIRST, &TCP_THIRD, &TCP_SECOND],
-    [&TCP_SECOND, &TCP_FIRST, &TCP_THIRD],
-    [&TCP_SECOND, &TCP_THIRD, &TCP_FIRST],
-    [&TCP_THIRD, &TCP_FIRST, &TCP_SECOND],
-    [&TCP_THIRD, &TCP_SECOND, &TCP_FIRST],
+const TCP: Message = Message {
+    ip_number: IpNumber::TCP,
+    len_source: LenSource::Ipv4HeaderTotalLen,
+    bytes: &TCP_MESSAGE,
+};
+
+const ORDERS: [(&str, [&[u8]; 3]); 6] = [
+    ("1, 2, 3", [&TCP_FIRST, &TCP_SECOND, &TCP_THIRD]),
+    ("1, 3, 2", [&TCP_FIRST, &TCP_THIRD, &TCP_SECOND]),
+    ("2, 1, 3", [&TCP_SECOND, &TCP_FIRST, &TCP_THIRD]),
+    ("2, 3, 1", [&TCP_SECOND, &TCP_THIRD, &TCP_FIRST]),
+    ("3, 1, 2", [&TCP_THIRD, &TCP_FIRST, &TCP_SECOND]),
+    ("3, 2, 1", [&TCP_THIRD, &TCP_SECOND, &TCP_FIRST]),
 ];
 
-// Whether a frame hands the message out. It has no contract, as tests alone call it.
-fn hands_out(rt: &impl Abort, pool: &mut IpDefragPool<u64, u32>, frame: &[u8]) -> bool {
-    match process(rt, pool, frame, 1, 0) {
-        Ok(Some(message)) => {
-            equal(rt, &message.ip_number, &IpNumber::TCP);
-            equal(rt, &message.len_source, &LenSource::Ipv4HeaderTotalLen);
-            equal(rt, &message.payload.as_slice(), &TCP_MESSAGE.as_slice());
-            true
-        }
-        Ok(None) => false,
-        Err(error) => panic!(rt; "{error}"),
-    }
-}
-
-// Hands frames in that wait, and a last one that hands the message out; no contract, as above.
+// Hands frames in that wait, and a last one that hands the message out. It has no contract, as
+// tests alone call it.
 fn last_hands_out(
     rt: &impl Abort,
+    row: &str,
     pool: &mut IpDefragPool<u64, u32>,
-    waiting: &[&[u8]],
-    last: &[u8],
+    waiting: &[&'static [u8]],
+    last: &'static [u8],
 ) {
-    for frame in waiting {
-        holds(rt, !hands_out(rt, pool, frame));
+    for frame in waiting.iter() {
+        goes(rt, row, pool, &Step(Frame(*frame, 1, 0), Nothing, 1, 0));
     }
-    holds(rt, hands_out(rt, pool, last));
+    goes(rt, row, pool, &Step(Frame(last, 1, 0), Hands(&TCP), 0, 0));
 }
 
 #[test]
 fn each_order(rt: HostRuntime) {
     let mut pool = IpDefragPool::new(rt.alloc());
-    for [first, second, third] in ORDERS.iter() {
-        last_hands_out(&rt, &mut pool, &[*first, *second], third);
+    for (row, [first, second, third]) in ORDERS.iter() {
+        last_hands_out(&rt, row, &mut pool, &[*first, *second], *third);
     }
 }
 
 #[test]
 fn each_order_with_repeats(rt: HostRuntime) {
     let mut pool = IpDefragPool::new(rt.alloc());
-    for [first, second, third] in ORDERS.iter() {
+    for (row, [first, second, third]) in ORDERS.iter() {
         let waiting = [*first, *first, *second, *first, *second];
-        last_hands_out(&rt, &mut pool, &waiting, third);
+        last_hands_out(&rt, row, &mut pool, &waiting, *third);
     }
 }

@@ -1,11 +1,14 @@
 //! What a pool refuses, over both versions, and that a refusal changes nothing.
 
 use crate::checks::holds;
-use crate::fragments::offset;
 use crate::frames::{
-    FIRST, IPV6_FIRST, IPV6_SECOND, SECOND, comes_whole, is_refused, process, replies, waits,
+    BEHIND, FIRST, IPV6_BEHIND, IPV6_FIRST, IPV6_SECOND, IPV6_UDP, SECOND, UDP, process,
 };
-use ep_defrag::defrag::{IpDefragError, IpDefragPool, PoolCall, PoolReply};
+use crate::pool_scripts::Answer::{Hands, Nothing, Refused};
+use crate::pool_scripts::Call::Frame;
+use crate::pool_scripts::{Script, Step, runs_all};
+use crate::refusals::Refusal::{Conflict, TooBig, Unaligned};
+use ep_defrag::defrag::{IpDefragError, IpDefragPool};
 use std::test::*;
 
 // Eight bytes over IPv4 at the greatest offset, so that they end at 65536.
@@ -21,33 +24,74 @@ pub const UNALIGNED: [u8; 41] = [
     0x40, 0x11, 0x46, 0xc9, 0x0a, 0, 0, 0x01, 0x0a, 0, 0, 0x02, 0, 0x01, 0, 0x02, 0, 0x10, 0,
 ];
 
+// Offset and flag stand in the fragment header's third and fourth bytes, the length in the fifth
+// and sixth of the IPv6 header (RFC 8200, sections 3 and 4.5).
+
+// Eight bytes over IPv6 at the greatest offset.
+const IPV6_LONG: [u8; 70] = [
+    0x02, 0, 0, 0, 0, 0x02, 0x02, 0, 0, 0, 0, 0x01, 0x86, 0xdd, 0x60, 0, 0, 0, 0, 0x10, 0x2c, 0x40,
+    0xfd, 0, 0, 0, 0, 0, 0, 0, 0, 0, 0, 0, 0, 0, 0, 0x01, 0xfd, 0, 0, 0, 0, 0, 0, 0, 0, 0, 0, 0, 0,
+    0, 0, 0x02, 0x11, 0, 0xff, 0xf8, 0, 0, 0, 0x07, 0x01, 0x02, 0x03, 0x04, 0x05, 0x06, 0x07, 0x08,
+];
+
+// Seven bytes over IPv6, behind which more follow.
+const IPV6_UNALIGNED: [u8; 69] = [
+    0x02, 0, 0, 0, 0, 0x02, 0x02, 0, 0, 0, 0, 0x01, 0x86, 0xdd, 0x60, 0, 0, 0, 0, 0x0f, 0x2c, 0x40,
+    0xfd, 0, 0, 0, 0, 0, 0, 0, 0, 0, 0, 0, 0, 0, 0, 0x01, 0xfd, 0, 0, 0, 0, 0, 0, 0, 0, 0, 0, 0, 0,
+    0, 0, 0x02, 0x11, 0, 0, 0x01, 0, 0, 0, 0x07, 0, 0x01, 0, 0x02, 0, 0x10, 0xf5,
+];
+
+// The second half over IPv6, 4 bytes of it.
+const IPV6_LOWER: [u8; 66] = [
+    0x02, 0, 0, 0, 0, 0x02, 0x02, 0, 0, 0, 0, 0x01, 0x86, 0xdd, 0x60, 0, 0, 0, 0, 0x0c, 0x2c, 0x40,
+    0xfd, 0, 0, 0, 0, 0, 0, 0, 0, 0, 0, 0, 0, 0, 0, 0x01, 0xfd, 0, 0, 0, 0, 0, 0, 0, 0, 0, 0, 0, 0,
+    0, 0, 0x02, 0x11, 0, 0, 0x08, 0, 0, 0, 0x07, 0x01, 0x02, 0x03, 0x04,
+];
+
+const SCRIPTS: [Script; 3] = [
+    Script {
+        name: "refused over IPv4",
+        steps: &[
+            Step(Frame(&LONG, 1, 0), Refused(TooBig(8191, 8, 65535)), 0, 0),
+            Step(Frame(&UNALIGNED, 1, 0), Refused(Unaligned(0, 7)), 0, 0),
+            Step(Frame(&SECOND, 1, 0), Nothing, 1, 0),
+            Step(Frame(&BEHIND, 1, 0), Refused(Conflict(16, 24)), 1, 0),
+            Step(Frame(&LONG, 1, 0), Refused(TooBig(8191, 8, 65535)), 1, 0),
+            Step(Frame(&UNALIGNED, 1, 0), Refused(Unaligned(0, 7)), 1, 0),
+            Step(Frame(&FIRST, 1, 0), Hands(&UDP), 0, 0),
+        ],
+    },
+    Script {
+        name: "refused over IPv6",
+        steps: &[
+            Step(
+                Frame(&IPV6_LONG, 1, 0),
+                Refused(TooBig(8191, 8, 65535)),
+                0,
+                0,
+            ),
+            Step(Frame(&IPV6_UNALIGNED, 1, 0), Refused(Unaligned(0, 7)), 0, 0),
+            Step(Frame(&IPV6_SECOND, 1, 0), Nothing, 1, 0),
+            Step(Frame(&IPV6_BEHIND, 1, 0), Refused(Conflict(16, 24)), 1, 0),
+            Step(Frame(&IPV6_LOWER, 1, 0), Refused(Conflict(16, 12)), 1, 0),
+            Step(Frame(&IPV6_FIRST, 1, 0), Hands(&IPV6_UDP), 0, 0),
+        ],
+    },
+    Script {
+        name: "refusals in a row",
+        steps: &[
+            Step(Frame(&SECOND, 1, 0), Nothing, 1, 0),
+            Step(Frame(&LONG, 1, 0), Refused(TooBig(8191, 8, 65535)), 1, 0),
+            Step(Frame(&UNALIGNED, 1, 0), Refused(Unaligned(0, 7)), 1, 0),
+            Step(Frame(&BEHIND, 1, 0), Refused(Conflict(16, 24)), 1, 0),
+            Step(Frame(&FIRST, 1, 0), Hands(&UDP), 0, 0),
+        ],
+    },
+];
+
 #[test]
-fn refused_over_ipv4(rt: HostRuntime) {
-    let mut pool = IpDefragPool::new(rt.alloc());
-    let greatest = offset(&rt, 8191);
-    let zero = offset(&rt, 0);
-    let too_big = IpDefragError::SegmentTooBig {
-        offset: greatest,
-        payload_len: 8,
-        max: 65535,
-    };
-    is_refused(&rt, &mut pool, &LONG, 1, 0, too_big);
-    let unaligned = IpDefragError::UnalignedFragmentPayloadLen {
-        offset: zero,
-        payload_len: 7,
-    };
-    is_refused(&rt, &mut pool, &UNALIGNED, 1, 0, unaligned);
-    waits(&rt, &mut pool, &SECOND, 1, 0);
-    let mut behind = SECOND;
-    behind[21] = 2;
-    let conflict = IpDefragError::ConflictingEnd {
-        previous_end: 16,
-        conflicting_end: 24,
-    };
-    is_refused(&rt, &mut pool, &behind, 1, 0, conflict);
-    holds(&rt, process(&rt, &mut pool, &LONG, 1, 0).is_err());
-    holds(&rt, process(&rt, &mut pool, &UNALIGNED, 1, 0).is_err());
-    comes_whole(&rt, &mut pool, &FIRST, 1, 0);
+fn refused_fragments(rt: HostRuntime) {
+    runs_all(&rt, rt.alloc(), &SCRIPTS);
 }
 
 /// To be run with each allocation failing in turn, too: a message's first fragment is refused then
@@ -56,86 +100,18 @@ fn refused_over_ipv4(rt: HostRuntime) {
 fn refused_without_memory(rt: HostRuntime) {
     let mut pool = IpDefragPool::new(rt.alloc());
     for _ in 0..2 {
-        assert!(rt;
-            matches!(
-                process(&rt, &mut pool, &LONG, 1, 0),
-                Err(IpDefragError::SegmentTooBig { .. })
-            )
+        let long = process(&rt, &mut pool, &LONG, 1, 0);
+        holds(
+            &rt,
+            matches!(long, Err(IpDefragError::SegmentTooBig { .. })),
         );
-        assert!(rt;
+        let unaligned = process(&rt, &mut pool, &UNALIGNED, 1, 1);
+        holds(
+            &rt,
             matches!(
-                process(&rt, &mut pool, &UNALIGNED, 1, 1),
+                unaligned,
                 Err(IpDefragError::UnalignedFragmentPayloadLen { .. })
-            )
+            ),
         );
     }
-}
-
-/// Offset and flag stand in the fragment header's third and fourth bytes, the length in the fifth
-/// and sixth of the IPv6 header (RFC 8200, sections 3 and 4.5).
-#[test]
-fn refused_over_ipv6(rt: HostRuntime) {
-    let mut pool = IpDefragPool::new(rt.alloc());
-    let greatest = offset(&rt, 8191);
-    let zero = offset(&rt, 0);
-    let mut long = IPV6_SECOND;
-    long[56] = 0xff;
-    long[57] = 0xf8;
-    let too_big = IpDefragError::SegmentTooBig {
-        offset: greatest,
-        payload_len: 8,
-        max: 65535,
-    };
-    is_refused(&rt, &mut pool, &long, 1, 0, too_big);
-    let mut short = IPV6_FIRST;
-    short[19] = 0x0f;
-    let unaligned = IpDefragError::UnalignedFragmentPayloadLen {
-        offset: zero,
-        payload_len: 7,
-    };
-    is_refused(&rt, &mut pool, &short[..69], 1, 0, unaligned);
-    waits(&rt, &mut pool, &IPV6_SECOND, 1, 0);
-    let mut behind = IPV6_SECOND;
-    behind[57] = 0x11;
-    let conflict = |conflicting_end| IpDefragError::ConflictingEnd {
-        previous_end: 16,
-        conflicting_end,
-    };
-    is_refused(&rt, &mut pool, &behind, 1, 0, conflict(24));
-    let mut lower = IPV6_SECOND;
-    lower[19] = 0x0c;
-    is_refused(&rt, &mut pool, &lower[..66], 1, 0, conflict(12));
-    comes_whole(&rt, &mut pool, &IPV6_FIRST, 1, 0);
-}
-
-#[test]
-fn refusals_in_a_row(rt: HostRuntime) {
-    let mut pool = IpDefragPool::new(rt.alloc());
-    let frame = |frame| PoolCall::Frame {
-        frame,
-        timestamp: 1,
-        channel: 0,
-    };
-    let mut behind = SECOND;
-    behind[21] = 2;
-    let calls = [
-        frame(&SECOND[..]),
-        frame(&LONG[..]),
-        frame(&UNALIGNED[..]),
-        frame(&behind[..]),
-        frame(&FIRST[..]),
-    ];
-    let replies = replies(&rt, rt.alloc(), &mut pool, &calls);
-    assert!(rt;
-        matches!(
-            replies.as_slice(),
-            [
-                PoolReply::Nothing,
-                PoolReply::Refused(IpDefragError::SegmentTooBig { .. }),
-                PoolReply::Refused(IpDefragError::UnalignedFragmentPayloadLen { .. }),
-                PoolReply::Refused(IpDefragError::ConflictingEnd { .. }),
-                PoolReply::Payload(_),
-            ]
-        )
-    );
 }

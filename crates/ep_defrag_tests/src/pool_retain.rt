@@ -1,53 +1,44 @@
 //! Which messages a pool keeps by their times, and how often it asks.
 
-use crate::checks::{equal, holds};
-use crate::frames::{FIRST, MESSAGE, SECOND, delivers, keep_from, replies, waits};
-use ep_defrag::defrag::{IpDefragPool, PoolCall, PoolReply};
+use crate::checks::holds;
+use crate::frames::{FIRST, SECOND, UDP, waits};
+use crate::pool_scripts::Answer::{Hands, Nothing, Retained};
+use crate::pool_scripts::Call::{Frame, KeepFrom};
+use crate::pool_scripts::{Script, Step, runs_all};
+use ep_defrag::defrag::IpDefragPool;
 use std::cell::Cell;
 use std::test::*;
 
-#[test]
-fn a_time_at_the_bound(rt: HostRuntime) {
-    let mut pool = IpDefragPool::new(rt.alloc());
-    for (channel, time) in [(0, 1), (1, 2), (2, 3)] {
-        waits(&rt, &mut pool, &FIRST, time, channel);
-    }
-    keep_from(&rt, &mut pool, 2);
-    for (channel, stays) in [(0, false), (1, true), (2, true)] {
-        equal(&rt, &delivers(&rt, &mut pool, &SECOND, 4, channel), &stays);
-    }
-}
+const SCRIPTS: [Script; 2] = [
+    Script {
+        name: "a time at the bound",
+        steps: &[
+            Step(Frame(&FIRST, 1, 0), Nothing, 1, 0),
+            Step(Frame(&FIRST, 2, 1), Nothing, 2, 0),
+            Step(Frame(&FIRST, 3, 2), Nothing, 3, 0),
+            Step(KeepFrom(2), Retained, 2, 1),
+            Step(Frame(&SECOND, 4, 0), Nothing, 3, 0),
+            Step(Frame(&SECOND, 4, 1), Hands(&UDP), 2, 0),
+            Step(Frame(&SECOND, 4, 2), Hands(&UDP), 1, 0),
+        ],
+    },
+    // An accepted fragment renews its message's time.
+    Script {
+        name: "a renewed time at the bound",
+        steps: &[
+            Step(Frame(&FIRST, 1, 0), Nothing, 1, 0),
+            Step(Frame(&FIRST, 1, 1), Nothing, 2, 0),
+            Step(Frame(&FIRST, 2, 1), Nothing, 2, 0),
+            Step(KeepFrom(2), Retained, 1, 1),
+            Step(Frame(&SECOND, 3, 0), Nothing, 2, 0),
+            Step(Frame(&SECOND, 3, 1), Hands(&UDP), 1, 0),
+        ],
+    },
+];
 
-/// An accepted fragment renews its message's time.
 #[test]
-fn a_renewed_time_at_the_bound(rt: HostRuntime) {
-    let mut pool = IpDefragPool::new(rt.alloc());
-    let frame = |frame, timestamp, channel| PoolCall::Frame {
-        frame,
-        timestamp,
-        channel,
-    };
-    let calls = [
-        frame(&FIRST[..], 1, 0),
-        frame(&FIRST[..], 1, 1),
-        frame(&FIRST[..], 2, 1),
-        PoolCall::RetainFrom(2),
-        frame(&SECOND[..], 3, 0),
-        frame(&SECOND[..], 3, 1),
-    ];
-    let replies = replies(&rt, rt.alloc(), &mut pool, &calls);
-    let [
-        PoolReply::Nothing,
-        PoolReply::Nothing,
-        PoolReply::Nothing,
-        PoolReply::Retained,
-        PoolReply::Nothing,
-        PoolReply::Payload(message),
-    ] = replies.as_slice()
-    else {
-        panic!(rt; "the replies are others");
-    };
-    equal(&rt, &message.payload.as_slice(), &MESSAGE.as_slice());
+fn times_at_the_bound(rt: HostRuntime) {
+    runs_all(&rt, rt.alloc(), &SCRIPTS);
 }
 
 /// No clause says how often the test is asked: once for each message, whether it stays or goes.

@@ -3,40 +3,54 @@
 
 use crate::checks::{equal, holds};
 use crate::frames::{
-    FIRST, IPV6_FIRST, IPV6_MESSAGE, IPV6_SECOND, MESSAGE, SECOND, comes_whole, keep_from, process,
-    replies, waits,
+    FIRST, IPV6_FIRST, IPV6_SECOND, IPV6_UDP, MESSAGE, SECOND, UDP, keep_from, process, waits,
 };
 use crate::pool_refusals::UNALIGNED;
+use crate::pool_scripts::Answer::{Hands, Lends, Nothing, Refused, Retained};
+use crate::pool_scripts::Call::{Frame, KeepFrom};
+use crate::pool_scripts::{Script, Step, goes_through, runs_all};
+use crate::refusals::Refusal::Unaligned;
 use ep_base::{IpNumber, LenSource};
-use ep_defrag::defrag::{IpDefragPayloadVec, IpDefragPool, PoolCall, PoolReply};
+use ep_defrag::defrag::{IpDefragPayloadVec, IpDefragPool};
 use std::process::Abort;
 use std::test::*;
 
-// So many messages are on their way, and so many buffers are spare. It has no contract, as tests
-// alone call it.
-fn has_counts(rt: &impl Abort, pool: &IpDefragPool<u64, u32>, open: usize, spare: usize) {
-    equal(rt, &(pool.open_len(), pool.spare_len()), &(open, spare));
-}
+const SCRIPTS: [Script; 3] = [
+    // It leaves its buffer, and the next one takes it.
+    Script {
+        name: "a message that is dropped",
+        steps: &[
+            Step(Frame(&FIRST, 1, 0), Nothing, 1, 0),
+            Step(KeepFrom(2), Retained, 0, 1),
+            Step(Frame(&FIRST, 3, 0), Nothing, 1, 0),
+        ],
+    },
+    // It leaves nothing, and takes no spare buffer.
+    Script {
+        name: "a refused first fragment",
+        steps: &[
+            Step(Frame(&UNALIGNED, 1, 0), Refused(Unaligned(0, 7)), 0, 0),
+            Step(Frame(&FIRST, 1, 0), Nothing, 1, 0),
+            Step(KeepFrom(u64::MAX), Retained, 0, 1),
+            Step(Frame(&UNALIGNED, 1, 0), Refused(Unaligned(0, 7)), 0, 1),
+        ],
+    },
+    // A buffer that held other bytes has 0 at the open places of the next message, and its sections
+    // complete nothing there.
+    Script {
+        name: "used memory shows nothing",
+        steps: &[
+            Step(Frame(&FIRST, 1, 0), Nothing, 1, 0),
+            Step(KeepFrom(u64::MAX), Retained, 0, 1),
+            Step(Frame(&SECOND, 1, 0), Nothing, 1, 0),
+            Step(Frame(&FIRST, 1, 0), Hands(&UDP), 0, 0),
+        ],
+    },
+];
 
-/// A message that is dropped leaves its buffer, and the next one takes it.
 #[test]
-fn a_message_that_is_dropped(rt: HostRuntime) {
-    let mut pool = IpDefragPool::new(rt.alloc());
-    has_counts(&rt, &pool, 0, 0);
-    let call = |timestamp| PoolCall::Frame {
-        frame: &FIRST[..],
-        timestamp,
-        channel: 0,
-    };
-    let told = replies(&rt, rt.alloc(), &mut pool, &[call(1)]);
-    holds(&rt, matches!(told.as_slice(), [PoolReply::Nothing]));
-    has_counts(&rt, &pool, 1, 0);
-    let told = replies(&rt, rt.alloc(), &mut pool, &[PoolCall::RetainFrom(2)]);
-    holds(&rt, matches!(told.as_slice(), [PoolReply::Retained]));
-    has_counts(&rt, &pool, 0, 1);
-    let told = replies(&rt, rt.alloc(), &mut pool, &[call(3)]);
-    holds(&rt, matches!(told.as_slice(), [PoolReply::Nothing]));
-    has_counts(&rt, &pool, 1, 0);
+fn buffers_to_spare(rt: HostRuntime) {
+    runs_all(&rt, rt.alloc(), &SCRIPTS);
 }
 
 /// A pool takes the buffer of a message of another one, too.
@@ -55,56 +69,29 @@ fn a_message_that_is_given(rt: HostRuntime) -> Result<(), Fail> {
     Ok(())
 }
 
-/// A refused first fragment leaves nothing, and takes no spare buffer.
-#[test]
-fn a_refused_first_fragment(rt: HostRuntime) {
-    let mut pool = IpDefragPool::new(rt.alloc());
-    holds(&rt, process(&rt, &mut pool, &UNALIGNED, 1, 0).is_err());
-    has_counts(&rt, &pool, 0, 0);
-    waits(&rt, &mut pool, &FIRST, 1, 0);
-    keep_from(&rt, &mut pool, u64::MAX);
-    holds(&rt, process(&rt, &mut pool, &UNALIGNED, 1, 0).is_err());
-    has_counts(&rt, &pool, 0, 1);
-}
+// Messages in turn, from the front and from the end.
+const IN_TURN: Script = Script {
+    name: "ten times over",
+    steps: &[
+        Step(Frame(&FIRST, 1, 0), Nothing, 1, 0),
+        Step(Frame(&SECOND, 2, 0), Lends(&UDP), 0, 1),
+        Step(Frame(&IPV6_SECOND, 1, 0), Nothing, 1, 0),
+        Step(Frame(&IPV6_FIRST, 2, 0), Lends(&IPV6_UDP), 0, 1),
+    ],
+};
 
-// Hands in the halves of a message and gives its buffer back; no contract, as above.
-fn comes_and_goes(
-    rt: &impl Abort,
-    pool: &mut IpDefragPool<u64, u32>,
-    halves: [&[u8]; 2],
-    message: &[u8],
-) {
-    let [half, other] = halves;
-    waits(rt, pool, half, 1, 0);
-    let Ok(Some(whole)) = process(rt, pool, other, 2, 0) else {
-        panic!(rt; "the other half doesn't complete the message");
-    };
-    equal(rt, &whole.payload.as_slice(), &message);
-    holds(rt, pool.return_buf(whole).is_ok());
-}
-
-/// Messages in turn in the same memory, from the front and from the end.
 #[test]
 fn ten_times_over(rt: HostRuntime) {
     let mut pool = IpDefragPool::new(rt.alloc());
     for _ in 0..10 {
-        comes_and_goes(&rt, &mut pool, [&FIRST, &SECOND], &MESSAGE);
-        comes_and_goes(&rt, &mut pool, [&IPV6_SECOND, &IPV6_FIRST], &IPV6_MESSAGE);
-        has_counts(&rt, &pool, 0, 1);
+        goes_through(&rt, &mut pool, &IN_TURN);
     }
 }
 
-/// A buffer that held 64 bytes has 0 at the open places of the next message, and its sections
-/// complete nothing there. The length 16 is that of the second half, the offset 8.
-#[test]
-fn used_memory_shows_nothing(rt: HostRuntime) {
-    let mut pool = IpDefragPool::new(rt.alloc());
-    waits(&rt, &mut pool, &FIRST, 1, 0);
-    keep_from(&rt, &mut pool, u64::MAX);
-    waits(&rt, &mut pool, &SECOND, 1, 0);
-    has_counts(&rt, &pool, 1, 0);
-    comes_whole(&rt, &mut pool, &FIRST, 1, 0);
-    has_counts(&rt, &pool, 0, 0);
+// So many messages are on their way, and so many buffers are spare. It has no contract, as tests
+// alone call it.
+fn has_counts(rt: &impl Abort, pool: &IpDefragPool<u64, u32>, open: usize, spare: usize) {
+    equal(rt, &(pool.open_len(), pool.spare_len()), &(open, spare));
 }
 
 /// To be run with each allocation failing in turn, too: a fragment that finds no memory leaves

@@ -1,42 +1,70 @@
 //! Many messages put together at a time, with memory enough.
 
 use crate::checks::{equal, holds};
-use crate::frames::{
-    FIRST, IPV6_FIRST, IPV6_MESSAGE, IPV6_SECOND, MESSAGE, SECOND, comes_whole, is_refused,
-    keep_from, process, replies, waits,
-};
-use ep_base::{IpNumber, LenSource};
-use ep_defrag::defrag::{IpDefragError, IpDefragPayloadVec, IpDefragPool, PoolCall, PoolReply};
+use crate::frames::{BEHIND, FIRST, IPV6_FIRST, IPV6_SECOND, IPV6_UDP, SECOND, UDP};
+use crate::pool_scripts::Answer::{Hands, Lends, Nothing, Refused, Retained};
+use crate::pool_scripts::Call::{Frame, KeepFrom};
+use crate::pool_scripts::{Script, Step, is_message, runs_all};
+use crate::refusals::Refusal::Conflict;
+use ep_defrag::defrag::{IpDefragError, IpDefragPayloadVec, IpDefragPool};
 use ep_packet::Class;
-use std::alloc::Global;
-use std::hash::BuildHasher;
 use std::process::Abort;
 use std::test::*;
 
-// Whether this is the message over UDP, bounded by such a length. It has no contract, as tests
-// alone call it.
-fn is_udp(message: &IpDefragPayloadVec, len_source: LenSource, bytes: &[u8]) -> bool {
-    message.ip_number == IpNumber::UDP
-        && message.len_source == len_source
-        && message.payload.as_slice() == bytes
-}
+/// Calls of each kind.
+pub const CALLS_IN_A_ROW: Script = Script {
+    name: "calls in a row",
+    steps: &[
+        Step(Frame(&SECOND, 1, 0), Nothing, 1, 0),
+        Step(Frame(&SECOND, 2, 0), Nothing, 1, 0),
+        Step(Frame(&FIRST, 3, 0), Hands(&UDP), 0, 0),
+        Step(Frame(&FIRST, 4, 0), Nothing, 1, 0),
+        Step(KeepFrom(5), Retained, 0, 1),
+    ],
+};
+
+const SCRIPTS: [Script; 5] = [
+    CALLS_IN_A_ROW,
+    Script {
+        name: "two fragments",
+        steps: &[
+            Step(Frame(&FIRST, 1, 0), Nothing, 1, 0),
+            Step(Frame(&SECOND, 2, 0), Lends(&UDP), 0, 1),
+            Step(Frame(&SECOND, 3, 0), Nothing, 1, 0),
+        ],
+    },
+    Script {
+        name: "two fragments over IPv6",
+        steps: &[
+            Step(Frame(&IPV6_SECOND, 1, 0), Nothing, 1, 0),
+            Step(Frame(&IPV6_FIRST, 2, 0), Hands(&IPV6_UDP), 0, 0),
+        ],
+    },
+    Script {
+        name: "channels apart",
+        steps: &[
+            Step(Frame(&FIRST, 1, 0), Nothing, 1, 0),
+            Step(Frame(&SECOND, 2, 1), Nothing, 2, 0),
+            Step(Frame(&SECOND, 3, 0), Hands(&UDP), 1, 0),
+        ],
+    },
+    Script {
+        name: "refused fragments keep the time",
+        steps: &[
+            Step(Frame(&SECOND, 1, 0), Nothing, 1, 0),
+            Step(Frame(&BEHIND, 5, 0), Refused(Conflict(16, 24)), 1, 0),
+            Step(KeepFrom(2), Retained, 0, 1),
+            Step(Frame(&FIRST, 6, 0), Nothing, 1, 0),
+        ],
+    },
+];
 
 #[test]
-fn two_fragments(rt: HostRuntime) {
-    let mut pool = IpDefragPool::new(rt.alloc());
-    waits(&rt, &mut pool, &FIRST, 1, 0);
-    let Ok(Some(message)) = process(&rt, &mut pool, &SECOND, 2, 0) else {
-        panic!(rt; "the second half doesn't complete the message");
-    };
-    holds(
-        &rt,
-        is_udp(&message, LenSource::Ipv4HeaderTotalLen, &MESSAGE),
-    );
-    holds(&rt, pool.return_buf(message).is_ok());
-    waits(&rt, &mut pool, &SECOND, 3, 0);
+fn messages_of_two_halves(rt: HostRuntime) {
+    runs_all(&rt, rt.alloc(), &SCRIPTS);
 }
 
-// Hands in a part by its class; no contract, as above.
+// Hands in a part by its class. It has no contract, as tests alone call it.
 fn process_part(
     rt: &impl Abort,
     pool: &mut IpDefragPool<u64, u32>,
@@ -55,82 +83,5 @@ fn two_parts_by_their_class(rt: HostRuntime) {
     let Ok(Some(message)) = process_part(&rt, &mut pool, &SECOND) else {
         panic!(rt; "the second half doesn't complete the message");
     };
-    holds(
-        &rt,
-        is_udp(&message, LenSource::Ipv4HeaderTotalLen, &MESSAGE),
-    );
-}
-
-#[test]
-fn two_fragments_ipv6(rt: HostRuntime) {
-    let mut pool = IpDefragPool::new(rt.alloc());
-    waits(&rt, &mut pool, &IPV6_SECOND, 1, 0);
-    let Ok(Some(message)) = process(&rt, &mut pool, &IPV6_FIRST, 2, 0) else {
-        panic!(rt; "the first half doesn't complete the message");
-    };
-    holds(
-        &rt,
-        is_udp(&message, LenSource::Ipv6HeaderPayloadLen, &IPV6_MESSAGE),
-    );
-}
-
-#[test]
-fn channels_apart(rt: HostRuntime) {
-    let mut pool = IpDefragPool::new(rt.alloc());
-    waits(&rt, &mut pool, &FIRST, 1, 0);
-    waits(&rt, &mut pool, &SECOND, 2, 1);
-    comes_whole(&rt, &mut pool, &SECOND, 3, 0);
-}
-
-#[test]
-fn refused_fragments_keep_the_time(rt: HostRuntime) {
-    let mut pool = IpDefragPool::new(rt.alloc());
-    waits(&rt, &mut pool, &SECOND, 1, 0);
-    let mut behind = SECOND;
-    behind[21] = 2;
-    let conflict = IpDefragError::ConflictingEnd {
-        previous_end: 16,
-        conflicting_end: 24,
-    };
-    is_refused(&rt, &mut pool, &behind, 5, 0, conflict);
-    keep_from(&rt, &mut pool, 2);
-    waits(&rt, &mut pool, &FIRST, 6, 0);
-}
-
-/// Makes calls of each kind, and fails where a reply is another than the row's. It has no contract,
-/// as above.
-pub fn answers_calls_in_a_row<S: BuildHasher + Drop>(
-    rt: &impl Abort,
-    alloc: Global,
-    mut pool: IpDefragPool<u64, u32, S>,
-) {
-    let frame = |frame, timestamp| PoolCall::Frame {
-        frame,
-        timestamp,
-        channel: 0,
-    };
-    let calls = [
-        frame(&SECOND[..], 1),
-        frame(&SECOND[..], 2),
-        frame(&FIRST[..], 3),
-        frame(&FIRST[..], 4),
-        PoolCall::RetainFrom(5),
-    ];
-    let replies = replies(rt, alloc, &mut pool, &calls);
-    let [
-        PoolReply::Nothing,
-        PoolReply::Nothing,
-        PoolReply::Payload(message),
-        PoolReply::Nothing,
-        PoolReply::Retained,
-    ] = replies.as_slice()
-    else {
-        panic!(rt; "the replies are others");
-    };
-    holds(rt, is_udp(message, LenSource::Ipv4HeaderTotalLen, &MESSAGE));
-}
-
-#[test]
-fn calls_in_a_row(rt: HostRuntime) {
-    answers_calls_in_a_row(&rt, rt.alloc(), IpDefragPool::new(rt.alloc()));
+    holds(&rt, is_message(&message, &UDP));
 }

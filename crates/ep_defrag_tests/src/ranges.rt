@@ -4,25 +4,37 @@ use crate::checks::{equal, holds};
 use ep_defrag::defrag::IpFragRange;
 use std::test::*;
 
-fn merged(a: (u16, u16), b: (u16, u16)) -> Option<(u16, u16)> {
-    let (start, end) = a;
-    let a = IpFragRange { start, end };
-    let (start, end) = b;
-    let b = IpFragRange { start, end };
-    match a.merge(b) {
-        Some(IpFragRange { start, end }) => Some((start, end)),
-        None => None,
+// Two ranges, and what they are as one.
+const MERGED: [((u16, u16), (u16, u16), Option<(u16, u16)>); 6] = [
+    ((3, 7), (1, 8), Some((1, 8))),
+    ((1, 8), (3, 7), Some((1, 8))),
+    ((0, 1), (2, 3), None),
+    ((2, 3), (0, 1), None),
+    ((5, 3), (1, 8), Some((1, 8))),
+    ((0, 8), (8, 16), Some((0, 16))),
+];
+
+// A range and another one, with what they are as one; no contract, as tests alone call it.
+fn merged(a: (u16, u16), b: (u16, u16)) -> ((u16, u16), (u16, u16), Option<(u16, u16)>) {
+    let first = IpFragRange {
+        start: a.0,
+        end: a.1,
+    };
+    let second = IpFragRange {
+        start: b.0,
+        end: b.1,
+    };
+    match first.merge(second) {
+        Some(both) => (a, b, Some((both.start, both.end))),
+        None => (a, b, None),
     }
 }
 
 #[test]
 fn ranges_merge(rt: HostRuntime) {
-    equal(&rt, &merged((3, 7), (1, 8)), &Some((1, 8)));
-    equal(&rt, &merged((1, 8), (3, 7)), &Some((1, 8)));
-    equal(&rt, &merged((0, 1), (2, 3)), &None);
-    equal(&rt, &merged((2, 3), (0, 1)), &None);
-    equal(&rt, &merged((5, 3), (1, 8)), &Some((1, 8)));
-    equal(&rt, &merged((0, 8), (8, 16)), &Some((0, 16)));
+    for row in MERGED.iter() {
+        equal(&rt, &merged(row.0, row.1), row);
+    }
 }
 
 #[test]

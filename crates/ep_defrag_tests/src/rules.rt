@@ -1,24 +1,27 @@
 //! Buffers of each rule, and where a fragment ends.
 
-use ep_base::{IpFragOffset, IpNumber};
+use crate::checks::{equal, holds};
+use crate::fragments::offset;
+use ep_base::IpNumber;
 use ep_fragments::defrag::{IpDefragBuf, IpDefragError, OverlapRule, checked_end};
+use std::test::*;
+
+const RULES: [OverlapRule; 2] = [OverlapRule::Overwrites, OverlapRule::Refuses];
 
 #[test]
 fn buffers_of_each_rule(rt: HostRuntime) {
     let alloc = rt.alloc();
-    for rule in [OverlapRule::Overwrites, OverlapRule::Refuses].iter() {
+    for rule in RULES.iter() {
         let bytes = Vec::new(alloc);
         let buf = IpDefragBuf::of_rule(*rule, alloc, IpNumber::UDP, bytes, Vec::new(alloc));
-        assert!(rt; buf.overlap_rule() == *rule);
+        holds(&rt, buf.overlap_rule() == *rule);
     }
 }
 
 // Eight bytes at byte 16 end at 24.
 #[test]
 fn ends_of_fragments(rt: HostRuntime) {
-    let Ok(offset) = IpFragOffset::try_new(2) else {
-        panic!(rt; "no offset");
-    };
+    let offset = offset(&rt, 2);
     let conflict = IpDefragError::ConflictingEnd {
         previous_end: 16,
         conflicting_end: 24,
@@ -28,5 +31,5 @@ fn ends_of_fragments(rt: HostRuntime) {
         checked_end(Some(24), offset, false, &[0; 8]) == Ok(24),
         checked_end(Some(16), offset, true, &[0; 8]) == Err(conflict),
     ];
-    assert!(rt; ends == [true; 3]);
+    equal(&rt, &ends, &[true; 3]);
 }
