@@ -1,13 +1,14 @@
 //! Tests of `netlines` over its public calls. They stand in a crate of their own, so that they are
-//! proved beside it and not with each of its functions once more.
+//! proved beside it and not with each of its functions once more. Tests of one shape are rows of a
+//! table, and functions that they share have no contracts, as tests alone call them.
 #![tactic(auto)]
 
 #[cfg(test)]
-mod deliveries;
-#[cfg(test)]
-mod edges;
+mod checks;
 #[cfg(test)]
 mod faults;
+#[cfg(test)]
+mod few_reads;
 #[cfg(test)]
 mod hasher_states;
 #[cfg(test)]
@@ -17,8 +18,6 @@ mod memory;
 #[cfg(test)]
 mod messages;
 #[cfg(test)]
-mod overlaps;
-#[cfg(test)]
 mod post;
 #[cfg(test)]
 mod post_refusals;
@@ -27,4 +26,6 @@ mod reuse;
 #[cfg(test)]
 mod rows;
 #[cfg(test)]
-mod streams;
+mod sealing;
+#[cfg(test)]
+mod texts;

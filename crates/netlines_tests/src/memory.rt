@@ -1,25 +1,51 @@
 //! Without memory. `tools/faults_tried` runs each of these tests once for each of its growths, and
 //! refuses that one: then a call tells of it and of nothing else, what it worked on is as before,
 //! and the same call succeeds after it. All growths are those of the calls.
-use crate::messages::{stream_v4, stream_v6, udp};
-use crate::post::{FRAME, MESSAGE, MESSAGE_V6, SEGMENT, letter, over_ipv4, over_ipv6, with_tags};
-use crate::reuse::{ROUND, ROUND_ANSWERS};
-use crate::rows::{TWO_ANSWERS, TWO_FRAGMENTS};
-use ep_packet::TransportHeader;
+use crate::checks::{equal, holds, join};
+use crate::post::{FRAME, MESSAGE, MESSAGE_V6, SEGMENT, letter, stream};
+use crate::rows::{FIRST_HALF, TWO_ANSWERS, TWO_FRAGMENTS};
+use crate::sealing::{Header, transport};
+use crate::texts::{ROUND, ROUND_ANSWERS};
 use fault_devices::FaultReader;
-use netlines::{
-    IpFragVersionSpecId, Letter, PostError, RunError, SealError, post, run, seal_message,
-};
-use std::alloc::Global;
+use netlines::{PostError, RunError, SealError, post, run, seal_message};
 use std::process::Abort;
 use std::test::*;
+
+// The input and its answers, in parts, and the lengths of the answers to the lines before one that
+// takes memory.
+type Run = (
+    &'static [&'static [u8]],
+    &'static [&'static [u8]],
+    &'static [usize],
+);
+
+const RUNS: [Run; 4] = [
+    (&[TWO_FRAGMENTS], &[TWO_ANSWERS], &[0, 5]),
+    // The second round takes the buffers of the first.
+    (
+        &[ROUND, ROUND],
+        &[ROUND_ANSWERS, ROUND_ANSWERS],
+        &[0, 5, 54, 59, 64, 120, 125, 174, 179, 184],
+    ),
+    // The first half, a line that forgets it, both halves and a line that forgets nothing.
+    (
+        &[FIRST_HALF, b"forget 2\n", TWO_FRAGMENTS, b"forget 100\n"],
+        &[b"wait\nok\n", TWO_ANSWERS, b"ok\n"],
+        &[0, 8, 13],
+    ),
+    // Lines that hold no fragment take no memory, so a run answers all of them or reads nothing.
+    (
+        &[b"\nforget\nforget 7"],
+        &[b"bad line\nbad line\nok\n"],
+        &[0],
+    ),
+];
 
 // Whether a run answers the whole input. If not, it found no memory, and what it wrote are the
 // answers to the lines before one that takes some: so many bytes. With no memory for its buffers it
 // reads nothing.
 fn is_answered(
-    rt: &impl Abort,
-    alloc: Global,
+    rt: &(impl Abort + AllocGlobal),
     input: &[u8],
     answers: &[u8],
     fronts: &[usize],
@@ -27,97 +53,41 @@ fn is_answered(
     let mut room = [0u8; 512];
     let mut left = room.as_mut_slice();
     let mut reader = FaultReader::new(input, 4096);
-    let result = run(alloc, &mut reader, &mut left);
+    let result = run(rt.alloc(), &mut reader, &mut left);
     let written = 512 - left.len().min(512);
-    assert!(rt; answers.starts_with(&room[..written]));
+    holds(rt, answers.starts_with(&room[..written]));
     if result.is_ok() {
-        assert!(rt; written == answers.len());
+        holds(rt, written == answers.len());
         return true;
     }
-    assert!(rt; result == Err(RunError::Memory) && fronts.contains(&written));
-    assert!(rt; reader.calls > 0 || written == 0);
+    holds(
+        rt,
+        result == Err(RunError::Memory) && fronts.contains(&written),
+    );
+    holds(rt, reader.calls > 0 || written == 0);
     false
 }
 
-#[test]
-fn two_fragments_want_memory(rt: HostRuntime) {
-    let first = is_answered(&rt, rt.alloc(), TWO_FRAGMENTS, TWO_ANSWERS, &[0, 5]);
-    let second = is_answered(&rt, rt.alloc(), TWO_FRAGMENTS, TWO_ANSWERS, &[0, 5]);
-    assert!(rt; first || second);
+fn one_of_two_is_answered(rt: &(impl Abort + AllocGlobal), row: &Run) {
+    let (input_parts, answer_parts, fronts) = *row;
+    let mut input_room = [0u8; 1000];
+    let input_len = join(input_parts, &mut input_room);
+    let mut answer_room = [0u8; 300];
+    let answer_len = join(answer_parts, &mut answer_room);
+    let (Some(input), Some(answers)) = (input_room.get(..input_len), answer_room.get(..answer_len))
+    else {
+        panic!(rt; "no room");
+    };
+    let first = is_answered(rt, input, answers, fronts);
+    let second = is_answered(rt, input, answers, fronts);
+    holds(rt, first || second);
 }
 
-// The second round takes the buffers of the first.
 #[test]
-fn used_buffers_want_memory(rt: HostRuntime) {
-    let mut text = [0u8; 914];
-    text[..457].copy_from_slice(ROUND);
-    text[457..].copy_from_slice(ROUND);
-    let mut answers = [0u8; 240];
-    answers[..120].copy_from_slice(ROUND_ANSWERS);
-    answers[120..].copy_from_slice(ROUND_ANSWERS);
-    let fronts = [0, 5, 54, 59, 64, 120, 125, 174, 179, 184];
-    let first = is_answered(&rt, rt.alloc(), &text, &answers, &fronts);
-    let second = is_answered(&rt, rt.alloc(), &text, &answers, &fronts);
-    assert!(rt; first || second);
-}
-
-// The first half, a line that forgets it, both halves and a line that forgets nothing.
-#[test]
-fn forgetting_wants_no_memory(rt: HostRuntime) {
-    let (half, both) = (&TWO_FRAGMENTS[..93], TWO_FRAGMENTS);
-    let mut text = [0u8; 299];
-    text[..93].copy_from_slice(half);
-    text[93..102].copy_from_slice(b"forget 2\n");
-    text[102..288].copy_from_slice(both);
-    text[288..].copy_from_slice(b"forget 100\n");
-    let mut answers = [0u8; 65];
-    answers[..8].copy_from_slice(b"wait\nok\n");
-    answers[8..62].copy_from_slice(TWO_ANSWERS);
-    answers[62..].copy_from_slice(b"ok\n");
-    let first = is_answered(&rt, rt.alloc(), &text, &answers, &[0, 8, 13]);
-    let second = is_answered(&rt, rt.alloc(), &text, &answers, &[0, 8, 13]);
-    assert!(rt; first || second);
-}
-
-// Lines that hold no fragment take no memory, so a run answers all of them or reads nothing.
-#[test]
-fn other_lines_want_no_memory(rt: HostRuntime) {
-    let (text, answers) = (b"\nforget\nforget 7", b"bad line\nbad line\nok\n");
-    let first = is_answered(&rt, rt.alloc(), text, answers, &[0]);
-    let second = is_answered(&rt, rt.alloc(), text, answers, &[0]);
-    assert!(rt; first || second);
-}
-
-// Whether the message is posted as these frames; the only refusal is that of memory.
-fn posts(
-    rt: &impl Abort,
-    alloc: Global,
-    letter: &Letter,
-    message: &[u8],
-    cuts: &[u32],
-    frames: &[&[u8]],
-) -> bool {
-    match post(alloc, letter, message, cuts) {
-        Ok(posted) => {
-            assert!(rt; posted.len() == frames.len());
-            for (posted, frame) in posted.iter().zip(frames) {
-                assert!(rt; posted.as_slice() == *frame);
-            }
-            true
-        }
-        Err(error) => {
-            assert!(rt; error == PostError::Memory);
-            false
-        }
+fn runs_want_memory(rt: HostRuntime) {
+    for row in RUNS.iter() {
+        one_of_two_is_answered(&rt, row);
     }
-}
-
-#[test]
-fn a_frame_wants_memory(rt: HostRuntime) {
-    let letter = letter(over_ipv4(), 17);
-    let first = posts(&rt, rt.alloc(), &letter, &MESSAGE, &[], &[&FRAME]);
-    let second = posts(&rt, rt.alloc(), &letter, &MESSAGE, &[], &[&FRAME]);
-    assert!(rt; first || second);
 }
 
 // Behind two tags over IPv6.
@@ -127,16 +97,8 @@ const TAGGED: [u8; 78] = [
     0, 0, 0, 0, 0, 0, 0, 0, 2, 0, 1, 0, 2, 0, 0x10, 0xf5, 0xb2, 1, 2, 3, 4, 5, 6, 7, 8,
 ];
 
-#[test]
-fn a_tagged_frame_wants_memory(rt: HostRuntime) {
-    let letter = with_tags(&rt, letter(over_ipv6(), 17), &[5, 9]);
-    let first = posts(&rt, rt.alloc(), &letter, &MESSAGE_V6, &[], &[&TAGGED]);
-    let second = posts(&rt, rt.alloc(), &letter, &MESSAGE_V6, &[], &[&TAGGED]);
-    assert!(rt; first || second);
-}
-
 // The worked row of three frames.
-const PIECES: [&[u8]; 3] = [
+const PIECES: &[&[u8]] = &[
     &[
         2, 0, 0, 0, 0, 2, 2, 0, 0, 0, 0, 1, 8, 0, 0x45, 0, 0, 0x1c, 0, 7, 0x20, 0, 0x40, 6, 0x46,
         0xd3, 10, 0, 0, 1, 10, 0, 0, 2, 0, 1, 0, 2, 0, 0, 0, 3,
@@ -151,52 +113,99 @@ const PIECES: [&[u8]; 3] = [
     ],
 ];
 
+// The IP version, a number, tags, a message, cuts, and the frames that it is posted as.
+type Posted = (
+    u8,
+    u8,
+    &'static [u16],
+    &'static [u8],
+    &'static [u32],
+    &'static [&'static [u8]],
+);
+
+const POSTED: [Posted; 3] = [
+    (4, 17, &[], &MESSAGE, &[], &[&FRAME]),
+    (6, 17, &[5, 9], &MESSAGE_V6, &[], &[&TAGGED]),
+    (4, 6, &[], &SEGMENT, &[8, 16], PIECES),
+];
+
+// Whether the message is posted; the only refusal is that of memory.
+fn posts(rt: &(impl Abort + AllocGlobal), row: &Posted) -> bool {
+    let (version, number, tags, message, cuts, frames) = *row;
+    match post(
+        rt.alloc(),
+        &letter(rt, version, number, tags),
+        message,
+        cuts,
+    ) {
+        Ok(posted) => {
+            equal(rt, &posted.len(), &frames.len());
+            for (posted, frame) in posted.iter().zip(frames) {
+                equal(rt, &posted.as_slice(), frame);
+            }
+            true
+        }
+        Err(error) => {
+            equal(rt, &error, &PostError::Memory);
+            false
+        }
+    }
+}
+
+// One frame, one with tags, and three.
 #[test]
-fn three_frames_want_memory(rt: HostRuntime) {
-    let letter = letter(over_ipv4(), 6);
-    let first = posts(&rt, rt.alloc(), &letter, &SEGMENT, &[8, 16], &PIECES);
-    let second = posts(&rt, rt.alloc(), &letter, &SEGMENT, &[8, 16], &PIECES);
-    assert!(rt; first || second);
+fn a_frame_wants_memory(rt: HostRuntime) {
+    for row in POSTED.iter() {
+        let first = posts(&rt, row);
+        let second = posts(&rt, row);
+        holds(&rt, first || second);
+    }
+}
+
+// The IP version, a number, cuts, and why the message isn't posted.
+type Refused = (u8, u8, &'static [u32], PostError);
+
+const REFUSED: [Refused; 3] = [
+    (4, 51, &[], PostError::ExtensionNumber),
+    (6, 1, &[], PostError::IcmpOfOtherVersion),
+    (4, 17, &[7], PostError::Cuts { index: 0 }),
+];
+
+fn is_refused(rt: &(impl Abort + AllocGlobal), row: &Refused) {
+    let (version, number, cuts, refusal) = *row;
+    let told = post(
+        rt.alloc(),
+        &letter(rt, version, number, &[]),
+        &MESSAGE,
+        cuts,
+    )
+    .err();
+    equal(rt, &told, &Some(refusal));
 }
 
 // Refused for another reason than memory, with all of it or without.
 #[test]
 fn refused_letters_want_no_memory(rt: HostRuntime) {
-    let refusals = [
-        (
-            post(rt.alloc(), &letter(over_ipv4(), 51), &MESSAGE, &[]),
-            PostError::ExtensionNumber,
-        ),
-        (
-            post(rt.alloc(), &letter(over_ipv6(), 1), &MESSAGE, &[]),
-            PostError::IcmpOfOtherVersion,
-        ),
-        (
-            post(rt.alloc(), &letter(over_ipv4(), 17), &MESSAGE, &[7]),
-            PostError::Cuts { index: 0 },
-        ),
-    ];
-    for (answer, refusal) in refusals {
-        assert!(rt; answer == Err(refusal));
+    for row in REFUSED.iter() {
+        is_refused(&rt, row);
     }
 }
 
-// Whether the header is sealed with the payload; the only refusal is that of memory.
-fn seals(
-    rt: &impl Abort,
-    alloc: Global,
-    stream: &IpFragVersionSpecId,
-    header: TransportHeader,
-    payload: &[u8],
-    message: &[u8],
-) -> bool {
-    match seal_message(alloc, stream, header, payload) {
+// Whether the message's payload is sealed as the message; the only refusal is that of memory.
+fn seals(rt: &(impl Abort + AllocGlobal), version: u8, message: &[u8]) -> bool {
+    let payload = message.get(8..).unwrap_or(&[]);
+    match seal_message(
+        rt.alloc(),
+        &stream(version),
+        transport(Header::Udp(0)),
+        payload,
+    ) {
         Ok(sealed) => {
-            assert!(rt; sealed.as_slice() == message);
+            equal(rt, &sealed.as_slice(), &message);
             true
         }
         Err(error) => {
-            assert!(rt; error == SealError::Memory);
+            equal(rt, &error, &SealError::Memory);
             false
         }
     }
@@ -204,40 +213,11 @@ fn seals(
 
 #[test]
 fn sealed_messages_want_memory(rt: HostRuntime) {
-    let first = seals(
+    let first = seals(&rt, 4, &MESSAGE);
+    let second = seals(&rt, 4, &MESSAGE);
+    holds(&rt, first || second);
+    holds(
         &rt,
-        rt.alloc(),
-        &stream_v4(),
-        udp(0),
-        &MESSAGE[8..],
-        &MESSAGE,
-    );
-    let second = seals(
-        &rt,
-        rt.alloc(),
-        &stream_v4(),
-        udp(0),
-        &MESSAGE[8..],
-        &MESSAGE,
-    );
-    assert!(rt; first || second);
-    let over_ipv6 = seals(
-        &rt,
-        rt.alloc(),
-        &stream_v6(),
-        udp(0),
-        &MESSAGE_V6[8..],
-        &MESSAGE_V6,
-    );
-    assert!(rt;
-        over_ipv6
-            || seals(
-                &rt,
-                rt.alloc(),
-                &stream_v6(),
-                udp(0),
-                &MESSAGE_V6[8..],
-                &MESSAGE_V6
-            )
+        seals(&rt, 6, &MESSAGE_V6) || seals(&rt, 6, &MESSAGE_V6),
     );
 }

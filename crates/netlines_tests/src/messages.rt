@@ -1,17 +1,13 @@
-//! Messages that are read, judged and sealed. Bytes and checksums were worked out by hand and by a
-//! separate program after RFC 768, 792, 1071, 4443 and 9293.
+//! Messages that are read and judged. Bytes and checksums were worked out by hand and by a separate
+//! program after RFC 768, 792, 1071, 4443 and 9293.
+use crate::checks::equal;
 use ep_base::err::{Layer, LenError};
 use ep_base::{IpNumber, LenSource};
-use ep_icmp::{IcmpEchoHeader, Icmpv4Header, Icmpv4Type, Icmpv6Header, Icmpv6Type};
-use ep_packet::TransportHeader;
 use ep_packet::err::packet::SliceError;
 use ep_tcpudp::err::tcp::HeaderError;
-use ep_tcpudp::{TcpHeader, UdpHeader};
-use netlines::{
-    Addresses, IpFragVersionSpecId, Message, SealError, Verdict, judge, read_message, seal_message,
-};
-use std::alloc::Global;
-use std::test::Fail;
+use netlines::{Addresses, Message, Verdict, judge, read_message};
+use std::process::Abort;
+use std::test::*;
 
 const OVER_V4: Addresses = Addresses::V4 {
     source: [10, 0, 0, 1],
@@ -23,22 +19,6 @@ const OVER_V6: Addresses = Addresses::V6 {
     destination: [0xfd, 0, 0, 0, 0, 0, 0, 0, 0, 0, 0, 0, 0, 0, 0, 2],
 };
 
-pub(super) fn stream_v4() -> IpFragVersionSpecId {
-    IpFragVersionSpecId::Ipv4 {
-        source: [10, 0, 0, 1],
-        destination: [10, 0, 0, 2],
-        identification: 7,
-    }
-}
-
-pub(super) fn stream_v6() -> IpFragVersionSpecId {
-    IpFragVersionSpecId::Ipv6 {
-        source: [0xfd, 0, 0, 0, 0, 0, 0, 0, 0, 0, 0, 0, 0, 0, 0, 1],
-        destination: [0xfd, 0, 0, 0, 0, 0, 0, 0, 0, 0, 0, 0, 0, 0, 0, 2],
-        identification: 7,
-    }
-}
-
 // What is told of a message with this number; `None` where it can't be read.
 fn verdict(addresses: &Addresses, number: u8, message: &[u8]) -> Option<Verdict> {
     match read_message(IpNumber(number), message) {
@@ -47,45 +27,50 @@ fn verdict(addresses: &Addresses, number: u8, message: &[u8]) -> Option<Verdict>
     }
 }
 
-#[test]
-fn icmp_all_ones(rt: HostRuntime) {
-    let found = [
-        verdict(&OVER_V4, 1, &[0; 8]),
-        verdict(&OVER_V4, 1, &[0xff, 0xff, 0, 0, 0, 0, 0, 0]),
-        verdict(&OVER_V4, 1, &[0xff, 0xff, 0xff, 0xff, 0, 0, 0, 0]),
-    ];
-    let (good, bad) = (Some(Verdict::Good), Some(Verdict::Bad));
-    assert!(rt; found == [bad, good, good]);
+const UDP: &[u8] = &[0, 1, 0, 2, 0, 0x10, 0xdb, 0xb4, 1, 2, 3, 4, 5, 6, 7, 8];
+
+const UDP_WITHOUT_CHECKSUM: &[u8] = &[0, 1, 0, 2, 0, 8, 0, 0];
+
+const ECHO: &[u8] = &[0x80, 0, 0x24, 0x51, 0, 1, 0, 2, 0x61, 0x62];
+
+const SEGMENT: &[u8] = &[
+    0, 1, 0, 2, 0, 0, 0, 3, 0, 0, 0, 0, 0x50, 2, 4, 0, 0x97, 0xda, 0, 0,
+];
+
+// The IP version, a number, a message, and what is told of it.
+const VERDICTS: [(u8, u8, &[u8], Verdict); 12] = [
+    // All ones.
+    (4, 1, &[0, 0, 0, 0, 0, 0, 0, 0], Verdict::Bad),
+    (4, 1, &[0xff, 0xff, 0, 0, 0, 0, 0, 0], Verdict::Good),
+    (4, 1, &[0xff, 0xff, 0xff, 0xff, 0, 0, 0, 0], Verdict::Good),
+    // Without a checksum.
+    (6, 1, &[0xff, 0xff, 0, 0, 0, 0, 0, 0], Verdict::None),
+    (4, 58, &[0x80, 0, 0, 0, 0, 0, 0, 0], Verdict::None),
+    (4, 17, UDP_WITHOUT_CHECKSUM, Verdict::None),
+    (6, 17, UDP_WITHOUT_CHECKSUM, Verdict::None),
+    (4, 253, &[], Verdict::None),
+    // With one.
+    (4, 17, UDP, Verdict::Good),
+    (6, 17, UDP, Verdict::Bad),
+    (6, 58, ECHO, Verdict::Good),
+    (4, 6, SEGMENT, Verdict::Good),
+];
+
+fn is_judged(rt: &impl Abort, version: u8, number: u8, message: &[u8], wanted: Verdict) {
+    let addresses = if version == 6 { &OVER_V6 } else { &OVER_V4 };
+    let told = verdict(addresses, number, message);
+    equal(
+        rt,
+        &(version, number, told),
+        &(version, number, Some(wanted)),
+    );
 }
 
 #[test]
-fn messages_without_checksum(rt: HostRuntime) {
-    let udp = [0, 1, 0, 2, 0, 8, 0, 0];
-    let found = [
-        verdict(&OVER_V6, 1, &[0xff, 0xff, 0, 0, 0, 0, 0, 0]),
-        verdict(&OVER_V4, 58, &[0x80, 0, 0, 0, 0, 0, 0, 0]),
-        verdict(&OVER_V4, 17, &udp),
-        verdict(&OVER_V6, 17, &udp),
-        verdict(&OVER_V4, 253, &[]),
-    ];
-    assert!(rt; found == [Some(Verdict::None); 5]);
-}
-
-#[test]
-fn messages_with_checksum(rt: HostRuntime) {
-    let udp = [0, 1, 0, 2, 0, 0x10, 0xdb, 0xb4, 1, 2, 3, 4, 5, 6, 7, 8];
-    let echo = [0x80, 0, 0x24, 0x51, 0, 1, 0, 2, 0x61, 0x62];
-    let segment = [
-        0, 1, 0, 2, 0, 0, 0, 3, 0, 0, 0, 0, 0x50, 2, 4, 0, 0x97, 0xda, 0, 0,
-    ];
-    let found = [
-        verdict(&OVER_V4, 17, &udp),
-        verdict(&OVER_V6, 17, &udp),
-        verdict(&OVER_V6, 58, &echo),
-        verdict(&OVER_V4, 6, &segment),
-    ];
-    let (good, bad) = (Some(Verdict::Good), Some(Verdict::Bad));
-    assert!(rt; found == [good, bad, good, good]);
+fn verdicts(rt: HostRuntime) {
+    for (version, number, message, wanted) in VERDICTS.iter() {
+        is_judged(&rt, *version, *number, message, *wanted);
+    }
 }
 
 // What is told of an echo reply of zeros with this checksum in front of a payload, to whose sum it
@@ -99,22 +84,33 @@ fn verdict_of_reply(checksum: u16, payload: &[u8]) -> Option<Verdict> {
 }
 
 // Words of ffff and of 0, and 16 words 0101 with 0100 behind them.
+const REPLIES: [(u16, &[u8], Verdict); 6] = [
+    (0, &[0xff; 64], Verdict::Good),
+    (0xffff, &[0xff; 64], Verdict::Good),
+    (0xffff, &[0; 64], Verdict::Good),
+    (0, &[0; 64], Verdict::Bad),
+    (0xeeef, &[1; 33], Verdict::Good),
+    (0xefee, &[1; 33], Verdict::Bad),
+];
+
 #[test]
 fn payloads_of_one_byte_repeated(rt: HostRuntime) {
-    let found = [
-        verdict_of_reply(0, &[0xff; 64]),
-        verdict_of_reply(0xffff, &[0xff; 64]),
-        verdict_of_reply(0xffff, &[0; 64]),
-        verdict_of_reply(0, &[0; 64]),
-        verdict_of_reply(0xeeef, &[1; 33]),
-        verdict_of_reply(0xefee, &[1; 33]),
-    ];
-    let (good, bad) = (Some(Verdict::Good), Some(Verdict::Bad));
-    assert!(rt; found == [good, good, good, bad, good, bad]);
+    for (checksum, payload, wanted) in REPLIES.iter() {
+        let told = verdict_of_reply(*checksum, payload);
+        equal(&rt, &(*checksum, told), &(*checksum, Some(*wanted)));
+    }
 }
 
-// Payloads of 1, 2, 3, .. of each length up to 130, of which the longest are summed in lanes, with
-// their checksum and with one more.
+// A payload with its checksum, and with one more.
+fn is_judged_by_checksum(rt: &impl Abort, payload: &[u8], checksum: u16) {
+    let told = [
+        verdict_of_reply(checksum, payload),
+        verdict_of_reply(checksum ^ 1, payload),
+    ];
+    equal(rt, &told, &[Some(Verdict::Good), Some(Verdict::Bad)]);
+}
+
+// Payloads of 1, 2, 3, .. of each length up to 130, of which the longest are summed in lanes.
 #[test]
 fn payloads_of_every_length(rt: HostRuntime) {
     let mut payload = [0u8; 131];
@@ -122,12 +118,7 @@ fn payloads_of_every_length(rt: HostRuntime) {
     let mut total = 0u32;
     for len in 0..=130usize {
         let checksum = (65535 - total % 65535) as u16;
-        let front = &payload[..len];
-        let found = [
-            verdict_of_reply(checksum, front),
-            verdict_of_reply(checksum ^ 1, front),
-        ];
-        assert!(rt; found == [Some(Verdict::Good), Some(Verdict::Bad)]);
+        is_judged_by_checksum(&rt, &payload[..len], checksum);
         byte = byte.wrapping_add(1);
         payload[len] = byte;
         let weight = if len % 2 == 0 { 256 } else { 1 };
@@ -147,20 +138,28 @@ fn kind_and_len(number: u8, bytes: &[u8]) -> (u8, usize) {
     }
 }
 
+const BYTES: [u8; 20] = [
+    0xff, 0xff, 0, 0, 0, 8, 0, 0, 0, 0, 0, 0, 0x50, 0, 0, 0, 0, 0, 0, 0,
+];
+
+const KINDS: [(u8, (u8, usize)); 6] = [
+    (1, (1, 20)),
+    (6, (2, 20)),
+    (17, (3, 8)),
+    (58, (4, 20)),
+    (0, (5, 20)),
+    (253, (5, 20)),
+];
+
 #[test]
 fn a_message_is_the_slice_of_its_protocol(rt: HostRuntime) {
-    let bytes = [
-        0xff, 0xff, 0, 0, 0, 8, 0, 0, 0, 0, 0, 0, 0x50, 0, 0, 0, 0, 0, 0, 0,
-    ];
-    let found = [
-        kind_and_len(1, &bytes),
-        kind_and_len(6, &bytes),
-        kind_and_len(17, &bytes),
-        kind_and_len(58, &bytes),
-        kind_and_len(0, &bytes),
-        kind_and_len(253, &bytes),
-    ];
-    assert!(rt; found == [(1, 20), (2, 20), (3, 8), (4, 20), (5, 20), (5, 20)]);
+    for (number, wanted) in KINDS.iter() {
+        equal(
+            &rt,
+            &(*number, kind_and_len(*number, &BYTES)),
+            &(*number, *wanted),
+        );
+    }
 }
 
 // The error of a message that can't be read.
@@ -168,33 +167,31 @@ fn fault(number: u8, message: &[u8]) -> Option<SliceError> {
     read_message(IpNumber(number), message).err()
 }
 
-fn want_of_bytes(required_len: usize, len: usize, layer: Layer) -> Option<SliceError> {
-    Some(SliceError::Len(LenError {
+// A number, a message, how many bytes are wanted, and in which layer.
+const REFUSALS: [(u8, &[u8], usize, Layer); 5] = [
+    (1, &[0; 7], 8, Layer::Icmpv4),
+    (6, &[0; 19], 20, Layer::TcpHeader),
+    (17, &[0; 7], 8, Layer::UdpHeader),
+    (58, &[0; 7], 8, Layer::Icmpv6),
+    (1, &[13, 0, 0, 0, 0, 0, 0, 0], 20, Layer::Icmpv4Timestamp),
+];
+
+fn wants_bytes(rt: &impl Abort, number: u8, message: &[u8], required_len: usize, layer: Layer) {
+    let wanted = LenError {
         required_len,
-        len,
+        len: message.len(),
         len_source: LenSource::Slice,
         layer,
         layer_start_offset: 0,
-    }))
+    };
+    equal(rt, &fault(number, message), &Some(SliceError::Len(wanted)));
 }
 
 #[test]
 fn refusals_of_messages(rt: HostRuntime) {
-    let faults = [
-        fault(1, &[0; 7]),
-        fault(6, &[0; 19]),
-        fault(17, &[0; 7]),
-        fault(58, &[0; 7]),
-        fault(1, &[13, 0, 0, 0, 0, 0, 0, 0]),
-    ];
-    let wanted = [
-        want_of_bytes(8, 7, Layer::Icmpv4),
-        want_of_bytes(20, 19, Layer::TcpHeader),
-        want_of_bytes(8, 7, Layer::UdpHeader),
-        want_of_bytes(8, 7, Layer::Icmpv6),
-        want_of_bytes(20, 8, Layer::Icmpv4Timestamp),
-    ];
-    assert!(rt; faults == wanted);
+    for (number, message, required_len, layer) in REFUSALS.iter() {
+        wants_bytes(&rt, *number, message, *required_len, *layer);
+    }
 }
 
 #[test]
@@ -202,119 +199,5 @@ fn refusal_of_a_data_offset(rt: HostRuntime) {
     let mut segment = [0; 20];
     segment[12] = 0x40;
     let too_small = HeaderError::DataOffsetTooSmall { data_offset: 4 };
-    assert!(rt; fault(6, &segment) == Some(SliceError::Tcp(too_small)));
-}
-
-// A header of a datagram whose checksum is to be set.
-pub(super) fn udp(checksum: u16) -> TransportHeader {
-    TransportHeader::Udp(UdpHeader {
-        source_port: 1,
-        destination_port: 2,
-        length: 0,
-        checksum,
-    })
-}
-
-pub(super) fn icmpv4_reply() -> TransportHeader {
-    TransportHeader::Icmpv4(Icmpv4Header {
-        icmp_type: Icmpv4Type::EchoReply(IcmpEchoHeader { id: 0, seq: 0 }),
-        checksum: 0,
-    })
-}
-
-pub(super) fn icmpv6_request() -> TransportHeader {
-    TransportHeader::Icmpv6(Icmpv6Header {
-        icmp_type: Icmpv6Type::EchoRequest(IcmpEchoHeader { id: 1, seq: 2 }),
-        checksum: 0,
-    })
-}
-
-// Whether the message is sealed as these bytes.
-fn seals_as(
-    alloc: Global,
-    stream: &IpFragVersionSpecId,
-    header: TransportHeader,
-    payload: &[u8],
-    bytes: &[u8],
-) -> bool {
-    match seal_message(alloc, stream, header, payload) {
-        Ok(message) => message.as_slice() == bytes,
-        Err(_) => false,
-    }
-}
-
-#[test]
-fn sealed_messages(rt: HostRuntime) {
-    let payload = [1, 2, 3, 4, 5, 6, 7, 8];
-    let over_v4 = [0, 1, 0, 2, 0, 0x10, 0xdb, 0xb4, 1, 2, 3, 4, 5, 6, 7, 8];
-    let over_v6 = [0, 1, 0, 2, 0, 0x10, 0xf5, 0xb2, 1, 2, 3, 4, 5, 6, 7, 8];
-    let sealed = [
-        seals_as(rt.alloc(), &stream_v4(), udp(0xffff), &payload, &over_v4),
-        seals_as(rt.alloc(), &stream_v6(), udp(0xffff), &payload, &over_v6),
-    ];
-    assert!(rt; sealed == [true, true]);
-}
-
-#[test]
-fn sealed_icmp(rt: HostRuntime) {
-    let reply = [0, 0, 0xff, 0xff, 0, 0, 0, 0];
-    let request = [0x80, 0, 0x24, 0x51, 0, 1, 0, 2, 0x61, 0x62];
-    let sealed = [
-        seals_as(rt.alloc(), &stream_v4(), icmpv4_reply(), &[], &reply),
-        seals_as(rt.alloc(), &stream_v6(), icmpv6_request(), b"ab", &request),
-    ];
-    assert!(rt; sealed == [true, true]);
-}
-
-#[test]
-fn sealed_segment(rt: HostRuntime) {
-    let mut header = TcpHeader::new(1, 2, 3, 0x400);
-    header.syn = true;
-    let bytes = [
-        0, 1, 0, 2, 0, 0, 0, 3, 0, 0, 0, 0, 0x50, 2, 4, 0, 0x97, 0xda, 0, 0,
-    ];
-    assert!(rt;
-        seals_as(
-            rt.alloc(),
-            &stream_v4(),
-            TransportHeader::Tcp(header),
-            &[],
-            &bytes
-        )
-    );
-}
-
-// The length of a sealed message, or why there is none.
-fn sealed_len(
-    alloc: Global,
-    stream: &IpFragVersionSpecId,
-    header: TransportHeader,
-    payload: &[u8],
-) -> Result<usize, SealError> {
-    match seal_message(alloc, stream, header, payload) {
-        Ok(message) => Ok(message.len()),
-        Err(error) => Err(error),
-    }
-}
-
-#[test]
-fn refusals_of_sealing(rt: HostRuntime) -> Result<(), Fail> {
-    let zeros = vec![in rt.alloc(); 0u8; 65528]?;
-    let found = [
-        sealed_len(rt.alloc(), &stream_v4(), icmpv6_request(), &zeros),
-        sealed_len(rt.alloc(), &stream_v6(), icmpv4_reply(), &[]),
-        sealed_len(rt.alloc(), &stream_v4(), udp(0), &zeros),
-        sealed_len(rt.alloc(), &stream_v4(), udp(0), &zeros[..65527]),
-    ];
-    let other_version = Err(SealError::IcmpOfOtherVersion);
-    assert!(rt;
-        found
-            == [
-                other_version,
-                other_version,
-                Err(SealError::TooLong),
-                Ok(65535)
-            ]
-    );
-    Ok(())
+    equal(&rt, &fault(6, &segment), &Some(SliceError::Tcp(too_small)));
 }

@@ -1,8 +1,9 @@
 //! Messages that are not posted, and their neighbours that are.
-
-use crate::post::{MESSAGE, letter, over_ipv4, over_ipv6, zeros};
+use crate::checks::equal;
+use crate::post::{MESSAGE, letter};
 use netlines::{Letter, PostError, post};
 use std::alloc::Global;
+use std::process::Abort;
 use std::test::*;
 
 // The number of frames, or why there are none.
@@ -13,129 +14,114 @@ fn told(alloc: Global, letter: &Letter, message: &[u8], cuts: &[u32]) -> Result<
     }
 }
 
-#[test]
-fn refusals_over_ipv6(rt: HostRuntime) {
-    let zeros = zeros(&rt, rt.alloc(), 65536);
-    let rows = [
-        (0, 16, PostError::ExtensionNumber),
-        (43, 16, PostError::ExtensionNumber),
-        (44, 16, PostError::ExtensionNumber),
-        (51, 65535, PostError::ExtensionNumber),
-        (60, 16, PostError::ExtensionNumber),
-        (1, 65535, PostError::IcmpOfOtherVersion),
-        (253, 65536, PostError::MessageTooLong),
-        (0, 65536, PostError::MessageTooLong),
-        (1, 65536, PostError::MessageTooLong),
-    ];
-    for (number, len, error) in rows {
-        let message = zeros.get(..len).unwrap_or(&[]);
-        let told = told(rt.alloc(), &letter(over_ipv6(), number), message, &[]);
-        assert!(rt;
-            (message.len(), told) == (len, Err(error)),
-            "number {number}, {len} bytes"
-        );
-    }
+// The IP version, a number, the length of a message of zeros, its cuts, and what is told.
+type Row = (u8, u8, usize, &'static [u32], Result<usize, PostError>);
+
+const EXTENSION: Result<usize, PostError> = Err(PostError::ExtensionNumber);
+
+const OTHER_ICMP: Result<usize, PostError> = Err(PostError::IcmpOfOtherVersion);
+
+const TOO_LONG: Result<usize, PostError> = Err(PostError::MessageTooLong);
+
+const CUT_0: Result<usize, PostError> = Err(PostError::Cuts { index: 0 });
+
+const CUT_1: Result<usize, PostError> = Err(PostError::Cuts { index: 1 });
+
+const PIECE_0: Result<usize, PostError> = Err(PostError::PieceTooLong { index: 0 });
+
+const PIECE_1: Result<usize, PostError> = Err(PostError::PieceTooLong { index: 1 });
+
+const ROWS: [Row; 35] = [
+    // By number and length over IPv6.
+    (6, 0, 16, &[], EXTENSION),
+    (6, 43, 16, &[], EXTENSION),
+    (6, 44, 16, &[], EXTENSION),
+    (6, 51, 65535, &[], EXTENSION),
+    (6, 60, 16, &[], EXTENSION),
+    (6, 1, 65535, &[], OTHER_ICMP),
+    (6, 253, 65536, &[], TOO_LONG),
+    (6, 0, 65536, &[], TOO_LONG),
+    (6, 1, 65536, &[], TOO_LONG),
+    // By number and length over IPv4.
+    (4, 51, 16, &[], EXTENSION),
+    (4, 58, 16, &[], OTHER_ICMP),
+    (4, 253, 65516, &[], PIECE_0),
+    (4, 253, 65535, &[], PIECE_0),
+    (4, 253, 65536, &[], TOO_LONG),
+    (4, 51, 65536, &[], TOO_LONG),
+    (4, 58, 65536, &[], TOO_LONG),
+    (4, 51, 65516, &[], EXTENSION),
+    (4, 58, 65516, &[], OTHER_ICMP),
+    // Cuts are refused first.
+    (4, 253, 65536, &[0], CUT_0),
+    (4, 51, 16, &[0], CUT_0),
+    (4, 58, 16, &[0], CUT_0),
+    (6, 253, 65536, &[0], CUT_0),
+    (6, 0, 16, &[0], CUT_0),
+    (6, 1, 16, &[0], CUT_0),
+    // Cuts of long messages.
+    (4, 253, 65535, &[0], CUT_0),
+    (4, 253, 65535, &[8, 8], CUT_1),
+    (4, 253, 65535, &[8, 12], CUT_1),
+    (4, 253, 16, &[8, 16], CUT_1),
+    // Long pieces over IPv4.
+    (4, 253, 65535, &[], PIECE_0),
+    (4, 253, 65535, &[32768], Ok(2)),
+    (4, 253, 65535, &[8], PIECE_1),
+    (4, 253, 65535, &[65528], PIECE_0),
+    // Long pieces over IPv6.
+    (6, 253, 65535, &[], Ok(1)),
+    (6, 253, 65535, &[8], Ok(2)),
+    (6, 253, 65535, &[65528], PIECE_0),
+];
+
+fn posts_or_refuses(rt: &(impl Abort + AllocGlobal), zeros: &[u8], row: &Row) {
+    let (version, number, len, cuts, wanted) = *row;
+    let message = zeros.get(..len).unwrap_or(&[]);
+    let told = told(rt.alloc(), &letter(rt, version, number, &[]), message, cuts);
+    let told = (version, number, message.len(), cuts, told);
+    equal(rt, &told, &(version, number, len, cuts, wanted));
 }
 
 #[test]
-fn refusals_by_number_and_length(rt: HostRuntime) {
-    let zeros = zeros(&rt, rt.alloc(), 65536);
-    let rows = [
-        (51, 16, PostError::ExtensionNumber),
-        (58, 16, PostError::IcmpOfOtherVersion),
-        (253, 65516, PostError::PieceTooLong { index: 0 }),
-        (253, 65535, PostError::PieceTooLong { index: 0 }),
-        (253, 65536, PostError::MessageTooLong),
-        (51, 65536, PostError::MessageTooLong),
-        (58, 65536, PostError::MessageTooLong),
-        (51, 65516, PostError::ExtensionNumber),
-        (58, 65516, PostError::IcmpOfOtherVersion),
-    ];
-    for (number, len, error) in rows {
-        let message = zeros.get(..len).unwrap_or(&[]);
-        let told = told(rt.alloc(), &letter(over_ipv4(), number), message, &[]);
-        assert!(rt;
-            (message.len(), told) == (len, Err(error)),
-            "number {number}, {len} bytes"
-        );
+fn refusals_and_their_neighbours(rt: HostRuntime) -> Result<(), Fail> {
+    let zeros = vec![in rt.alloc(); 0u8; 65536]?;
+    for row in ROWS.iter() {
+        posts_or_refuses(&rt, &zeros, row);
     }
+    Ok(())
 }
 
-// The numbers of extension headers and that of ICMP are refused over IPv6.
-#[test]
-fn numbers_that_are_sent_over_ipv6(rt: HostRuntime) {
-    for number in [6, 17, 50, 58, 135, 139, 140, 253] {
-        let told = told(rt.alloc(), &letter(over_ipv6(), number), &MESSAGE, &[]);
-        assert!(rt; told == Ok(1), "number {number}");
-    }
+// The numbers of extension headers and that of ICMP are refused over IPv6, and the number of the
+// authentication header and that of ICMPv6 alone over IPv4. These are sent.
+const SENT: [(u8, u8); 17] = [
+    (6, 6),
+    (6, 17),
+    (6, 50),
+    (6, 58),
+    (6, 135),
+    (6, 139),
+    (6, 140),
+    (6, 253),
+    (4, 0),
+    (4, 1),
+    (4, 6),
+    (4, 17),
+    (4, 43),
+    (4, 44),
+    (4, 50),
+    (4, 60),
+    (4, 253),
+];
+
+fn is_sent(rt: &(impl Abort + AllocGlobal), version: u8, number: u8) {
+    let told = told(rt.alloc(), &letter(rt, version, number, &[]), &MESSAGE, &[]);
+    equal(rt, &(version, number, told), &(version, number, Ok(1)));
 }
 
-// The number of the authentication header and that of ICMPv6 alone are refused over IPv4.
 #[test]
 fn numbers_that_are_sent(rt: HostRuntime) {
-    for number in [0, 1, 6, 17, 43, 44, 50, 60, 253] {
-        let told = told(rt.alloc(), &letter(over_ipv4(), number), &MESSAGE, &[]);
-        assert!(rt; told == Ok(1), "number {number}");
+    for (version, number) in SENT.iter() {
+        is_sent(&rt, *version, *number);
     }
-}
-
-#[test]
-fn cuts_are_refused_first(rt: HostRuntime) {
-    let long = zeros(&rt, rt.alloc(), 65536);
-    let short = [0; 16];
-    let found = [
-        told(rt.alloc(), &letter(over_ipv4(), 253), &long, &[0]),
-        told(rt.alloc(), &letter(over_ipv4(), 51), &short, &[0]),
-        told(rt.alloc(), &letter(over_ipv4(), 58), &short, &[0]),
-        told(rt.alloc(), &letter(over_ipv6(), 253), &long, &[0]),
-        told(rt.alloc(), &letter(over_ipv6(), 0), &short, &[0]),
-        told(rt.alloc(), &letter(over_ipv6(), 1), &short, &[0]),
-    ];
-    assert!(rt; found == [Err(PostError::Cuts { index: 0 }); 6]);
-}
-
-#[test]
-fn cuts_of_long_messages(rt: HostRuntime) {
-    let long = zeros(&rt, rt.alloc(), 65535);
-    let letter = letter(over_ipv4(), 253);
-    let found = [
-        told(rt.alloc(), &letter, &long, &[0]),
-        told(rt.alloc(), &letter, &long, &[8, 8]),
-        told(rt.alloc(), &letter, &long, &[8, 12]),
-        told(rt.alloc(), &letter, &[0; 16], &[8, 16]),
-    ];
-    let (first, second) = (
-        Err(PostError::Cuts { index: 0 }),
-        Err(PostError::Cuts { index: 1 }),
-    );
-    assert!(rt; found == [first, second, second, second]);
-}
-
-#[test]
-fn long_pieces(rt: HostRuntime) {
-    let long = zeros(&rt, rt.alloc(), 65535);
-    let letter = letter(over_ipv4(), 253);
-    let found = [
-        told(rt.alloc(), &letter, &long, &[]),
-        told(rt.alloc(), &letter, &long, &[32768]),
-        told(rt.alloc(), &letter, &long, &[8]),
-        told(rt.alloc(), &letter, &long, &[65528]),
-    ];
-    let (first, second) = (
-        Err(PostError::PieceTooLong { index: 0 }),
-        Err(PostError::PieceTooLong { index: 1 }),
-    );
-    assert!(rt; found == [first, Ok(2), second, first]);
-}
-
-#[test]
-fn long_pieces_over_ipv6(rt: HostRuntime) {
-    let long = zeros(&rt, rt.alloc(), 65535);
-    let letter = letter(over_ipv6(), 253);
-    let found = [
-        told(rt.alloc(), &letter, &long, &[]),
-        told(rt.alloc(), &letter, &long, &[8]),
-        told(rt.alloc(), &letter, &long, &[65528]),
-    ];
-    assert!(rt; found == [Ok(1), Ok(2), Err(PostError::PieceTooLong { index: 0 })]);
 }

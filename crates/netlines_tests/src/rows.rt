@@ -1,8 +1,10 @@
-//! Worked rows from readers and to writers that fail, and with few reads.
+//! Worked rows from a reader that fails, and to writers that take little.
+use crate::checks::equal;
 use fault_devices::{Fault, FaultReader, FaultWriter};
 use netlines::{RunError, run, run_bounded};
 use std::io::ErrorKind;
-use std::test::Fail;
+use std::process::Abort;
+use std::test::*;
 
 /// A UDP message in one frame.
 pub const UNCUT_UDP: &[u8] = b"frame 0 \
@@ -12,7 +14,17 @@ pub const UNCUT_UDP: &[u8] = b"frame 0 \
 /// The answer to it.
 pub const MESSAGE: &[u8] = b"message 17 good 000100020010dbb40102030405060708\n";
 
-/// Its two halves.
+/// The first half of that message.
+pub const FIRST_HALF: &[u8] = b"frame 0 \
+    0200000000020200000000010800\
+    4500001c00072000401146c80a0000010a000002000100020010dbb4\n";
+
+/// The second half.
+pub const SECOND_HALF: &[u8] = b"frame 0 \
+    0200000000020200000000010800\
+    4500001c00070001401166c70a0000010a0000020102030405060708\n";
+
+/// Both.
 pub const TWO_FRAGMENTS: &[u8] = b"frame 0 \
     0200000000020200000000010800\
     4500001c00072000401146c80a0000010a000002000100020010dbb4\n\
@@ -28,55 +40,49 @@ fn three_reads_of_one_byte(rt: HostRuntime) {
     let mut reader = FaultReader::new(UNCUT_UDP, 1);
     let mut writer = FaultWriter::new(rt.alloc(), usize::MAX);
     let result = run_bounded(rt.alloc(), &mut reader, &mut writer, 3);
-    assert!(rt; (result, reader.calls) == (Err(RunError::TooManyReads), 3));
-    assert!(rt; writer.calls == 0);
+    let told = (result, reader.calls, writer.calls);
+    equal(&rt, &told, &(Err(RunError::TooManyReads), 3, 0));
 }
 
-// The read that tells the end is one of those that may be made.
-#[test]
-fn no_read_and_one_of_an_empty_input(rt: HostRuntime) {
-    for (reads, wanted) in [(0u8, Err(RunError::TooManyReads)), (1, Ok(()))] {
-        let mut reader = FaultReader::new(b"", 1);
-        let mut writer = FaultWriter::new(rt.alloc(), usize::MAX);
-        let result = run_bounded(rt.alloc(), &mut reader, &mut writer, u64::from(reads));
-        assert!(rt; (result, reader.calls) == (wanted, usize::from(reads)));
-        assert!(rt; writer.calls == 0);
-    }
-}
+// A write that is a fault, the answer, the writes, and what they take: a byte each. The last row
+// has no such write.
+type Row = (usize, Fault, Result<(), RunError>, usize, &'static [u8]);
 
-#[test]
-fn the_fourth_write_fails(rt: HostRuntime) {
-    let fault = Fault::Fails(ErrorKind::Other);
-    let mut writer = FaultWriter::failing(rt.alloc(), 1, 3, fault);
-    let result = run(rt.alloc(), &mut &*TWO_FRAGMENTS, &mut writer);
-    assert!(rt; result == Err(RunError::Write));
-    assert!(rt; writer.taken.as_slice() == b"wai".as_slice());
-}
+const WRITES: [Row; 3] = [
+    (
+        3,
+        Fault::Fails(ErrorKind::Other),
+        Err(RunError::Write),
+        4,
+        b"wai",
+    ),
+    (0, Fault::MovesNone, Err(RunError::WriteZero), 1, b""),
+    (usize::MAX, Fault::MovesNone, Ok(()), 54, TWO_ANSWERS),
+];
 
-#[test]
-fn the_first_write_takes_nothing(rt: HostRuntime) {
-    let mut writer = FaultWriter::failing(rt.alloc(), 1, 0, Fault::MovesNone);
-    let result = run(rt.alloc(), &mut &*TWO_FRAGMENTS, &mut writer);
-    assert!(rt; (result, writer.calls) == (Err(RunError::WriteZero), 1));
-    assert!(rt; writer.taken.len() == 0);
+fn writes_bytes(rt: &(impl Abort + AllocGlobal), row: &Row) {
+    let (at, fault, answer, calls, taken) = *row;
+    let mut reader = TWO_FRAGMENTS;
+    let mut writer = FaultWriter::failing(rt.alloc(), 1, at, fault);
+    let result = run(rt.alloc(), &mut reader, &mut writer);
+    let told = (result, writer.calls, writer.taken.as_slice());
+    equal(rt, &told, &(answer, calls, taken));
 }
 
 #[test]
 fn each_write_takes_one_byte(rt: HostRuntime) {
-    let mut writer = FaultWriter::new(rt.alloc(), 1);
-    let result = run(rt.alloc(), &mut &*TWO_FRAGMENTS, &mut writer);
-    assert!(rt; (result, writer.calls) == (Ok(()), TWO_ANSWERS.len()));
-    assert!(rt; writer.taken.as_slice() == TWO_ANSWERS);
+    for row in WRITES.iter() {
+        writes_bytes(&rt, row);
+    }
 }
 
 // What the line before the failing read is answered is written.
 #[test]
-fn a_read_fails_behind_a_line(rt: HostRuntime) -> Result<(), Fail> {
+fn a_read_fails_behind_a_line(rt: HostRuntime) {
     let fault = Fault::Fails(ErrorKind::Other);
     let mut reader = FaultReader::failing(UNCUT_UDP, 4096, 1, fault);
     let mut output = Vec::new(rt.alloc());
     let result = run(rt.alloc(), &mut reader, &mut output);
-    assert!(rt; (result, reader.calls) == (Err(RunError::Read), 2));
-    assert!(rt; output.as_slice() == MESSAGE);
-    Ok(())
+    let told = (result, reader.calls, output.as_slice());
+    equal(&rt, &told, &(Err(RunError::Read), 2, MESSAGE));
 }

@@ -1,0 +1,58 @@
+//! What tests compare and put together, as functions: each is proved once, and its calls cost a
+//! test's proof little. They have no contracts, as tests alone call them.
+use fault_devices::Tally;
+use std::alloc::{AllocError, Global};
+use std::fmt::Debug;
+use std::process::Abort;
+use std::test::*;
+
+/// Prints what `tools/faults_tried` reads.
+pub fn print_tally(rt: &HostRuntime, tally: &Tally) -> Result<(), Fail> {
+    println!(rt; "{tally}")?;
+    Ok(())
+}
+
+/// Ends a test that is told another value, and shows both.
+pub fn equal<T: PartialEq + Debug>(rt: &impl Abort, told: &T, wanted: &T) {
+    assert_eq!(rt; told, wanted);
+}
+
+/// Ends a test in which it is not so.
+pub fn holds(rt: &impl Abort, is_so: bool) {
+    assert!(rt; is_so);
+}
+
+/// So many lines are ended in the bytes.
+pub fn ended_lines(bytes: &[u8]) -> usize {
+    let mut count = 0usize;
+    for byte in bytes {
+        if *byte == b'\n' {
+            count = count.saturating_add(1);
+        }
+    }
+    count
+}
+
+/// The bytes so many times over.
+pub fn repeated(alloc: Global, bytes: &[u8], times: usize) -> Result<Vec<u8>, AllocError> {
+    let mut all = Vec::new(alloc);
+    for _ in 0..times {
+        all.extend_from_slice(bytes)?;
+    }
+    Ok(all)
+}
+
+/// Puts parts one behind the other into the front of a room, as far as they fit, and tells how many
+/// bytes that are. It takes no memory.
+pub fn join(parts: &[&[u8]], room: &mut [u8]) -> usize {
+    let mut len = 0usize;
+    for part in parts {
+        for byte in *part {
+            if let Some(place) = room.get_mut(len) {
+                *place = *byte;
+                len = len.saturating_add(1);
+            }
+        }
+    }
+    len
+}

@@ -1,0 +1,140 @@
+//! Messages that are sealed, and that are not. Bytes and checksums were worked out by hand and by a
+//! separate program after RFC 768, 792, 1071, 4443 and 9293.
+use crate::checks::equal;
+use crate::post::stream;
+use ep_icmp::{IcmpEchoHeader, Icmpv4Header, Icmpv4Type, Icmpv6Header, Icmpv6Type};
+use ep_packet::TransportHeader;
+use ep_tcpudp::{TcpHeader, UdpHeader};
+use netlines::{SealError, seal_message};
+use std::process::Abort;
+use std::test::*;
+
+/// A header whose checksum, and over UDP length, is to be set.
+#[derive(Clone, Copy, Debug, PartialEq)]
+pub(super) enum Header {
+    Udp(u16),
+    Icmpv4Reply,
+    Icmpv6Request,
+    Tcp,
+}
+
+fn icmpv4_reply() -> Icmpv4Header {
+    Icmpv4Header {
+        icmp_type: Icmpv4Type::EchoReply(IcmpEchoHeader { id: 0, seq: 0 }),
+        checksum: 0,
+    }
+}
+
+fn icmpv6_request() -> Icmpv6Header {
+    Icmpv6Header {
+        icmp_type: Icmpv6Type::EchoRequest(IcmpEchoHeader { id: 1, seq: 2 }),
+        checksum: 0,
+    }
+}
+
+fn tcp() -> TcpHeader {
+    let mut header = TcpHeader::new(1, 2, 3, 0x400);
+    header.syn = true;
+    header
+}
+
+pub(super) fn transport(header: Header) -> TransportHeader {
+    match header {
+        Header::Udp(checksum) => TransportHeader::Udp(UdpHeader {
+            source_port: 1,
+            destination_port: 2,
+            length: 0,
+            checksum,
+        }),
+        Header::Icmpv4Reply => TransportHeader::Icmpv4(icmpv4_reply()),
+        Header::Icmpv6Request => TransportHeader::Icmpv6(icmpv6_request()),
+        Header::Tcp => TransportHeader::Tcp(tcp()),
+    }
+}
+
+// The IP version, the header, the payload, and the sealed message.
+type Sealed = (u8, Header, &'static [u8], &'static [u8]);
+
+const SEALED: [Sealed; 5] = [
+    (
+        4,
+        Header::Udp(0xffff),
+        &[1, 2, 3, 4, 5, 6, 7, 8],
+        &[0, 1, 0, 2, 0, 0x10, 0xdb, 0xb4, 1, 2, 3, 4, 5, 6, 7, 8],
+    ),
+    (
+        6,
+        Header::Udp(0xffff),
+        &[1, 2, 3, 4, 5, 6, 7, 8],
+        &[0, 1, 0, 2, 0, 0x10, 0xf5, 0xb2, 1, 2, 3, 4, 5, 6, 7, 8],
+    ),
+    (4, Header::Icmpv4Reply, &[], &[0, 0, 0xff, 0xff, 0, 0, 0, 0]),
+    (
+        6,
+        Header::Icmpv6Request,
+        b"ab",
+        &[0x80, 0, 0x24, 0x51, 0, 1, 0, 2, 0x61, 0x62],
+    ),
+    (
+        4,
+        Header::Tcp,
+        &[],
+        &[
+            0, 1, 0, 2, 0, 0, 0, 3, 0, 0, 0, 0, 0x50, 2, 4, 0, 0x97, 0xda, 0, 0,
+        ],
+    ),
+];
+
+fn seals_as(rt: &(impl Abort + AllocGlobal), row: &Sealed) {
+    let (version, header, payload, bytes) = *row;
+    match seal_message(rt.alloc(), &stream(version), transport(header), payload) {
+        Ok(message) => equal(rt, &(header, message.as_slice()), &(header, bytes)),
+        Err(error) => panic!(rt; "{error}"),
+    }
+}
+
+#[test]
+fn sealed_messages(rt: HostRuntime) {
+    for row in SEALED.iter() {
+        seals_as(&rt, row);
+    }
+}
+
+// The IP version, the header, the payload's length, and that of the message or why there is none.
+type Length = (u8, Header, usize, Result<usize, SealError>);
+
+const LENGTHS: [Length; 4] = [
+    (
+        4,
+        Header::Icmpv6Request,
+        65528,
+        Err(SealError::IcmpOfOtherVersion),
+    ),
+    (
+        6,
+        Header::Icmpv4Reply,
+        0,
+        Err(SealError::IcmpOfOtherVersion),
+    ),
+    (4, Header::Udp(0), 65528, Err(SealError::TooLong)),
+    (4, Header::Udp(0), 65527, Ok(65535)),
+];
+
+fn seals_so_long(rt: &(impl Abort + AllocGlobal), zeros: &[u8], row: &Length) {
+    let (version, header, len, wanted) = *row;
+    let payload = zeros.get(..len).unwrap_or(&[]);
+    let told = match seal_message(rt.alloc(), &stream(version), transport(header), payload) {
+        Ok(message) => Ok(message.len()),
+        Err(error) => Err(error),
+    };
+    equal(rt, &(header, payload.len(), told), &(header, len, wanted));
+}
+
+#[test]
+fn refusals_of_sealing(rt: HostRuntime) -> Result<(), Fail> {
+    let zeros = vec![in rt.alloc(); 0u8; 65528]?;
+    for row in LENGTHS.iter() {
+        seals_so_long(&rt, &zeros, row);
+    }
+    Ok(())
+}
