@@ -154,10 +154,8 @@ def summary(packets, still_open):
     yield from rate(packets)
 
 
-def outputs(name, packets, link_type, still_open):
-    yield f"== show {name}"
-    yield from shown(packets)
-    yield f"== json --payload {name}"
-    yield from objects(packets, link_type)
-    yield f"== summary {name}"
-    yield from summary(packets, still_open)
+def outputs(packets, link_type, still_open):
+    """What three command lines tell, by their words."""
+    yield ["show"], shown(packets)
+    yield ["json", "--payload"], objects(packets, link_type)
+    yield ["summary"], summary(packets, still_open)

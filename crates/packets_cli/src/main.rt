@@ -1,26 +1,20 @@
 //! Shows what is in a capture file: `packets_cli show|json|summary [FILE|-]`.
 #![tactic(auto)]
 
-ghost use Rattle.std.specs.Prelude.{◌≡◌, MatchResult};
-ghost use Rattle.std.specs.Process.{exit_status};
-ghost use Rattle.capture_inputs.specs.ErrorStatus.{status_of};
-
 mod progress_line;
-mod words;
 
 use crate::progress_line::ProgressLine;
-use crate::words::{AskError, Asked, Coloring, Output, asked_for, command};
 use anyhow::Context;
-use capture_inputs::{Look, input_look, input_of, note, tell_skipped};
+use capture_inputs::{Look, input_look, input_of, tell_skipped};
 use captures::{RunError, Skipped};
-use packets::{
-    JsonLines, LineWriter, Report, Rules, ShowOptions, Style, Summary, summarize, write_lines,
+use packets::{JsonLines, Report, Rules, ShowOptions, Style, Summary, summarize};
+use packets_commands::{
+    AskError, Asked, Coloring, Output, asked_for, command, exit_code, write_flushed, write_report,
 };
-use std::alloc::Global;
 use std::env::{self, VarError};
 use std::fs::File;
-use std::hash::{BuildHasher, RandomState};
-use std::io::{BufReader, ErrorKind, IsTerminal, Read, Write};
+use std::hash::RandomState;
+use std::io::{BufReader, IsTerminal, Read};
 use std::process::ExitCode;
 
 // What standard error begins with.
@@ -41,7 +35,9 @@ fn main(rt: HostRuntime) -> anyhow::Result<ExitCode> {
     match asked_for(alloc, &matches) {
         Ok(Some(asked)) => tell_file(&rt, asked),
         Ok(None) => Ok(ExitCode::SUCCESS),
-        Err(AskError::Memory(_)) => Ok(exit_code(&rt, Err(RunError::Memory), Look::Other)),
+        Err(AskError::Memory(_)) => {
+            Ok(exit_code(&rt, PROGRAM, Err(RunError::Memory), Look::Other))
+        }
         Err(error) => {
             eprintln!(rt; "error: {error}\n\nFor more information, try '--help'.")?;
             Ok(ExitCode::from(2))
@@ -71,23 +67,25 @@ fn tell_input<R: Read + Drop>(
 ) -> anyhow::Result<ExitCode> {
     let look = input_look(&mut input);
     let mut skipped = Skipped::NONE;
-    let output = asked.output;
     let rules = &asked.rules;
     let alloc = rt.alloc();
-    let told = match output {
+    let told = match &asked.output {
         Output::Show(time, width, coloring) => {
-            let style = style_of(rt, coloring);
-            let lines = ShowOptions { style, time, width };
+            let lines = ShowOptions {
+                style: style_of(rt, *coloring),
+                time: *time,
+                width: *width,
+            };
             write_flushed(alloc, rules, &lines, input, &mut rt.stdout(), &mut skipped)
         }
         Output::Json(payload) => {
-            let lines = JsonLines::new(alloc, payload);
+            let lines = JsonLines::new(alloc, *payload);
             write_flushed(alloc, rules, &lines, input, &mut rt.stdout(), &mut skipped)
         }
         Output::Summary => tell_summary(rt, rules, len, input, &mut skipped)?,
     };
     tell_skipped(rt, PROGRAM, skipped);
-    Ok(exit_code(rt, told, look))
+    Ok(exit_code(rt, PROGRAM, told, look))
 }
 
 // Of a capture that is refused, what comes before is told, if anything does.
@@ -116,44 +114,6 @@ fn tell_summary<R: Read + Drop>(
     Ok(ending.result.and(written))
 }
 
-// What is written is flushed, where the input is refused too.
-fn write_flushed<R: Read + Drop, W: Write, L: LineWriter>(
-    alloc: Global,
-    rules: &Rules,
-    lines: &L,
-    reader: R,
-    writer: &mut W,
-    skipped: &mut Skipped,
-) -> Result<(), RunError> {
-    let written = write_lines(alloc, rules, lines, reader, writer, skipped);
-    let flushed = flushed(writer);
-    written?;
-    flushed
-}
-
-// Writes what is told of a capture at its end.
-fn write_report<S: BuildHasher, W: Write>(
-    alloc: Global,
-    report: &Report<'_, S>,
-    writer: &mut W,
-) -> Result<(), RunError> {
-    let Ok(text) = format!(in alloc; "{report}") else {
-        return Err(RunError::Memory);
-    };
-    match writer.write_all(text.as_bytes()) {
-        Ok(()) => flushed(writer),
-        Err(error) if error.kind() == ErrorKind::WriteZero => Err(RunError::WriteZero),
-        Err(_) => Err(RunError::Write),
-    }
-}
-
-fn flushed<W: Write>(writer: &mut W) -> Result<(), RunError> {
-    match writer.flush() {
-        Ok(()) => Ok(()),
-        Err(_) => Err(RunError::Write),
-    }
-}
-
 // Whether lines have colors on this standard output.
 fn style_of(rt: &HostRuntime, coloring: Coloring) -> Style {
     let colored = match coloring {
@@ -168,18 +128,3 @@ fn style_of(rt: &HostRuntime, coloring: Coloring) -> Style {
 fn is_set(rt: &HostRuntime, name: &str) -> bool {
     !matches!(env::var(rt, name), Err(VarError::NotPresent))
 }
-
-// Tells an error on standard error, with a note behind it.
-fn exit_code<P: Eprint>(rt: &P, told: Result<(), RunError>, look: Look) -> ExitCode
-    ensures { MatchResult told (λ _. exit_status result ≡ 0)
-        (λ error. exit_status result ≡ status_of error) }
-{
-    let note = match told {
-        Ok(()) => "",
-        Err(error) => note(error, look),
-    };
-    capture_inputs::exit_code(rt, PROGRAM, told, note)
-}
-
-#[cfg(test)]
-mod tests;

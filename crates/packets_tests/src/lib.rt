@@ -1,17 +1,26 @@
-//! Tests of `packets` over its public calls: what is told of a packet.
+//! Tests of `packets` and `packets_commands` over their public calls. What is told of whole
+//! captures are rows of `packets_rows`.
 #![tactic(auto)]
 
 #[cfg(test)]
-mod conditions;
+mod captured;
 #[cfg(test)]
-mod icmp_texts;
+mod checks;
 #[cfg(test)]
-mod json;
+mod faults;
+#[cfg(test)]
+mod memory;
 #[cfg(test)]
 mod names;
 #[cfg(test)]
+mod outcomes;
+#[cfg(test)]
+mod outputs;
+#[cfg(test)]
 mod refusals;
 #[cfg(test)]
-mod show;
+mod summaries;
 #[cfg(test)]
-mod texts;
+mod whole_captures;
+#[cfg(test)]
+mod words;

@@ -1,14 +1,12 @@
 //! Names of protocols, by IANA's registry "Protocol Numbers", and of reasons.
 
+use crate::checks::{equal, holds, is_shown_as};
 use etherparse::IpNumber;
 use etherparse::defrag::IpDefragError;
 use etherparse::err::packet::SliceError;
 use etherparse::err::{Layer, ip, linux_sll, macsec, tcp};
 use packets::{Protocol, Reason, ip_number_name, ip_number_named};
-use std::alloc::Global;
-use std::fmt::Display;
 use std::process::Abort;
-use std::test::Fail;
 
 // Where a keyword of the registry is that of a header here (4 IPv4, 41 IPv6, 143 Ethernet), or is
 // less known, another name stands for it.
@@ -89,7 +87,7 @@ const PROTOCOLS: [(&str, Option<Protocol>); 21] = [
 #[test]
 fn protocols(rt: HostRuntime) {
     for (name, wanted) in PROTOCOLS.iter() {
-        assert_eq!(rt; Protocol::named(*name), *wanted);
+        equal(&rt, &Protocol::named(*name), wanted);
     }
 }
 
@@ -109,9 +107,9 @@ fn names_of_numbers(rt: HostRuntime) {
         if wanted.is_some() {
             at = at.saturating_add(1);
         }
-        assert_eq!(rt; ip_number_name(IpNumber(number)), wanted);
+        equal(&rt, &ip_number_name(IpNumber(number)), &wanted);
     }
-    assert!(rt; at == NAMES.len());
+    holds(&rt, at == NAMES.len());
 }
 
 // Other names of numbers, and one of none.
@@ -122,7 +120,7 @@ const OTHERS: [(&str, Option<IpNumber>); 3] = [
 ];
 
 fn is_number(rt: &impl Abort, name: &str, wanted: Option<IpNumber>) {
-    assert_eq!(rt; ip_number_named(name), wanted);
+    equal(rt, &ip_number_named(name), &wanted);
 }
 
 #[test]
@@ -133,17 +131,6 @@ fn numbers_of_names(rt: HostRuntime) {
     for (name, wanted) in OTHERS.iter() {
         is_number(&rt, *name, *wanted);
     }
-}
-
-fn is_shown_as<T: Display>(
-    rt: &impl Abort,
-    alloc: Global,
-    told: &T,
-    wanted: &str,
-) -> Result<(), Fail> {
-    let text = format!(in alloc; "{told}")?;
-    assert_eq!(rt; text.as_str(), wanted);
-    Ok(())
 }
 
 // As a summary tells them.
@@ -159,11 +146,10 @@ const TEXTS_OF_PROTOCOLS: [(Protocol, &str); 8] = [
 ];
 
 #[test]
-fn texts_of_protocols(rt: HostRuntime) -> Result<(), Fail> {
+fn texts_of_protocols(rt: HostRuntime) {
     for (protocol, wanted) in TEXTS_OF_PROTOCOLS.iter() {
-        is_shown_as(&rt, rt.alloc(), protocol, *wanted)?;
+        is_shown_as(&rt, rt.alloc(), protocol, *wanted);
     }
-    Ok(())
 }
 
 const TEXTS_OF_REASONS: [(Reason, &str); 15] = [
@@ -197,11 +183,10 @@ const TEXTS_OF_REASONS: [(Reason, &str); 15] = [
 ];
 
 #[test]
-fn reasons(rt: HostRuntime) -> Result<(), Fail> {
+fn reasons(rt: HostRuntime) {
     for (reason, wanted) in TEXTS_OF_REASONS.iter() {
-        is_shown_as(&rt, rt.alloc(), reason, *wanted)?;
+        is_shown_as(&rt, rt.alloc(), reason, *wanted);
     }
-    Ok(())
 }
 
 const REASONS_OF_ERRORS: [(SliceError, Reason); 4] = [
@@ -226,8 +211,8 @@ const REASONS_OF_ERRORS: [(SliceError, Reason); 4] = [
 #[test]
 fn reasons_of_errors(rt: HostRuntime) {
     for (error, wanted) in REASONS_OF_ERRORS.iter() {
-        assert_eq!(rt; Reason::of(*error), *wanted);
+        equal(&rt, &Reason::of(*error), wanted);
     }
     let want = IpDefragError::AllocationFailure { len: 8 };
-    assert!(rt; Reason::of_part(want) == Reason::FragmentMemory);
+    holds(&rt, Reason::of_part(want) == Reason::FragmentMemory);
 }

@@ -1,16 +1,16 @@
-//! Runs that fail on the way, pass packets over or tell how far they are, and when lines are
-//! written.
+//! Runs that fail on the way or tell how far they are, and when lines are written.
 
-use crate::outcomes::{LINES, are_counted, are_written, end_of_lines, rules};
-use captures::{CaptureError, Place, RunError, Skipped, Unfit};
+use crate::captured::captured;
+use crate::checks::{equal, holds};
+use crate::outcomes::{LINES, are_counted, are_written, end_of_lines, every_packet};
+use captures::{RunError, Skipped};
 use fault_devices::{Fault, FaultReader, FaultWriter};
 use hex::FromHexError;
-use packets::{Dissection, Ending, LineWriter, Progress, Rules, Summary, summarize};
+use packets::{Dissection, Ending, LineWriter, Progress, Summary, summarize};
 use std::alloc::{AllocError, Global};
 use std::cell::Cell;
 use std::io::{self, ErrorKind, Read, Write};
 use std::process::Abort;
-use std::test::Fail;
 use test_captures::{FRAMES, capture_of};
 
 // The file header, and the first record: its header and a frame of 54 bytes.
@@ -23,65 +23,52 @@ const READ_FAILED: Ending = Ending {
 };
 
 // Each read gives a byte. That behind the first packet fails.
-fn is_failed_by_read(rt: &impl Abort, alloc: Global, kind: ErrorKind) -> Result<(), Fail> {
-    let capture = capture_of(alloc, 1, &FRAMES)?;
-    let rules = rules(alloc, &[])?;
+fn is_failed_by_read(rt: &impl Abort, alloc: Global, capture: &[u8], kind: ErrorKind) {
+    let rules = every_packet(alloc);
     let fails = Fault::Fails(kind);
-    let reader = FaultReader::failing(capture.as_slice(), 1, FIRST_END, fails);
-    are_written(
-        rt,
-        alloc,
-        &rules,
-        &LINES,
-        reader,
-        Err(RunError::Read),
-        b"    1   0.00\n",
-    );
-    let reader = FaultReader::failing(capture.as_slice(), 1, FIRST_END, fails);
+    let reader = FaultReader::failing(capture, 1, FIRST_END, fails);
+    let wanted = Err(RunError::Read);
+    are_written(rt, alloc, &rules, &LINES, reader, wanted, b"    1   0.00\n");
+    let reader = FaultReader::failing(capture, 1, FIRST_END, fails);
     are_counted(rt, alloc, &rules, reader, READ_FAILED, 1);
-    Ok(())
 }
 
 #[test]
-fn readers_that_fail(rt: HostRuntime) -> Result<(), Fail> {
-    is_failed_by_read(&rt, rt.alloc(), ErrorKind::Other)?;
-    is_failed_by_read(&rt, rt.alloc(), ErrorKind::Interrupted)
+fn readers_that_fail(rt: HostRuntime) {
+    let capture = captured(&rt, rt.alloc(), 1, &FRAMES);
+    is_failed_by_read(&rt, rt.alloc(), capture.as_slice(), ErrorKind::Other);
+    is_failed_by_read(&rt, rt.alloc(), capture.as_slice(), ErrorKind::Interrupted);
 }
+
+const TAKEN: &[u8] = b"    1   0.00\n    2  ";
 
 // The first write takes 20 bytes, and the next one fails or takes none.
 fn is_failed_by_write(
     rt: &impl Abort,
     alloc: Global,
+    capture: &[u8],
     fault: Fault,
     wanted: RunError,
-) -> Result<(), Fail> {
-    let capture = capture_of(alloc, 1, &FRAMES)?;
-    let rules = rules(alloc, &[])?;
+) {
+    let rules = every_packet(alloc);
     let mut writer = FaultWriter::failing(alloc, 20, 1, fault);
-    let (result, _) = end_of_lines(alloc, &rules, &LINES, capture.as_slice(), &mut writer);
-    assert_eq!(rt; (result, writer.calls), (Err(wanted), 2));
-    assert_eq!(rt;
-        writer.taken.as_slice(),
-        b"    1   0.00\n    2  ".as_slice()
-    );
-    Ok(())
+    let (result, _) = end_of_lines(alloc, &rules, &LINES, capture, &mut writer);
+    equal(rt, &(result, writer.calls), &(Err(wanted), 2));
+    equal(rt, &writer.taken.as_slice(), &TAKEN);
 }
 
+const FAILED_WRITES: [(Fault, RunError); 3] = [
+    (Fault::Fails(ErrorKind::Other), RunError::Write),
+    (Fault::Fails(ErrorKind::Interrupted), RunError::Write),
+    (Fault::MovesNone, RunError::WriteZero),
+];
+
 #[test]
-fn what_failing_writers_took(rt: HostRuntime) -> Result<(), Fail> {
-    is_failed_by_write(
-        &rt,
-        rt.alloc(),
-        Fault::Fails(ErrorKind::Other),
-        RunError::Write,
-    )?;
-    is_failed_by_write(
-        &rt,
-        rt.alloc(),
-        Fault::Fails(ErrorKind::Interrupted),
-        RunError::Write,
-    )?;
-    is_failed_by_write(&rt, rt.alloc(), Fault::MovesNone, RunError::WriteZero)
+fn what_failing_writers_took(rt: HostRuntime) {
+    let capture = captured(&rt, rt.alloc(), 1, &FRAMES);
+    for (fault, wanted) in FAILED_WRITES.iter() {
+        is_failed_by_write(&rt, rt.alloc(), capture.as_slice(), *fault, *wanted);
+    }
 }
 
 // Tells of each packet in so many bytes, and wants memory at one of them.
@@ -105,18 +92,17 @@ impl LineWriter for LongLines {
 
 // What comes before is written.
 #[test]
-fn no_memory_for_a_line(rt: HostRuntime) -> Result<(), Fail> {
-    let capture = capture_of(rt.alloc(), 1, &FRAMES)?;
+fn no_memory_for_a_line(rt: HostRuntime) {
+    let capture = captured(&rt, rt.alloc(), 1, &FRAMES);
     are_written(
         &rt,
         rt.alloc(),
-        &rules(rt.alloc(), &[])?,
+        &every_packet(rt.alloc()),
         &LongLines { len: 2, wanting: 4 },
         capture.as_slice(),
         Err(RunError::Memory),
         b"xx\nxx\nxx\n",
     );
-    Ok(())
 }
 
 fn is_long_line(line: &[u8]) -> bool {
@@ -130,10 +116,10 @@ fn is_long_line(line: &[u8]) -> bool {
 
 // Lines wait for a read that isn't there, up to 64 KB: here two lines each time, and then the rest.
 #[test]
-fn long_output_is_written_in_pieces(rt: HostRuntime) -> Result<(), Fail> {
-    let (front, _) = FRAMES.split_at(5);
-    let capture = capture_of(rt.alloc(), 1, front)?;
-    let rules = rules(rt.alloc(), &[])?;
+fn long_output_is_written_in_pieces(rt: HostRuntime) {
+    let [one, two, three, four, five, ..] = FRAMES;
+    let capture = captured(&rt, rt.alloc(), 1, &[one, two, three, four, five]);
+    let rules = every_packet(rt.alloc());
     let lines = LongLines {
         len: 40_000,
         wanting: 0,
@@ -141,9 +127,11 @@ fn long_output_is_written_in_pieces(rt: HostRuntime) -> Result<(), Fail> {
     let mut writer = FaultWriter::new(rt.alloc(), usize::MAX);
     let (result, _) = end_of_lines(rt.alloc(), &rules, &lines, capture.as_slice(), &mut writer);
     let written = (result, writer.calls, writer.taken.len());
-    assert_eq!(rt; written, (Ok(()), 3, 5 * 40_001));
-    assert!(rt; writer.taken.as_slice().chunks(40_001).all(is_long_line));
-    Ok(())
+    equal(&rt, &written, &(Ok(()), 3, 5 * 40_001));
+    holds(
+        &rt,
+        writer.taken.as_slice().chunks(40_001).all(is_long_line),
+    );
 }
 
 // A text of three lines.
@@ -161,19 +149,18 @@ impl LineWriter for ThreeLines {
 
 // Other ends than that of the line are left out.
 #[test]
-fn a_packet_has_one_line(rt: HostRuntime) -> Result<(), Fail> {
-    let (front, _) = FRAMES.split_at(2);
-    let capture = capture_of(rt.alloc(), 1, front)?;
+fn a_packet_has_one_line(rt: HostRuntime) {
+    let [one, two, ..] = FRAMES;
+    let capture = captured(&rt, rt.alloc(), 1, &[one, two]);
     are_written(
         &rt,
         rt.alloc(),
-        &rules(rt.alloc(), &[])?,
+        &every_packet(rt.alloc()),
         &ThreeLines,
         capture.as_slice(),
         Ok(()),
         b"onetwo\r\nonetwo\r\n",
     );
-    Ok(())
 }
 
 // Gives the file header, and then a record a call. Each call finds the lines of all records that
@@ -225,10 +212,10 @@ const RECORD: usize = 16 + 42;
 const LINE: usize = 13;
 
 #[test]
-fn lines_are_written_before_the_next_read(rt: HostRuntime) -> Result<(), Fail> {
+fn lines_are_written_before_the_next_read(rt: HostRuntime) {
     let [_, _, arp, ..] = FRAMES;
-    let capture = capture_of(rt.alloc(), 1, &[arp, arp, arp, arp])?;
-    let rules = rules(rt.alloc(), &[])?;
+    let capture = captured(&rt, rt.alloc(), 1, &[arp, arp, arp, arp]);
+    let rules = every_packet(rt.alloc());
     let (written, late) = (Cell::new(0usize), Cell::new(false));
     let reader = WatchingReader {
         rest: capture.as_slice(),
@@ -239,101 +226,8 @@ fn lines_are_written_before_the_next_read(rt: HostRuntime) -> Result<(), Fail> {
     };
     let mut writer = WatchedWriter(&written);
     let (result, _) = end_of_lines(rt.alloc(), &rules, &LINES, reader, &mut writer);
-    assert_eq!(rt;
-        (result, written.get(), late.get()),
-        (Ok(()), 4 * LINE, false)
-    );
-    Ok(())
-}
-
-// Bytes that begin like no IP packet, between two that do.
-const RAW: [&str; 3] = [
-    "450000140001000040fd00000a0000010a000063",
-    "00",
-    "450000140001000040fd00000a0000020a000063",
-];
-
-// Behind the file header and the first record.
-const NO_FRAME: RunError = RunError::Capture(
-    CaptureError::NoFrame,
-    Place {
-        packet: 2,
-        offset: 24 + 16 + 20,
-        block: None,
-    },
-);
-
-const ONE_SKIPPED: Skipped = Skipped {
-    without_frame: 1,
-    ..Skipped::NONE
-};
-
-// A run that ends so, with lines of so many bytes, of so many packets.
-fn passes_over(
-    rt: &impl Abort,
-    alloc: Global,
-    unfit: Unfit,
-    ending: Ending,
-    len: usize,
-    packets: u64,
-) -> Result<(), Fail> {
-    let capture = capture_of(alloc, 101, &RAW)?;
-    let rules = Rules {
-        unfit,
-        ..rules(alloc, &[])?
-    };
-    let mut out = Vec::new(alloc);
-    let ended = end_of_lines(alloc, &rules, &LINES, capture.as_slice(), &mut out);
-    assert_eq!(rt; (ended, out.len()), ((ending.result, ending.skipped), len));
-    are_counted(rt, alloc, &rules, capture.as_slice(), ending, packets);
-    Ok(())
-}
-
-const REFUSED: Ending = Ending {
-    open: 0,
-    skipped: Skipped::NONE,
-    result: Err(NO_FRAME),
-};
-
-const PASSED_OVER: Ending = Ending {
-    open: 0,
-    skipped: ONE_SKIPPED,
-    result: Ok(()),
-};
-
-#[test]
-fn packets_that_are_passed_over(rt: HostRuntime) -> Result<(), Fail> {
-    passes_over(&rt, rt.alloc(), Unfit::Refuse, REFUSED, LINE, 1)?;
-    passes_over(&rt, rt.alloc(), Unfit::Skip, PASSED_OVER, 2 * LINE, 2)
-}
-
-const ONE_OPEN: Ending = Ending {
-    open: 1,
-    skipped: Skipped::NONE,
-    result: Ok(()),
-};
-
-// One message waits at the end, also where the filter keeps its fragment back.
-#[test]
-fn messages_that_are_open_at_the_end(rt: HostRuntime) -> Result<(), Fail> {
-    let capture = capture_of(rt.alloc(), 1, &FRAMES)?;
-    are_counted(
-        &rt,
-        rt.alloc(),
-        &rules(rt.alloc(), &[])?,
-        capture.as_slice(),
-        ONE_OPEN,
-        10,
-    );
-    are_counted(
-        &rt,
-        rt.alloc(),
-        &rules(rt.alloc(), &["arp"])?,
-        capture.as_slice(),
-        ONE_OPEN,
-        1,
-    );
-    Ok(())
+    let ended = (result, written.get(), late.get());
+    equal(&rt, &ended, &(Ok(()), 4 * LINE, false));
 }
 
 // Keeps what it was told last, and counts.
@@ -372,21 +266,18 @@ fn long_capture(alloc: Global) -> Result<Vec<u8>, FromHexError> {
 
 // Each 4 MiB are told, before the read behind them.
 #[test]
-fn progress_is_told(rt: HostRuntime) -> Result<(), Fail> {
-    let capture = long_capture(rt.alloc())?;
-    let rules = rules(rt.alloc(), &[])?;
+fn progress_is_told(rt: HostRuntime) {
+    let Ok(capture) = long_capture(rt.alloc()) else {
+        panic!(rt; "no memory");
+    };
+    let rules = every_packet(rt.alloc());
     let mut summary = Summary::new(rt.alloc());
     let mut steps = Steps { count: 0, last: 0 };
-    let ending = summarize(
-        rt.alloc(),
-        &rules,
-        &mut summary,
-        capture.as_slice(),
-        &mut steps,
-    );
+    let reader = capture.as_slice();
+    let ending = summarize(rt.alloc(), &rules, &mut summary, reader, &mut steps);
     let counted = (ending.result, summary.all.packets, summary.all.bytes);
-    assert_eq!(rt; counted, (Ok(()), 100, 9_000_000));
+    equal(&rt, &counted, &(Ok(()), 100, 9_000_000));
     // The second step came within a read of 64 KB and a packet of its end.
-    assert!(rt; steps.count == 2 && steps.last >= 1 << 23 && steps.last < (1 << 23) + 262_144);
-    Ok(())
+    let is_near = steps.last >= 1 << 23 && steps.last < (1 << 23) + 262_144;
+    holds(&rt, steps.count == 2 && is_near);
 }

@@ -1,5 +1,7 @@
-//! Runs, and what is compared of them.
+//! Runs, and what is compared of them. None of these has a contract: tests alone call them, and are
+//! run.
 
+use crate::checks::{equal, holds};
 use captures::{RunError, Skipped, Unfit};
 use packets::{
     Condition, Ending, Filter, LineWriter, NoProgress, Rules, ShowOptions, Style, Summary,
@@ -8,7 +10,6 @@ use packets::{
 use std::alloc::Global;
 use std::io::{Read, Write};
 use std::process::Abort;
-use std::test::Fail;
 
 /// Twelve bytes of each line.
 pub(super) const LINES: ShowOptions = ShowOptions {
@@ -17,21 +18,27 @@ pub(super) const LINES: ShowOptions = ShowOptions {
     width: Some(12),
 };
 
-fn filter_of(alloc: Global, words: &[&str]) -> Result<Filter, Fail> {
-    let mut filter = Filter::new(alloc);
-    for word in words {
-        filter.add(word.parse::<Condition>()?)?;
-    }
-    Ok(filter)
-}
-
-/// Packets that meet these conditions, of a capture of nothing unfit.
-pub(super) fn rules(alloc: Global, words: &[&str]) -> Result<Rules, Fail> {
-    Ok(Rules {
-        filter: filter_of(alloc, words)?,
+/// All packets of a capture of nothing unfit.
+pub(super) fn every_packet(alloc: Global) -> Rules {
+    Rules {
+        filter: Filter::new(alloc),
         unfit: Unfit::Refuse,
         forget: None,
-    })
+    }
+}
+
+/// Those that meet a condition.
+pub(super) fn packets_of(rt: &impl Abort, alloc: Global, word: &str) -> Rules {
+    let mut filter = Filter::new(alloc);
+    match word.parse::<Condition>() {
+        Ok(condition) => holds(rt, filter.add(condition).is_ok()),
+        Err(_) => panic!(rt; "no condition"),
+    }
+    Rules {
+        filter,
+        unfit: Unfit::Refuse,
+        forget: None,
+    }
 }
 
 /// How a run ends that writes lines, and what it passes over.
@@ -59,8 +66,8 @@ pub(super) fn are_written<R: Read + Drop, L: LineWriter>(
 ) {
     let mut out = Vec::new(alloc);
     let ended = end_of_lines(alloc, rules, lines, reader, &mut out);
-    assert_eq!(rt; ended, (wanted, Skipped::NONE));
-    assert_eq!(rt; out.as_slice(), text);
+    equal(rt, &ended, &(wanted, Skipped::NONE));
+    equal(rt, &out.as_slice(), &text);
 }
 
 /// Compares how a run ends that counts, and how many packets it counts.
@@ -74,5 +81,5 @@ pub(super) fn are_counted<R: Read + Drop>(
 ) {
     let mut summary = Summary::new(alloc);
     let ended = summarize(alloc, rules, &mut summary, reader, &mut NoProgress);
-    assert_eq!(rt; (ended, summary.all.packets), (ending, packets));
+    equal(rt, &(ended, summary.all.packets), &(ending, packets));
 }

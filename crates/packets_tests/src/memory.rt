@@ -2,12 +2,12 @@
 //! then a call tells of it and of nothing else, what it worked on is as before, and the same call
 //! succeeds after it. All growths are those of the calls.
 
-use crate::outcomes::{LINES, rules};
+use crate::checks::{equal, holds};
+use crate::outcomes::{LINES, every_packet};
 use captures::{Packet, Packets, RunError, Skipped, Unfit};
 use packets::{Dissection, Dissector, NoProgress, Summary, Tally, summarize, write_lines};
-use std::alloc::{AllocError, Global};
+use std::alloc::Global;
 use std::process::Abort;
-use std::test::Fail;
 
 // Two parts of a UDP datagram, and an IPv4 header that is cut off.
 const CAPTURE: &[u8; 189] = b"\
@@ -27,102 +27,106 @@ const CAPTURE: &[u8; 189] = b"\
 const WANTED: &[u8; 39] = b"    1   0.00\n    2   0.00\n    3   0.00\n";
 
 // Whether a run writes all lines. If not, it found no memory, and what it wrote are whole lines.
-fn are_written(rt: &impl Abort, alloc: Global) -> Result<bool, Fail> {
+fn are_written(rt: &impl Abort, alloc: Global) -> bool {
     let mut room = [0u8; 64];
     let mut left = room.as_mut_slice();
-    let mut skipped = Skipped::NONE;
-    let rules = rules(alloc, &[])?;
     let result = write_lines(
         alloc,
-        &rules,
+        &every_packet(alloc),
         &LINES,
         CAPTURE.as_slice(),
         &mut left,
-        &mut skipped,
+        &mut Skipped::NONE,
     );
     let written = 64 - left.len().min(64);
-    assert!(rt; WANTED.starts_with(&room[..written]) && written % 13 == 0);
+    holds(
+        rt,
+        WANTED.starts_with(&room[..written]) && written % 13 == 0,
+    );
     if result.is_ok() {
-        assert!(rt; written == WANTED.len());
-        return Ok(true);
+        holds(rt, written == WANTED.len());
+        return true;
     }
-    assert!(rt; result == Err(RunError::Memory));
-    Ok(false)
+    holds(rt, result == Err(RunError::Memory));
+    false
 }
 
 #[test]
-fn lines_want_memory(rt: HostRuntime) -> Result<(), Fail> {
-    let first = are_written(&rt, rt.alloc())?;
-    let second = are_written(&rt, rt.alloc())?;
-    assert!(rt; first || second);
-    Ok(())
+fn lines_want_memory(rt: HostRuntime) {
+    let first = are_written(&rt, rt.alloc());
+    let second = are_written(&rt, rt.alloc());
+    holds(&rt, first || second);
 }
 
 // Whether a run counts all packets. If not, it found no memory, and counted those before.
-fn are_counted(rt: &impl Abort, alloc: Global) -> Result<bool, Fail> {
-    let rules = rules(alloc, &[])?;
+fn are_counted(rt: &impl Abort, alloc: Global) -> bool {
+    let rules = every_packet(alloc);
     let mut summary = Summary::new(alloc);
     let reader = CAPTURE.as_slice();
     let ending = summarize(alloc, &rules, &mut summary, reader, &mut NoProgress);
     if ending.result.is_ok() {
-        assert!(rt; summary.all.packets == 3 && summary.talkers.len() == 1);
-        return Ok(true);
+        holds(rt, summary.all.packets == 3 && summary.talkers.len() == 1);
+        return true;
     }
-    assert!(rt; ending.result == Err(RunError::Memory));
-    assert!(rt; summary.all.packets < 3);
-    Ok(false)
+    holds(
+        rt,
+        ending.result == Err(RunError::Memory) && summary.all.packets < 3,
+    );
+    false
 }
 
 #[test]
-fn counts_want_memory(rt: HostRuntime) -> Result<(), Fail> {
-    let first = are_counted(&rt, rt.alloc())?;
-    let second = are_counted(&rt, rt.alloc())?;
-    assert!(rt; first || second);
-    Ok(())
+fn counts_want_memory(rt: HostRuntime) {
+    let first = are_counted(&rt, rt.alloc());
+    let second = are_counted(&rt, rt.alloc());
+    holds(&rt, first || second);
 }
 
 fn dissected<'a>(
+    rt: &impl Abort,
     dissector: &mut Dissector,
     packet: &Packet<'a>,
-) -> Result<Dissection<'a>, AllocError> {
-    match dissector.dissect(packet) {
-        Ok(dissection) => Ok(dissection),
-        Err(_) => dissector.dissect(packet),
+) -> Dissection<'a> {
+    if let Ok(dissection) = dissector.dissect(packet) {
+        return dissection;
     }
+    let Ok(dissection) = dissector.dissect(packet) else {
+        panic!(rt; "no memory");
+    };
+    dissection
 }
 
 // Adds a packet behind so many.
-fn add(
-    rt: &impl Abort,
-    summary: &mut Summary,
-    packet: &Dissection<'_>,
-    number: u64,
-) -> Result<(), AllocError> {
-    if summary.add(packet).is_ok() {
-        return Ok(());
+fn add(rt: &impl Abort, summary: &mut Summary, packet: &Dissection<'_>, number: u64) {
+    if summary.add(packet).is_err() {
+        let counted = (summary.all.packets, summary.refused);
+        equal(rt, &counted, &(number, Tally::NONE));
+        holds(rt, summary.add(packet).is_ok());
     }
-    assert_eq!(rt;
-        (summary.all.packets, summary.refused),
-        (number, Tally::NONE)
-    );
-    summary.add(packet)
 }
 
 // Where memory is wanting for a packet, it is told and counted the next time.
 #[test]
-fn packets_want_memory(rt: HostRuntime) -> Result<(), Fail> {
+fn packets_want_memory(rt: HostRuntime) {
     let mut dissector = Dissector::new(rt.alloc());
     let mut summary = Summary::new(rt.alloc());
     let mut number = 0u64;
     for packet in Packets::new(Unfit::Refuse, CAPTURE) {
-        let dissection = dissected(&mut dissector, &packet)?;
-        add(&rt, &mut summary, &dissection, number)?;
+        let dissection = dissected(&rt, &mut dissector, &packet);
+        add(&rt, &mut summary, &dissection, number);
         number = number.saturating_add(1);
-        assert_eq!(rt; (dissection.number, summary.all.packets), (number, number));
+        equal(
+            &rt,
+            &(dissection.number, summary.all.packets),
+            &(number, number),
+        );
         dissector.give_back(dissection);
     }
     let counted = (number, dissector.open(), summary.parts.completing.packets);
-    assert_eq!(rt; counted, (3, 0, 1));
-    assert_eq!(rt; (summary.reasons.len(), summary.talkers.len()), (1, 1));
-    Ok(())
+    equal(&rt, &counted, &(3, 0, 1));
+    equal(
+        &rt,
+        &(summary.reasons.len(), summary.talkers.len()),
+        &(1, 1),
+    );
 }

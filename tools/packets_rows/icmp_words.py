@@ -1,13 +1,10 @@
-//! The words for types and codes of ICMP, by IANA's registries "ICMP Parameters" and "ICMPv6
-//! Parameters", RFC 792, RFC 1191 and RFC 4443.
+"""The words for types and codes of ICMP, by IANA's registries "ICMP Parameters" and "ICMPv6
+Parameters", RFC 792, RFC 1191 and RFC 4443."""
 
-use crate::show::has_line;
-use std::alloc::Global;
-use std::process::Abort;
-use std::test::Fail;
+from worked import Worked, shown
 
-// Type and code, what stands behind the checksum, and the words.
-const OVER_IPV4: [(u8, u8, &str, &str); 46] = [
+# Type and code, what stands behind the checksum, and the words.
+OVER_IPV4 = (
     (0, 0, "00010002", "echo reply id 1 seq 2"),
     (0, 1, "00010002", "echo reply code 1"),
     (3, 0, "00000000", "network unreachable"),
@@ -30,18 +27,8 @@ const OVER_IPV4: [(u8, u8, &str, &str); 46] = [
     (4, 0, "00000000", "source quench"),
     (5, 0, "0a000003", "redirect to 10.0.0.3 for the network"),
     (5, 1, "0a000003", "redirect to 10.0.0.3 for the host"),
-    (
-        5,
-        2,
-        "0a000003",
-        "redirect to 10.0.0.3 for service and network",
-    ),
-    (
-        5,
-        3,
-        "0a000003",
-        "redirect to 10.0.0.3 for service and host",
-    ),
+    (5, 2, "0a000003", "redirect to 10.0.0.3 for service and network"),
+    (5, 3, "0a000003", "redirect to 10.0.0.3 for service and host"),
     (5, 4, "0a000003", "redirect code 4"),
     (8, 0, "00010002", "echo request id 1 seq 2"),
     (8, 5, "00010002", "echo request code 5"),
@@ -52,26 +39,11 @@ const OVER_IPV4: [(u8, u8, &str, &str); 46] = [
     (11, 1, "00000000", "reassembly time exceeded"),
     (11, 2, "00000000", "time exceeded code 2"),
     (12, 0, "14000000", "parameter problem at byte 20"),
-    (
-        12,
-        1,
-        "00000000",
-        "parameter problem: required option missing",
-    ),
+    (12, 1, "00000000", "parameter problem: required option missing"),
     (12, 2, "00000000", "parameter problem: bad length"),
     (12, 3, "00000000", "parameter problem code 3"),
-    (
-        13,
-        0,
-        "00070003000000010000000200000003",
-        "timestamp request id 7 seq 3",
-    ),
-    (
-        14,
-        0,
-        "00070003000000010000000200000003",
-        "timestamp reply id 7 seq 3",
-    ),
+    (13, 0, "00070003000000010000000200000003", "timestamp request id 7 seq 3"),
+    (14, 0, "00070003000000010000000200000003", "timestamp reply id 7 seq 3"),
     (13, 1, "00000000", "timestamp request code 1"),
     (14, 2, "00000000", "timestamp reply code 2"),
     (15, 0, "00000000", "information request"),
@@ -79,9 +51,8 @@ const OVER_IPV4: [(u8, u8, &str, &str); 46] = [
     (17, 0, "00000000", "address mask request"),
     (18, 0, "00000000", "address mask reply"),
     (40, 1, "00000000", "type 40 code 1"),
-];
-
-const OVER_IPV6: [(u8, u8, &str, &str); 39] = [
+)
+OVER_IPV6 = (
     (1, 0, "00000000", "no route"),
     (1, 1, "00000000", "prohibited"),
     (1, 2, "00000000", "beyond scope of source address"),
@@ -98,19 +69,9 @@ const OVER_IPV6: [(u8, u8, &str, &str); 39] = [
     (4, 0, "00000028", "erroneous header field at byte 40"),
     (4, 1, "00000028", "unknown next header at byte 40"),
     (4, 2, "00000028", "unknown option at byte 40"),
-    (
-        4,
-        3,
-        "00000028",
-        "headers incomplete in first fragment at byte 40",
-    ),
+    (4, 3, "00000028", "headers incomplete in first fragment at byte 40"),
     (4, 4, "00000028", "segment routing error at byte 40"),
-    (
-        4,
-        5,
-        "00000028",
-        "next header unknown on the way at byte 40",
-    ),
+    (4, 5, "00000028", "next header unknown on the way at byte 40"),
     (4, 6, "00000028", "extension header too big at byte 40"),
     (4, 7, "00000028", "header chain too long at byte 40"),
     (4, 8, "00000028", "too many extension headers at byte 40"),
@@ -131,52 +92,34 @@ const OVER_IPV6: [(u8, u8, &str, &str); 39] = [
     (137, 0, "00000000", "redirect"),
     (143, 0, "00000000", "listener report v2"),
     (200, 0, "00000000", "type 200"),
-];
+)
 
-// Compares the line of a message behind this IP header, with a checksum of 0, which is wrong.
-fn has_words(
-    rt: &impl Abort,
-    alloc: Global,
-    header: &str,
-    sent: &str,
-    row: &(u8, u8, &str, &str),
-) -> Result<(), Fail> {
-    let (kind, code, rest, words) = row;
-    let frame = format!(in alloc; "{header}{kind:02x}{code:02x}0000{rest}")?;
-    let wanted = format!(in alloc; "{sent} {words} len 0  bad checksum")?;
-    has_line(rt, alloc, 101, frame.as_str(), wanted.as_str())
-}
 
-fn has_words_over_ipv4(
-    rt: &impl Abort,
-    alloc: Global,
-    row: &(u8, u8, &str, &str),
-) -> Result<(), Fail> {
-    // Header, type, code and checksum are 24 bytes, and two digits are one.
-    let len = (row.2.len() / 2).saturating_add(24);
-    let header = format!(in alloc; "4500{len:04x}00010000400100000a0000010a000002")?;
-    has_words(rt, alloc, header.as_str(), "10.0.0.1 > 10.0.0.2 ICMP", row)
-}
+def over_ipv4(rows):
+    for kind, code, behind, _ in rows:
+        size = 24 + len(behind) // 2
+        yield f"4500{size:04x}00010000400100000a0000010a000002{kind:02x}{code:02x}0000{behind}"
 
-#[test]
-fn over_ipv4(rt: HostRuntime) -> Result<(), Fail> {
-    for row in OVER_IPV4.iter() {
-        has_words_over_ipv4(&rt, rt.alloc(), row)?;
-    }
-    Ok(())
-}
 
-#[test]
-fn over_ipv6(rt: HostRuntime) -> Result<(), Fail> {
-    let header = "6000000000083a4020010db800000000000000000000000120010db8000000000000000000000002";
-    for row in OVER_IPV6.iter() {
-        has_words(
-            &rt,
-            rt.alloc(),
-            header,
-            "2001:db8::1 > 2001:db8::2 ICMPv6",
-            row,
-        )?;
-    }
-    Ok(())
-}
+def over_ipv6(rows):
+    ends = "20010db8000000000000000000000001" "20010db8000000000000000000000002"
+    for kind, code, behind, _ in rows:
+        yield f"6000000000083a40{ends}{kind:02x}{code:02x}0000{behind}"
+
+
+def told(sent, rows):
+    """The checksum is 0, which is wrong."""
+    return [(["show"], shown(f"{sent} {row[3]} len 0  bad checksum" for row in rows))]
+
+
+CAPTURES = (
+    Worked(
+        "icmp_words", 101, over_ipv4(OVER_IPV4), told("10.0.0.1 > 10.0.0.2 ICMP", OVER_IPV4)
+    ),
+    Worked(
+        "icmp6_words",
+        101,
+        over_ipv6(OVER_IPV6),
+        told("2001:db8::1 > 2001:db8::2 ICMPv6", OVER_IPV6),
+    ),
+)

@@ -28,7 +28,7 @@ pub enum AskError {
 }
 
 /// What is written of a capture.
-#[derive(Clone, Copy, Debug, PartialEq, Eq)]
+#[derive(Debug, Drop)]
 pub enum Output {
     /// A line for each packet, with such times, cut to so many columns, in colours.
     Show(TimeForm, Option<usize>, Coloring),

@@ -1,0 +1,25 @@
+//! How the program ends.
+ghost use Rattle.std.specs.Prelude.{◌≡◌, MatchResult};
+ghost use Rattle.std.specs.Process.{exit_status};
+ghost use Rattle.capture_inputs.specs.ErrorStatus.{status_of};
+
+use capture_inputs::{Look, note};
+use captures::RunError;
+use std::process::ExitCode;
+
+/// Tells an error on standard error, by the program's name, with a note behind it.
+pub fn exit_code<P: Eprint>(
+    rt: &P,
+    program: &str,
+    told: Result<(), RunError>,
+    look: Look,
+) -> ExitCode
+    ensures { MatchResult told (λ _. exit_status result ≡ 0)
+        (λ error. exit_status result ≡ status_of error) }
+{
+    let note = match told {
+        Ok(()) => "",
+        Err(error) => note(error, look),
+    };
+    capture_inputs::exit_code(rt, program, told, note)
+}

@@ -1,0 +1,36 @@
+//! Captures, and the packets of those that have one. None of these has a contract: tests alone call
+//! them, and are run.
+
+use captures::{Packet, Packets, Unfit};
+use packets::{Dissection, Dissector};
+use std::alloc::Global;
+use std::process::Abort;
+use test_captures::capture_of;
+
+/// A capture of these frames.
+pub(super) fn captured(rt: &impl Abort, alloc: Global, link_type: u32, frames: &[&str]) -> Vec<u8> {
+    let Ok(capture) = capture_of(alloc, link_type, frames) else {
+        panic!(rt; "no capture");
+    };
+    capture
+}
+
+/// The first packet of a capture.
+pub(super) fn first<'a>(rt: &impl Abort, capture: &'a [u8]) -> Packet<'a> {
+    let Some(packet) = Packets::new(Unfit::Refuse, capture).next() else {
+        panic!(rt; "no packet");
+    };
+    packet
+}
+
+/// What is told of a packet.
+pub(super) fn dissected<'a>(
+    rt: &impl Abort,
+    dissector: &mut Dissector,
+    packet: &Packet<'a>,
+) -> Dissection<'a> {
+    let Ok(dissection) = dissector.dissect(packet) else {
+        panic!(rt; "no memory");
+    };
+    dissection
+}

@@ -1,0 +1,33 @@
+//! Assertions as functions: each is proved once, and a call of it costs the proof of a test little.
+//! They have no contracts: tests alone call them, and are run.
+
+use std::alloc::Global;
+use std::fmt::{Debug, Display};
+use std::process::Abort;
+use std::str;
+
+/// Fails where what is told is not what is wanted, and shows both.
+pub(super) fn equal<T: PartialEq + Debug>(rt: &impl Abort, told: &T, wanted: &T) {
+    assert_eq!(rt; told, wanted);
+}
+
+/// Fails where it is not so.
+pub(super) fn holds(rt: &impl Abort, is_so: bool) {
+    assert!(rt; is_so);
+}
+
+/// Compares a text, and tells both.
+pub(super) fn is_text(rt: &impl Abort, told: &[u8], wanted: &str) {
+    let Ok(told) = str::from_utf8(told) else {
+        panic!(rt; "no text");
+    };
+    assert_eq!(rt; told, wanted);
+}
+
+/// Compares how a value is shown.
+pub(super) fn is_shown_as<T: Display>(rt: &impl Abort, alloc: Global, told: &T, wanted: &str) {
+    let Ok(text) = format!(in alloc; "{told}") else {
+        panic!(rt; "no memory");
+    };
+    is_text(rt, text.as_bytes(), wanted);
+}

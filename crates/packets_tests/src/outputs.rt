@@ -1,0 +1,133 @@
+//! Outputs that can't be written or flushed, statuses, and what is told of an error.
+
+use crate::checks::{equal, is_text};
+use crate::outcomes::every_packet;
+use capture_inputs::Look;
+use captures::{CaptureError, Place, RunError, Skipped};
+use packets::{JsonLines, Report, Summary};
+use packets_commands::{exit_code, write_flushed, write_report};
+use std::alloc::Global;
+use std::io::{self, ErrorKind, Write};
+use std::process::{Abort, ExitCode};
+
+// Takes so many bytes, and fails at the flush.
+#[derive(Drop)]
+struct UnflushableWriter {
+    room: usize,
+}
+
+impl Write for UnflushableWriter {
+    fn write(&mut self, buf: &[u8]) -> io::Result<usize> {
+        let taken = buf.len().min(self.room);
+        self.room -= taken;
+        Ok(taken)
+    }
+
+    fn flush(&mut self) -> io::Result<()> {
+        Err(ErrorKind::Other.into())
+    }
+}
+
+// A file header of low byte first, in microseconds, of Ethernet frames, with snap length 262,144.
+const HEADER: &[u8; 24] = b"\
+    \xd4\xc3\xb2\xa1\x02\x00\x04\x00\x00\x00\x00\x00\x00\x00\x00\x00\x00\x00\x04\x00\x01\x00\x00\x00";
+
+const FIRST: Place = Place {
+    packet: 1,
+    offset: 0,
+    block: None,
+};
+
+fn is_unflushed(rt: &impl Abort, alloc: Global, input: &[u8], wanted: RunError) {
+    let written = write_flushed(
+        alloc,
+        &every_packet(alloc),
+        &JsonLines::new(alloc, false),
+        input,
+        &mut UnflushableWriter { room: 0 },
+        &mut Skipped::NONE,
+    );
+    equal(rt, &written, &Err(wanted));
+}
+
+// A capture of no packet writes nothing, and is flushed.
+#[test]
+fn a_flush_that_fails_is_a_failed_write(rt: HostRuntime) {
+    is_unflushed(&rt, rt.alloc(), HEADER, RunError::Write);
+    let refusal = RunError::Capture(CaptureError::NotCapture, FIRST);
+    is_unflushed(&rt, rt.alloc(), b"text", refusal);
+}
+
+// Writes the report of no packet.
+fn reported<W: Write>(alloc: Global, skipped: Skipped, writer: &mut W) -> Result<(), RunError> {
+    let report = Report {
+        summary: &Summary::new(alloc),
+        open: 0,
+        skipped,
+    };
+    write_report(alloc, &report, writer)
+}
+
+// The text has 11 bytes.
+#[test]
+fn reports_that_cannot_be_written(rt: HostRuntime) {
+    let mut full = UnflushableWriter { room: 10 };
+    let written = reported(rt.alloc(), Skipped::NONE, &mut full);
+    equal(&rt, &written, &Err(RunError::WriteZero));
+    let mut roomy = UnflushableWriter { room: 11 };
+    let written = reported(rt.alloc(), Skipped::NONE, &mut roomy);
+    equal(&rt, &written, &Err(RunError::Write));
+}
+
+const SKIPPED: Skipped = Skipped {
+    of_other_links: 1,
+    too_long: 2,
+    without_frame: 3,
+};
+
+const REPORT: &str = "no packets\n\npassed over: 1 of other links, 2 too long, 3 without a frame\n";
+
+#[test]
+fn an_empty_report(rt: HostRuntime) {
+    let mut text = Vec::new(rt.alloc());
+    let written = reported(rt.alloc(), SKIPPED, &mut text);
+    equal(&rt, &written, &Ok(()));
+    is_text(&rt, text.as_slice(), REPORT);
+}
+
+const STATUSES: [(RunError, u8); 6] = [
+    (
+        RunError::Capture(
+            CaptureError::CutOff,
+            Place {
+                packet: 3,
+                offset: 112,
+                block: None,
+            },
+        ),
+        3,
+    ),
+    (RunError::Read, 4),
+    (RunError::Write, 4),
+    (RunError::WriteZero, 4),
+    (RunError::Memory, 5),
+    (RunError::TooManyReads, 5),
+];
+
+#[test]
+fn errors_have_a_status(rt: HostRuntime) {
+    for (error, status) in STATUSES.iter() {
+        let code = exit_code(&rt, "packets_cli", Err(*error), Look::Other);
+        equal(&rt, &code, &ExitCode::from(*status));
+    }
+    let code = exit_code(&rt, "packets_cli", Ok(()), Look::Other);
+    equal(&rt, &code, &ExitCode::SUCCESS);
+}
+
+#[test]
+#[should_panic(expected = "packets_cli: no capture file: the input is text")]
+fn errors_are_told(rt: HostRuntime) {
+    let error = RunError::Capture(CaptureError::NotCapture, FIRST);
+    let _ = exit_code(&rt, "packets_cli", Err(error), Look::Text);
+    panic!(rt; "told");
+}

@@ -1,0 +1,113 @@
+"""Which packets meet a condition, and which words are none, written by hand."""
+
+import frames
+from worked import Worked
+
+# Words of `--only`, and the numbers of the packets that meet all of them.
+OF_MIXED = (
+    ((), (1, 2, 3, 4, 5, 6, 7, 8, 9, 10)),
+    (("eth",), (1, 2, 3, 4, 5, 6, 7, 8, 9, 10)),
+    (("vlan",), (4,)),
+    (("macsec",), ()),
+    (("arp",), (3,)),
+    (("ip4",), (1, 2, 5, 6, 9, 10)),
+    (("ip6",), (4,)),
+    (("icmp",), ()),
+    (("icmp6",), (4,)),
+    (("58",), (4,)),
+    (("tcp",), (1,)),
+    (("UDP",), (2, 5, 6, 9, 10)),
+    (("bad",), (2,)),
+    (("refused",), (7, 8)),
+    (("fragments",), (5, 6, 10)),
+    (("host=10.0.0.2",), (1, 2, 3, 5, 6, 9, 10)),
+    (("host 2001:db8::2",), (4,)),
+    (("port=5353",), (2, 6)),
+    (("port 443",), (1,)),
+    (("port=51234",), (1,)),
+    (("port=53",), (2, 6)),
+    (("port=7",), (9,)),
+    (("udp", "fragments", "port=53"), (6,)),
+    (("Ethernet",), (1, 2, 3, 4, 5, 6, 7, 8, 9, 10)),
+    (("ipv4",), (1, 2, 5, 6, 9, 10)),
+    (("IPv6",), (4,)),
+    (("ipv6-icmp",), (4,)),
+    (("ipencap",), ()),
+    (("BAD",), (2,)),
+    (("Refused",), (7, 8)),
+    (("FRAGMENTS",), (5, 6, 10)),
+    (("Host=2001:DB8::1",), (4,)),
+    (("PORT 443",), (1,)),
+)
+OF_REFUSED_WHOLE = (
+    (("refused",), (2, 4)),
+    (("udp", "refused"), (2,)),
+    (("tcp", "refused"), (4,)),
+    (("fragments",), (1, 2, 3, 4)),
+    (("port=53",), ()),
+)
+OF_ARP = (
+    (("arp",), (1, 2)),
+    (("host=10.0.0.1",), (1,)),
+    (("host=10.0.0.2",), (1,)),
+    (("host=10.0.0.3",), ()),
+)
+OF_OTHERS = (
+    (("macsec",), (1, 2)),
+    (("ip4",), (2, 4, 5)),
+    (("udp",), (2,)),
+    (("tcp",), (4, 5)),
+    (("fragments",), (4, 5)),
+    (("bad",), ()),
+    (("refused",), ()),
+    (("host=10.0.0.5",), (3,)),
+    (("host=10.0.0.6",), (3,)),
+    (("port=53",), (2,)),
+    (("port=4000",), (2,)),
+    (("port=443",), (5,)),
+    (("port=51234",), (5,)),
+)
+UNKNOWN = (
+    "no protocol, and not `bad`, `refused`, `fragments`, `host=ADDRESS` or `port=NUMBER`"
+)
+ADDRESS = "no IP address behind `host`"
+PORT = "no number up to 65535 behind `port`"
+NO_CONDITIONS = (
+    ("tcq", UNKNOWN),
+    ("", UNKNOWN),
+    ("256", UNKNOWN),
+    ("bad=1", UNKNOWN),
+    ("host", UNKNOWN),
+    ("host=10.0.0.256", ADDRESS),
+    ("host=", ADDRESS),
+    ("port=65536", PORT),
+    ("port=-1", PORT),
+    # A long word is told whole.
+    ("host=2001:0db8:0000:0000:0000:0000:0000:0001:0002", ADDRESS),
+)
+
+
+def only(words):
+    return [it for word in words for it in ("--only", word)]
+
+
+def met(rows):
+    """The numbers of packets alone: lines are cut to five columns."""
+    for words, numbers in rows:
+        yield ["show", "--width", "5", *only(words)], [f"{number:5}" for number in numbers]
+
+
+def no_conditions():
+    for word, reason in NO_CONDITIONS:
+        yield (
+            ["show", *only(["udp", word])],
+            [f"error: invalid value '{word}' for '--only <WHAT>': {reason}"],
+        )
+
+
+CAPTURES = (
+    Worked("mixed", 1, frames.MIXED, [*met(OF_MIXED), *no_conditions()]),
+    Worked("refused_whole", 1, frames.REFUSED_WHOLE, met(OF_REFUSED_WHOLE)),
+    Worked("arp_hosts", 1, frames.ARP, met(OF_ARP)),
+    Worked("others", 1, frames.OTHERS, met(OF_OTHERS)),
+)

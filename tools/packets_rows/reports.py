@@ -1,0 +1,90 @@
+"""Reports of captures, written by hand, and captures that are refused on the way."""
+
+import frames
+import telling
+from worked import Worked
+
+TALKERS = """\
+   packets   share           bytes   share     first  protocol
+        13 100.0 %             442 100.0 %         1  all packets
+        13 100.0 %             442 100.0 %         1  IPv4
+        13 100.0 %             442 100.0 %         1  IP protocol 253
+
+   packets   share           bytes   share     first  checksum
+        13 100.0 %             442 100.0 %         1  none
+
+   packets   share           bytes   share     first  from > to
+         2  15.4 %              68  15.4 %        12  10.0.0.12 > 10.0.0.99
+         1   7.7 %              34   7.7 %         1  10.0.0.1 > 10.0.0.99
+         1   7.7 %              34   7.7 %         2  10.0.0.2 > 10.0.0.99
+         1   7.7 %              34   7.7 %         3  10.0.0.3 > 10.0.0.99
+         1   7.7 %              34   7.7 %         4  10.0.0.4 > 10.0.0.99
+         1   7.7 %              34   7.7 %         5  10.0.0.5 > 10.0.0.99
+         1   7.7 %              34   7.7 %         6  10.0.0.6 > 10.0.0.99
+         1   7.7 %              34   7.7 %         7  10.0.0.7 > 10.0.0.99
+         1   7.7 %              34   7.7 %         8  10.0.0.8 > 10.0.0.99
+         1   7.7 %              34   7.7 %         9  10.0.0.9 > 10.0.0.99
+and 2 more
+
+   packets   share  bytes of a frame
+        13 100.0 %      32 to 63     ████████████████████████████████
+
+packets a second, by spans of 0.001953125 s: 1024 at most
+█▄▄█▄▄█▄▄▄
+
+passed over: 0 of other links, 1 too long, 0 without a frame
+"""
+OF_ARP = """\
+   packets   share           bytes   share     first  protocol
+         1 100.0 %              42 100.0 %         3  all packets
+         1 100.0 %              42 100.0 %         3  Ethernet
+         1 100.0 %              42 100.0 %         3  ARP
+
+messages open at the end: 1
+
+   packets   share  bytes of a frame
+         1 100.0 %      32 to 63     ████████████████████████████████
+
+packets a second, by spans of 0.001953125 s: 512 at most
+█
+"""
+# Open messages are told where their fragments aren't among the packets.
+OF_GRE = """\
+no packets
+
+messages open at the end: 1
+"""
+CUT_OFF = "packet 2, byte 94: the capture ends within a packet"
+
+
+def cut_off():
+    """Of the file header, the first record, and two bytes of the second."""
+    kinds, talk = ("Ethernet", "IPv4", "TCP"), "10.0.0.1 > 10.0.0.2"
+    it = telling.Packet(bytes.fromhex(frames.MIXED[0]), "", {}, kinds, check="good", talk=talk)
+    it.number, it.time = 1, telling.BEGIN
+    told = [
+        (["show", "--width", "12"], ["    1   0.00", CUT_OFF]),
+        (["summary"], [*telling.summary([it], 0), CUT_OFF]),
+    ]
+    return Worked("cut_off", 1, frames.MIXED[:2], told, end=24 + 16 + 54 + 2)
+
+
+CAPTURES = (
+    # What is passed over is an IPv4 packet of 100,000 bytes.
+    Worked(
+        "talkers",
+        101,
+        [*frames.TALKERS, "45" + 99_999 * "00"],
+        [(["summary", "--skip"], TALKERS.splitlines())],
+    ),
+    Worked(
+        "open_messages",
+        1,
+        frames.MIXED,
+        [
+            (["summary", "--only", "arp"], OF_ARP.splitlines()),
+            (["summary", "--only", "gre"], OF_GRE.splitlines()),
+        ],
+    ),
+    cut_off(),
+)

@@ -1,0 +1,43 @@
+"""Captures of frames in hex, and what command lines tell of them, written by hand."""
+
+import dataclasses
+import struct
+
+import telling
+
+# From one packet to the next.
+STEP = 1_500_000
+
+
+@dataclasses.dataclass
+class Worked:
+    """A classic capture, high byte first, in microseconds.
+
+    `told` has words in front of the file's name, and the lines that they tell; `seconds` are the
+    packets' times since the first, if not a step apart; of the file, `end` bytes are kept.
+    """
+
+    name: str
+    link_type: int
+    frames: list
+    told: list
+    seconds: list = None
+    end: int = None
+
+    def data(self):
+        parts = [struct.pack(">IHHiIII", 0xA1B2C3D4, 2, 4, 0, 0, 262144, self.link_type)]
+        for at, frame in enumerate(self.frames):
+            data = bytes.fromhex(frame)
+            since = self.seconds[at] * 10**9 if self.seconds else at * STEP
+            time = telling.BEGIN + since
+            size = len(data)
+            parts.append(struct.pack(">IIII", time // 10**9, time % 10**9 // 1000, size, size))
+            parts.append(data)
+        return b"".join(parts)[: self.end]
+
+
+def shown(lines):
+    """Lines with their numbers and times."""
+    for at, line in enumerate(lines):
+        microseconds = at * STEP // 1000
+        yield f"{at + 1:5} {microseconds // 10**6:3}.{microseconds % 10**6:06} {line}"
