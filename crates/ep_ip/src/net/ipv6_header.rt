@@ -330,13 +330,15 @@ fn len_of_kind(slice: &[u8], kind: u8) -> usize
     ensures { result ≡ walk.len_of_kind kind slice.now }
 {
     if slice.len() < 2 {
-        2
-    } else if kind == b'o' {
-        (usize::from(slice[1]) + 1) * 8
+        return 2;
+    }
+    let count = usize::from(slice[1]);
+    if kind == b'o' {
+        (count + 1) * 8
     } else if kind == b'f' {
         8
     } else {
-        (usize::from(slice[1]) + 2) * 4
+        (count + 2) * 4
     }
 }
 
