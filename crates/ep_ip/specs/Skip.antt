@@ -37,6 +37,19 @@ abbrev pub skipped_by : ℕ → List ℕ → Option ℕ
 skipped_by number bytes =
     if is_skipped number then Some (required_len number bytes) else None
 
+-- how the length of the header of this number is counted: 102 (f) as that of a fragment header, 97
+-- (a) as that of an authentication header, 111 (o) as that of every other header, 46 (a dot) if it is
+-- not skipped
+abbrev pub length_kind : ℕ → ℕ
+length_kind number = if number == 44 then 102 else (if number == 51 then 97
+    else (if is_skipped number then 111 else 46))
+
+-- how many bytes are needed of a header whose length is counted so
+abbrev pub len_of_kind : ℕ → List ℕ → ℕ
+len_of_kind kind bytes =
+    if nat_lt (length bytes) 2 then 2 else (if kind == 111 then (num bytes 1 1 + 1) * 8
+    else (if kind == 102 then 8 else (num bytes 1 1 + 2) * 4))
+
 -- the bytes are one whole header of this number
 pub record IsWhole (number : ℕ) (header : List ℕ) : Type 0 where
   pub begun : 2 ≤ length header

@@ -294,21 +294,51 @@ impl Ipv6Header {
     }
 }
 
-// How many bytes are needed of the header of this number, if it is one that is skipped. One match on
-// the number tells both.
+// How the length of the header of each number is counted: `o` in words of 8 bytes, `a` as that of an
+// authentication header, `f` as that of a fragment header. A dot stands for a number that is not
+// skipped.
+static LENGTH_KINDS: [u8; 256] = *b"\
+    o...............................\
+    ...........of......a........o...\
+    ................................\
+    ................................\
+    .......o...oo...................\
+    ................................\
+    ................................\
+    ................................";
+
+fn length_kind(number: IpNumber) -> u8
+    ensures { result ≡ walk.length_kind number.0 }
+{
+    LENGTH_KINDS[usize::from(number.0)]
+}
+
+// How many bytes are needed of the header of this number, if it is one that is skipped.
 fn skipped_len(slice: &[u8], number: IpNumber) -> Option<usize>
     ensures { result ≡ walk.skipped_by number.0 slice.now }
 {
-    match number {
-        IpNumber::IPV6_FRAGMENTATION_HEADER => Some(fragment_len(slice)),
-        IpNumber::AUTHENTICATION_HEADER => Some(authentication_len(slice)),
-        IpNumber::IPV6_HEADER_HOP_BY_HOP
-        | IpNumber::IPV6_ROUTE_HEADER
-        | IpNumber::IPV6_DESTINATION_OPTIONS
-        | IpNumber::MOBILITY_HEADER
-        | IpNumber::HIP
-        | IpNumber::SHIM6 => Some(options_len(slice)),
-        _ => None,
+    let kind = length_kind(number);
+    if kind == b'.' {
+        None
+    } else {
+        Some(len_of_kind(slice, kind))
+    }
+}
+
+// How many bytes are needed of a header whose length is counted so. It is known once two are there.
+fn len_of_kind(slice: &[u8], kind: u8) -> usize
+    ensures { result ≡ walk.len_of_kind kind slice.now }
+{
+    if slice.len() < 2 {
+        return 2;
+    }
+    let count = usize::from(slice[1]);
+    if kind == b'o' {
+        (count + 1) * 8
+    } else if kind == b'f' {
+        8
+    } else {
+        (count + 2) * 4
     }
 }
 
@@ -316,37 +346,9 @@ fn required_len(slice: &[u8], number: IpNumber) -> usize
     ensures { result ≡ walk.required_len number.0 slice.now }
 {
     match number {
-        IpNumber::IPV6_FRAGMENTATION_HEADER => fragment_len(slice),
-        IpNumber::AUTHENTICATION_HEADER => authentication_len(slice),
-        _ => options_len(slice),
-    }
-}
-
-// The length is known once two bytes are there.
-fn fragment_len(slice: &[u8]) -> usize
-    ensures { result ≡ walk.required_len 44 slice.now }
-{
-    if slice.len() < 2 { 2 } else { 8 }
-}
-
-fn authentication_len(slice: &[u8]) -> usize
-    ensures { result ≡ walk.required_len 51 slice.now }
-{
-    if slice.len() < 2 {
-        2
-    } else {
-        (usize::from(slice[1]) + 2) * 4
-    }
-}
-
-// Of any other header.
-fn options_len(slice: &[u8]) -> usize
-    ensures { result ≡ walk.required_len 0 slice.now }
-{
-    if slice.len() < 2 {
-        2
-    } else {
-        (usize::from(slice[1]) + 1) * 8
+        IpNumber::IPV6_FRAGMENTATION_HEADER => len_of_kind(slice, b'f'),
+        IpNumber::AUTHENTICATION_HEADER => len_of_kind(slice, b'a'),
+        _ => len_of_kind(slice, b'o'),
     }
 }
 
