@@ -1,4 +1,6 @@
 use Rattle.std.proofs.Common.{rules, arith}
+use Rattle.ep_defrag.specs.Streams.{fragment_of}
+use Rattle.ep_defrag.proofs.OutcomeLemmas.{first_waits}
 use Rattle.ep_defrag.proofs.Places.{ended_places, fewer_places, same_places}
 use Rattle.ep_defrag.proofs.defrag.stream.add_part.Goals as goal
 
@@ -27,3 +29,8 @@ returns-in-Err-add-clause-places g c =
     c.give_back.ensures.places _
     (c.take-bytes.ensures.places _
     (same_places _ _ _ (search rules) (c.make_places.ensures.made (search rules))))
+
+pub returns-in-Ok-2-add-clause-accepted : goal.returns-in-Ok-2-add-clause-accepted
+returns-in-Ok-2-add-clause-accepted g c fs shows =
+    first_waits c.args.rule (fragment_of c.args.part.now) c.args.timestamp _ _ fs (search rules)
+    shows (search rules) (search rules) (search rules)
