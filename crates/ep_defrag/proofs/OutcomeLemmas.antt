@@ -1,6 +1,6 @@
 -- What becomes of a fragment, by whether it is refused and whether its message is complete with it.
 use Rattle.std.proofs.Common.{◌≡◌, ◌∙◌, ◌⊎◌, inl, inr, ap, refl, sym, cond, Bool, true, false, Option}
-use Rattle.std.proofs.Common.{Some, None, List, [], ◌∷◌, ◌++◌}
+use Rattle.std.proofs.Common.{Some, None, List, [], ◌∷◌, ◌++◌, ℕ, IsSomeAnd, subst}
 use Rattle.std.specs.Option.{option_or}
 use Rattle.ep_fragments.specs.declared.defrag.ip_defrag_error.IpDefragError.{IpDefragError}
 use Rattle.ep_fragments.specs.declared.defrag.ip_defrag_error.IpDefragError.TheVariants.{AllocationFailure}
@@ -11,7 +11,8 @@ use Rattle.ep_fragments.specs.Outcome.{Outcome, error_of, memory_error, outcome,
 use Rattle.ep_fragments.specs.Outcome.{outcome_unless}
 use Rattle.ep_fragments.specs.Outcome.Outcome.{Clash, Completed, Refusal, Waiting}
 use Rattle.ep_fragments.specs.Picture.{text_of}
-use Rattle.ep_defrag.specs.Streams.{IsErrorOf}
+use Rattle.ep_defrag.specs.declared.defrag.stream.Stream.{Stream}
+use Rattle.ep_defrag.specs.Streams.{Becomes, IsErrorOf, IsStreamOf, ShowsStream}
 
 none_or : {X : Type 0} (o n : Option X) → option_or o n ≡ None → (o ≡ None) × (n ≡ None)
 none_or (Some x) n h = cc
@@ -105,3 +106,16 @@ module _ (rule : OverlapRule) (fs : List Fragment) (f : Fragment) where
   told_error e (inr h) =
       inr (ap (λ (o : Outcome). memory_error f o) (is_accepted h.0) ∙ memory_accepted
       ∙ ap Some (sym h.1))
+
+-- the first fragment of a message, which waits for others
+pub first_waits : {T : Type 0} (rule : OverlapRule) (f : Fragment) (time : T)
+    (old new : Option (Stream T)) (fs : List Fragment) → old ≡ None → ShowsStream rule old fs
+    → refusal_of rule [] f ≡ None → is_complete (f ∷ []) ≡ false
+    → IsSomeAnd new (IsStreamOf rule (f ∷ []) time)
+    → Becomes {X = List ℕ} rule (λ text. text) (outcome rule fs f) time new None
+first_waits {T} rule f time old new fs none shows taken open_end stream =
+    let empty : fs ≡ [] = subst (λ (o : Option (Stream T)). ShowsStream rule o fs) none shows in
+    subst (λ (gs : List Fragment).
+    Becomes {X = List ℕ} rule (λ text. text) (outcome rule gs f) time new None) (sym empty)
+    (subst (λ (o : Outcome). Becomes {X = List ℕ} rule (λ text. text) o time new None)
+    (sym (is_waiting rule [] f taken open_end)) (refl, stream))

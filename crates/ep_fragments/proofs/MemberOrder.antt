@@ -1,15 +1,17 @@
 -- Members in order, as one more is put among them.
-use Rattle.std.proofs.Common.{◌≡◌, ℕ, ◌+◌, ◌-◌, ◌≤◌, Bool, true, false, inl, inr, List, length}
-use Rattle.std.proofs.Common.{get_or, arith, sym, ap, ◌∙◌, refl, subst}
+use Rattle.std.proofs.Common.{◌≡◌, ℕ, ◌+◌, ◌-◌, ◌<◌, ◌≤◌, Bool, true, false, inl, inr, List, length}
+use Rattle.std.proofs.Common.{get_or, arith, sym, ap, ◌∙◌, refl, subst, Err}
 use Rattle.std.proofs.lemmas.Bool.{cases_lt}
 use Rattle.std.proofs.lemmas.Cmp.{ranked}
+use Rattle.std.proofs.lemmas.List.{get_or_default}
 use Rattle.std.proofs.lemmas.List.Edits.{length-insert, get_or-insert_below, get_or-insert_at}
 use Rattle.std.proofs.lemmas.List.Edits.{get_or-insert_above}
 use Rattle.std.proofs.lemmas.List.Sorted.{searchable_from_sorted}
 use Rattle.std.specs.Cmp.{IsTotalOrder, then_total, on_total, nat_cmp_total, bool_cmp_total}
 use Rattle.std.specs.List.{Contains, insert}
-use Rattle.std.specs.List.Sorted.{IsNonDecreasingBy}
-use Rattle.std.specs.Ordering.{bool_cmp, is_lt, ordering_index, ordering_reverse, ordering_then}
+use Rattle.std.specs.List.Sorted.{IsBinarySearchResult, IsNonDecreasingBy}
+use Rattle.std.specs.Ordering.{bool_cmp, is_lt, nat_cmp, ordering_index, ordering_reverse}
+use Rattle.std.specs.Ordering.{ordering_then}
 use Rattle.std.specs.declared.cmp.Ordering.{Ordering}
 use Rattle.std.specs.declared.cmp.Ordering.TheVariants.{Less, Equal, Greater}
 use Rattle.ep_fragments.specs.declared.defrag.member.Member.{Member}
@@ -116,3 +118,35 @@ listed_insert ms m i listed within gap k j d low high =
             ) (gap.0 k d (omega arith) (omega arith))
       ]
     ]
+
+less_from : (x y : ℕ) → x < y → nat_cmp x y ≡ Less
+less_from x y below = elim (nat_cmp x y) as (λ (o : Ordering). o ≡ nat_cmp x y → o ≡ Less) [
+  | Less ↦ λ is. refl
+  | Equal ↦ λ is. let same = ranked x y Equal is in absurd (omega (arith, below, same))
+  | Greater ↦ λ is. let above = ranked x y Greater is in absurd (omega (arith, below, above))
+] refl
+
+less_then : (a b : Ordering) → a ≡ Less → ordering_then a b ≡ Less
+less_then a b h = rw h refl
+
+least : (o : Ordering) → ordering_index o ≤ 0 → o ≡ Less
+least Less h = refl
+least Equal h = absurd (omega (arith, h))
+least Greater h = absurd (omega (arith, h))
+
+-- one that starts behind the start of the last goes behind all
+pub goes_last : (ms : List Member) (m d : Member) → 0 < length ms
+    → (get_or ms (length ms - 1) d).start < m.start
+    → IsBinarySearchResult (λ a. member_cmp a m) ms (Err (length ms))
+goes_last ms m d some behind rises =
+    let last_less : member_cmp (get_or ms (length ms - 1) d) m ≡ Less =
+    less_then _ _ (less_from _ _ behind) in (
+      (λ k e low high.
+          let last_is : ordering_index (member_cmp (get_or ms (length ms - 1) e) m) ≡ 0 =
+          ap (λ (a : Member). ordering_index (member_cmp a m))
+          (get_or_default ms (length ms - 1) e d (omega arith))
+          ∙ ap ordering_index last_less in
+          least (member_cmp (get_or ms k e) m)
+          (omega (arith, rises k (length ms - 1) e (omega arith) (omega arith), last_is))),
+      (λ k e low high. absurd (omega arith)),
+    )

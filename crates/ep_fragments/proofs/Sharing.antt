@@ -1,12 +1,12 @@
 -- Places that a range shares with sections in order.
-use Rattle.std.proofs.Common.{◌≡◌, ℕ, zero, suc, ◌+◌, ◌<◌, ◌≤◌, List, [], ◌∷◌, length, take, get_or, max, min}
+use Rattle.std.proofs.Common.{◌≡◌, ℕ, zero, suc, ◌+◌, ◌-◌, ◌<◌, ◌≤◌, List, [], ◌∷◌, length, take, get_or, max, min}
 use Rattle.std.proofs.Common.{inl, inr, arith, ap, sym, subst}
 use Rattle.std.proofs.lemmas.Bool.{cases_lt}
 use Rattle.std.proofs.lemmas.List.{get_or_default}
 use Rattle.std.specs.List.{AllByRecursion, AllWithin}
 use Rattle.ep_fragments.specs.declared.defrag.ip_frag_range.IpFragRange.{IpFragRange}
 use Rattle.ep_fragments.specs.IpFragRange.{AreOrdered, HasPlace, SharesWith}
-use Rattle.ep_fragments.proofs.Ordered.{starts_rise}
+use Rattle.ep_fragments.proofs.Ordered.{ends_rise, starts_rise}
 
 -- no place is one of both
 abbrev pub NoneShared : IpFragRange → IpFragRange → Type 0
@@ -74,3 +74,13 @@ none_behind rs r at d ordered within behind before shared =
           let own = ap (λ (u : IpFragRange). u.start) t.3 in
           omega (arith, rise, there, own, behind, t.4.0, shared.1.1)
     ]
+
+-- one that starts where the last of them ends, or behind it, shares none
+pub none_past : (rs : List IpFragRange) (r d : IpFragRange) → AreOrdered rs → 0 < length rs
+    → (get_or rs (length rs - 1) d).end ≤ r.start → SharesWith rs r → ⊥
+none_past rs r d ordered some past shared =
+    let t = shared.2 in
+    let rise = ends_rise rs ordered t.0 (length rs - 1) d (omega (arith, t.2)) (omega arith) in
+    let there = ap (λ (u : IpFragRange). u.end) (get_or_default rs t.0 d t.1 t.2) in
+    let own = ap (λ (u : IpFragRange). u.end) t.3 in
+    omega (arith, rise, there, own, past, t.4.1, shared.1.0)

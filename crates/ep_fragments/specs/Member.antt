@@ -1,13 +1,13 @@
 -- What is kept of the fragments of a message whose fragments may not overlap.
 use Rattle.std.specs.Prelude.{◌≡◌, ℕ, ◌+◌, ◌≤◌, ◌<◌, ◌⊎◌, ◌↔◌, Bool, if◌then◌else◌, Option, Some, None}
-use Rattle.std.specs.Prelude.{List, [], vec_len, vec_capacity, length, nat_eq, slice_index, Any}
+use Rattle.std.specs.Prelude.{List, [], length, nat_eq, slice_index, Any}
 use Rattle.std.specs.Prelude.{AllPairs, Contains}
 use Rattle.std.specs.Bool.{beq}
-use Rattle.std.specs.Global.{Vec}
 use Rattle.std.specs.List.Sorted.{IsPartitionPoint}
 use Rattle.std.specs.Ordering.{bool_cmp, eq_of_both, nat_cmp, on, ordering_then}
 use Rattle.std.specs.declared.cmp.Ordering.{Ordering}
 use Rattle.std.specs.declared.cmp.Ordering.TheVariants.{Greater, Less}
+use Rattle.smallvec.specs.SmallVec.{SmallVec, HasRoomFor, small_vec_len}
 use Rattle.ep_fragments.specs.declared.defrag.ip_frag_range.IpFragRange.{IpFragRange}
 use Rattle.ep_fragments.specs.declared.defrag.member.Member.{Member}
 use Rattle.ep_fragments.specs.declared.defrag.member.Place.{Place}
@@ -16,7 +16,7 @@ use Rattle.ep_fragments.specs.Fragments.{Fragment, start_of, end_of, AreDisjoint
 use Rattle.ep_fragments.specs.IpFragRange.{SharesWith}
 
 -- the members that are kept, if they are
-abbrev pub listed_in : Option (Vec Member) → Option (List Member)
+abbrev pub listed_in : Option (SmallVec Member) → Option (List Member)
 listed_in None = None
 listed_in (Some ms) = Some ms.items
 
@@ -26,13 +26,13 @@ emptied None = None
 emptied (Some ms) = Some []
 
 -- where they are kept there is a place for one more, and this is the index of one or of the end
-abbrev pub HasRoomForOne : Option (Vec Member) → Type 0
+abbrev pub HasRoomForOne : Option (SmallVec Member) → Type 0
 HasRoomForOne None = Unit {0}
-HasRoomForOne (Some ms) = vec_len ms < vec_capacity ms
+HasRoomForOne (Some ms) = HasRoomFor ms 1
 
-abbrev pub IsIndexIn : Option (Vec Member) → ℕ → Type 0
+abbrev pub IsIndexIn : Option (SmallVec Member) → ℕ → Type 0
 IsIndexIn None i = Unit {0}
-IsIndexIn (Some ms) i = i ≤ vec_len ms
+IsIndexIn (Some ms) i = i ≤ small_vec_len ms
 
 -- a fragment without its bytes
 abbrev pub member_of : Fragment → Member

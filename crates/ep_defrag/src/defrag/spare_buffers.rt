@@ -54,6 +54,7 @@ impl SpareBuffers {
         ensures sections { vec_len self.old.sections
             ≡ vec_len self.new.sections + (if result.2.sections then 1 else 0) }
         ensures no_fewer { NoFewerPlaces self.old self.new }
+        ensures places { (count : ℕ) → HasPlaces self.old count → HasPlaces self.new count }
     {
         let bytes = self.bytes.pop();
         let sections = self.sections.pop();
@@ -74,6 +75,7 @@ impl SpareBuffers {
         ensures sections { vec_len self.new.sections
             ≡ vec_len self.old.sections + (if taken.sections then 1 else 0) }
         ensures no_fewer { NoFewerPlaces self.old self.new }
+        ensures places { (count : ℕ) → HasPlaces self.old (count + 1) → HasPlaces self.new count }
     {
         let (bytes, sections) = buf.take_bufs();
         if taken.bytes {

@@ -92,33 +92,6 @@ fn want_of_memory(part: &Part<'_>) -> IpDefragError
     }
 }
 
-// The buffer of a message of which this is the first part, over memory that is spare where there is
-// some. Where the part isn't taken, that memory stays spare.
-fn begin(
-    alloc: Global,
-    spare: &mut SpareBuffers,
-    rule: OverlapRule,
-    part: &Part<'_>,
-) -> Result<IpDefragBuf<()>, IpDefragError>
-    ensures accepted { IfOk result (λ buf. Shows buf (fragment_of part.now ∷ [])) }
-    ensures rule { IfOk result (λ buf. rule_of buf ≡ rule) }
-    ensures refused { let f = fragment_of part.now in
-        AnswersAdd (refusal_at None f) (end_of f) result }
-    ensures fewer { OnOk result (vec_len spare.new.bytes ≡ vec_len spare.old.bytes - 1) }
-    ensures same { OnErr result (SameCounts spare.old spare.new) }
-    ensures places { (count : ℕ) → HasPlaces spare.old count → HasPlaces spare.new count }
-{
-    let (bytes, sections, taken) = spare.take(alloc);
-    let mut buf = IpDefragBuf::of_rule(rule, alloc, (), bytes, sections);
-    match buf.add(part.offset, part.more_fragments, part.bytes) {
-        Ok(()) => Ok(buf),
-        Err(error) => {
-            spare.give_back(buf, taken);
-            Err(error)
-        }
-    }
-}
-
 // The bytes of a message that is complete. Its sections are spare now.
 fn finish(spare: &mut SpareBuffers, buf: IpDefragBuf<()>) -> Vec<u8>
     requires { HasPlaces spare.old 1 }
@@ -181,17 +154,17 @@ pub(crate) fn add_part<K: Eq + Hash + Drop, T: Drop, S: BuildHasher>(
                 entry.into_key();
                 return Err(want_of_memory(part));
             }
-            match begin(alloc, spare, rule, part) {
-                Ok(buf) if buf.is_complete() => {
-                    entry.into_key();
-                    Ok(Some(finish(spare, buf)))
+            let (bytes, sections, taken) = spare.take(alloc);
+            let buf = IpDefragBuf::of_rule(rule, alloc, (), bytes, sections);
+            let mut begun = entry.insert_entry(Stream { buf, timestamp });
+            let buf = &mut begun.get_mut().buf;
+            match buf.add(part.offset, part.more_fragments, part.bytes) {
+                Ok(()) if begun.get().buf.is_complete() => {
+                    Ok(Some(finish(spare, begun.swap_remove().buf)))
                 }
-                Ok(buf) => {
-                    entry.insert(Stream { buf, timestamp });
-                    Ok(None)
-                }
+                Ok(()) => Ok(None),
                 Err(error) => {
-                    entry.into_key();
+                    spare.give_back(begun.swap_remove().buf, taken);
                     Err(error)
                 }
             }

@@ -23,7 +23,7 @@ ghost use Rattle.ep_fragments.specs.Member.{emptied, listed_in, member_of, same_
 ghost use Rattle.ep_fragments.specs.Picture.{text_of};
 
 use super::member::{
-    Member, Place, clear_members, copy_members, find_place, insert_member, reserve_member,
+    Member, Members, Place, clear_members, copy_members, find_place, insert_member, reserve_member,
 };
 use super::overlap_rule::OverlapRule;
 use super::sections::add_range;
@@ -45,7 +45,7 @@ pub struct IpDefragBuf<Number = IpNumber> {
     sections: Vec<IpFragRange>,
     end: Option<u16>,
     // Where overlaps are refused: the accepted fragments in order, each once.
-    members: Option<Vec<Member>>,
+    members: Option<Members>,
 }
 
 impl<Number> Model for IpDefragBuf<Number> {
@@ -201,7 +201,7 @@ impl<Number: Drop> IpDefragBuf<Number> {
         ensures empty { Shows result [] }
         ensures value { result ≡ empty_of ip_number (Some []) }
     {
-        IpDefragBuf::empty(ip_number, data, sections, Some(Vec::new(alloc)))
+        IpDefragBuf::empty(ip_number, data, sections, Some(Members::new(alloc)))
     }
 
     /// An empty buffer for a message whose fragments overlap by this rule.
@@ -228,7 +228,7 @@ impl<Number: Drop> IpDefragBuf<Number> {
         ip_number: Number,
         mut data: Vec<u8>,
         mut sections: Vec<IpFragRange>,
-        members: Option<Vec<Member>>,
+        members: Option<Members>,
     ) -> IpDefragBuf<Number>
         requires { IfSome (listed_in members) (λ ms. ms ≡ []) }
         ensures empty { Shows result [] }
@@ -335,7 +335,13 @@ impl<Number: Drop> IpDefragBuf<Number> {
         ensures { FindsPlace self.now member bytes.now result }
     {
         match &self.members {
-            Some(members) => find_place(members, &self.sections, &self.data, member, bytes),
+            Some(members) => find_place(
+                members.as_slice(),
+                &self.sections,
+                &self.data,
+                member,
+                bytes,
+            ),
             None => Place::At(0),
         }
     }

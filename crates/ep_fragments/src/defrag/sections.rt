@@ -48,12 +48,17 @@ fn count_up_to(sections: &[IpFragRange], range: IpFragRange, first: usize) -> us
     count
 }
 
-// Whether a place of a range is one of a section, too. Between the first section that doesn't end
-// before it and the first that has a place there are only sections of fragments without bytes.
+// Whether a place of a range is one of a section, too. Most ranges lie behind all sections. Between
+// the first section that doesn't end before it and the first that has a place there are only sections
+// of fragments without bytes.
 pub(crate) fn shares_place(sections: &[IpFragRange], range: IpFragRange) -> bool
     requires { AreOrdered sections.now }
     ensures { IsTrue result ↔ SharesWith sections.now range }
 {
+    let len = sections.len();
+    if len > 0 && sections[len - 1].end <= range.start {
+        return false;
+    }
     let mut at = count_before(sections, range.start);
     while at < sections.len() && sections[at].start < range.end {
         let section = sections[at];

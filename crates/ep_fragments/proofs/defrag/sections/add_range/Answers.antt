@@ -1,4 +1,4 @@
-use Rattle.std.proofs.Common.{◌≡◌, ◌-◌, arith, refl, slice_set, sym}
+use Rattle.std.proofs.Common.{◌-◌, arith, refl, slice_set, sym}
 use Rattle.ep_fragments.proofs.Ordered.{IsAdded}
 use Rattle.ep_fragments.proofs.Added.{added_to_first, added_to_last}
 use Rattle.ep_fragments.proofs.defrag.sections.add_range.Goals as goal

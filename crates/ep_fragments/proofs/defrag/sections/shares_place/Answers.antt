@@ -1,6 +1,14 @@
 use Rattle.std.proofs.Common.{arith, refl}
 use Rattle.ep_fragments.proofs.Sharing.{none_before, none_more, shared_at, none_at_all, none_behind}
+use Rattle.ep_fragments.proofs.Sharing.{none_past}
 use Rattle.ep_fragments.proofs.defrag.sections.shares_place.Goals as goal
+
+pub returns-then-sections-len : goal.returns-then-sections-len
+returns-then-sections-len c = (
+  (λ h. cc),
+  (λ h. absurd (none_past c.args.sections.now c.args.range _ c.requires c.if-len-gt0.true
+      c.if-sections-len.true h)),
+)
 
 pub loop-at-init : goal.loop-at-init
 loop-at-init c = (
