@@ -1,191 +1,247 @@
 //! Each read of each header fails, over every length that a header can have: which calls are made,
 //! what is told, and how much was read.
 
-ghost use Rattle.std.specs.Prelude.{◌<◌};
-
-use crate::checks::equal;
-use crate::extensions_read_limited::Refusal;
-use crate::headers_read::{Kind, Limited, LimitedRead, Read, read, read_limited};
-use ep_base::err::Layer;
-use ep_base::{IpNumber, LenSource};
-use ep_ext::Ipv6Extensions;
-use ep_ext::err::ipv6_exts::HeaderReadError;
-use ep_ext::io::LimitedReader;
+use crate::checks::shows;
+use crate::kinds::Kind;
+use crate::readers::limited;
+use crate::reads::{Read, Refusal, read, read_limited};
+use crate::rows::range;
 use fault_devices::{Fault, FaultReader, Tally};
 use std::io::ErrorKind;
 use std::process::Abort;
 use std::test::*;
 
-const DENIED: ErrorKind = ErrorKind::PermissionDenied;
-
-// A reader that gives all that it is asked for but for this call, which fails, and of which so many
-// bytes may be read.
-fn limited(bytes: &[u8], call: usize, max_len: usize) -> Limited<'_> {
-    let inner = FaultReader::failing(bytes, 4096, call, Fault::Fails(DENIED));
-    LimitedReader::new(inner, max_len, LenSource::Slice, 0, Layer::Ipv6Packet)
+// What is read: a header whose second byte is the number, within a limit too; options of that
+// length and a header behind them; so many bytes, and eight more.
+#[derive(Clone, Copy)]
+enum Source {
+    Header(Kind),
+    Limited(Kind),
+    Chain,
+    Buffers,
 }
 
-// What is read where this call fails, and how many bytes are left.
-fn read_failing(kind: Kind, bytes: &[u8], call: usize) -> (Read, usize) {
-    let mut reader = FaultReader::failing(bytes, 4096, call, Fault::Fails(DENIED));
-    let read = read(kind, &mut reader, &[]);
-    (read, reader.rest.len())
+// A reader that gives all that it is asked for but for this call, which fails.
+fn failing(bytes: &[u8], call: usize) -> FaultReader<'_> {
+    FaultReader::failing(bytes, 4096, call, Fault::Fails(ErrorKind::PermissionDenied))
 }
 
-// Headers of each length from this one on. A header is read by so many bytes first and then the
-// rest, if there is one: the shortest has none.
-fn each_read_fails(
-    rt: &(impl Abort + Print),
-    kind: Kind,
-    call: &'static str,
-    least: u8,
-    first_len: usize,
-) -> Result<(), Fail> {
-    let mut tally = Tally::new(call, "a read fails");
+fn byte(number: usize) -> u8 {
+    u8::try_from(number).unwrap_or(255)
+}
+
+fn header(number: usize) -> [u8; 2050] {
     let mut bytes = [0x33; 2050];
-    for words in least..=255u8 {
-        bytes[1] = words;
-        let calls = if words == least { 1usize } else { 2 };
-        let mut whole = FaultReader::new(&bytes, 4096);
-        let is_read = read(kind, &mut whole, &[]).is_ok();
-        equal(rt, &(is_read, whole.calls), &(true, calls));
-        tally.count(whole.calls);
-        for call in 0..whole.calls {
-            let given = if call == 0 { 0 } else { first_len };
-            let wanted = (Err(Some(DENIED)), bytes.len().saturating_sub(given));
-            equal(rt, &read_failing(kind, &bytes, call), &wanted);
-            tally.tries();
+    bytes[1] = byte(number);
+    bytes
+}
+
+// Why nothing was read, and how many bytes were read by then.
+fn refused(read: Read, len: usize) -> (Option<Refusal>, usize) {
+    match read {
+        Ok(_) => (None, 0),
+        Err(refusal) => (Some(refusal), len),
+    }
+}
+
+// What is told where this call fails, and how many calls there are.
+fn read_failing(kind: Kind, number: usize, call: usize) -> ((Option<Refusal>, usize), usize) {
+    let bytes = header(number);
+    let mut reader = failing(&bytes, call);
+    let read = read(kind, &mut reader, &[]);
+    let len = bytes.len().saturating_sub(reader.rest.len());
+    (refused(read, len), reader.calls)
+}
+
+// The same within a limit: how many bytes count as read.
+fn limited_failing(kind: Kind, number: usize, call: usize) -> ((Option<Refusal>, usize), usize) {
+    let bytes = header(number);
+    let mut reader = limited(failing(&bytes, call), 2048);
+    let read = read_limited(kind, &mut reader, &[]);
+    let len = reader.read_len();
+    (refused(read, len), reader.take_reader().calls)
+}
+
+// Destination options (number 60) and behind them an authentication header (51) of 20 bytes: what
+// is read, how many bytes are left and were options, and how many calls there are.
+fn chain_failing(number: usize, call: usize) -> (Read, Option<usize>, usize) {
+    let options = (usize::from(byte(number)) + 1) * 8;
+    let mut bytes = [0x33; 2068];
+    bytes[..2].copy_from_slice(&[51, byte(number)]);
+    bytes[options..options + 2].copy_from_slice(&[17, 3]);
+    let mut reader = failing(&bytes, call);
+    let read = read(Kind::Ipv6(60), &mut reader, &bytes);
+    let left = match read {
+        Ok(_) => Some(reader.rest.len().saturating_add(options)),
+        Err(_) => None,
+    };
+    (read, left, reader.calls)
+}
+
+// Whether a buffer of so many bytes is filled, and then one of 8; how many more bytes than those of
+// the first count as read, and how many calls there are.
+fn filled(len: usize, call: usize) -> (bool, bool, usize, usize) {
+    let bytes = [0x33; 2056];
+    let mut buffer = [0u8; 2056];
+    let mut reader = limited(failing(&bytes, call), 2056);
+    let (first, _) = buffer.split_at_mut(len.min(2048));
+    let filled = reader.read_exact(first).is_ok();
+    let more = reader.read_exact(&mut [0; 8]).is_ok();
+    let of_first = if filled { len } else { 0 };
+    let counted = reader.read_len().wrapping_sub(of_first);
+    (filled, more, counted, reader.take_reader().calls)
+}
+
+// Fails where this is not told, and tells how many calls there are.
+fn is_told(
+    rt: &(impl Abort + AllocGlobal),
+    source: Source,
+    number: usize,
+    call: usize,
+    wanted: &str,
+) -> usize {
+    match source {
+        Source::Header(kind) => {
+            let told = read_failing(kind, number, call);
+            shows(rt, number, &told, wanted);
+            told.1
+        }
+        Source::Limited(kind) => {
+            let told = limited_failing(kind, number, call);
+            shows(rt, number, &told, wanted);
+            told.1
+        }
+        Source::Chain => {
+            let told = chain_failing(number, call);
+            shows(rt, number, &told, wanted);
+            told.2
+        }
+        Source::Buffers => {
+            let told = filled(number, call);
+            shows(rt, number, &told, wanted);
+            told.3
         }
     }
-    println!(rt; "{tally}")?;
-    Ok(())
 }
 
+// What is told where no call fails, and then where each of them does.
+fn each_call_fails(
+    rt: &(impl Abort + AllocGlobal),
+    tally: &mut Tally,
+    source: Source,
+    number: usize,
+    wanted: &str,
+) {
+    let Some((whole, failing)) = wanted.split_once(" | ") else {
+        panic!(rt; "no row: {wanted}");
+    };
+    tally.count(is_told(rt, source, number, usize::MAX, whole));
+    let mut call = 0usize;
+    for wanted in failing.split(" | ") {
+        let _calls = is_told(rt, source, number, call, wanted);
+        tally.tries();
+        call = call.saturating_add(1);
+    }
+}
+
+// Rows as those of `rows`, with several answers.
+fn each_read_fails(
+    rt: &(impl Abort + AllocGlobal + Print),
+    source: Source,
+    call: &'static str,
+    table: &str,
+) {
+    let mut tally = Tally::new(call, "a read fails");
+    for line in table.lines() {
+        let Some((row, wanted)) = line.trim().split_once(": ") else {
+            panic!(rt; "no row: {line}");
+        };
+        let (first, behind) = range(rt, row);
+        for number in first..behind {
+            each_call_fails(rt, &mut tally, source, number, wanted);
+        }
+    }
+    if println!(rt; "{tally}").is_err() {
+        panic!(rt; "no output");
+    }
+}
+
+// Headers of each length. A header is read by so many bytes first and then the rest, if there is
+// one: the shortest has none.
 #[test]
-fn each_read_of_raw_headers_fails(rt: HostRuntime) -> Result<(), Fail> {
-    each_read_fails(&rt, Kind::Raw, "Ipv6RawExtHeader::read", 0, 8)
+fn each_read_of_raw_headers_fails(rt: HostRuntime) {
+    each_read_fails(
+        &rt,
+        Source::Header(Kind::Raw),
+        "Ipv6RawExtHeader::read",
+        "0: ((None, 0), 1) | ((Some(Io(PermissionDenied)), 0), 1)
+        1..256: ((None, 0), 2) | ((Some(Io(PermissionDenied)), 0), 1) \
+            | ((Some(Io(PermissionDenied)), 8), 2)",
+    );
 }
 
 // The check value is at least 0 bytes long.
 #[test]
-fn each_read_of_authentication_headers_fails(rt: HostRuntime) -> Result<(), Fail> {
-    each_read_fails(&rt, Kind::Auth, "IpAuthHeader::read", 1, 12)
-}
-
-// The same within a limit: how many bytes count as read, and how many calls there were.
-fn limited_failing(kind: Kind, bytes: &[u8], call: usize) -> (LimitedRead, usize, usize) {
-    let mut reader = limited(bytes, call, 2048);
-    let read = read_limited(kind, &mut reader, &[]);
-    let counted = reader.read_len();
-    (read, counted, reader.take_reader().calls)
+fn each_read_of_authentication_headers_fails(rt: HostRuntime) {
+    each_read_fails(
+        &rt,
+        Source::Header(Kind::Auth),
+        "IpAuthHeader::read",
+        "1: ((None, 0), 1) | ((Some(Io(PermissionDenied)), 0), 1)
+        2..256: ((None, 0), 2) | ((Some(Io(PermissionDenied)), 0), 1) \
+            | ((Some(Io(PermissionDenied)), 12), 2)",
+    );
 }
 
 // Where a read fails, what it was to give doesn't count.
-fn each_limited_read_fails(
-    rt: &(impl Abort + Print),
-    kind: Kind,
-    call: &'static str,
-    least: u8,
-    first_len: usize,
-) -> Result<(), Fail> {
-    let mut tally = Tally::new(call, "a read fails");
-    let mut bytes = [0x33; 2050];
-    for words in least..=255u8 {
-        bytes[1] = words;
-        let calls = if words == least { 1usize } else { 2 };
-        tally.count(calls);
-        for call in 0..calls {
-            let counted = if call == 0 { 0 } else { first_len };
-            let wanted = (Err(Refusal::Io(DENIED)), counted, call.saturating_add(1));
-            equal(rt, &limited_failing(kind, &bytes, call), &wanted);
-            tally.tries();
-        }
-    }
-    println!(rt; "{tally}")?;
-    Ok(())
+#[test]
+fn each_read_of_limited_raw_headers_fails(rt: HostRuntime) {
+    each_read_fails(
+        &rt,
+        Source::Limited(Kind::Raw),
+        "Ipv6RawExtHeader::read_limited",
+        "0: ((None, 0), 1) | ((Some(Io(PermissionDenied)), 0), 1)
+        1..256: ((None, 0), 2) | ((Some(Io(PermissionDenied)), 0), 1) \
+            | ((Some(Io(PermissionDenied)), 8), 2)",
+    );
 }
 
 #[test]
-fn each_read_of_limited_raw_headers_fails(rt: HostRuntime) -> Result<(), Fail> {
-    each_limited_read_fails(&rt, Kind::Raw, "Ipv6RawExtHeader::read_limited", 0, 8)
+fn each_read_of_limited_authentication_headers_fails(rt: HostRuntime) {
+    each_read_fails(
+        &rt,
+        Source::Limited(Kind::Auth),
+        "IpAuthHeader::read_limited",
+        "1: ((None, 0), 1) | ((Some(Io(PermissionDenied)), 0), 1)
+        2..256: ((None, 0), 2) | ((Some(Io(PermissionDenied)), 0), 1) \
+            | ((Some(Io(PermissionDenied)), 12), 2)",
+    );
 }
 
+// Both headers are read by two calls but for options of 8 bytes.
 #[test]
-fn each_read_of_limited_authentication_headers_fails(rt: HostRuntime) -> Result<(), Fail> {
-    each_limited_read_fails(&rt, Kind::Auth, "IpAuthHeader::read_limited", 1, 12)
-}
-
-// What a chain behind number 60 was read as: the number behind it, or the kind of the fault.
-fn read_chain(reader: &mut FaultReader<'_>) -> Result<IpNumber, Option<ErrorKind>> {
-    match Ipv6Extensions::read(reader, IpNumber(60)) {
-        Ok((_, number)) => Ok(number),
-        Err(HeaderReadError::Io(error)) => Err(Some(error.kind())),
-        Err(HeaderReadError::Content(_)) => Err(None),
-    }
-}
-
-// Destination options of each length (number 60) and behind them an authentication header (51) of
-// 20 bytes, both in two reads but for options of 8 bytes.
-#[test]
-fn each_read_of_chains_fails(rt: HostRuntime) -> Result<(), Fail> {
-    let mut tally = Tally::new("Ipv6Extensions::read", "a read fails");
-    for words in 0..=255u8 {
-        let options = (usize::from(words) + 1) * 8;
-        let mut bytes = [0x33; 2068];
-        bytes[..2].copy_from_slice(&[51, words]);
-        bytes[options..options + 2].copy_from_slice(&[17, 3]);
-        let mut whole = FaultReader::new(&bytes, 4096);
-        let read = read_chain(&mut whole);
-        let calls = if words == 0 { 3 } else { 4 };
-        let found = (read, whole.rest.len(), whole.calls);
-        equal(&rt, &found, &(Ok(IpNumber::UDP), 2048 - options, calls));
-        tally.count(whole.calls);
-        for call in 0..whole.calls {
-            let mut reader = FaultReader::failing(&bytes, 4096, call, Fault::Fails(DENIED));
-            let read = read_chain(&mut reader);
-            equal(
-                &rt,
-                &(read, reader.calls),
-                &(Err(Some(DENIED)), call.saturating_add(1)),
-            );
-            tally.tries();
-        }
-    }
-    println!(rt; "{tally}")?;
-    Ok(())
-}
-
-// Whether a buffer of so many bytes is filled, and then one of 8, where this call fails; how many
-// bytes count as read, and how many calls there were.
-fn filled(bytes: &[u8], call: usize, len: usize) -> (bool, bool, usize, usize)
-    requires { len < 2049 }
-{
-    let mut buffer = [0u8; 2048];
-    let mut reader = limited(bytes, call, 2056);
-    let filled = reader.read_exact(&mut buffer[..len]).is_ok();
-    let more = reader.read_exact(&mut buffer[..8]).is_ok();
-    let counted = reader.read_len();
-    (filled, more, counted, reader.take_reader().calls)
+fn each_read_of_chains_fails(rt: HostRuntime) {
+    each_read_fails(
+        &rt,
+        Source::Chain,
+        "Ipv6Extensions::read",
+        "0: (Ok((true, IpNumber(17))), Some(2048), 3) | (Err(Io(PermissionDenied)), None, 1) \
+            | (Err(Io(PermissionDenied)), None, 2) | (Err(Io(PermissionDenied)), None, 3)
+        1..256: (Ok((true, IpNumber(17))), Some(2048), 4) | (Err(Io(PermissionDenied)), None, 1) \
+            | (Err(Io(PermissionDenied)), None, 2) | (Err(Io(PermissionDenied)), None, 3) \
+            | (Err(Io(PermissionDenied)), None, 4)",
+    );
 }
 
 // Reads into buffers of each size up to the greatest that a header wants, and then into one of 8
 // bytes: one call for each, and none for a buffer with no room.
 #[test]
-fn buffers_of_each_size(rt: HostRuntime) -> Result<(), Fail> {
-    let mut tally = Tally::new("LimitedReader::read_exact", "a read fails");
-    let bytes = [0x33; 2056];
-    for len in 0..=2048usize {
-        let calls = if len == 0 { 1usize } else { 2 };
-        equal(&rt, &filled(&bytes, 2, len), &(true, true, len + 8, calls));
-        tally.count(calls);
-        for call in 0..calls {
-            let (filled, more, counted, _) = filled(&bytes, call, len);
-            let left = if len == 0 || call == 1 { len } else { 8 };
-            let wanted = (len == 0 || call == 1, len != 0 && call == 0, left);
-            equal(&rt, &(filled, more, counted), &wanted);
-            tally.tries();
-        }
-    }
-    println!(rt; "{tally}")?;
-    Ok(())
+fn buffers_of_each_size(rt: HostRuntime) {
+    each_read_fails(
+        &rt,
+        Source::Buffers,
+        "LimitedReader::read_exact",
+        "0: (true, true, 8, 1) | (true, false, 0, 1)
+        1..2049: (true, true, 8, 2) | (false, true, 8, 2) | (true, false, 0, 2)",
+    );
 }

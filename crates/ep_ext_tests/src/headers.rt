@@ -1,16 +1,15 @@
 //! Single extension headers in slices.
+
 ghost use Rattle.std.specs.Prelude.{◌≡◌};
 
-use crate::checks::{equal, holds};
-use crate::kinds::{Header, is_appended};
-use ep_base::err::{Layer, LenError};
+use crate::checks::{holds, shows};
+use crate::kinds::{Kind, is_appended, is_copy};
+use crate::rows::{Call, rows};
+use ep_base::err::{Layer, LenError, SliceError};
 use ep_base::{IpFragOffset, IpNumber, LenSource};
-use ep_ext::err::ip_auth;
-use ep_ext::err::ip_auth::IcvLenError;
 use ep_ext::err::ipv6_exts::ExtPayloadLenError;
 use ep_ext::{
-    IpAuthHeader, IpAuthHeaderSlice, Ipv6FragmentHeader, Ipv6FragmentHeaderSlice, Ipv6RawExtHeader,
-    Ipv6RawExtHeaderSlice,
+    Ipv6FragmentHeader, Ipv6FragmentHeaderSlice, Ipv6RawExtHeader, Ipv6RawExtHeaderSlice,
 };
 use std::test::*;
 
@@ -20,13 +19,12 @@ const RAW: [u8; 18] = [17, 1, 1, 4, 0, 0, 0, 0, 1, 6, 0, 0, 0, 0, 0, 0, 0xaa, 0x
 // A fragment header by RFC 8200, section 4.5, with reserved bits set. Two bytes follow.
 const FRAGMENT: [u8; 10] = [58, 0xff, 0xab, 0xcd, 0x12, 0x34, 0x56, 0x78, 0xaa, 0xbb];
 
-// An authentication header by RFC 4302, section 2, with reserved bits set. Two bytes follow.
-const AUTH: [u8; 26] = [
-    6, 4, 0xff, 0xee, 1, 2, 3, 4, 5, 6, 7, 8, 9, 10, 11, 12, 13, 14, 15, 16, 17, 18, 19, 20, 0xaa,
-    0xbb,
-];
+/// A want of bytes: how many are wanted, and how many are there; what tells that, the layer and its
+/// offset.
+pub type Want = (usize, usize, LenSource, Layer, usize);
 
-fn want(required_len: usize, len: usize, layer: Layer) -> LenError
+/// A want of bytes in a slice, at its front.
+pub fn want_in_slice(required_len: usize, len: usize, layer: Layer) -> LenError
     ensures { result.layer_start_offset ≡ 0 }
 {
     LenError {
@@ -38,258 +36,314 @@ fn want(required_len: usize, len: usize, layer: Layer) -> LenError
     }
 }
 
+/// The want that an error tells.
+pub fn want(error: LenError) -> Want {
+    (
+        error.required_len,
+        error.len,
+        error.len_source,
+        error.layer,
+        error.layer_start_offset,
+    )
+}
+
+/// The same with how many bytes of so many are not there, which doesn't change with their number.
+pub fn want_of(error: LenError, len: usize) -> Want {
+    let before = len.wrapping_sub(error.len);
+    want(LenError {
+        len: before,
+        ..error
+    })
+}
+
+/// Why a slice of so many bytes begins with no header: the want, or the fault.
+pub fn fault_of<C>(error: SliceError<C>, len: usize) -> Result<Want, C> {
+    match error {
+        SliceError::Len(error) => Ok(want_of(error, len)),
+        SliceError::Content(fault) => Err(fault),
+    }
+}
+
+/// The first bytes, at most so many.
+pub fn front(bytes: &[u8], len: usize) -> &[u8] {
+    bytes.split_at(len.min(bytes.len())).0
+}
+
+// What a raw header shows: its number and its length; whether its bytes and its payload are those
+// at the front, and the rest those behind.
+fn raw(bytes: &[u8]) -> Result<(IpNumber, usize, bool, bool, bool), Want> {
+    match Ipv6RawExtHeader::from_slice(bytes) {
+        Ok((header, rest)) => {
+            let (front, behind) = bytes.split_at(header.header_len().min(bytes.len()));
+            Ok((
+                header.next_header,
+                header.header_len(),
+                header.to_bytes().as_slice() == front,
+                front.get(2..) == Some(header.payload()),
+                rest == behind,
+            ))
+        }
+        Err(error) => Err(want_of(error, bytes.len())),
+    }
+}
+
+/// A front of `RAW`.
+pub fn raw_front(len: usize) -> Result<(IpNumber, usize, bool, bool, bool), Want> {
+    raw(front(&RAW, len))
+}
+
+/// A front of the greatest raw header and a byte.
+pub fn greatest_raw(len: usize) -> Result<(IpNumber, usize, bool, bool, bool), Want> {
+    let mut bytes = [3; 2049];
+    bytes[1] = 255;
+    raw(front(&bytes, len))
+}
+
 #[test]
-fn a_raw_header_and_its_rest(rt: HostRuntime) {
-    let Ok((header, rest)) = Ipv6RawExtHeader::from_slice(&RAW) else {
-        panic!(rt; "no header");
-    };
-    equal(
+fn raw_headers_and_their_rest(rt: HostRuntime) {
+    rows(
         &rt,
-        &(header.next_header, header.header_len()),
-        &(IpNumber::UDP, 16),
-    );
-    let written = header.to_bytes();
-    let found = [header.payload(), rest, written.as_slice()];
-    equal(&rt, &found, &[&RAW[2..16], &RAW[16..], &RAW[..16]]);
-}
-
-#[test]
-fn a_raw_header_is_appended(rt: HostRuntime) {
-    holds(
-        &rt,
-        is_appended::<Ipv6RawExtHeader>(rt.alloc(), &RAW, &RAW[..16]),
-    );
-}
-
-// What a view of a raw header shows: its bytes, its number and its payload.
-fn raw_view(bytes: &[u8]) -> Option<(&[u8], IpNumber, &[u8])> {
-    match Ipv6RawExtHeaderSlice::from_slice(bytes) {
-        Ok(view) => Some((view.slice(), view.next_header(), view.payload())),
-        Err(_) => None,
-    }
-}
-
-// Whether a view is that of its own bytes, its copy, and that of a header with these bytes.
-fn raw_view_is_itself(bytes: &[u8]) -> bool {
-    let Ok(view) = Ipv6RawExtHeaderSlice::from_slice(bytes) else {
-        return false;
-    };
-    let copy: Result<_, _> = view.clone();
-    view.to_header().to_bytes().as_slice() == view.slice()
-        && Ipv6RawExtHeaderSlice::of_bytes(view.slice()) == view
-        && copy == Ok(view)
-}
-
-#[test]
-fn a_view_of_a_raw_header(rt: HostRuntime) {
-    equal(
-        &rt,
-        &raw_view(&RAW),
-        &Some((&RAW[..16], IpNumber::UDP, &RAW[2..16])),
-    );
-    holds(&rt, raw_view_is_itself(&RAW));
-}
-
-// The refusal of a slice of so many bytes, where a header needs a least length and then its own.
-fn refused(len: usize, least: usize, size: usize, layer: Layer) -> LenError {
-    want(if len < least { least } else { size }, len, layer)
-}
-
-#[test]
-fn every_front_of_a_raw_header_is_refused(rt: HostRuntime) {
-    for len in 0..16usize {
-        let error = Some(refused(len, 8, 16, Layer::Ipv6ExtHeader));
-        let found = (
-            Ipv6RawExtHeader::from_slice(&RAW[..len]).err(),
-            Ipv6RawExtHeaderSlice::from_slice(&RAW[..len]).err(),
-        );
-        equal(&rt, &found, &(error, error));
-    }
-}
-
-#[test]
-fn numbers_of_raw_headers(rt: HostRuntime) {
-    for number in 0..=255u8 {
-        let has_layout = [0, 43, 60, 135, 139, 140].contains(&number);
-        let found = [
-            Ipv6RawExtHeader::header_type_supported(IpNumber(number)),
-            Ipv6RawExtHeaderSlice::header_type_supported(IpNumber(number)),
-        ];
-        equal(&rt, &found, &[has_layout; 2]);
-    }
-}
-
-// A header with so many bytes of payload, at most 2100.
-fn raw_of_len(len: usize) -> Result<Ipv6RawExtHeader, ExtPayloadLenError> {
-    let (payload, _) = [7; 2100].split_at(len.min(2100));
-    Ipv6RawExtHeader::new_raw(IpNumber::TCP, payload)
-}
-
-// The length of its payload and its own, or why there is none.
-fn raw_lens(len: usize) -> Result<(usize, usize), ExtPayloadLenError> {
-    let header = raw_of_len(len)?;
-    Ok((header.payload().len(), header.header_len()))
-}
-
-#[test]
-fn lengths_of_raw_payloads(rt: HostRuntime) {
-    for len in [6, 14, 22, 2038, 2046].iter() {
-        equal(&rt, &raw_lens(*len), &Ok((*len, len + 2)));
-    }
-}
-
-const REFUSED_PAYLOADS: [(usize, ExtPayloadLenError); 10] = [
-    (0, ExtPayloadLenError::TooSmall(0)),
-    (5, ExtPayloadLenError::TooSmall(5)),
-    (7, ExtPayloadLenError::Unaligned(7)),
-    (8, ExtPayloadLenError::Unaligned(8)),
-    (13, ExtPayloadLenError::Unaligned(13)),
-    (15, ExtPayloadLenError::Unaligned(15)),
-    (2045, ExtPayloadLenError::Unaligned(2045)),
-    (2047, ExtPayloadLenError::TooBig(2047)),
-    (2048, ExtPayloadLenError::TooBig(2048)),
-    (2054, ExtPayloadLenError::TooBig(2054)),
-];
-
-#[test]
-fn refused_lengths_of_raw_payloads(rt: HostRuntime) {
-    for (len, error) in REFUSED_PAYLOADS.iter() {
-        equal(&rt, &raw_lens(*len), &Err(*error));
-    }
-}
-
-#[test]
-fn a_raw_payload_is_changed(rt: HostRuntime) {
-    let Ok(mut header) = raw_of_len(14) else {
-        panic!(rt; "no header");
-    };
-    equal(&rt, &header.set_payload(&[1, 2, 3, 4, 5, 6]), &Ok(()));
-    let written = header.to_bytes();
-    let unaligned = ExtPayloadLenError::Unaligned(7);
-    equal(&rt, &header.set_payload(&[9; 7]), &Err(unaligned));
-    let small = ExtPayloadLenError::TooSmall(5);
-    equal(&rt, &header.set_payload(&[9; 5]), &Err(small));
-    let bytes = [6, 0, 1, 2, 3, 4, 5, 6];
-    equal(
-        &rt,
-        &[written.as_slice(), header.payload()],
-        &[&bytes, &bytes[2..]],
+        Call::Raw,
+        "0..8: Err((8, 0, Slice, Ipv6ExtHeader, 0))
+        8..16: Err((16, 0, Slice, Ipv6ExtHeader, 0))
+        16..19: Ok((IpNumber(17), 16, true, true, true))",
     );
 }
 
 #[test]
 fn the_greatest_raw_header(rt: HostRuntime) {
-    let mut bytes = [3; 2049];
-    bytes[1] = 255;
-    let Ok((header, rest)) = Ipv6RawExtHeader::from_slice(&bytes) else {
-        panic!(rt; "no header");
-    };
-    equal(
+    shows(&rt, "MAX_LEN", &Ipv6RawExtHeader::MAX_LEN, "2048");
+    rows(
         &rt,
-        &(rest.len(), header.header_len()),
-        &(1, Ipv6RawExtHeader::MAX_LEN),
-    );
-    holds(&rt, header.to_bytes().as_slice() == &bytes[..2048]);
-}
-
-#[test]
-fn the_greatest_raw_header_without_its_last_byte(rt: HostRuntime) {
-    let mut bytes = [3; 2047];
-    bytes[1] = 255;
-    let error = want(2048, 2047, Layer::Ipv6ExtHeader);
-    equal(
-        &rt,
-        &Ipv6RawExtHeader::from_slice(&bytes).err(),
-        &Some(error),
+        Call::GreatestRaw,
+        "2047: Err((2048, 0, Slice, Ipv6ExtHeader, 0))
+        2049: Ok((IpNumber(3), 2048, true, true, true))",
     );
 }
 
 #[test]
-fn a_fragment_header_and_its_rest(rt: HostRuntime) {
-    let Ok(offset) = IpFragOffset::try_new(0x1579) else {
-        panic!(rt; "no offset");
-    };
+fn a_raw_header_is_appended(rt: HostRuntime) {
+    holds(&rt, is_appended(rt.alloc(), Kind::Raw, &RAW, &RAW[..16]));
+}
+
+// Whether a view is that of its own bytes, its copy, and that of a header with these bytes.
+fn raw_view_is_itself(view: &Ipv6RawExtHeaderSlice<'_>) -> bool {
+    let of_bytes = Ipv6RawExtHeaderSlice::of_bytes(view.slice());
+    let is_copy = is_copy(view.clone(), &of_bytes);
+    is_copy && view.to_header().to_bytes().as_slice() == view.slice()
+}
+
+/// What a view of a front of `RAW` shows: its bytes, its number and its payload; and whether it is
+/// itself.
+pub fn raw_view(len: usize) -> Result<(&'static [u8], IpNumber, &'static [u8], bool), Want> {
+    match Ipv6RawExtHeaderSlice::from_slice(front(&RAW, len)) {
+        Ok(view) => Ok((
+            view.slice(),
+            view.next_header(),
+            view.payload(),
+            raw_view_is_itself(&view),
+        )),
+        Err(error) => Err(want_of(error, len)),
+    }
+}
+
+#[test]
+fn views_of_raw_headers(rt: HostRuntime) {
+    rows(
+        &rt,
+        Call::RawView,
+        "0..8: Err((8, 0, Slice, Ipv6ExtHeader, 0))
+        8..16: Err((16, 0, Slice, Ipv6ExtHeader, 0))
+        16..19: Ok(([17, 1, 1, 4, 0, 0, 0, 0, 1, 6, 0, 0, 0, 0, 0, 0], IpNumber(17), \
+            [1, 4, 0, 0, 0, 0, 1, 6, 0, 0, 0, 0, 0, 0], true))",
+    );
+}
+
+/// Whether headers and views have the layout of a raw header behind this number.
+pub fn raw_number(number: usize) -> Option<(bool, bool)> {
+    match u8::try_from(number) {
+        Ok(number) => Some((
+            Ipv6RawExtHeader::header_type_supported(IpNumber(number)),
+            Ipv6RawExtHeaderSlice::header_type_supported(IpNumber(number)),
+        )),
+        Err(_) => None,
+    }
+}
+
+#[test]
+fn numbers_of_raw_headers(rt: HostRuntime) {
+    rows(
+        &rt,
+        Call::RawNumber,
+        "0: Some((true, true))
+        1..43: Some((false, false))
+        43: Some((true, true))
+        44..60: Some((false, false))
+        60: Some((true, true))
+        61..135: Some((false, false))
+        135: Some((true, true))
+        136..139: Some((false, false))
+        139..141: Some((true, true))
+        141..256: Some((false, false))",
+    );
+}
+
+// A header with so many bytes of payload, at most 2100.
+fn raw_of_len(len: usize) -> Result<Ipv6RawExtHeader, ExtPayloadLenError> {
+    Ipv6RawExtHeader::new_raw(IpNumber::TCP, front(&[7; 2100], len))
+}
+
+/// The length of its payload and its own, or why there is none.
+pub fn raw_lens(len: usize) -> Result<(usize, usize), ExtPayloadLenError> {
+    match raw_of_len(len) {
+        Ok(header) => Ok((header.payload().len(), header.header_len())),
+        Err(error) => Err(error),
+    }
+}
+
+#[test]
+fn lengths_of_raw_payloads(rt: HostRuntime) {
+    rows(
+        &rt,
+        Call::RawLens,
+        "6: Ok((6, 8))
+        14: Ok((14, 16))
+        22: Ok((22, 24))
+        2038: Ok((2038, 2040))
+        2046: Ok((2046, 2048))
+        0: Err(TooSmall(0))
+        5: Err(TooSmall(5))
+        7: Err(Unaligned(7))
+        8: Err(Unaligned(8))
+        13: Err(Unaligned(13))
+        15: Err(Unaligned(15))
+        2045: Err(Unaligned(2045))
+        2047: Err(TooBig(2047))
+        2048: Err(TooBig(2048))
+        2054: Err(TooBig(2054))",
+    );
+}
+
+/// How a header takes a payload of six bytes and then one of so many, and its bytes.
+pub fn raw_changed(len: usize) -> Option<(bool, Result<(), ExtPayloadLenError>, bool)> {
+    let mut header = raw_of_len(14).ok()?;
+    let is_taken = header.set_payload(&[1, 2, 3, 4, 5, 6]).is_ok();
+    let taken = header.set_payload(front(&[9; 2100], len));
+    let bytes = [6, 0, 1, 2, 3, 4, 5, 6];
+    let is_kept = header.to_bytes().as_slice() == bytes.as_slice()
+        && header.payload() == &bytes[2..];
+    Some((is_taken, taken, is_kept))
+}
+
+#[test]
+fn a_raw_payload_is_changed(rt: HostRuntime) {
+    rows(
+        &rt,
+        Call::RawChanged,
+        "7: Some((true, Err(Unaligned(7)), true))
+        5: Some((true, Err(TooSmall(5)), true))
+        6: Some((true, Ok(()), false))",
+    );
+}
+
+type Fields = (IpNumber, u16, bool, u32);
+
+// The fields of a fragment header.
+fn fields(header: &Ipv6FragmentHeader) -> Fields {
+    (
+        header.next_header,
+        header.fragment_offset.value(),
+        header.more_fragments,
+        header.identification,
+    )
+}
+
+/// The fields of a header at a front of `FRAGMENT`, its length, its bytes and the rest.
+pub fn fragment(len: usize) -> Result<(Fields, usize, [u8; 8], &'static [u8]), Want> {
+    match Ipv6FragmentHeader::from_slice(front(&FRAGMENT, len)) {
+        Ok((header, rest)) => Ok((
+            fields(&header),
+            header.header_len(),
+            header.to_bytes(),
+            rest,
+        )),
+        Err(error) => Err(want_of(error, len)),
+    }
+}
+
+// Reserved bits are cleared.
+#[test]
+fn fragment_headers_and_their_rest(rt: HostRuntime) {
+    rows(
+        &rt,
+        Call::Fragment,
+        "0..8: Err((8, 0, Slice, Ipv6FragHeader, 0))
+        10: Ok(((IpNumber(58), 5497, true, 305419896), 8, \
+            [58, 0, 171, 201, 18, 52, 86, 120], [170, 187]))",
+    );
+}
+
+// The fields of a header that is made of them.
+fn made_fragment() -> Option<Fields> {
+    let offset = IpFragOffset::try_new(0x1579).ok()?;
     let made = Ipv6FragmentHeader::new(IpNumber::IPV6_ICMP, offset, true, 0x1234_5678);
-    equal(
-        &rt,
-        &Ipv6FragmentHeader::from_slice(&FRAGMENT),
-        &Ok((made, &[0xaa, 0xbb])),
-    );
+    Some(fields(&made))
+}
+
+#[test]
+fn a_fragment_header_of_fields(rt: HostRuntime) {
+    let wanted = "Some((IpNumber(58), 5497, true, 305419896))";
+    shows(&rt, "new", &made_fragment(), wanted);
 }
 
 #[test]
 fn a_fragment_header_is_appended(rt: HostRuntime) {
     // Reserved bits are cleared.
     let written = [58, 0, 0xab, 0xc9, 0x12, 0x34, 0x56, 0x78];
-    holds(
-        &rt,
-        is_appended::<Ipv6FragmentHeader>(rt.alloc(), &FRAGMENT, &written),
-    );
-    let Ok((header, _)) = Ipv6FragmentHeader::from_slice(&FRAGMENT) else {
-        panic!(rt; "no header");
-    };
-    equal(
-        &rt,
-        &(header.header_len(), header.to_bytes()),
-        &(8, written),
-    );
+    let is_so = is_appended(rt.alloc(), Kind::Fragment, &FRAGMENT, &written);
+    holds(&rt, is_so);
 }
 
-// What a view of a fragment header shows: its bytes and its fields.
-fn fragment_view(bytes: &[u8]) -> Option<(&[u8], IpNumber, u16, bool, u32)> {
-    match Ipv6FragmentHeaderSlice::from_slice(bytes) {
-        Ok(view) => Some((
+// Whether a view is that of its own bytes, its copy, and that of a header with its fields.
+fn fragment_view_is_itself(view: &Ipv6FragmentHeaderSlice<'_>) -> bool {
+    let of_bytes = Ipv6FragmentHeaderSlice::of_bytes(view.slice());
+    let is_copy = is_copy(view.clone(), &of_bytes);
+    is_copy && view.to_header().identification == view.identification()
+}
+
+/// What a view of a front of `FRAGMENT` shows: its bytes and its fields; and whether it is itself.
+pub fn fragment_view(len: usize) -> Result<(&'static [u8], Fields, bool), Want> {
+    match Ipv6FragmentHeaderSlice::from_slice(front(&FRAGMENT, len)) {
+        Ok(view) => Ok((
             view.slice(),
-            view.next_header(),
-            view.fragment_offset().value(),
-            view.more_fragments(),
-            view.identification(),
+            (
+                view.next_header(),
+                view.fragment_offset().value(),
+                view.more_fragments(),
+                view.identification(),
+            ),
+            fragment_view_is_itself(&view),
         )),
-        Err(_) => None,
+        Err(error) => Err(want_of(error, len)),
     }
 }
 
-// Whether a view is that of its own bytes, its copy, and that of a header with its identification.
-fn fragment_view_is_itself(bytes: &[u8]) -> bool {
-    let Ok(view) = Ipv6FragmentHeaderSlice::from_slice(bytes) else {
-        return false;
-    };
-    let copy: Result<_, _> = view.clone();
-    view.to_header().identification == view.identification()
-        && Ipv6FragmentHeaderSlice::of_bytes(view.slice()) == view
-        && copy == Ok(view)
-}
-
 #[test]
-fn a_view_of_a_fragment_header(rt: HostRuntime) {
-    let shown = (
-        &FRAGMENT[..8],
-        IpNumber::IPV6_ICMP,
-        0x1579,
-        true,
-        0x1234_5678,
+fn views_of_fragment_headers(rt: HostRuntime) {
+    rows(
+        &rt,
+        Call::FragmentView,
+        "0..8: Err((8, 0, Slice, Ipv6FragHeader, 0))
+        10: Ok(([58, 255, 171, 205, 18, 52, 86, 120], \
+            (IpNumber(58), 5497, true, 305419896), true))",
     );
-    equal(&rt, &fragment_view(&FRAGMENT), &Some(shown));
-    holds(&rt, fragment_view_is_itself(&FRAGMENT));
 }
 
-#[test]
-fn every_front_of_a_fragment_header_is_refused(rt: HostRuntime) {
-    let bytes = FRAGMENT;
-    for len in 0..8usize {
-        let error = want(8, len, Layer::Ipv6FragHeader);
-        holds(
-            &rt,
-            Ipv6FragmentHeader::from_slice(&bytes[..len]) == Err(error),
-        );
-        let found = Ipv6FragmentHeaderSlice::from_slice(&bytes[..len]).err();
-        equal(&rt, &found, &Some(error));
-    }
-}
-
-// What the view of a fragment header says, and what its header says.
-fn is_fragmenting(bytes: &[u8]) -> Option<(bool, bool)> {
-    match Ipv6FragmentHeaderSlice::from_slice(bytes) {
+/// What the view of a fragment header says that has this number for its offset and flag, and what
+/// its header says.
+pub fn is_fragmenting(number: usize) -> Option<(bool, bool)> {
+    let [offset, more] = u16::try_from(number).ok()?.to_be_bytes();
+    match Ipv6FragmentHeaderSlice::from_slice(&[0, 0, offset, more, 1, 2, 3, 4]) {
         Ok(view) => Some((
             view.is_fragmenting_payload(),
             view.to_header().is_fragmenting_payload(),
@@ -298,205 +352,18 @@ fn is_fragmenting(bytes: &[u8]) -> Option<(bool, bool)> {
     }
 }
 
-// An offset, the flag, the greatest offset; and reserved bits alone, and nothing.
-const FRAGMENTING: [(u8, u8, bool); 6] = [
-    (1, 0, true),
-    (0, 8, true),
-    (0, 1, true),
-    (0xff, 0xf8, true),
-    (0, 6, false),
-    (0, 0, false),
-];
-
+// An offset in the first byte, in the second, the flag, the greatest offset; and reserved bits
+// alone, and nothing.
 #[test]
 fn which_fragment_headers_fragment(rt: HostRuntime) {
-    for (offset, more, fragments) in FRAGMENTING.iter() {
-        let bytes = [0, 0, *offset, *more, 1, 2, 3, 4];
-        equal(
-            &rt,
-            &is_fragmenting(&bytes),
-            &Some((*fragments, *fragments)),
-        );
-    }
-}
-
-#[test]
-fn an_authentication_header_and_its_rest(rt: HostRuntime) {
-    let Ok((header, rest)) = IpAuthHeader::from_slice(&AUTH) else {
-        panic!(rt; "no header");
-    };
-    let found = (
-        header.next_header,
-        header.spi,
-        header.sequence_number,
-        header.header_len(),
-    );
-    equal(&rt, &found, &(IpNumber::TCP, 0x0102_0304, 0x0506_0708, 24));
-    equal(
+    rows(
         &rt,
-        &[header.raw_icv(), rest],
-        &[&AUTH[12..24], &AUTH[24..]],
+        Call::Fragmenting,
+        "256: Some((true, true))
+        8: Some((true, true))
+        1: Some((true, true))
+        65528: Some((true, true))
+        6: Some((false, false))
+        0: Some((false, false))",
     );
-}
-
-#[test]
-fn an_authentication_header_of_fields(rt: HostRuntime) {
-    let made = IpAuthHeader::new(IpNumber::TCP, 0x0102_0304, 0x0506_0708, &AUTH[12..24]);
-    holds(&rt, made.ok() == IpAuthHeader::of_front(&AUTH));
-}
-
-#[test]
-fn an_authentication_header_is_appended(rt: HostRuntime) {
-    let mut bytes = AUTH;
-    // Reserved bytes are cleared.
-    bytes[2] = 0;
-    bytes[3] = 0;
-    holds(
-        &rt,
-        is_appended::<IpAuthHeader>(rt.alloc(), &AUTH, &bytes[..24]),
-    );
-    let Some(header) = IpAuthHeader::of_front(&AUTH) else {
-        panic!(rt; "no header");
-    };
-    equal(&rt, &header.to_bytes().as_slice(), &&bytes[..24]);
-}
-
-// What a view of an authentication header shows: its bytes and its fields.
-fn auth_view(bytes: &[u8]) -> Option<(&[u8], IpNumber, u32, u32, &[u8])> {
-    match IpAuthHeaderSlice::from_slice(bytes) {
-        Ok(view) => Some((
-            view.slice(),
-            view.next_header(),
-            view.spi(),
-            view.sequence_number(),
-            view.raw_icv(),
-        )),
-        Err(_) => None,
-    }
-}
-
-// Whether a view is that of its own bytes, its copy, and that of a header with its check value.
-fn auth_view_is_itself(bytes: &[u8]) -> bool {
-    let Ok(view) = IpAuthHeaderSlice::from_slice(bytes) else {
-        return false;
-    };
-    let copy: Result<_, _> = view.clone();
-    view.to_header().raw_icv() == view.raw_icv()
-        && IpAuthHeaderSlice::of_bytes(view.slice()) == view
-        && copy == Ok(view)
-}
-
-#[test]
-fn a_view_of_an_authentication_header(rt: HostRuntime) {
-    let icv = &AUTH[12..24];
-    let shown = (&AUTH[..24], IpNumber::TCP, 0x0102_0304, 0x0506_0708, icv);
-    equal(&rt, &auth_view(&AUTH), &Some(shown));
-    holds(&rt, auth_view_is_itself(&AUTH));
-}
-
-#[test]
-fn every_front_of_an_authentication_header_is_refused(rt: HostRuntime) {
-    for len in 0..24usize {
-        let want = refused(len, 12, 24, Layer::IpAuthHeader);
-        let error = Some(ip_auth::HeaderSliceError::Len(want));
-        let found = (
-            IpAuthHeader::from_slice(&AUTH[..len]).err(),
-            IpAuthHeaderSlice::from_slice(&AUTH[..len]).err(),
-        );
-        equal(&rt, &found, &(error, error));
-    }
-}
-
-#[test]
-fn a_length_byte_of_zero(rt: HostRuntime) {
-    let bytes = [0; 16];
-    let found = (
-        IpAuthHeader::from_slice(&bytes[..11]).err(),
-        IpAuthHeader::from_slice(&bytes[..12]).err(),
-        IpAuthHeader::from_slice(&bytes).err(),
-    );
-    let zero = ip_auth::HeaderSliceError::Content(ip_auth::HeaderError::ZeroPayloadLen);
-    let short = want(12, 11, Layer::IpAuthHeader);
-    let refused = ip_auth::HeaderSliceError::Len(short);
-    equal(&rt, &found, &(Some(refused), Some(zero), Some(zero)));
-    let moved = ip_auth::HeaderSliceError::Len(short.add_offset(40));
-    equal(
-        &rt,
-        &(short_moved(), zero.add_slice_offset(40)),
-        &(moved, zero),
-    );
-}
-
-fn short_moved() -> ip_auth::HeaderSliceError {
-    ip_auth::HeaderSliceError::Len(want(12, 11, Layer::IpAuthHeader)).add_slice_offset(40)
-}
-
-// A header with so many bytes of check value, at most 1100.
-fn auth_of_len(len: usize) -> Result<IpAuthHeader, IcvLenError> {
-    let (icv, _) = [7; 1100].split_at(len.min(1100));
-    IpAuthHeader::new(IpNumber::TCP, 1, 2, icv)
-}
-
-// The length of its check value and its own, or why there is none.
-fn auth_lens(len: usize) -> Result<(usize, usize), IcvLenError> {
-    let header = auth_of_len(len)?;
-    Ok((header.raw_icv().len(), header.header_len()))
-}
-
-#[test]
-fn lengths_of_check_values(rt: HostRuntime) {
-    for len in [0, 4, 8, 1012, 1016].iter() {
-        equal(&rt, &auth_lens(*len), &Ok((*len, len + 12)));
-    }
-}
-
-const REFUSED_CHECK_VALUES: [(usize, IcvLenError); 8] = [
-    (1, IcvLenError::Unaligned(1)),
-    (2, IcvLenError::Unaligned(2)),
-    (3, IcvLenError::Unaligned(3)),
-    (5, IcvLenError::Unaligned(5)),
-    (1015, IcvLenError::Unaligned(1015)),
-    (1017, IcvLenError::TooBig(1017)),
-    (1020, IcvLenError::TooBig(1020)),
-    (1100, IcvLenError::TooBig(1100)),
-];
-
-#[test]
-fn refused_lengths_of_check_values(rt: HostRuntime) {
-    for (len, error) in REFUSED_CHECK_VALUES.iter() {
-        equal(&rt, &auth_lens(*len), &Err(*error));
-    }
-}
-
-#[test]
-fn a_check_value_is_changed(rt: HostRuntime) {
-    let Ok(mut header) = auth_of_len(0) else {
-        panic!(rt; "no header");
-    };
-    equal(&rt, &header.set_raw_icv(&[1, 2, 3, 4]), &Ok(()));
-    let written = header.to_bytes();
-    let unaligned = IcvLenError::Unaligned(5);
-    equal(&rt, &header.set_raw_icv(&[9; 5]), &Err(unaligned));
-    let big = IcvLenError::TooBig(1020);
-    equal(&rt, &header.set_raw_icv(&[9; 1020]), &Err(big));
-    let bytes = [6, 2, 0, 0, 0, 0, 0, 1, 0, 0, 0, 2, 1, 2, 3, 4];
-    equal(
-        &rt,
-        &[written.as_slice(), header.raw_icv()],
-        &[&bytes, &bytes[12..]],
-    );
-}
-
-#[test]
-fn the_greatest_authentication_header(rt: HostRuntime) {
-    let mut bytes = [0; 1029];
-    bytes[1] = 255;
-    bytes[1027] = 9;
-    let Ok((header, rest)) = IpAuthHeader::from_slice(&bytes) else {
-        panic!(rt; "no header");
-    };
-    let lens = (rest.len(), header.header_len(), header.raw_icv().len());
-    let greatest = (1, IpAuthHeader::MAX_LEN, IpAuthHeader::MAX_ICV_LEN);
-    equal(&rt, &lens, &greatest);
-    holds(&rt, header.to_bytes().as_slice() == &bytes[..1028]);
 }

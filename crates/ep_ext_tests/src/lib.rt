@@ -3,19 +3,15 @@
 #![tactic(auto)]
 
 #[cfg(test)]
+mod auth_headers;
+#[cfg(test)]
 mod checks;
-#[cfg(test)]
-mod extensions_read;
-#[cfg(test)]
-mod extensions_read_limited;
 #[cfg(test)]
 mod exts_errors;
 #[cfg(test)]
 mod failing_reads;
 #[cfg(test)]
 mod headers;
-#[cfg(test)]
-mod headers_read;
 #[cfg(test)]
 mod ipv4_extensions;
 #[cfg(test)]
@@ -27,6 +23,14 @@ mod kinds;
 #[cfg(test)]
 mod limited_reader;
 #[cfg(test)]
+mod limited_reads;
+#[cfg(test)]
 mod memory;
 #[cfg(test)]
 mod places;
+#[cfg(test)]
+mod readers;
+#[cfg(test)]
+mod reads;
+#[cfg(test)]
+mod rows;

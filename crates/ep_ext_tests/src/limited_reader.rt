@@ -1,11 +1,10 @@
 //! The reader with a limit, and the words of errors.
 
-use crate::checks::equal;
-use crate::extensions_read_limited::Refusal;
-use crate::exts_errors::{read_alike, reads_as};
-use crate::headers_read::Limited;
+use crate::checks::{read_alike, read_as, reads_as, shows};
+use crate::headers::want_in_slice;
+use crate::reads::{Limited, Refusal, unread_limited};
 use ep_base::LenSource;
-use ep_base::err::{Layer, LenError};
+use ep_base::err::Layer;
 use ep_ext::err::io::LimitedReadError;
 use ep_ext::err::ip_auth::{
     HeaderError, HeaderLimitedReadError, HeaderReadError, HeaderSliceError, IcvLenError,
@@ -14,15 +13,21 @@ use ep_ext::err::ipv6_exts::ExtPayloadLenError;
 use ep_ext::io::LimitedReader;
 use fault_devices::{Fault, FaultReader};
 use std::io::ErrorKind;
+use std::process::Abort;
 use std::test::*;
 
-const BYTES: [u8; 6] = [1, 2, 3, 4, 5, 6];
-
-const SOURCE: LenSource = LenSource::Ipv4HeaderTotalLen;
-
-// A reader of which five bytes may be read, 20 bytes into a packet.
-fn limited(bytes: &[u8]) -> Limited<'_> {
-    LimitedReader::new(FaultReader::new(bytes, 1), 5, SOURCE, 20, Layer::Ipv4Packet)
+// A reader of six bytes, a byte a call, of which five may be read, 20 bytes into a packet; and the
+// third call fails, or none.
+fn limited(fails: bool) -> Limited<'static> {
+    let call = if fails { 2 } else { usize::MAX };
+    let fault = Fault::Fails(ErrorKind::PermissionDenied);
+    LimitedReader::new(
+        FaultReader::failing(&[1, 2, 3, 4, 5, 6], 1, call, fault),
+        5,
+        LenSource::Ipv4HeaderTotalLen,
+        20,
+        Layer::Ipv4Packet,
+    )
 }
 
 // The limit, the layer with its offset, and how many bytes count as read.
@@ -31,74 +36,71 @@ fn told(reader: &Limited<'_>) -> (usize, Layer, usize, usize) {
     (reader.max_len(), layer, offset, reader.read_len())
 }
 
-#[test]
-fn a_new_reader(rt: HostRuntime) {
-    let reader = limited(&BYTES);
-    equal(&rt, &reader.len_source(), &SOURCE);
-    equal(&rt, &told(&reader), &(5, Layer::Ipv4Packet, 20, 0));
-    equal(&rt, &reader.take_reader().rest, &BYTES.as_slice());
+// The source of the limit, and what is left.
+fn taken(reader: Limited<'static>) -> (LenSource, &'static [u8]) {
+    (reader.len_source(), reader.take_reader().rest)
 }
 
-// Why a read into this buffer failed, if it did; the buffer then, and how many bytes count as read.
-fn read_into<const N: usize>(
-    reader: &mut Limited<'_>,
-    mut buffer: [u8; N],
-) -> (Option<Refusal>, [u8; N], usize) {
-    let fault = match reader.read_exact(&mut buffer) {
-        Ok(()) => None,
-        Err(LimitedReadError::Io(error)) => Some(Refusal::Io(error.kind())),
-        Err(LimitedReadError::Len(error)) => Some(Refusal::Len(error)),
+#[test]
+fn a_new_reader(rt: HostRuntime) {
+    let reader = limited(false);
+    shows(&rt, "new", &told(&reader), "(5, Ipv4Packet, 20, 0)");
+    let left = "(Ipv4HeaderTotalLen, [1, 2, 3, 4, 5, 6])";
+    shows(&rt, "taken", &taken(reader), left);
+}
+
+// How a buffer of so many bytes of 9 is filled: its first four bytes then, and how many count as
+// read.
+fn filled(reader: &mut Limited<'_>, len: usize) -> (Result<(), Refusal>, [u8; 4], usize) {
+    let mut buffer = [9; 4];
+    let (room, _) = buffer.split_at_mut(len.min(4));
+    let done = match reader.read_exact(room) {
+        Ok(()) => Ok(()),
+        Err(error) => Err(unread_limited(error)),
     };
-    (fault, buffer, reader.read_len())
+    (done, buffer, reader.read_len())
+}
+
+fn fills(rt: &(impl Abort + AllocGlobal), reader: &mut Limited<'_>, len: usize, wanted: &str) {
+    shows(rt, len, &filled(reader, len), wanted);
 }
 
 #[test]
 fn reads_up_to_the_limit(rt: HostRuntime) {
-    let mut reader = limited(&BYTES);
-    equal(&rt, &read_into(&mut reader, [0; 2]), &(None, [1, 2], 2));
+    let mut reader = limited(false);
+    fills(&rt, &mut reader, 2, "(Ok(()), [1, 2, 9, 9], 2)");
     // At the limit, and nothing more.
-    equal(&rt, &read_into(&mut reader, [0; 3]), &(None, [3, 4, 5], 5));
-    equal(&rt, &read_into(&mut reader, []), &(None, [], 5));
-    equal(&rt, &reader.take_reader().rest, &[6].as_slice());
+    fills(&rt, &mut reader, 3, "(Ok(()), [3, 4, 5, 9], 5)");
+    fills(&rt, &mut reader, 0, "(Ok(()), [9, 9, 9, 9], 5)");
+    shows(&rt, "taken", &taken(reader), "(Ipv4HeaderTotalLen, [6])");
 }
 
 // One byte above the limit: nothing is read.
 #[test]
 fn no_reads_beyond_the_limit(rt: HostRuntime) {
-    let mut reader = limited(&BYTES);
-    equal(&rt, &read_into(&mut reader, [0; 2]), &(None, [1, 2], 2));
-    let want = Refusal::Len(LenError {
-        required_len: 6,
-        len: 5,
-        len_source: SOURCE,
-        layer: Layer::Ipv4Packet,
-        layer_start_offset: 20,
-    });
-    equal(
-        &rt,
-        &read_into(&mut reader, [9; 4]),
-        &(Some(want), [9; 4], 2),
-    );
-    equal(&rt, &reader.take_reader().rest, &[3, 4, 5, 6].as_slice());
+    let mut reader = limited(false);
+    fills(&rt, &mut reader, 2, "(Ok(()), [1, 2, 9, 9], 2)");
+    let wanted = "(Err(Len((6, 5, Ipv4HeaderTotalLen, Ipv4Packet, 20))), [9, 9, 9, 9], 2)";
+    fills(&rt, &mut reader, 4, wanted);
+    let left = "(Ipv4HeaderTotalLen, [3, 4, 5, 6])";
+    shows(&rt, "taken", &taken(reader), left);
 }
 
 #[test]
 fn a_layer_begins(rt: HostRuntime) {
-    let mut reader = limited(&BYTES);
-    equal(&rt, &read_into(&mut reader, [0; 2]), &(None, [1, 2], 2));
+    let mut reader = limited(false);
+    fills(&rt, &mut reader, 2, "(Ok(()), [1, 2, 9, 9], 2)");
     reader.start_layer(Layer::IpAuthHeader);
-    equal(&rt, &told(&reader), &(3, Layer::IpAuthHeader, 22, 0));
+    shows(&rt, "begun", &told(&reader), "(3, IpAuthHeader, 22, 0)");
 }
 
 #[test]
 fn a_failed_read_counts_for_nothing(rt: HostRuntime) {
-    let inner = FaultReader::failing(&BYTES, 1, 2, Fault::Fails(ErrorKind::PermissionDenied));
-    let mut reader = LimitedReader::new(inner, 5, LenSource::Slice, 0, Layer::Ipv4Packet);
-    equal(&rt, &read_into(&mut reader, [0; 2]), &(None, [1, 2], 2));
-    let (fault, _, read_len) = read_into(&mut reader, [0; 2]);
-    let denied = Some(Refusal::Io(ErrorKind::PermissionDenied));
-    equal(&rt, &(fault, read_len), &(denied, 2));
-    equal(&rt, &read_into(&mut reader, [0; 2]), &(None, [3, 4], 4));
+    let mut reader = limited(true);
+    fills(&rt, &mut reader, 2, "(Ok(()), [1, 2, 9, 9], 2)");
+    let wanted = "(Err(Io(PermissionDenied)), [9, 9, 9, 9], 2)";
+    fills(&rt, &mut reader, 2, wanted);
+    fills(&rt, &mut reader, 2, "(Ok(()), [3, 4, 9, 9], 4)");
 }
 
 #[test]
@@ -134,34 +136,29 @@ fn words_of_lengths(rt: HostRuntime) {
 fn words_of_faults(rt: HostRuntime) {
     let zero = "authentication header: the payload length is 0";
     let fault = HeaderError::ZeroPayloadLen;
-    reads_as(&rt, &fault, zero);
-    reads_as(&rt, &HeaderSliceError::Content(fault), zero);
-    reads_as(&rt, &HeaderReadError::Content(fault), zero);
-    reads_as(&rt, &HeaderLimitedReadError::Content(fault), zero);
+    let of_slice = HeaderSliceError::Content(fault);
+    let read = HeaderReadError::Content(fault);
+    let limited = HeaderLimitedReadError::Content(fault);
+    read_as(&rt, (&of_slice, &read, &limited), zero);
 }
 
 // An error that holds a want has its words.
 #[test]
 fn words_of_wants(rt: HostRuntime) {
-    let want = LenError {
-        required_len: 12,
-        len: 11,
-        len_source: LenSource::Slice,
-        layer: Layer::IpAuthHeader,
-        layer_start_offset: 0,
-    };
-    read_alike(&rt, &HeaderSliceError::Len(want), &want);
-    read_alike(&rt, &HeaderLimitedReadError::Len(want), &want);
-    read_alike(&rt, &LimitedReadError::Len(want), &want);
+    let want = want_in_slice(12, 11, Layer::IpAuthHeader);
+    let of_slice = HeaderSliceError::Len(want);
+    let limited = HeaderLimitedReadError::Len(want);
+    read_alike(
+        &rt,
+        (&of_slice, &limited, &LimitedReadError::Len(want)),
+        &want,
+    );
 }
 
 #[test]
 fn words_of_failed_reads(rt: HostRuntime) {
-    let words = "permission denied";
     let limit = LimitedReadError::Io(ErrorKind::PermissionDenied.into());
-    reads_as(&rt, &limit, words);
     let read = HeaderReadError::Io(ErrorKind::PermissionDenied.into());
-    reads_as(&rt, &read, words);
     let limited = HeaderLimitedReadError::Io(ErrorKind::PermissionDenied.into());
-    reads_as(&rt, &limited, words);
+    read_as(&rt, (&limit, &read, &limited), "permission denied");
 }

@@ -1,32 +1,37 @@
 //! Places of extension headers.
 
-use crate::checks::equal;
+use crate::checks::shows;
 use ep_base::IpNumber;
 use ep_base::err::Layer;
 use ep_ext::Ipv6ExtPlace;
 use std::test::*;
 
-// RFC 8200, section 4.1, and the numbers that IANA gives these headers.
-const PLACES: [(Ipv6ExtPlace, u8, Layer); 6] = [
-    (Ipv6ExtPlace::HopByHop, 0, Layer::Ipv6HopByHopHeader),
-    (Ipv6ExtPlace::Destination, 60, Layer::Ipv6DestOptionsHeader),
-    (Ipv6ExtPlace::Routing, 43, Layer::Ipv6RouteHeader),
-    (Ipv6ExtPlace::Fragment, 44, Layer::Ipv6FragHeader),
-    (Ipv6ExtPlace::Authentication, 51, Layer::IpAuthHeader),
-    (
-        Ipv6ExtPlace::FinalDestination,
-        60,
-        Layer::Ipv6DestOptionsHeader,
-    ),
-];
+fn told(place: Ipv6ExtPlace) -> (IpNumber, Layer) {
+    (place.number(), place.layer())
+}
 
+// RFC 8200, section 4.1, and the numbers that IANA gives these headers.
 #[test]
 fn numbers_and_layers_of_places(rt: HostRuntime) {
-    for (place, number, layer) in PLACES.iter() {
-        equal(
-            &rt,
-            &(place.number(), place.layer()),
-            &(IpNumber(*number), *layer),
-        );
-    }
+    let hop_by_hop = told(Ipv6ExtPlace::HopByHop);
+    shows(
+        &rt,
+        "hop by hop",
+        &hop_by_hop,
+        "(IpNumber(0), Ipv6HopByHopHeader)",
+    );
+    let options = "(IpNumber(60), Ipv6DestOptionsHeader)";
+    shows(
+        &rt,
+        "destination",
+        &told(Ipv6ExtPlace::Destination),
+        options,
+    );
+    let routing = told(Ipv6ExtPlace::Routing);
+    shows(&rt, "routing", &routing, "(IpNumber(43), Ipv6RouteHeader)");
+    let fragment = told(Ipv6ExtPlace::Fragment);
+    shows(&rt, "fragment", &fragment, "(IpNumber(44), Ipv6FragHeader)");
+    let auth = told(Ipv6ExtPlace::Authentication);
+    shows(&rt, "authentication", &auth, "(IpNumber(51), IpAuthHeader)");
+    shows(&rt, "final", &told(Ipv6ExtPlace::FinalDestination), options);
 }
