@@ -6,6 +6,8 @@
 #[cfg(test)]
 mod blocks;
 #[cfg(test)]
+mod changes;
+#[cfg(test)]
 mod checks;
 #[cfg(test)]
 mod classic;
@@ -25,6 +27,8 @@ mod pieces;
 mod readers;
 #[cfg(test)]
 mod reads;
+#[cfg(test)]
+mod sections;
 #[cfg(test)]
 mod skipping;
 #[cfg(test)]
