@@ -14,7 +14,7 @@ use std::test::*;
 
 // The functions below have no contracts, as tests alone call them.
 
-// The header of a UDP message of 16 bytes, and an authentication header of 12 bytes in front of UDP.
+// The header of a UDP message of 16 bytes, and an authentication header of 12 bytes before UDP.
 fn ipv4_with_auth(protocol: u8) -> IpHeaders {
     let header = Ipv4Header {
         total_len: 36,

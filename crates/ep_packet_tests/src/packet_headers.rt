@@ -12,8 +12,8 @@ use std::test::*;
 
 // The functions below have no contracts, as tests alone call them.
 
-// Two VLAN tags in front of an IPv4 packet of 36 bytes: UDP of 16 bytes, of which eight are payload,
-// and two of padding.
+// Two VLAN tags in front of an IPv4 packet of 36 bytes: UDP of 16 bytes, of which eight are
+// payload, and two of padding.
 const UDP: [u8; 60] = [
     0, 0, 0, 0, 0, 0, 0, 0, 0, 0, 0, 0, 0x88, 0xa8, 0, 5, 0x81, 0, 0, 9, 8, 0, 0x45, 0, 0, 36, 0,
     7, 0, 0, 64, 17, 0, 0, 0, 0, 0, 0, 0, 0, 0, 0, 0, 1, 0, 2, 0, 16, 0, 0, 1, 2, 3, 4, 5, 6, 7, 8,

@@ -10,8 +10,8 @@ use std::test::*;
 
 // The functions below have no contracts, as tests alone call them.
 
-// The layer that wants more bytes, how many it needs, how many there are, what bounds them, and where
-// it begins.
+// The layer that wants more bytes, how many it needs, how many there are, what bounds them, and
+// where it begins.
 type Want = (Layer, [usize; 2], LenSource, usize);
 
 fn fault_is(rt: &impl Abort, fault: Option<SliceError>, wanted: Want) {
