@@ -1,4 +1,4 @@
-//! Assertions as functions: each is proved once, and a call of it costs the proof of a test little.
+//! What tests assert of packets, as functions: proved once, and cheap in the proof of each test.
 //! They have no contracts: tests alone call them, and are run.
 
 use std::alloc::Global;
