@@ -1,5 +1,5 @@
 //! What tests assert of packets, as functions: proved once, and cheap in the proof of each test.
-//! They have no contracts: tests alone call them, and are run.
+//! Tests alone call them and are run, so they have no contracts.
 
 use std::alloc::Global;
 use std::fmt::{Debug, Display};
