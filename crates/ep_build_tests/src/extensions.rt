@@ -1,9 +1,8 @@
 //! Extension headers behind IP headers, whose numbers and lengths were others before. The bytes
 //! were worked out after RFC 791, 4302 and 8200.
 
-use crate::parts::{
-    IPV4_DESTINATION, IPV4_SOURCE, IPV6_DESTINATION, IPV6_SOURCE, PAYLOAD, writes, writes_with,
-};
+use crate::checks::{equal, message, packet};
+use crate::parts::{IPV4_DESTINATION, IPV4_SOURCE, IPV6_DESTINATION, IPV6_SOURCE, PAYLOAD};
 use ep_base::{IpFragOffset, IpNumber};
 use ep_build::PacketBuilder;
 use ep_ext::{
@@ -12,24 +11,31 @@ use ep_ext::{
 };
 use ep_ip::{Ipv4Header, Ipv6Header};
 use ep_packet::IpHeaders;
+use std::alloc::Global;
 use std::process::Abort;
 use std::test::*;
 
-fn auth(rt: &impl Abort) -> IpAuthHeader {
-    let Ok(header) = IpAuthHeader::new(IpNumber(99), 5, 6, &[]) else {
-        panic!(rt; "no authentication header");
-    };
-    header
+// The functions below have no contracts, as tests alone call them.
+
+fn auth() -> Option<IpAuthHeader> {
+    IpAuthHeader::new(IpNumber(99), 5, 6, &[]).ok()
 }
 
-fn raw(rt: &impl Abort, payload: &[u8]) -> Ipv6RawExtHeader {
-    let Ok(header) = Ipv6RawExtHeader::new_raw(IpNumber(99), payload) else {
-        panic!(rt; "no extension header");
-    };
-    header
+fn raw(payload: &[u8]) -> Option<Ipv6RawExtHeader> {
+    Ipv6RawExtHeader::new_raw(IpNumber(99), payload).ok()
 }
 
-fn ipv4_headers(rt: &impl Abort) -> IpHeaders {
+fn routing() -> Option<Ipv6RoutingExtensions> {
+    match raw(&[4, 0, 0, 0, 0, 0]) {
+        Some(routing) => Some(Ipv6RoutingExtensions {
+            routing,
+            final_destination_options: raw(&[1, 4, 9, 9, 9, 9]),
+        }),
+        None => None,
+    }
+}
+
+fn ipv4_headers() -> IpHeaders {
     let header = Ipv4Header {
         source: IPV4_SOURCE,
         destination: IPV4_DESTINATION,
@@ -39,31 +45,26 @@ fn ipv4_headers(rt: &impl Abort) -> IpHeaders {
         header_checksum: 9,
         ..Ipv4Header::default()
     };
-    IpHeaders::Ipv4(
-        header,
-        Ipv4Extensions {
-            auth: Some(auth(rt)),
-        },
-    )
+    IpHeaders::Ipv4(header, Ipv4Extensions { auth: auth() })
 }
 
-fn ipv6_headers(rt: &impl Abort) -> IpHeaders {
+fn ipv6_extensions() -> Ipv6Extensions {
+    Ipv6Extensions {
+        hop_by_hop_options: raw(&[1, 4, 2, 3, 5, 6]),
+        destination_options: raw(&[1, 4, 0, 0, 0, 0]),
+        routing: routing(),
+        fragment: Some(Ipv6FragmentHeader::new(IpNumber(99), IpFragOffset::ZERO, false, 7)),
+        auth: auth(),
+    }
+}
+
+fn ipv6_headers() -> IpHeaders {
     let mut header = Ipv6Header::default();
     header.source = IPV6_SOURCE;
     header.destination = IPV6_DESTINATION;
     header.hop_limit = 47;
     header.payload_length = 9;
-    let extensions = Ipv6Extensions {
-        hop_by_hop_options: Some(raw(rt, &[1, 4, 2, 3, 5, 6])),
-        destination_options: Some(raw(rt, &[1, 4, 0, 0, 0, 0])),
-        routing: Some(Ipv6RoutingExtensions {
-            routing: raw(rt, &[4, 0, 0, 0, 0, 0]),
-            final_destination_options: Some(raw(rt, &[1, 4, 9, 9, 9, 9])),
-        }),
-        fragment: Some(Ipv6FragmentHeader::new(IpNumber(99), IpFragOffset::ZERO, false, 7)),
-        auth: Some(auth(rt)),
-    };
-    IpHeaders::Ipv6(header, extensions)
+    IpHeaders::Ipv6(header, ipv6_extensions())
 }
 
 const UDP_BEHIND_AUTH: [u8; 48] = [
@@ -74,8 +75,12 @@ const UDP_BEHIND_AUTH: [u8; 48] = [
 
 #[test]
 fn udp_behind_auth(rt: HostRuntime) {
-    let step = PacketBuilder::ip(ipv4_headers(&rt)).udp(21, 1234);
-    assert!(rt; writes(&rt, step, &UDP_BEHIND_AUTH));
+    let written = message(
+        &rt,
+        rt.alloc(),
+        PacketBuilder::ip(ipv4_headers()).udp(21, 1234),
+    );
+    equal(&rt, &written.as_slice(), &UDP_BEHIND_AUTH.as_slice());
 }
 
 const UDP_BEHIND_ALL: [u8; 108] = [
@@ -87,8 +92,12 @@ const UDP_BEHIND_ALL: [u8; 108] = [
 
 #[test]
 fn udp_behind_all(rt: HostRuntime) {
-    let step = PacketBuilder::ip(ipv6_headers(&rt)).udp(21, 1234);
-    assert!(rt; writes(&rt, step, &UDP_BEHIND_ALL));
+    let written = message(
+        &rt,
+        rt.alloc(),
+        PacketBuilder::ip(ipv6_headers()).udp(21, 1234),
+    );
+    equal(&rt, &written.as_slice(), &UDP_BEHIND_ALL.as_slice());
 }
 
 const RAW_BEHIND_ALL: [u8; 100] = [
@@ -100,30 +109,39 @@ const RAW_BEHIND_ALL: [u8; 100] = [
 
 #[test]
 fn raw_behind_all(rt: HostRuntime) {
-    let step = PacketBuilder::ip(ipv6_headers(&rt));
-    assert!(rt; writes_with(&rt, step, IpNumber(253), &PAYLOAD, &RAW_BEHIND_ALL));
+    let step = PacketBuilder::ip(ipv6_headers());
+    let written = packet(&rt, rt.alloc(), step, IpNumber(253), &PAYLOAD);
+    equal(&rt, &written.as_slice(), &RAW_BEHIND_ALL.as_slice());
 }
 
 // The length of a packet with a payload of this number, and the byte at this place of it.
-fn byte_at(rt: &HostRuntime, headers: IpHeaders, number: u8, place: usize) -> Option<(usize, u8)> {
-    let mut buffer = Vec::new(rt.alloc());
+fn has_number_at(
+    rt: &impl Abort,
+    alloc: Global,
+    headers: IpHeaders,
+    number: u8,
+    place: (usize, usize),
+) {
     let step = PacketBuilder::ip(headers);
-    if step.write(&mut buffer, IpNumber(number), &PAYLOAD).is_err() {
-        return None;
-    }
-    match buffer.get(place) {
-        Some(byte) => Some((buffer.len(), *byte)),
-        None => None,
-    }
+    let written = packet(rt, alloc, step, IpNumber(number), &PAYLOAD);
+    equal(
+        rt,
+        &(written.len(), written.get(place.1)),
+        &(place.0, Some(&number)),
+    );
+}
+
+fn is_last_number(rt: &impl Abort, alloc: Global, number: u8) {
+    has_number_at(rt, alloc, ipv6_headers(), number, (100, 84));
+    has_number_at(rt, alloc, ipv4_headers(), number, (40, 20));
 }
 
 // Every number leads through the extension headers, also those of the headers themselves.
 #[test]
 fn last_numbers_of_extension_headers(rt: HostRuntime) {
-    for number in [0, 43, 44, 51, 60] {
-        let over_ipv6 = byte_at(&rt, ipv6_headers(&rt), number, 84);
-        let over_ipv4 = byte_at(&rt, ipv4_headers(&rt), number, 20);
-        let wanted = (Some((100, number)), Some((40, number)));
-        assert!(rt; (over_ipv6, over_ipv4) == wanted, "{number}");
-    }
+    is_last_number(&rt, rt.alloc(), 0);
+    is_last_number(&rt, rt.alloc(), 43);
+    is_last_number(&rt, rt.alloc(), 44);
+    is_last_number(&rt, rt.alloc(), 51);
+    is_last_number(&rt, rt.alloc(), 60);
 }

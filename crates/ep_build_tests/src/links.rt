@@ -2,6 +2,7 @@
 //! after IEEE
 //! 802.3 and 802.1Q, libpcap's page on Linux cooked captures and RFC 791, 826 and 8200.
 
+use crate::checks::{are_joined, equal, packet};
 use crate::parts::{
     IPV4_DESTINATION, IPV4_SOURCE, IPV6_DESTINATION, IPV6_SOURCE, PAYLOAD, arp, ethernet2, id,
     ipv4, ipv6, linux_sll,
@@ -53,85 +54,101 @@ fn ipv6_header() -> IpHeaders {
     IpHeaders::Ipv6(header, Ipv6Extensions::default())
 }
 
-// Whether the step writes the front, and behind it the packet.
+// The step writes the front, and behind it the packet.
 fn writes(
-    rt: &HostRuntime,
+    rt: &impl Abort,
+    alloc: Global,
     step: PacketBuilderStep<IpHeaders>,
     front: &[u8],
-    packet: &[u8],
-) -> bool {
-    let mut buffer = Vec::new(rt.alloc());
-    let written = step.write(&mut buffer, IpNumber(253), &PAYLOAD);
-    written == Ok(())
-        && buffer.as_slice().starts_with(front)
-        && buffer.as_slice().ends_with(packet)
-        && buffer.len() == front.len() + packet.len()
+    rest: &[u8],
+) {
+    are_joined(
+        rt,
+        &packet(rt, alloc, step, IpNumber(253), &PAYLOAD),
+        front,
+        rest,
+    );
 }
 
-// Whether the header brings IPv4, by both its steps.
+// The header brings IPv4, by both its steps.
 fn brings_ipv4<L: LinkStep>(
-    rt: &HostRuntime,
+    rt: &impl Abort,
+    alloc: Global,
     one: PacketBuilderStep<L>,
     other: PacketBuilderStep<L>,
     front: &[u8],
-) -> bool {
-    let step = one.ipv4(IPV4_SOURCE, IPV4_DESTINATION, 20);
-    writes(rt, step, front, &IPV4) & writes(rt, other.ip(ipv4_header()), front, &IPV4)
+) {
+    writes(
+        rt,
+        alloc,
+        one.ipv4(IPV4_SOURCE, IPV4_DESTINATION, 20),
+        front,
+        &IPV4,
+    );
+    writes(rt, alloc, other.ip(ipv4_header()), front, &IPV4);
 }
 
 // The same of IPv6.
 fn brings_ipv6<L: LinkStep>(
-    rt: &HostRuntime,
+    rt: &impl Abort,
+    alloc: Global,
     one: PacketBuilderStep<L>,
     other: PacketBuilderStep<L>,
     front: &[u8],
-) -> bool {
-    let step = one.ipv6(IPV6_SOURCE, IPV6_DESTINATION, 47);
-    writes(rt, step, front, &IPV6) & writes(rt, other.ip(ipv6_header()), front, &IPV6)
+) {
+    writes(
+        rt,
+        alloc,
+        one.ipv6(IPV6_SOURCE, IPV6_DESTINATION, 47),
+        front,
+        &IPV6,
+    );
+    writes(rt, alloc, other.ip(ipv6_header()), front, &IPV6);
 }
 
-// Whether the step writes the front, and behind it the ARP packet.
-fn writes_arp(rt: &HostRuntime, step: PacketBuilderStep<ArpPacket>, front: &[u8]) -> bool {
+// The step writes the front, and behind it the ARP packet.
+fn writes_arp(rt: &impl Abort, alloc: Global, step: PacketBuilderStep<ArpPacket>, front: &[u8]) {
     let size = step.size();
-    let mut buffer = Vec::new(rt.alloc());
-    step.write(&mut buffer) == Ok(())
-        && buffer.len() == size
-        && buffer.as_slice().starts_with(front)
-        && buffer.as_slice().ends_with(&ARP)
-        && size == front.len() + ARP.len()
+    let mut buffer = Vec::new(alloc);
+    equal(rt, &step.write(&mut buffer), &Ok(()));
+    equal(rt, &buffer.len(), &size);
+    are_joined(rt, &buffer, front, &ARP);
 }
 
 #[test]
 fn behind_nothing(rt: HostRuntime) {
-    let found = [
-        writes(&rt, ipv4(), &[], &IPV4[2..]),
-        writes(&rt, PacketBuilder::ip(ipv4_header()), &[], &IPV4[2..]),
-        writes(&rt, ipv6(), &[], &IPV6[2..]),
-        writes(&rt, PacketBuilder::ip(ipv6_header()), &[], &IPV6[2..]),
-    ];
-    assert!(rt; found == [true; 4]);
+    writes(&rt, rt.alloc(), ipv4(), &[], &IPV4[2..]);
+    writes(
+        &rt,
+        rt.alloc(),
+        PacketBuilder::ip(ipv4_header()),
+        &[],
+        &IPV4[2..],
+    );
+    writes(&rt, rt.alloc(), ipv6(), &[], &IPV6[2..]);
+    writes(
+        &rt,
+        rt.alloc(),
+        PacketBuilder::ip(ipv6_header()),
+        &[],
+        &IPV6[2..],
+    );
 }
 
 #[test]
 fn behind_ethernet2(rt: HostRuntime) {
     let front = [7, 8, 9, 0x0a, 0x0b, 0x0c, 1, 2, 3, 4, 5, 6];
-    let found = [
-        brings_ipv4(&rt, ethernet2(), ethernet2(), &front),
-        brings_ipv6(&rt, ethernet2(), ethernet2(), &front),
-        writes_arp(&rt, ethernet2().arp(arp(&rt)), &front),
-    ];
-    assert!(rt; found == [true; 3]);
+    brings_ipv4(&rt, rt.alloc(), ethernet2(), ethernet2(), &front);
+    brings_ipv6(&rt, rt.alloc(), ethernet2(), ethernet2(), &front);
+    writes_arp(&rt, rt.alloc(), ethernet2().arp(arp(&rt)), &front);
 }
 
 #[test]
 fn behind_linux_sll(rt: HostRuntime) {
     let front = [0, 4, 0, 1, 0, 6, 1, 2, 3, 4, 5, 6, 0, 0];
-    let found = [
-        brings_ipv4(&rt, linux_sll(), linux_sll(), &front),
-        brings_ipv6(&rt, linux_sll(), linux_sll(), &front),
-        writes_arp(&rt, linux_sll().arp(arp(&rt)), &front),
-    ];
-    assert!(rt; found == [true; 3]);
+    brings_ipv4(&rt, rt.alloc(), linux_sll(), linux_sll(), &front);
+    brings_ipv6(&rt, rt.alloc(), linux_sll(), linux_sll(), &front);
+    writes_arp(&rt, rt.alloc(), linux_sll().arp(arp(&rt)), &front);
 }
 
 fn one_tag() -> PacketBuilderStep<VlanHeader> {
@@ -143,12 +160,9 @@ fn behind_one_tag(rt: HostRuntime) {
     let front = [
         7, 8, 9, 0x0a, 0x0b, 0x0c, 1, 2, 3, 4, 5, 6, 0x81, 0, 1, 0x23,
     ];
-    let found = [
-        brings_ipv4(&rt, one_tag(), one_tag(), &front),
-        brings_ipv6(&rt, one_tag(), one_tag(), &front),
-        writes_arp(&rt, one_tag().arp(arp(&rt)), &front),
-    ];
-    assert!(rt; found == [true; 3]);
+    brings_ipv4(&rt, rt.alloc(), one_tag(), one_tag(), &front);
+    brings_ipv6(&rt, rt.alloc(), one_tag(), one_tag(), &front);
+    writes_arp(&rt, rt.alloc(), one_tag().arp(arp(&rt)), &front);
 }
 
 fn two_tags() -> PacketBuilderStep<VlanHeader> {
@@ -160,12 +174,9 @@ fn behind_two_tags(rt: HostRuntime) {
     let front = [
         7, 8, 9, 0x0a, 0x0b, 0x0c, 1, 2, 3, 4, 5, 6, 0x88, 0xa8, 1, 0x23, 0x81, 0, 2, 0x34,
     ];
-    let found = [
-        brings_ipv4(&rt, two_tags(), two_tags(), &front),
-        brings_ipv6(&rt, two_tags(), two_tags(), &front),
-        writes_arp(&rt, two_tags().arp(arp(&rt)), &front),
-    ];
-    assert!(rt; found == [true; 3]);
+    brings_ipv4(&rt, rt.alloc(), two_tags(), two_tags(), &front);
+    brings_ipv6(&rt, rt.alloc(), two_tags(), two_tags(), &front);
+    writes_arp(&rt, rt.alloc(), two_tags().arp(arp(&rt)), &front);
 }
 
 // A tag of priority 5 that may be dropped, with an ether type that doesn't belong to it.
@@ -187,12 +198,9 @@ fn behind_given_tag(rt: HostRuntime) {
     let front = [
         7, 8, 9, 0x0a, 0x0b, 0x0c, 1, 2, 3, 4, 5, 6, 0x81, 0, 0xb0, 1,
     ];
-    let found = [
-        brings_ipv4(&rt, given_tag(), given_tag(), &front),
-        brings_ipv6(&rt, given_tag(), given_tag(), &front),
-        writes_arp(&rt, given_tag().arp(arp(&rt)), &front),
-    ];
-    assert!(rt; found == [true; 3]);
+    brings_ipv4(&rt, rt.alloc(), given_tag(), given_tag(), &front);
+    brings_ipv6(&rt, rt.alloc(), given_tag(), given_tag(), &front);
+    writes_arp(&rt, rt.alloc(), given_tag().arp(arp(&rt)), &front);
 }
 
 fn given_tags() -> PacketBuilderStep<VlanHeader> {
@@ -207,69 +215,62 @@ fn behind_given_tags(rt: HostRuntime) {
     let front = [
         7, 8, 9, 0x0a, 0x0b, 0x0c, 1, 2, 3, 4, 5, 6, 0x88, 0xa8, 0xb0, 1, 0x81, 0, 0xb0, 2,
     ];
-    let found = [
-        brings_ipv4(&rt, given_tags(), given_tags(), &front),
-        brings_ipv6(&rt, given_tags(), given_tags(), &front),
-        writes_arp(&rt, given_tags().arp(arp(&rt)), &front),
-    ];
-    assert!(rt; found == [true; 3]);
+    brings_ipv4(&rt, rt.alloc(), given_tags(), given_tags(), &front);
+    brings_ipv6(&rt, rt.alloc(), given_tags(), given_tags(), &front);
+    writes_arp(&rt, rt.alloc(), given_tags().arp(arp(&rt)), &front);
 }
 
-// Whether the IP payload of a packet is the one above, of number 253.
-fn holds_payload(packet: &SlicedPacket<'_>) -> bool {
+// The IP payload of a packet is the one above, of number 253.
+fn holds_payload(rt: &impl Abort, packet: &SlicedPacket<'_>) {
     match packet.ip_payload() {
         Some(payload) => {
-            payload.ip_number == IpNumber(253) && payload.payload == PAYLOAD.as_slice()
+            equal(rt, &payload.ip_number, &IpNumber(253));
+            equal(rt, &payload.payload, &PAYLOAD.as_slice());
         }
-        None => false,
+        None => panic!(rt; "no IP payload"),
     }
 }
 
-fn frame_holds_payload(frame: &[u8]) -> bool {
+fn frame_holds_payload(rt: &impl Abort, frame: &[u8]) {
     match laws::frames::built_frames_are_sliced(frame) {
-        Ok(packet) => holds_payload(&packet),
-        Err(_) => false,
+        Ok(packet) => holds_payload(rt, &packet),
+        Err(_) => panic!(rt; "no frame"),
     }
 }
 
-fn packet_holds_payload(packet: &[u8]) -> bool {
+fn packet_holds_payload(rt: &impl Abort, packet: &[u8]) {
     match laws::frames::built_packets_are_sliced(packet) {
-        Ok(packet) => holds_payload(&packet),
-        Err(_) => false,
+        Ok(packet) => holds_payload(rt, &packet),
+        Err(_) => panic!(rt; "no packet"),
     }
 }
 
-fn cooked_packet_holds_payload(packet: &[u8]) -> bool {
+fn cooked_packet_holds_payload(rt: &impl Abort, packet: &[u8]) {
     match laws::frames::built_cooked_packets_are_sliced(packet) {
-        Ok(packet) => holds_payload(&packet),
-        Err(_) => false,
+        Ok(packet) => holds_payload(rt, &packet),
+        Err(_) => panic!(rt; "no cooked packet"),
     }
 }
 
-// What the step writes; a step that writes nothing ends the test.
-fn bytes_of(
-    rt: &impl Abort,
-    alloc: Global,
-    step: PacketBuilderStep<IpHeaders>,
-    number: IpNumber,
-) -> Vec<u8> {
-    let mut bytes = Vec::new(alloc);
-    assert!(rt; step.write(&mut bytes, number, &PAYLOAD).is_ok());
-    bytes
+// Of a payload of number 253.
+fn built(rt: &impl Abort, alloc: Global, step: PacketBuilderStep<IpHeaders>) -> Vec<u8> {
+    packet(rt, alloc, step, IpNumber(253), &PAYLOAD)
 }
 
 #[test]
 fn what_is_built_is_sliced_again(rt: HostRuntime) {
     laws::frames::cooked_header_fits(LinuxSllPacketType::OUTGOING, [1, 2, 3, 4, 5, 6, 0, 0]);
     let tagged = ethernet2().single_vlan(id(5)).ip(ipv4_header());
+    frame_holds_payload(&rt, &built(&rt, rt.alloc(), tagged));
     let packet = PacketBuilder::ip(ipv6_header());
+    packet_holds_payload(&rt, &built(&rt, rt.alloc(), packet));
     let cooked = linux_sll().ip(ipv4_header());
-    let found = [
-        frame_holds_payload(&bytes_of(&rt, rt.alloc(), tagged, IpNumber(253))),
-        packet_holds_payload(&bytes_of(&rt, rt.alloc(), packet, IpNumber(253))),
-        cooked_packet_holds_payload(&bytes_of(&rt, rt.alloc(), cooked, IpNumber(253))),
-    ];
-    assert!(rt; found == [true; 3]);
+    cooked_packet_holds_payload(&rt, &built(&rt, rt.alloc(), cooked));
+}
+
+// A payload that is no datagram: its length field says 1286.
+fn broken(rt: &impl Abort, alloc: Global, step: PacketBuilderStep<IpHeaders>) -> Vec<u8> {
+    packet(rt, alloc, step, IpNumber::UDP, &PAYLOAD)
 }
 
 fn frame_is_refused(frame: &[u8]) -> bool {
@@ -284,16 +285,15 @@ fn cooked_packet_is_refused(packet: &[u8]) -> bool {
     laws::frames::built_cooked_packets_are_sliced(packet).is_err()
 }
 
-// The payload is no datagram: its length field says 1286.
 #[test]
 fn what_is_no_message_is_refused(rt: HostRuntime) {
-    let frame = ethernet2().ip(ipv4_header());
-    let packet = PacketBuilder::ip(ipv6_header());
-    let cooked = linux_sll().ip(ipv4_header());
+    let frame = broken(&rt, rt.alloc(), ethernet2().ip(ipv4_header()));
+    let packet = broken(&rt, rt.alloc(), PacketBuilder::ip(ipv6_header()));
+    let cooked = broken(&rt, rt.alloc(), linux_sll().ip(ipv4_header()));
     let found = [
-        frame_is_refused(&bytes_of(&rt, rt.alloc(), frame, IpNumber::UDP)),
-        packet_is_refused(&bytes_of(&rt, rt.alloc(), packet, IpNumber::UDP)),
-        cooked_packet_is_refused(&bytes_of(&rt, rt.alloc(), cooked, IpNumber::UDP)),
+        frame_is_refused(&frame),
+        packet_is_refused(&packet),
+        cooked_packet_is_refused(&cooked),
     ];
-    assert!(rt; found == [true; 3]);
+    equal(&rt, &found, &[true; 3]);
 }

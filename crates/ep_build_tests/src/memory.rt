@@ -2,15 +2,19 @@
 //! for each of its growths, which is refused then: the step tells of it and of nothing else, the
 //! buffer holds its byte as before, and the same step writes the packet after it.
 
+use crate::checks::equal;
 use crate::parts::{PAYLOAD, arp, ethernet2, id, ipv4, ipv6, linux_sll};
 use crate::refusals::held;
 use ep_base::IpNumber;
 use ep_build::err::packet::BuildWriteError;
 use ep_build::{PacketBuilderStep, TransportStep};
 use ep_packet::IpHeaders;
+use ep_tcpudp::UdpHeader;
 use std::alloc::Global;
 use std::process::Abort;
 use std::test::*;
+
+// The functions below have no contracts, as tests alone call them.
 
 // Whether a packet of so many bytes was written behind the byte of the buffer. The only refusal is
 // that of memory, and then the byte stands there alone.
@@ -20,15 +24,15 @@ fn is_written(
     buffer: &[u8],
     len: usize,
 ) -> bool {
+    equal(rt, &buffer.first(), &Some(&0xaa));
     match told {
         Ok(()) => {
-            assert!(rt;
-                buffer.first() == Some(&0xaa) && buffer.get(1..).map(<[u8]>::len) == Some(len)
-            );
+            equal(rt, &buffer.len(), &len.saturating_add(1));
             true
         }
         Err(error) => {
-            assert!(rt; error == BuildWriteError::Memory && buffer == [0xaa].as_slice());
+            equal(rt, &error, &BuildWriteError::Memory);
+            equal(rt, &buffer.len(), &1);
             false
         }
     }
@@ -46,20 +50,15 @@ fn message(
     let told = first.write(&mut buffer, &PAYLOAD);
     if !is_written(rt, told, &buffer, len) {
         let told = second.write(&mut buffer, &PAYLOAD);
-        assert!(rt; is_written(rt, told, &buffer, len));
+        equal(rt, &is_written(rt, told, &buffer, len), &true);
     }
 }
 
 #[test]
 fn messages_over_ipv4_want_memory(rt: HostRuntime) {
     message(&rt, rt.alloc(), ipv4().udp(1, 2), ipv4().udp(1, 2), 36);
-    message(
-        &rt,
-        rt.alloc(),
-        ipv4().tcp(1, 2, 3, 4),
-        ipv4().tcp(1, 2, 3, 4),
-        48,
-    );
+    let (first, second) = (ipv4().tcp(1, 2, 3, 4), ipv4().tcp(1, 2, 3, 4));
+    message(&rt, rt.alloc(), first, second, 48);
     let (first, second) = (
         ipv4().icmpv4_echo_reply(1, 2),
         ipv4().icmpv4_echo_reply(1, 2),
@@ -77,14 +76,20 @@ fn messages_over_ipv6_want_memory(rt: HostRuntime) {
     message(&rt, rt.alloc(), ipv6().udp(1, 2), ipv6().udp(1, 2), 56);
 }
 
-#[test]
-fn messages_behind_link_headers_want_memory(rt: HostRuntime) {
-    let tagged = || ethernet2()
+fn tagged() -> PacketBuilderStep<UdpHeader> {
+    ethernet2()
         .single_vlan(id(5))
         .ipv4([0; 4], [0; 4], 1)
-        .udp(1, 2);
+        .udp(1, 2)
+}
+
+fn cooked() -> PacketBuilderStep<UdpHeader> {
+    linux_sll().ipv4([0; 4], [0; 4], 1).udp(1, 2)
+}
+
+#[test]
+fn messages_behind_link_headers_want_memory(rt: HostRuntime) {
     message(&rt, rt.alloc(), tagged(), tagged(), 54);
-    let cooked = || linux_sll().ipv4([0; 4], [0; 4], 1).udp(1, 2);
     message(&rt, rt.alloc(), cooked(), cooked(), 52);
 }
 
@@ -99,7 +104,7 @@ fn payload(
     let told = first.write(&mut buffer, IpNumber(253), &PAYLOAD);
     if !is_written(rt, told, &buffer, len) {
         let told = second.write(&mut buffer, IpNumber(253), &PAYLOAD);
-        assert!(rt; is_written(rt, told, &buffer, len));
+        equal(rt, &is_written(rt, told, &buffer, len), &true);
     }
 }
 
@@ -115,6 +120,6 @@ fn arp_packets_want_memory(rt: HostRuntime) {
     let told = ethernet2().arp(arp(&rt)).write(&mut buffer);
     if !is_written(&rt, told, &buffer, 42) {
         let told = ethernet2().arp(arp(&rt)).write(&mut buffer);
-        assert!(rt; is_written(&rt, told, &buffer, 42));
+        equal(&rt, &is_written(&rt, told, &buffer, 42), &true);
     }
 }

@@ -1,8 +1,8 @@
 //! Parts of packets, as the tests of the builder take them. The functions have no contracts: tests
 //! alone call them, and are run.
 
-use ep_base::{EtherType, IpNumber};
-use ep_build::{PacketBuilder, PacketBuilderStep, TransportStep};
+use ep_base::EtherType;
+use ep_build::{PacketBuilder, PacketBuilderStep};
 use ep_link::{
     ArpHardwareId, ArpOperation, ArpPacket, Ethernet2Header, LinuxSllHeader, LinuxSllPacketType,
 };
@@ -46,30 +46,8 @@ pub fn ipv6() -> PacketBuilderStep<IpHeaders> {
     PacketBuilder::ipv6(IPV6_SOURCE, IPV6_DESTINATION, 47)
 }
 
-/// Whether the step writes this packet; no contract, as above.
-pub fn writes<L: TransportStep>(
-    rt: &HostRuntime,
-    step: PacketBuilderStep<L>,
-    packet: &[u8],
-) -> bool {
-    let mut buffer = Vec::new(rt.alloc());
-    step.write(&mut buffer, &PAYLOAD) == Ok(()) && buffer.as_slice() == packet
-}
-
-/// Whether the step writes this packet, with a payload of this number; no contract, as above.
-pub fn writes_with(
-    rt: &HostRuntime,
-    step: PacketBuilderStep<IpHeaders>,
-    number: IpNumber,
-    payload: &[u8],
-    packet: &[u8],
-) -> bool {
-    let mut buffer = Vec::new(rt.alloc());
-    step.write(&mut buffer, number, payload) == Ok(()) && buffer.as_slice() == packet
-}
-
-/// A VLAN identifier: for a number that is none it would be 0, which no frame of these tests has; no
-/// contract, as above.
+/// A VLAN identifier: for a number that is none it would be 0, which no frame of these tests has;
+/// no contract, as above.
 pub fn id(number: u16) -> VlanId {
     VlanId::try_new(number).unwrap_or(VlanId::ZERO)
 }

@@ -2,8 +2,9 @@
 //! IEEE
 //! 802.1Q.
 
-use crate::parts::{IPV6_DESTINATION, IPV6_SOURCE, PAYLOAD, id, ipv4, writes, writes_with};
-use crate::refusals::told;
+use crate::checks::{equal, message, packet};
+use crate::parts::{IPV6_DESTINATION, IPV6_SOURCE, id, ipv4};
+use crate::refusals::is_refused;
 use ep_base::IpNumber;
 use ep_base::err::{ValueTooBigError, ValueType};
 use ep_build::err::packet::BuildWriteError;
@@ -12,6 +13,8 @@ use ep_ext::Ipv4Extensions;
 use ep_ip::Ipv4Header;
 use ep_link::Ethernet2Header;
 use ep_packet::IpHeaders;
+use std::alloc::Global;
+use std::process::Abort;
 use std::test::*;
 
 const BUILDER_UDP: [u8; 50] = [
@@ -25,12 +28,33 @@ fn builder_udp(rt: HostRuntime) {
     let step = PacketBuilder::ethernet2([1, 2, 3, 4, 5, 6], [7, 8, 9, 10, 11, 12])
         .ipv4([192, 168, 1, 1], [192, 168, 1, 2], 20)
         .udp(21, 1234);
-    let size = step.size(8);
-    assert!(rt; size == 50 && writes(&rt, step, &BUILDER_UDP));
+    equal(&rt, &step.size(8), &50);
+    equal(
+        &rt,
+        &message(&rt, rt.alloc(), step).as_slice(),
+        &BUILDER_UDP.as_slice(),
+    );
 }
+
+// The functions below have no contracts, as tests alone call them.
 
 fn frame() -> PacketBuilderStep<Ethernet2Header> {
     PacketBuilder::ethernet2([2, 0, 0, 0, 0, 1], [2, 0, 0, 0, 0, 2])
+}
+
+// The step writes these bytes with a payload of UDP.
+fn writes(
+    rt: &impl Abort,
+    alloc: Global,
+    step: PacketBuilderStep<IpHeaders>,
+    payload: &[u8],
+    wanted: &[u8],
+) {
+    equal(
+        rt,
+        &packet(rt, alloc, step, IpNumber::UDP, payload).as_slice(),
+        &wanted,
+    );
 }
 
 // A UDP message between the addresses of the IPv6 header.
@@ -45,7 +69,7 @@ const IPV6_UDP: [u8; 70] = [
 #[test]
 fn ipv6_udp(rt: HostRuntime) {
     let step = frame().ipv6(IPV6_SOURCE, IPV6_DESTINATION, 64);
-    assert!(rt; writes_with(&rt, step, IpNumber::UDP, &UDP_OVER_IPV6, &IPV6_UDP));
+    writes(&rt, rt.alloc(), step, &UDP_OVER_IPV6, &IPV6_UDP);
 }
 
 const ONE_TAG: [u8; 74] = [
@@ -59,7 +83,7 @@ fn one_tag(rt: HostRuntime) {
     let step = frame()
         .single_vlan(id(5))
         .ipv6(IPV6_SOURCE, IPV6_DESTINATION, 64);
-    assert!(rt; writes_with(&rt, step, IpNumber::UDP, &UDP_OVER_IPV6, &ONE_TAG));
+    writes(&rt, rt.alloc(), step, &UDP_OVER_IPV6, &ONE_TAG);
 }
 
 // A UDP message between the addresses of the IPv4 header below.
@@ -84,27 +108,21 @@ fn two_tags(rt: HostRuntime) {
     let step = frame()
         .double_vlan(id(5), id(9))
         .ip(IpHeaders::Ipv4(header, Ipv4Extensions { auth: None }));
-    assert!(rt; writes_with(&rt, step, IpNumber::UDP, &UDP_OVER_IPV4, &TWO_TAGS));
+    writes(&rt, rt.alloc(), step, &UDP_OVER_IPV4, &TWO_TAGS);
 }
 
 #[test]
 fn icmpv6_over_ipv4(rt: HostRuntime) {
-    let mut buffer = Vec::new(rt.alloc());
-    let held = buffer.push(0xaa).is_ok();
-    let told = ipv4()
-        .icmpv6_echo_request(1, 2)
-        .write(&mut buffer, &PAYLOAD);
-    let refused = held && told == Err(BuildWriteError::Icmpv6InIpv4);
-    assert!(rt; refused && buffer.as_slice() == [0xaa].as_slice());
+    let step = ipv4().icmpv6_echo_request(1, 2);
+    is_refused(&rt, rt.alloc(), step, 8, BuildWriteError::Icmpv6InIpv4);
 }
 
 #[test]
 fn udp_too_long(rt: HostRuntime) {
-    let fault = ValueTooBigError {
+    let fault = BuildWriteError::PayloadLen(ValueTooBigError {
         actual: 65516,
         max_allowed: 65515,
         value_type: ValueType::Ipv4PayloadLength,
-    };
-    let told = told(&rt, rt.alloc(), ipv4().udp(21, 1234), 65508);
-    assert!(rt; told == Err(BuildWriteError::PayloadLen(fault)));
+    });
+    is_refused(&rt, rt.alloc(), ipv4().udp(21, 1234), 65508, fault);
 }

@@ -1,19 +1,27 @@
 //! Each step of TCP, once. The segments were made by a program of its own after RFC 9293.
 
-use crate::parts::{PAYLOAD, ipv4, ipv6, writes};
+use crate::checks::{equal, message};
+use crate::parts::{ipv4, ipv6};
 use ep_build::PacketBuilderStep;
 use ep_tcpudp::{TcpHeader, TcpOptionElement, TcpOptionWriteError, TcpOptions};
+use std::alloc::Global;
+use std::process::Abort;
 use std::test::*;
+
+// The functions below have no contracts, as tests alone call them.
 
 fn tcp() -> PacketBuilderStep<TcpHeader> {
     ipv4().tcp(1, 2, 3, 4096)
 }
 
-// Whether the step writes this segment.
-fn gives(rt: &HostRuntime, step: PacketBuilderStep<TcpHeader>, segment: &[u8]) -> bool {
-    let mut buffer = Vec::new(rt.alloc());
-    let written = step.write(&mut buffer, &PAYLOAD);
-    written == Ok(()) && buffer.len() > 20 && buffer[9] == 6 && &buffer[20..] == segment
+// The step writes this segment.
+fn gives(rt: &impl Abort, alloc: Global, step: PacketBuilderStep<TcpHeader>, segment: &[u8]) {
+    let written = message(rt, alloc, step);
+    equal(
+        rt,
+        &(written.get(9), written.get(20..)),
+        &(Some(&6), Some(segment)),
+    );
 }
 
 const PLAIN: [u8; 28] = [
@@ -22,7 +30,7 @@ const PLAIN: [u8; 28] = [
 
 #[test]
 fn plain_segment(rt: HostRuntime) {
-    assert!(rt; gives(&rt, tcp(), &PLAIN));
+    gives(&rt, rt.alloc(), tcp(), &PLAIN);
 }
 
 const OVER_IPV6: [u8; 68] = [
@@ -33,7 +41,8 @@ const OVER_IPV6: [u8; 68] = [
 
 #[test]
 fn segment_over_ipv6(rt: HostRuntime) {
-    assert!(rt; writes(&rt, ipv6().tcp(1, 2, 3, 4096), &OVER_IPV6));
+    let written = message(&rt, rt.alloc(), ipv6().tcp(1, 2, 3, 4096));
+    equal(&rt, &written.as_slice(), &OVER_IPV6.as_slice());
 }
 
 // The segment above with other flags: the bytes of offset and flags, the checksum.
@@ -46,25 +55,25 @@ fn flagged(bytes: [u8; 2], checksum: [u8; 2]) -> [u8; 28] {
     segment
 }
 
-#[test]
-fn flags(rt: HostRuntime) {
-    let found = [
-        gives(&rt, tcp().ns(), &flagged([0x51, 0x00], [0x0b, 0x6f])),
-        gives(&rt, tcp().fin(), &flagged([0x50, 0x01], [0x0c, 0x6e])),
-        gives(&rt, tcp().syn(), &flagged([0x50, 0x02], [0x0c, 0x6d])),
-        gives(&rt, tcp().rst(), &flagged([0x50, 0x04], [0x0c, 0x6b])),
-    ];
-    assert!(rt; found == [true; 4]);
+fn flag(
+    rt: &impl Abort,
+    alloc: Global,
+    step: PacketBuilderStep<TcpHeader>,
+    bytes: [u8; 2],
+    checksum: [u8; 2],
+) {
+    gives(rt, alloc, step, &flagged(bytes, checksum));
 }
 
 #[test]
-fn later_flags(rt: HostRuntime) {
-    let found = [
-        gives(&rt, tcp().psh(), &flagged([0x50, 0x08], [0x0c, 0x67])),
-        gives(&rt, tcp().ece(), &flagged([0x50, 0x40], [0x0c, 0x2f])),
-        gives(&rt, tcp().cwr(), &flagged([0x50, 0x80], [0x0b, 0xef])),
-    ];
-    assert!(rt; found == [true; 3]);
+fn flags(rt: HostRuntime) {
+    flag(&rt, rt.alloc(), tcp().ns(), [0x51, 0x00], [0x0b, 0x6f]);
+    flag(&rt, rt.alloc(), tcp().fin(), [0x50, 0x01], [0x0c, 0x6e]);
+    flag(&rt, rt.alloc(), tcp().syn(), [0x50, 0x02], [0x0c, 0x6d]);
+    flag(&rt, rt.alloc(), tcp().rst(), [0x50, 0x04], [0x0c, 0x6b]);
+    flag(&rt, rt.alloc(), tcp().psh(), [0x50, 0x08], [0x0c, 0x67]);
+    flag(&rt, rt.alloc(), tcp().ece(), [0x50, 0x40], [0x0c, 0x2f]);
+    flag(&rt, rt.alloc(), tcp().cwr(), [0x50, 0x80], [0x0b, 0xef]);
 }
 
 const ACKNOWLEDGING: [u8; 28] = [
@@ -79,11 +88,8 @@ const URGENT: [u8; 28] = [
 
 #[test]
 fn flags_with_fields(rt: HostRuntime) {
-    let found = [
-        gives(&rt, tcp().ack(7), &ACKNOWLEDGING),
-        gives(&rt, tcp().urg(9), &URGENT),
-    ];
-    assert!(rt; found == [true, true]);
+    gives(&rt, rt.alloc(), tcp().ack(7), &ACKNOWLEDGING);
+    gives(&rt, rt.alloc(), tcp().urg(9), &URGENT);
 }
 
 const WITH_SEGMENT_SIZE: [u8; 32] = [
@@ -99,23 +105,19 @@ const WITH_BYTES: [u8; 32] = [
 // A step with options, or why they are refused.
 type WithOptions = Result<PacketBuilderStep<TcpHeader>, TcpOptionWriteError>;
 
-// Whether the step takes the options and writes this segment.
-fn takes_and_gives(rt: &HostRuntime, step: WithOptions, segment: &[u8]) -> bool {
+// The step takes the options and writes this segment.
+fn takes_and_gives(rt: &impl Abort, alloc: Global, step: WithOptions, segment: &[u8]) {
     match step {
-        Ok(step) => gives(rt, step, segment),
-        Err(_) => false,
+        Ok(step) => gives(rt, alloc, step, segment),
+        Err(_) => panic!(rt; "refused options"),
     }
 }
 
 #[test]
 fn options(rt: HostRuntime) {
     let elements = tcp().options(&[TcpOptionElement::MaximumSegmentSize(1460)]);
-    let bytes = tcp().options_raw(&[1, 1, 1]);
-    let found = [
-        takes_and_gives(&rt, elements, &WITH_SEGMENT_SIZE),
-        takes_and_gives(&rt, bytes, &WITH_BYTES),
-    ];
-    assert!(rt; found == [true, true]);
+    takes_and_gives(&rt, rt.alloc(), elements, &WITH_SEGMENT_SIZE);
+    takes_and_gives(&rt, rt.alloc(), tcp().options_raw(&[1, 1, 1]), &WITH_BYTES);
 }
 
 // Why these options are refused, or no refusal.
@@ -128,14 +130,12 @@ fn refusal(step: WithOptions) -> Option<TcpOptionWriteError> {
 
 #[test]
 fn options_too_long(rt: HostRuntime) {
-    let found = [
-        refusal(tcp().options(&[TcpOptionElement::Timestamp(1, 2); 5])),
-        refusal(tcp().options_raw(&[1; 41])),
-        refusal(tcp().options_raw(&[1; 40])),
-    ];
-    let elements = TcpOptionWriteError::NotEnoughSpace(50);
-    let bytes = TcpOptionWriteError::NotEnoughSpace(41);
-    assert!(rt; found == [Some(elements), Some(bytes), None]);
+    let error = Some(TcpOptionWriteError::NotEnoughSpace(50));
+    let elements = [TcpOptionElement::Timestamp(1, 2); 5];
+    equal(&rt, &refusal(tcp().options(&elements)), &error);
+    let error = Some(TcpOptionWriteError::NotEnoughSpace(41));
+    equal(&rt, &refusal(tcp().options_raw(&[1; 41])), &error);
+    equal(&rt, &refusal(tcp().options_raw(&[1; 40])), &None);
 }
 
 const OF_A_HEADER: [u8; 32] = [
@@ -153,5 +153,10 @@ fn given_header(rt: HostRuntime) {
         options: TcpOptions::from([1, 1, 1, 0]),
         ..TcpHeader::new(1, 2, 3, 4096)
     };
-    assert!(rt; gives(&rt, ipv4().tcp_header(header).syn(), &OF_A_HEADER));
+    gives(
+        &rt,
+        rt.alloc(),
+        ipv4().tcp_header(header).syn(),
+        &OF_A_HEADER,
+    );
 }

@@ -1,21 +1,49 @@
 //! Headers of the network layer.
+use crate::checks::equal;
 use ep_base::{EtherType, IpNumber};
 use ep_ext::{Ipv4Extensions, Ipv6Extensions};
 use ep_ip::{Ipv4Header, Ipv6Header};
 use ep_link::{ArpHardwareId, ArpOperation, ArpPacket};
 use ep_packet::err::net::NetSetNextHeaderError;
 use ep_packet::{IpHeaders, NetHeaders};
+use std::test::*;
 
-fn ipv4() -> NetHeaders {
-    NetHeaders::from(IpHeaders::Ipv4(Ipv4Header::default(), Ipv4Extensions { auth: None }))
+// The functions below have no contracts, as tests alone call them.
+
+// Which tests say yes.
+fn kinds(headers: &NetHeaders) -> [bool; 4] {
+    [
+        headers.is_ip(),
+        headers.is_ipv4(),
+        headers.is_ipv6(),
+        headers.is_arp(),
+    ]
 }
 
-fn ipv6() -> NetHeaders {
-    NetHeaders::from(IpHeaders::Ipv6(Ipv6Header::default(), Ipv6Extensions::default()))
+// Whether there are headers of IPv4, of IPv6 and of ARP.
+fn parts(headers: &NetHeaders) -> [bool; 3] {
+    [
+        headers.ipv4_ref().is_some(),
+        headers.ipv6_ref().is_some(),
+        headers.arp_ref().is_some(),
+    ]
 }
 
-// A request of Ethernet addresses for IPv4 ones.
-fn arp() -> Option<NetHeaders> {
+// Both, the length, and the ether type where the headers take the number of what is behind them.
+type Told = (
+    [bool; 4],
+    [bool; 3],
+    usize,
+    Result<EtherType, NetSetNextHeaderError>,
+);
+
+fn told(mut headers: NetHeaders) -> Told {
+    let set = headers.try_set_next_headers(IpNumber(6));
+    (kinds(&headers), parts(&headers), headers.header_len(), set)
+}
+
+// Of a request of Ethernet addresses for IPv4 ones.
+fn told_of_arp() -> Option<Told> {
     let packet = ArpPacket::new(
         ArpHardwareId::ETHERNET,
         EtherType::IPV4,
@@ -25,54 +53,43 @@ fn arp() -> Option<NetHeaders> {
         &[0; 6],
         &[10, 0, 0, 2],
     );
-    Some(NetHeaders::from(packet.ok()?))
-}
-
-// Which tests say yes, whether there are headers of IPv4, of IPv6 and of ARP, and the length.
-fn told(headers: &NetHeaders) -> ([bool; 4], [bool; 3], usize) {
-    let kinds = [
-        headers.is_ip(),
-        headers.is_ipv4(),
-        headers.is_ipv6(),
-        headers.is_arp(),
-    ];
-    let parts = [
-        headers.ipv4_ref().is_some(),
-        headers.ipv6_ref().is_some(),
-        headers.arp_ref().is_some(),
-    ];
-    (kinds, parts, headers.header_len())
+    match packet {
+        Ok(packet) => Some(told(NetHeaders::from(packet))),
+        Err(_) => None,
+    }
 }
 
 #[test]
-fn kinds_of_headers(rt: HostRuntime) {
-    let found = [told(&ipv4()), told(&ipv6())];
-    let ipv4 = ([true, true, false, false], [true, false, false], 20);
-    let ipv6 = ([true, false, true, false], [false, true, false], 40);
-    assert!(rt; found == [ipv4, ipv6]);
+fn headers_of_ip(rt: HostRuntime) {
+    let headers = IpHeaders::Ipv4(Ipv4Header::default(), Ipv4Extensions { auth: None });
+    let ether_type = Ok(EtherType(0x0800));
+    let wanted = (
+        [true, true, false, false],
+        [true, false, false],
+        20,
+        ether_type,
+    );
+    equal(&rt, &told(NetHeaders::from(headers)), &wanted);
+    let headers = IpHeaders::Ipv6(Ipv6Header::default(), Ipv6Extensions::default());
+    let ether_type = Ok(EtherType(0x86dd));
+    let wanted = (
+        [true, false, true, false],
+        [false, true, false],
+        40,
+        ether_type,
+    );
+    equal(&rt, &told(NetHeaders::from(headers)), &wanted);
 }
 
+// An ARP packet has no number behind it.
 #[test]
-fn kind_of_arp(rt: HostRuntime) {
-    let Some(headers) = arp() else {
-        panic!(rt; "no packet");
-    };
-    assert!(rt; told(&headers) == ([false, false, false, true], [false, false, true], 28));
-}
-
-fn set(mut headers: NetHeaders) -> Result<EtherType, NetSetNextHeaderError> {
-    headers.try_set_next_headers(IpNumber(6))
-}
-
-#[test]
-fn numbers_behind_headers(rt: HostRuntime) {
-    assert!(rt; [set(ipv4()), set(ipv6())] == [Ok(EtherType(0x0800)), Ok(EtherType(0x86dd))]);
-}
-
-#[test]
-fn no_number_behind_arp(rt: HostRuntime) {
-    let Some(headers) = arp() else {
-        panic!(rt; "no packet");
-    };
-    assert!(rt; set(headers) == Err(NetSetNextHeaderError::ArpHeader));
+fn headers_of_arp(rt: HostRuntime) {
+    let refused = Err(NetSetNextHeaderError::ArpHeader);
+    let wanted = (
+        [false, false, false, true],
+        [false, false, true],
+        28,
+        refused,
+    );
+    equal(&rt, &told_of_arp(), &Some(wanted));
 }

@@ -1,7 +1,9 @@
 //! Packets of the network layer. The bytes were worked out by hand after RFC 791, 826 and 8200.
+use crate::checks::equal;
 use ep_ipslice::{IpSlice, Ipv4Slice, Ipv6Slice};
 use ep_link::ArpPacketSlice;
 use ep_packet::NetSlice;
+use std::test::*;
 
 // An IPv4 packet with one byte of payload.
 const IPV4: [u8; 21] = [
@@ -19,29 +21,39 @@ const ARP: [u8; 28] = [
     0, 1, 8, 0, 6, 4, 0, 1, 2, 0, 0, 0, 0, 1, 10, 0, 0, 1, 0, 0, 0, 0, 0, 0, 10, 0, 0, 2,
 ];
 
-// Which tests say yes, which parts are there, and the length of an IP payload.
-type Told = ([bool; 4], [bool; 3], Option<usize>);
+// The functions below have no contracts, as tests alone call them.
 
-fn told(packet: &NetSlice<'_>) -> Told {
-    let kinds = [
+// Which tests say yes.
+fn kinds(packet: &NetSlice<'_>) -> [bool; 4] {
+    [
         packet.is_ip(),
         packet.is_ipv4(),
         packet.is_ipv6(),
         packet.is_arp(),
-    ];
-    let parts = [
+    ]
+}
+
+// Whether there are a packet of IPv4, one of IPv6 and one of ARP.
+fn parts(packet: &NetSlice<'_>) -> [bool; 3] {
+    [
         packet.ipv4_ref().is_some(),
         packet.ipv6_ref().is_some(),
         packet.arp_ref().is_some(),
-    ];
+    ]
+}
+
+// Both, and the length of an IP payload.
+type Told = ([bool; 4], [bool; 3], Option<usize>);
+
+fn told(packet: &NetSlice<'_>) -> Told {
     let payload = match packet.ip_payload_ref() {
         Some(payload) => Some(payload.payload.len()),
         None => None,
     };
-    (kinds, parts, payload)
+    (kinds(packet), parts(packet), payload)
 }
 
-// The functions below tell it of these bytes, sliced by each call.
+// The same of these bytes, sliced by each call.
 
 fn of_ipv4(bytes: &[u8]) -> Option<Told> {
     match Ipv4Slice::from_slice(bytes) {
@@ -76,12 +88,7 @@ fn kinds_of_packets(rt: HostRuntime) {
     let ipv4 = Some(([true, true, false, false], [true, false, false], Some(1)));
     let ipv6 = Some(([true, false, true, false], [false, true, false], Some(0)));
     let arp = Some(([false, false, false, true], [false, false, true], None));
-    let found = [
-        of_ipv4(&IPV4),
-        of_ip(&IPV4),
-        of_ipv6(&IPV6),
-        of_ip(&IPV6),
-        of_arp(&ARP),
-    ];
-    assert!(rt; found == [ipv4, ipv4, ipv6, ipv6, arp]);
+    equal(&rt, &[of_ipv4(&IPV4), of_ip(&IPV4)], &[ipv4; 2]);
+    equal(&rt, &[of_ipv6(&IPV6), of_ip(&IPV6)], &[ipv6; 2]);
+    equal(&rt, &of_arp(&ARP), &arp);
 }

@@ -1,17 +1,23 @@
 //! Headers of IP packets in slices. The bytes were worked out by hand after RFC 791 and 8200.
+use crate::checks::equal;
 use ep_base::err::{Layer, LenError};
 use ep_base::{IpNumber, LenSource};
 use ep_ipslice::err::ip::{HeaderError, HeadersError, HeadersSliceError};
 use ep_ipslice::err::ipv6::SliceError;
 use ep_packet::IpHeaders;
+use std::process::Abort;
+use std::test::*;
+
+// The functions below have no contracts, as tests alone call them.
 
 // An IPv6 packet whose payload length is 16: a fragment header of a first fragment that names this
 // number, eight bytes, and one of padding.
 fn ipv6_packet(next: u8) -> [u8; 57] {
-    let mut packet = [7; 57];
-    packet[..8].copy_from_slice(&[0x60, 0, 0, 0, 0, 16, 44, 64]);
-    packet[40..48].copy_from_slice(&[next, 0, 0, 1, 0, 0, 0, 7]);
-    packet[48..].copy_from_slice(&[1, 2, 3, 4, 5, 6, 7, 8, 0]);
+    let mut packet = [
+        0x60, 0, 0, 0, 0, 16, 44, 64, 7, 7, 7, 7, 7, 7, 7, 7, 7, 7, 7, 7, 7, 7, 7, 7, 7, 7, 7, 7,
+        7, 7, 7, 7, 7, 7, 7, 7, 7, 7, 7, 7, 0, 0, 0, 1, 0, 0, 0, 7, 1, 2, 3, 4, 5, 6, 7, 8, 0,
+    ];
+    packet[40] = next;
     packet
 }
 
@@ -26,29 +32,23 @@ fn headers_of_ipv6(packet: &[u8]) -> Option<(usize, bool)> {
 // The payload behind the headers: its number, whether it is a fragment, what bounds it, its bytes.
 fn payload_of_ipv6(packet: &[u8]) -> Option<(IpNumber, bool, LenSource, &[u8])> {
     match IpHeaders::from_ipv6_slice(packet) {
-        Ok((_, payload)) => {
-            Some((
-                payload.ip_number,
-                payload.fragmented,
-                payload.len_source,
-                payload.payload,
-            ))
-        }
+        Ok((_, payload)) => Some((
+            payload.ip_number,
+            payload.fragmented,
+            payload.len_source,
+            payload.payload,
+        )),
         Err(_) => None,
     }
 }
 
 #[test]
-fn headers_of_an_ipv6_packet(rt: HostRuntime) {
-    assert!(rt; headers_of_ipv6(&ipv6_packet(17)) == Some((48, true)));
-}
-
-#[test]
-fn payload_of_an_ipv6_packet(rt: HostRuntime) {
+fn headers_and_payload_of_an_ipv6_packet(rt: HostRuntime) {
     let packet = ipv6_packet(17);
+    equal(&rt, &headers_of_ipv6(&packet), &Some((48, true)));
     let bytes = [1, 2, 3, 4, 5, 6, 7, 8].as_slice();
     let payload = (IpNumber(17), true, LenSource::Ipv6HeaderPayloadLen, bytes);
-    assert!(rt; payload_of_ipv6(&packet) == Some(payload));
+    equal(&rt, &payload_of_ipv6(&packet), &Some(payload));
 }
 
 // Destination options behind the fragment header, of (2 + 1) * 8 bytes, where eight are left.
@@ -63,31 +63,9 @@ fn extension_header_cut_off(rt: HostRuntime) {
         layer: Layer::Ipv6ExtHeader,
         layer_start_offset: 48,
     };
-    let refused = (
-        IpHeaders::from_ipv6_slice(&packet).err(),
-        IpHeaders::from_slice(&packet).err(),
-    );
-    assert!(rt;
-        refused
-            == (
-                Some(SliceError::Len(want)),
-                Some(HeadersSliceError::Len(want))
-            )
-    );
-}
-
-// The number behind the headers, if there are any.
-fn number_behind(packet: &[u8]) -> Option<IpNumber> {
-    match IpHeaders::from_ipv6_slice(packet) {
-        Ok((_, payload)) => Some(payload.ip_number),
-        Err(_) => None,
-    }
-}
-
-// A second fragment header ends the headers, since a value holds one.
-#[test]
-fn second_fragment_header(rt: HostRuntime) {
-    assert!(rt; number_behind(&ipv6_packet(44)) == Some(IpNumber(44)));
+    let refused = IpHeaders::from_ipv6_slice(&packet).err();
+    equal(&rt, &refused, &Some(SliceError::Len(want)));
+    refuses(&rt, &packet, HeadersSliceError::Len(want));
 }
 
 // Whether the headers are of IPv6, the number behind them, and the length of the payload.
@@ -98,17 +76,24 @@ fn read(packet: &[u8]) -> Option<(bool, IpNumber, usize)> {
     }
 }
 
+// A second fragment header ends the headers, since a value holds one.
+#[test]
+fn second_fragment_header(rt: HostRuntime) {
+    equal(&rt, &read(&ipv6_packet(44)), &Some((true, IpNumber(44), 8)));
+}
+
 #[test]
 fn version_tells_the_headers(rt: HostRuntime) {
     let mut ipv4 = [0; 20];
     ipv4[0] = 0x45;
     ipv4[3] = 20;
-    let found = (
-        read(&ipv6_packet(17)),
-        IpHeaders::from_slice(&ipv4).is_ok(),
-        read(&ipv4[..19]),
-    );
-    assert!(rt; found == (Some((true, IpNumber(17), 8)), true, None));
+    equal(&rt, &read(&ipv6_packet(17)), &Some((true, IpNumber(17), 8)));
+    equal(&rt, &IpHeaders::from_slice(&ipv4).is_ok(), &true);
+    equal(&rt, &read(&ipv4[..19]), &None);
+}
+
+fn refuses(rt: &impl Abort, packet: &[u8], error: HeadersSliceError) {
+    equal(rt, &IpHeaders::from_slice(packet).err(), &Some(error));
 }
 
 #[test]
@@ -120,11 +105,11 @@ fn neither_version(rt: HostRuntime) {
         layer: Layer::IpHeader,
         layer_start_offset: 0,
     };
+    refuses(&rt, &[], HeadersSliceError::Len(want));
     let other = HeaderError::UnsupportedIpVersion { version_number: 5 };
-    let refused = [
-        IpHeaders::from_slice(&[]).err(),
-        IpHeaders::from_slice(&[0x5f]).err(),
-    ];
-    let other = HeadersSliceError::Content(HeadersError::Ip(other));
-    assert!(rt; refused == [Some(HeadersSliceError::Len(want)), Some(other)]);
+    refuses(
+        &rt,
+        &[0x5f],
+        HeadersSliceError::Content(HeadersError::Ip(other)),
+    );
 }

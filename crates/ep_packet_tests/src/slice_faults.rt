@@ -1,107 +1,96 @@
 //! Where packets end too early. The bytes were worked out by hand after IEEE 802.3, 802.1Q and
 //! 802.1AE and RFC 768, 791, 792, 826, 4302, 4443, 8200 and 9293; addresses are zero.
+use crate::checks::equal;
 use ep_base::err::{Layer, LenError};
 use ep_base::{EtherType, LenSource};
 use ep_packet::SlicedPacket;
 use ep_packet::err::packet::SliceError;
+use std::process::Abort;
+use std::test::*;
 
-// Bytes behind an ether type, and the layer that wants more of them: how many it needs, how many
-// there are, what bounds them, and where it begins.
-#[derive(Drop)]
-struct Cut<'a> {
-    ether_type: u16,
-    bytes: &'a [u8],
-    layer: Layer,
-    needed: usize,
-    found: usize,
-    source: LenSource,
-    place: usize,
-}
+// The functions below have no contracts, as tests alone call them.
 
-// Whether each is refused so.
-fn are_refused(cuts: &[Cut<'_>]) -> bool {
-    for cut in cuts {
-        let want = SliceError::Len(LenError {
-            required_len: cut.needed,
-            len: cut.found,
-            len_source: cut.source,
-            layer: cut.layer,
-            layer_start_offset: cut.place,
-        });
-        let refused = SlicedPacket::from_ether_type(EtherType(cut.ether_type), cut.bytes).err();
-        if refused != Some(want) {
-            return false;
-        }
-    }
-    true
-}
+// The layer that wants more bytes, how many it needs, how many there are, what bounds them, and
+// where it begins.
+type Want = (Layer, [usize; 2], LenSource, usize);
 
-fn wanting(ether_type: u16, bytes: &[u8], layer: Layer, needed: usize, place: usize) -> Cut<'_> {
-    Cut {
-        ether_type,
-        bytes,
+fn fault_is(rt: &impl Abort, fault: Option<SliceError>, wanted: Want) {
+    let (layer, [required_len, len], len_source, layer_start_offset) = wanted;
+    let error = LenError {
+        required_len,
+        len,
+        len_source,
         layer,
-        needed,
-        found: bytes.len().saturating_sub(place),
-        source: LenSource::Slice,
-        place,
-    }
+        layer_start_offset,
+    };
+    equal(rt, &fault, &Some(SliceError::Len(error)));
 }
 
-#[test]
-fn link_header(rt: HostRuntime) {
-    let want = LenError {
-        required_len: 14,
-        len: 13,
-        len_source: LenSource::Slice,
-        layer: Layer::Ethernet2Header,
-        layer_start_offset: 0,
-    };
-    assert!(rt; SlicedPacket::from_ethernet(&[0; 13]).err() == Some(SliceError::Len(want)));
+fn refuses(rt: &impl Abort, ether_type: u16, bytes: &[u8], wanted: Want) {
+    let fault = SlicedPacket::from_ether_type(EtherType(ether_type), bytes).err();
+    fault_is(rt, fault, wanted);
 }
 
 // A VLAN tag within a MACsec header's short length of four, two of them for the ether type: a byte
 // behind is not the tag's.
+const TAG_BEYOND_A_SHORT_LENGTH: [u8; 25] = [
+    0, 0, 0, 0, 0, 0, 0, 0, 0, 0, 0, 0, 0x88, 0xe5, 0, 4, 0, 0, 0, 1, 0x81, 0, 0, 5, 0xff,
+];
+
 #[test]
-fn tag_beyond_a_short_length(rt: HostRuntime) {
-    let mut frame = [0; 25];
-    frame[12..].copy_from_slice(&[0x88, 0xe5, 0, 4, 0, 0, 0, 1, 0x81, 0, 0, 5, 0xff]);
-    let want = LenError {
-        required_len: 4,
-        len: 2,
-        len_source: LenSource::Slice,
-        layer: Layer::VlanHeader,
-        layer_start_offset: 22,
-    };
-    assert!(rt; SlicedPacket::from_ethernet(&frame).err() == Some(SliceError::Len(want)));
+fn frames(rt: HostRuntime) {
+    let fault = SlicedPacket::from_ethernet(&[0; 13]).err();
+    fault_is(
+        &rt,
+        fault,
+        (Layer::Ethernet2Header, [14, 13], LenSource::Slice, 0),
+    );
+    let fault = SlicedPacket::from_ethernet(&TAG_BEYOND_A_SHORT_LENGTH).err();
+    fault_is(
+        &rt,
+        fault,
+        (Layer::VlanHeader, [4, 2], LenSource::Slice, 22),
+    );
 }
 
 // A MACsec header has 8 bytes with an ether type; with a short length of 5, three more.
 #[test]
 fn tags(rt: HostRuntime) {
-    let cuts = [
-        wanting(0x8100, &[0, 5, 8], Layer::VlanHeader, 4, 0),
-        wanting(0x88a8, &[0, 5, 0x91, 0, 0], Layer::VlanHeader, 4, 4),
-        wanting(0x88e5, &[0; 5], Layer::MacsecHeader, 6, 0),
-        wanting(
-            0x8100,
-            &[0, 5, 0x88, 0xe5, 0, 0, 0, 0, 0, 1, 8],
-            Layer::MacsecHeader,
-            8,
-            4,
-        ),
-        wanting(
-            0x88e5,
-            &[0, 5, 0, 0, 0, 1, 8, 0, 1, 2],
-            Layer::MacsecPacket,
-            11,
-            0,
-        ),
-    ];
-    assert!(rt; are_refused(&cuts));
+    refuses(
+        &rt,
+        0x8100,
+        &[0, 5, 8],
+        (Layer::VlanHeader, [4, 3], LenSource::Slice, 0),
+    );
+    refuses(
+        &rt,
+        0x88a8,
+        &[0, 5, 0x91, 0, 0],
+        (Layer::VlanHeader, [4, 1], LenSource::Slice, 4),
+    );
+    refuses(
+        &rt,
+        0x88e5,
+        &[0; 5],
+        (Layer::MacsecHeader, [6, 5], LenSource::Slice, 0),
+    );
+    let macsec = [0, 5, 0x88, 0xe5, 0, 0, 0, 0, 0, 1, 8];
+    refuses(
+        &rt,
+        0x8100,
+        &macsec,
+        (Layer::MacsecHeader, [8, 7], LenSource::Slice, 4),
+    );
+    let macsec = [0, 5, 0, 0, 0, 1, 8, 0, 1, 2];
+    refuses(
+        &rt,
+        0x88e5,
+        &macsec,
+        (Layer::MacsecPacket, [11, 10], LenSource::Slice, 0),
+    );
 }
 
-// An IPv4 header with this many words, total length and protocol.
+// An IPv4 header with this many words, total length and protocol, in front of 20 bytes.
 fn ipv4(words: u8, total_len: u8, protocol: u8) -> [u8; 40] {
     let mut bytes = [0; 40];
     bytes[0] = 0x40 | words;
@@ -110,116 +99,116 @@ fn ipv4(words: u8, total_len: u8, protocol: u8) -> [u8; 40] {
     bytes
 }
 
-// Its first bytes, of which it has so many.
-fn front(packet: &[u8; 40], len: usize) -> &[u8] {
-    match packet.get(..len) {
-        Some(front) => front,
-        None => packet,
-    }
+// So many bytes of such a packet.
+fn refuses_ipv4(rt: &impl Abort, packet: [u8; 40], len: usize, wanted: Want) {
+    refuses(rt, 0x0800, packet.get(..len).unwrap_or(&packet), wanted);
 }
 
 #[test]
 fn ipv4_packets(rt: HostRuntime) {
-    let options = ipv4(6, 40, 17);
-    let packet = ipv4(5, 28, 17);
-    let auth = ipv4(5, 25, 51);
-    let cuts = [
-        wanting(0x0800, &[0x45], Layer::Ipv4Header, 20, 0),
-        wanting(0x0800, front(&options, 20), Layer::Ipv4Header, 24, 0),
-        wanting(0x0800, front(&packet, 27), Layer::Ipv4Packet, 28, 0),
-        Cut {
-            source: LenSource::Ipv4HeaderTotalLen,
-            ..wanting(0x0800, front(&auth, 25), Layer::IpAuthHeader, 12, 20)
-        },
-    ];
-    assert!(rt; are_refused(&cuts));
-}
-
-// Where an IPv4 packet ends within its message.
-fn message(bytes: &[u8], layer: Layer, needed: usize) -> Cut<'_> {
-    Cut {
-        source: LenSource::Ipv4HeaderTotalLen,
-        ..wanting(0x0800, bytes, layer, needed, 20)
-    }
+    refuses(
+        &rt,
+        0x0800,
+        &[0x45],
+        (Layer::Ipv4Header, [20, 1], LenSource::Slice, 0),
+    );
+    refuses_ipv4(
+        &rt,
+        ipv4(6, 40, 17),
+        20,
+        (Layer::Ipv4Header, [24, 20], LenSource::Slice, 0),
+    );
+    refuses_ipv4(
+        &rt,
+        ipv4(5, 28, 17),
+        27,
+        (Layer::Ipv4Packet, [28, 27], LenSource::Slice, 0),
+    );
+    let wanted = (
+        Layer::IpAuthHeader,
+        [12, 5],
+        LenSource::Ipv4HeaderTotalLen,
+        20,
+    );
+    refuses_ipv4(&rt, ipv4(5, 25, 51), 25, wanted);
 }
 
 #[test]
 fn messages(rt: HostRuntime) {
-    let udp = ipv4(5, 27, 17);
-    let tcp = ipv4(5, 39, 6);
+    let wanted = (Layer::UdpHeader, [8, 7], LenSource::Ipv4HeaderTotalLen, 20);
+    refuses_ipv4(&rt, ipv4(5, 27, 17), 27, wanted);
+    let wanted = (
+        Layer::TcpHeader,
+        [20, 19],
+        LenSource::Ipv4HeaderTotalLen,
+        20,
+    );
+    refuses_ipv4(&rt, ipv4(5, 39, 6), 39, wanted);
     let mut options = ipv4(5, 40, 6);
     options[32] = 0x60;
-    let icmp = ipv4(5, 27, 1);
-    let cuts = [
-        message(front(&udp, 27), Layer::UdpHeader, 8),
-        message(front(&tcp, 39), Layer::TcpHeader, 20),
-        message(front(&options, 40), Layer::TcpHeader, 24),
-        message(front(&icmp, 27), Layer::Icmpv4, 8),
-    ];
-    assert!(rt; are_refused(&cuts));
+    let wanted = (
+        Layer::TcpHeader,
+        [24, 20],
+        LenSource::Ipv4HeaderTotalLen,
+        20,
+    );
+    refuses_ipv4(&rt, options, 40, wanted);
+    let wanted = (Layer::Icmpv4, [8, 7], LenSource::Ipv4HeaderTotalLen, 20);
+    refuses_ipv4(&rt, ipv4(5, 27, 1), 27, wanted);
 }
 
 // A UDP message of eight bytes says that it has nine, and that it has seven.
 #[test]
 fn udp_lengths(rt: HostRuntime) {
-    let mut long = ipv4(5, 28, 17);
-    long[25] = 9;
-    let mut short = ipv4(5, 28, 17);
-    short[25] = 7;
-    let cuts = [
-        message(front(&long, 28), Layer::UdpPayload, 9),
-        Cut {
-            source: LenSource::UdpHeaderLen,
-            found: 7,
-            ..wanting(0x0800, front(&short, 28), Layer::UdpHeader, 8, 20)
-        },
-    ];
-    assert!(rt; are_refused(&cuts));
+    let mut packet = ipv4(5, 28, 17);
+    packet[25] = 9;
+    let wanted = (Layer::UdpPayload, [9, 8], LenSource::Ipv4HeaderTotalLen, 20);
+    refuses_ipv4(&rt, packet, 28, wanted);
+    packet[25] = 7;
+    let wanted = (Layer::UdpHeader, [8, 7], LenSource::UdpHeaderLen, 20);
+    refuses_ipv4(&rt, packet, 28, wanted);
 }
 
 // An IPv6 header with this payload length and next header, and seven bytes.
-fn ipv6(payload_len: u8, next_header: u8) -> [u8; 47] {
+fn refuses_ipv6(rt: &impl Abort, payload_len: u8, next: u8, wanted: Want) {
     let mut bytes = [0; 47];
     bytes[0] = 0x60;
     bytes[5] = payload_len;
-    bytes[6] = next_header;
-    bytes
+    bytes[6] = next;
+    refuses(rt, 0x86dd, &bytes, wanted);
 }
 
 // What wants more than those seven bytes.
-fn behind_ipv6(bytes: &[u8], layer: Layer, needed: usize) -> Cut<'_> {
-    Cut {
-        source: LenSource::Ipv6HeaderPayloadLen,
-        ..wanting(0x86dd, bytes, layer, needed, 40)
-    }
+fn refuses_behind_ipv6(rt: &impl Abort, next: u8, layer: Layer, needed: usize) {
+    let wanted = (layer, [needed, 7], LenSource::Ipv6HeaderPayloadLen, 40);
+    refuses_ipv6(rt, 7, next, wanted);
 }
 
 #[test]
 fn ipv6_packets(rt: HostRuntime) {
-    let udp = ipv6(8, 17);
-    let options = ipv6(7, 0);
-    let fragment = ipv6(7, 44);
-    let auth = ipv6(7, 51);
-    let icmp = ipv6(7, 58);
-    let cuts = [
-        wanting(0x86dd, &[0x60], Layer::Ipv6Header, 40, 0),
-        wanting(0x86dd, &udp, Layer::Ipv6Packet, 48, 0),
-        behind_ipv6(&options, Layer::Ipv6ExtHeader, 8),
-        behind_ipv6(&fragment, Layer::Ipv6FragHeader, 8),
-        behind_ipv6(&auth, Layer::IpAuthHeader, 12),
-        behind_ipv6(&icmp, Layer::Icmpv6, 8),
-    ];
-    assert!(rt; are_refused(&cuts));
+    let wanted = (Layer::Ipv6Header, [40, 1], LenSource::Slice, 0);
+    refuses(&rt, 0x86dd, &[0x60], wanted);
+    let wanted = (Layer::Ipv6Packet, [48, 47], LenSource::Slice, 0);
+    refuses_ipv6(&rt, 8, 17, wanted);
+    refuses_behind_ipv6(&rt, 0, Layer::Ipv6ExtHeader, 8);
+    refuses_behind_ipv6(&rt, 44, Layer::Ipv6FragHeader, 8);
+    refuses_behind_ipv6(&rt, 51, Layer::IpAuthHeader, 12);
+    refuses_behind_ipv6(&rt, 58, Layer::Icmpv6, 8);
 }
 
 #[test]
 fn arp_packets(rt: HostRuntime) {
-    let cuts = [
-        wanting(0x0806, &[0; 7], Layer::Arp, 8, 0),
-        Cut {
-            source: LenSource::ArpAddrLengths,
-            ..wanting(0x0806, &[0, 1, 8, 0, 6, 4, 0, 1], Layer::Arp, 28, 0)
-        },
-    ];
-    assert!(rt; are_refused(&cuts));
+    refuses(
+        &rt,
+        0x0806,
+        &[0; 7],
+        (Layer::Arp, [8, 7], LenSource::Slice, 0),
+    );
+    let front = [0, 1, 8, 0, 6, 4, 0, 1];
+    refuses(
+        &rt,
+        0x0806,
+        &front,
+        (Layer::Arp, [28, 8], LenSource::ArpAddrLengths, 0),
+    );
 }

@@ -1,5 +1,6 @@
 //! Headers of transport messages.
 
+use crate::checks::equal;
 use ep_base::err::{ValueTooBigError, ValueType};
 use ep_base::{IpNumber, Ipv6FlowLabel};
 use ep_icmp::{IcmpEchoHeader, Icmpv4Header, Icmpv4Type, Icmpv6Header, Icmpv6Type};
@@ -7,6 +8,7 @@ use ep_ip::{Ipv4Header, Ipv6Header};
 use ep_packet::TransportHeader;
 use ep_packet::err::packet::TransportChecksumError;
 use ep_tcpudp::{TcpHeader, UdpHeader};
+use std::process::Abort;
 use std::test::*;
 
 const PAYLOAD: [u8; 8] = [1, 2, 3, 4, 5, 6, 7, 8];
@@ -97,24 +99,30 @@ fn over_ipv6(mut header: TransportHeader, payload: &[u8]) -> Option<TransportHea
 // Messages that other tools give between 10.0.0.1 and 10.0.0.2.
 #[test]
 fn checksums_over_ipv4(rt: HostRuntime) {
-    let found = [
-        as_udp(over_ipv4(udp(), &PAYLOAD)),
-        as_tcp(over_ipv4(tcp(), &[])),
-        as_icmpv4(over_ipv4(icmpv4(), &PAYLOAD)),
-    ];
-    assert!(rt; found == [Some(0xdbb4), Some(0x97da), Some(0xe7e8)]);
+    equal(&rt, &as_udp(over_ipv4(udp(), &PAYLOAD)), &Some(0xdbb4));
+    equal(&rt, &as_tcp(over_ipv4(tcp(), &[])), &Some(0x97da));
+    equal(
+        &rt,
+        &as_icmpv4(over_ipv4(icmpv4(), &PAYLOAD)),
+        &Some(0xe7e8),
+    );
 }
 
 // The same between fd00::1 and fd00::2; an ICMPv4 message covers no addresses.
 #[test]
 fn checksums_over_ipv6(rt: HostRuntime) {
-    let found = [
-        as_udp(over_ipv6(udp(), &PAYLOAD)),
-        as_tcp(over_ipv6(tcp(), &[])),
-        as_icmpv4(over_ipv6(icmpv4(), &PAYLOAD)),
-        as_icmpv6(over_ipv6(icmpv6(), &PAYLOAD)),
-    ];
-    assert!(rt; found == [Some(0xf5b2), Some(0xb1d8), Some(0xe7e8), Some(0x7599)]);
+    equal(&rt, &as_udp(over_ipv6(udp(), &PAYLOAD)), &Some(0xf5b2));
+    equal(&rt, &as_tcp(over_ipv6(tcp(), &[])), &Some(0xb1d8));
+    equal(
+        &rt,
+        &as_icmpv4(over_ipv6(icmpv4(), &PAYLOAD)),
+        &Some(0xe7e8),
+    );
+    equal(
+        &rt,
+        &as_icmpv6(over_ipv6(icmpv6(), &PAYLOAD)),
+        &Some(0x7599),
+    );
 }
 
 fn too_long(value_type: ValueType, max_allowed: usize) -> TransportChecksumError {
@@ -125,52 +133,53 @@ fn too_long(value_type: ValueType, max_allowed: usize) -> TransportChecksumError
     })
 }
 
-// What `update_checksum_ipv4` answers, and whether the header is as it was.
-type Refused = (Result<(), TransportChecksumError>, bool);
-
-fn refused(mut header: TransportHeader, before: &TransportHeader, payload: &[u8]) -> Refused {
-    let done = header.update_checksum_ipv4(&ipv4_header(), payload);
-    (done, header == *before)
+// What `update_checksum_ipv4` answers. The header stays as it was.
+fn is_refused(
+    rt: &impl Abort,
+    mut header: TransportHeader,
+    before: &TransportHeader,
+    payload: &[u8],
+    error: TransportChecksumError,
+) {
+    equal(
+        rt,
+        &header.update_checksum_ipv4(&ipv4_header(), payload),
+        &Err(error),
+    );
+    equal(rt, &header, before);
 }
 
 #[test]
-fn refused_checksums(rt: HostRuntime) -> Result<(), Fail> {
-    let payload = vec![in rt.alloc(); 0; 65528]?;
-    let found = [
-        refused(udp(), &udp(), &payload),
-        refused(tcp(), &tcp(), &payload),
-        refused(icmpv6(), &icmpv6(), &PAYLOAD),
-    ];
-    let wanted = [
-        (Err(too_long(ValueType::UdpPayloadLengthIpv4, 65527)), true),
-        (Err(too_long(ValueType::TcpPayloadLengthIpv4, 65515)), true),
-        (Err(TransportChecksumError::Icmpv6InIpv4), true),
-    ];
-    assert!(rt; found == wanted);
-    Ok(())
+fn refused_checksums(rt: HostRuntime) {
+    let payload = [0; 65528];
+    let error = too_long(ValueType::UdpPayloadLengthIpv4, 65527);
+    is_refused(&rt, udp(), &udp(), &payload, error);
+    let error = too_long(ValueType::TcpPayloadLengthIpv4, 65515);
+    is_refused(&rt, tcp(), &tcp(), &payload, error);
+    is_refused(
+        &rt,
+        icmpv6(),
+        &icmpv6(),
+        &PAYLOAD,
+        TransportChecksumError::Icmpv6InIpv4,
+    );
 }
 
 // Each header is of one protocol alone.
 #[test]
 fn header_of_its_protocol(rt: HostRuntime) {
-    let found = [
-        as_udp(Some(udp())),
-        as_tcp(Some(tcp())),
-        as_icmpv4(Some(icmpv4())),
-        as_icmpv6(Some(icmpv6())),
-    ];
-    assert!(rt; found == [Some(0); 4]);
+    equal(&rt, &as_udp(Some(udp())), &Some(0));
+    equal(&rt, &as_tcp(Some(tcp())), &Some(0));
+    equal(&rt, &as_icmpv4(Some(icmpv4())), &Some(0));
+    equal(&rt, &as_icmpv6(Some(icmpv6())), &Some(0));
 }
 
 #[test]
 fn header_of_no_other_protocol(rt: HostRuntime) {
-    let found = [
-        as_tcp(Some(udp())),
-        as_icmpv4(Some(tcp())),
-        as_icmpv6(Some(icmpv4())),
-        as_udp(Some(icmpv6())),
-    ];
-    assert!(rt; found == [None; 4]);
+    equal(&rt, &as_tcp(Some(udp())), &None);
+    equal(&rt, &as_icmpv4(Some(tcp())), &None);
+    equal(&rt, &as_icmpv6(Some(icmpv4())), &None);
+    equal(&rt, &as_udp(Some(icmpv6())), &None);
 }
 
 // The functions below set the checksum of a header that is of their protocol.
@@ -237,32 +246,29 @@ fn set(mut header: TransportHeader) -> ([bool; 4], u16) {
 
 #[test]
 fn headers_are_written_to(rt: HostRuntime) {
-    let found = [set(udp()), set(tcp()), set(icmpv4()), set(icmpv6())];
-    let wanted = [
-        ([true, false, false, false], 0xdbb4),
-        ([false, true, false, false], 0x97da),
-        ([false, false, true, false], 1),
-        ([false, false, false, true], 2),
-    ];
-    assert!(rt; found == wanted);
+    equal(&rt, &set(udp()), &([true, false, false, false], 0xdbb4));
+    equal(&rt, &set(tcp()), &([false, true, false, false], 0x97da));
+    equal(&rt, &set(icmpv4()), &([false, false, true, false], 1));
+    equal(&rt, &set(icmpv6()), &([false, false, false, true], 2));
+}
+
+// Whether the header is written, its length, and how many bytes there are then.
+fn appended(header: TransportHeader, bytes: &mut Vec<u8>) -> (bool, usize, usize) {
+    let written = header.write(bytes).is_ok();
+    (written, header.header_len(), bytes.len())
 }
 
 // The bytes of each header behind those of the headers before it.
 #[test]
 fn headers_are_appended(rt: HostRuntime) {
     let mut bytes = Vec::new(rt.alloc());
-    let mut lengths = [0; 4];
-    for (header, len) in [udp(), tcp(), icmpv4(), icmpv6()]
-        .iter()
-        .zip(lengths.iter_mut())
-    {
-        if header.write(&mut bytes).is_ok() {
-            *len = header.header_len();
-        }
-    }
+    equal(&rt, &appended(udp(), &mut bytes), &(true, 8, 8));
+    equal(&rt, &appended(tcp(), &mut bytes), &(true, 20, 28));
+    equal(&rt, &appended(icmpv4(), &mut bytes), &(true, 8, 36));
+    equal(&rt, &appended(icmpv6(), &mut bytes), &(true, 8, 44));
     let expected = [
         0, 1, 0, 2, 0, 16, 0, 0, 0, 1, 0, 2, 0, 0, 0, 3, 0, 0, 0, 0, 0x50, 2, 4, 0, 0, 0, 0, 0, 8,
         0, 0, 0, 0, 1, 0, 2, 128, 0, 0, 0, 0, 1, 0, 2,
     ];
-    assert!(rt; (lengths, bytes.as_slice()) == ([8, 20, 8, 8], expected.as_slice()));
+    equal(&rt, &bytes.as_slice(), &expected.as_slice());
 }

@@ -1,8 +1,10 @@
 //! Transport messages, borrowed.
 
+use crate::checks::equal;
 use ep_icmp::{Icmpv4Slice, Icmpv6Slice};
 use ep_packet::TransportSlice;
 use ep_tcpudp::{TcpSlice, UdpSlice};
+use std::test::*;
 
 const BYTES: [u8; 20] = [
     0, 1, 0, 2, 0, 20, 0, 3, 0, 0, 0, 0, 0x50, 2, 4, 0, 0x97, 0xda, 0, 0,
@@ -32,11 +34,12 @@ fn compared(one: Option<TransportSlice<'_>>, other: Option<TransportSlice<'_>>) 
 // The same bytes are another message to another protocol.
 #[test]
 fn slices_of_each_protocol(rt: HostRuntime) {
-    let found = [
-        compared(udp(&BYTES), tcp(&BYTES)),
-        compared(icmpv4(&BYTES), icmpv6(&BYTES)),
-    ];
-    assert!(rt; found == [[true, false], [true, false]]);
+    equal(&rt, &compared(udp(&BYTES), tcp(&BYTES)), &[true, false]);
+    equal(
+        &rt,
+        &compared(icmpv4(&BYTES), icmpv6(&BYTES)),
+        &[true, false],
+    );
 }
 
 fn is_copied(message: Option<TransportSlice<'_>>) -> bool {
@@ -51,5 +54,5 @@ fn is_copied(message: Option<TransportSlice<'_>>) -> bool {
 
 #[test]
 fn a_copy_of_a_slice(rt: HostRuntime) {
-    assert!(rt; is_copied(udp(&BYTES)));
+    equal(&rt, &is_copied(udp(&BYTES)), &true);
 }

@@ -1,83 +1,59 @@
 //! Checksums of UDP and TCP over both IP versions.
 
+use crate::checks::equal;
 use ep_base::err::{ValueTooBigError, ValueType};
 use ep_base::{IpNumber, Ipv6FlowLabel};
 use ep_ip::{Ipv4Header, Ipv4HeaderSlice, Ipv6Header, Ipv6HeaderSlice};
-use ep_tcpudp::{TcpHeader, TcpHeaderSlice, TcpOptions, TcpSlice, UdpHeader, laws};
+use ep_tcpudp::{TcpHeader, TcpHeaderSlice, TcpSlice, UdpHeader, laws};
 use std::alloc::Global;
 use std::process::Abort;
 use std::test::*;
 
 const PAYLOAD: [u8; 8] = [1, 2, 3, 4, 5, 6, 7, 8];
 
-const V4: ([u8; 4], [u8; 4]) = ([10, 0, 0, 1], [10, 0, 0, 2]);
+// Where messages come from and go to, over IPv4 and over IPv6.
+const V4: [[u8; 4]; 2] = [[10, 0, 0, 1], [10, 0, 0, 2]];
 
-const V6: ([u8; 16], [u8; 16]) = (
+const V6: [[u8; 16]; 2] = [
     [0xfd, 0, 0, 0, 0, 0, 0, 0, 0, 0, 0, 0, 0, 0, 0, 1],
     [0xfd, 0, 0, 0, 0, 0, 0, 0, 0, 0, 0, 0, 0, 0, 0, 2],
-);
+];
 
-type Checksum = Result<u16, ValueTooBigError<usize>>;
+pub(super) type Checksum = Result<u16, ValueTooBigError<usize>>;
 
-// The functions below that take the test's handle end it where there is no such value. They have no
-// contracts, as tests alone call them.
+// The functions below have no contracts, as tests alone call them.
 
-fn ipv4_header(rt: &impl Abort, number: IpNumber) -> Ipv4Header {
-    let Ok(header) = Ipv4Header::new(16, 64, number, V4.0, V4.1) else {
-        panic!(rt; "no header");
-    };
-    header
+fn ipv4_header(protocol: IpNumber) -> Ipv4Header {
+    Ipv4Header {
+        total_len: 36,
+        time_to_live: 64,
+        protocol,
+        source: V4[0],
+        destination: V4[1],
+        ..Ipv4Header::default()
+    }
 }
 
 fn ipv6_header(next_header: IpNumber) -> Ipv6Header {
-    let (source, destination) = V6;
     Ipv6Header {
         traffic_class: 0,
         flow_label: Ipv6FlowLabel::ZERO,
         payload_length: 28,
         next_header,
         hop_limit: 64,
-        source,
-        destination,
+        source: V6[0],
+        destination: V6[1],
     }
 }
 
-fn tcp_header_slice<'a>(rt: &impl Abort, bytes: &'a [u8]) -> TcpHeaderSlice<'a> {
-    let Ok(header) = TcpHeaderSlice::from_slice(bytes) else {
-        panic!(rt; "no header");
-    };
-    header
-}
-
-fn tcp_segment<'a>(rt: &impl Abort, bytes: &'a [u8]) -> TcpSlice<'a> {
-    let Ok(segment) = TcpSlice::from_slice(bytes) else {
-        panic!(rt; "no segment");
-    };
-    segment
-}
-
-// So many bytes of this value.
-fn repeated(rt: &impl Abort, alloc: Global, byte: u8, len: usize) -> Vec<u8> {
-    let Ok(bytes) = vec![in alloc; byte; len] else {
-        panic!(rt; "no memory");
-    };
-    bytes
-}
-
-fn udp_over_ipv4(rt: &impl Abort, header: &UdpHeader, payload: &[u8]) -> [Checksum; 2] {
-    let ipv4 = ipv4_header(rt, IpNumber::UDP);
-    [
-        header.calc_checksum_ipv4(&ipv4, payload),
-        header.calc_checksum_ipv4_raw(V4.0, V4.1, payload),
-    ]
-}
-
-fn udp_over_ipv6(header: &UdpHeader, payload: &[u8]) -> [Checksum; 2] {
-    let ipv6 = ipv6_header(IpNumber::UDP);
-    [
-        header.calc_checksum_ipv6(&ipv6, payload),
-        header.calc_checksum_ipv6_raw(V6.0, V6.1, payload),
-    ]
+// The front of so many bytes, and the byte in each place behind it.
+pub(super) fn filled(alloc: Global, front: &[u8], byte: u8, len: usize) -> Vec<u8> {
+    let mut bytes = Vec::new(alloc);
+    if bytes.extend_from_slice(front).is_ok() && bytes.resize(len, byte).is_ok() {
+        bytes
+    } else {
+        Vec::new(alloc)
+    }
 }
 
 // A header from port 1 to port 2.
@@ -90,32 +66,37 @@ fn udp_header(length: u16, checksum: u16) -> UdpHeader {
     }
 }
 
-type Sealed = Result<UdpHeader, ValueTooBigError<usize>>;
-
-// Such a header with its checksum.
-fn sealed_over_ipv4(rt: &impl Abort, payload: &[u8]) -> Sealed {
-    UdpHeader::with_ipv4_checksum(1, 2, &ipv4_header(rt, IpNumber::UDP), payload)
+fn udp_over_ipv4(length: u16, payload: &[u8]) -> [Checksum; 2] {
+    let header = udp_header(length, 0);
+    [
+        header.calc_checksum_ipv4(&ipv4_header(IpNumber::UDP), payload),
+        header.calc_checksum_ipv4_raw(V4[0], V4[1], payload),
+    ]
 }
 
-fn sealed_over_ipv6(payload: &[u8]) -> Sealed {
-    UdpHeader::with_ipv6_checksum(1, 2, &ipv6_header(IpNumber::UDP), payload)
+fn udp_over_ipv6(length: u16, payload: &[u8]) -> [Checksum; 2] {
+    let header = udp_header(length, 0);
+    [
+        header.calc_checksum_ipv6(&ipv6_header(IpNumber::UDP), payload),
+        header.calc_checksum_ipv6_raw(V6[0], V6[1], payload),
+    ]
+}
+
+// Such a header with its checksum over IPv4, and with that over IPv6.
+fn sealed(payload: &[u8]) -> [Result<UdpHeader, ValueTooBigError<usize>>; 2] {
+    [
+        UdpHeader::with_ipv4_checksum(1, 2, &ipv4_header(IpNumber::UDP), payload),
+        UdpHeader::with_ipv6_checksum(1, 2, &ipv6_header(IpNumber::UDP), payload),
+    ]
 }
 
 // Ports 1 and 2 and the payload 1 to 8: other tools give dbb4 over IPv4 and f5b2 over IPv6.
 #[test]
-fn udp_checksums_over_ipv4(rt: HostRuntime) {
-    let header = udp_header(16, 0xdbb4);
-    let sums = udp_over_ipv4(&rt, &header, &PAYLOAD);
-    let found = (sealed_over_ipv4(&rt, &PAYLOAD), sums);
-    assert!(rt; found == (Ok(header), [Ok(0xdbb4), Ok(0xdbb4)]));
-}
-
-#[test]
-fn udp_checksums_over_ipv6(rt: HostRuntime) {
-    let header = udp_header(16, 0xf5b2);
-    let sums = udp_over_ipv6(&header, &PAYLOAD);
-    let found = (sealed_over_ipv6(&PAYLOAD), sums);
-    assert!(rt; found == (Ok(header), [Ok(0xf5b2), Ok(0xf5b2)]));
+fn udp_checksums(rt: HostRuntime) {
+    let headers = [Ok(udp_header(16, 0xdbb4)), Ok(udp_header(16, 0xf5b2))];
+    equal(&rt, &sealed(&PAYLOAD), &headers);
+    equal(&rt, &udp_over_ipv4(16, &PAYLOAD), &[Ok(0xdbb4); 2]);
+    equal(&rt, &udp_over_ipv6(16, &PAYLOAD), &[Ok(0xf5b2); 2]);
 }
 
 // A sum of ffff gives 0, in whose place stands ffff.
@@ -131,7 +112,7 @@ fn udp_zero_checksum(rt: HostRuntime) {
         header.calc_checksum_ipv4_raw([0; 4], [0; 4], &[]),
         header.calc_checksum_ipv6_raw([0; 16], [0; 16], &[]),
     ];
-    assert!(rt; sums == [Ok(0xffff), Ok(0xffff)]);
+    equal(&rt, &sums, &[Ok(0xffff); 2]);
 }
 
 fn udp_too_long(value_type: ValueType) -> ValueTooBigError<usize> {
@@ -142,253 +123,92 @@ fn udp_too_long(value_type: ValueType) -> ValueTooBigError<usize> {
     }
 }
 
-// Why a header and so many zeros have no checksum over IPv4, and whether they have one over IPv6.
-fn of_zeros(rt: &impl Abort, alloc: Global, len: usize) -> (Option<ValueTooBigError<usize>>, bool) {
-    let payload = repeated(rt, alloc, 0, len);
-    let header = udp_header(65535, 0);
-    (
-        header.calc_checksum_ipv4_raw(V4.0, V4.1, &payload).err(),
-        header.calc_checksum_ipv6_raw(V6.0, V6.1, &payload).is_ok(),
-    )
-}
-
-#[test]
-fn udp_payload_too_long_for_a_header(rt: HostRuntime) {
-    let error = udp_too_long(ValueType::UdpPayloadLengthIpv4);
-    let found = [
-        of_zeros(&rt, rt.alloc(), 65528),
-        of_zeros(&rt, rt.alloc(), 65527),
-    ];
-    assert!(rt; found == [(Some(error), true), (None, true)]);
-}
-
-// So many zeros with a header sealed over IPv4 and over IPv6.
-fn sealed_zeros(rt: &impl Abort, alloc: Global, len: usize) -> [Sealed; 2] {
-    let payload = repeated(rt, alloc, 0, len);
-    [sealed_over_ipv4(rt, &payload), sealed_over_ipv6(&payload)]
-}
-
-#[test]
-fn udp_payload_too_long_to_be_sealed(rt: HostRuntime) {
-    let over_v4 = udp_too_long(ValueType::UdpPayloadLengthIpv4);
-    let over_v6 = udp_too_long(ValueType::UdpPayloadLengthIpv6);
-    assert!(rt; sealed_zeros(&rt, rt.alloc(), 65528) == [Err(over_v4), Err(over_v6)]);
-}
-
 // The greatest payload, of zeros: other tools give ebe8 over IPv4 and 05e7 over IPv6.
 #[test]
 fn udp_greatest_payload(rt: HostRuntime) {
+    let payload = filled(rt.alloc(), &[], 0, 65527);
     let headers = [Ok(udp_header(65535, 0xebe8)), Ok(udp_header(65535, 0x05e7))];
-    assert!(rt; sealed_zeros(&rt, rt.alloc(), 65527) == headers);
+    equal(&rt, &sealed(&payload), &headers);
+    equal(&rt, &udp_over_ipv4(65535, &payload), &[Ok(0xebe8); 2]);
+    equal(&rt, &udp_over_ipv6(65535, &payload), &[Ok(0x05e7); 2]);
 }
 
-// The header from port 1 to port 2 with the number 3 and the window 1024.
-fn tcp_header() -> TcpHeader {
-    TcpHeader::new(1, 2, 3, 1024)
+// One byte more, with which a header has a checksum over IPv6 alone.
+#[test]
+fn udp_payload_too_long(rt: HostRuntime) {
+    let payload = filled(rt.alloc(), &[], 0, 65528);
+    let over_v4 = udp_too_long(ValueType::UdpPayloadLengthIpv4);
+    let over_v6 = udp_too_long(ValueType::UdpPayloadLengthIpv6);
+    equal(&rt, &sealed(&payload), &[Err(over_v4), Err(over_v6)]);
+    equal(&rt, &udp_over_ipv4(65535, &payload), &[Err(over_v4); 2]);
+    let [in_packet, raw] = udp_over_ipv6(65535, &payload);
+    equal(&rt, &[in_packet.is_ok(), raw.is_ok()], &[true; 2]);
 }
 
-fn too_long(actual: usize, max_allowed: usize) -> Checksum {
-    Err(ValueTooBigError {
+// The checksums of a segment as a whole, of the bytes of its header and a payload, and of its
+// fields and a payload.
+type Checksums = [Option<Checksum>; 3];
+
+fn of_segment_over_ipv4(bytes: &[u8], ends: [[u8; 4]; 2]) -> Option<Checksum> {
+    match TcpSlice::from_slice(bytes) {
+        Ok(segment) => Some(segment.calc_checksum_ipv4(ends[0], ends[1])),
+        Err(_) => None,
+    }
+}
+
+fn of_header_over_ipv4(bytes: &[u8], payload: &[u8], ends: [[u8; 4]; 2]) -> Option<Checksum> {
+    match TcpHeaderSlice::from_slice(bytes) {
+        Ok(header) => Some(header.calc_checksum_ipv4_raw(ends[0], ends[1], payload)),
+        Err(_) => None,
+    }
+}
+
+fn over_ipv4(bytes: &[u8], ends: [[u8; 4]; 2]) -> Checksums {
+    match TcpHeader::from_slice(bytes) {
+        Ok((fields, payload)) => [
+            of_segment_over_ipv4(bytes, ends),
+            of_header_over_ipv4(bytes, payload, ends),
+            Some(fields.calc_checksum_ipv4_raw(ends[0], ends[1], payload)),
+        ],
+        Err(_) => [None; 3],
+    }
+}
+
+fn of_segment_over_ipv6(bytes: &[u8], ends: [[u8; 16]; 2]) -> Option<Checksum> {
+    match TcpSlice::from_slice(bytes) {
+        Ok(segment) => Some(segment.calc_checksum_ipv6(ends[0], ends[1])),
+        Err(_) => None,
+    }
+}
+
+fn of_header_over_ipv6(bytes: &[u8], payload: &[u8], ends: [[u8; 16]; 2]) -> Option<Checksum> {
+    match TcpHeaderSlice::from_slice(bytes) {
+        Ok(header) => Some(header.calc_checksum_ipv6_raw(ends[0], ends[1], payload)),
+        Err(_) => None,
+    }
+}
+
+fn over_ipv6(bytes: &[u8], ends: [[u8; 16]; 2]) -> Checksums {
+    match TcpHeader::from_slice(bytes) {
+        Ok((fields, payload)) => [
+            of_segment_over_ipv6(bytes, ends),
+            of_header_over_ipv6(bytes, payload, ends),
+            Some(fields.calc_checksum_ipv6_raw(ends[0], ends[1], payload)),
+        ],
+        Err(_) => [None; 3],
+    }
+}
+
+fn sum(checksum: u16) -> Option<Checksum> {
+    Some(Ok(checksum))
+}
+
+fn too_long(actual: usize, max_allowed: usize) -> Option<Checksum> {
+    Some(Err(ValueTooBigError {
         actual,
         max_allowed,
         value_type: ValueType::TcpPayloadLengthIpv4,
-    })
-}
-
-// The checksum over IPv4 of a header and so many ones.
-fn of_ones(rt: &impl Abort, alloc: Global, header: &TcpHeader, len: usize) -> Checksum {
-    header.calc_checksum_ipv4_raw(V4.0, V4.1, &repeated(rt, alloc, 1, len))
-}
-
-// The greatest payload over IPv4, of ones, behind headers of 20 and of 60 bytes, and one byte more:
-// other tools give 217b and 817a. Over IPv6, where a program apart gives 873a, the limit is above 4
-// gigabytes; `laws::examples` has it.
-#[test]
-fn tcp_greatest_payload(rt: HostRuntime) {
-    let header = tcp_header();
-    let sums = [
-        of_ones(&rt, rt.alloc(), &header, 65515),
-        of_ones(&rt, rt.alloc(), &header, 65516),
-    ];
-    assert!(rt; sums == [Ok(0x217b), too_long(65516, 65515)]);
-}
-
-fn tcp_header_with_options() -> TcpHeader {
-    TcpHeader {
-        options: TcpOptions::from([1; 40]),
-        ..tcp_header()
-    }
-}
-
-#[test]
-fn tcp_greatest_payload_with_options(rt: HostRuntime) {
-    let header = tcp_header_with_options();
-    let sums = [
-        of_ones(&rt, rt.alloc(), &header, 65475),
-        of_ones(&rt, rt.alloc(), &header, 65476),
-    ];
-    assert!(rt; sums == [Ok(0x817a), too_long(65476, 65475)]);
-}
-
-#[test]
-fn tcp_greater_payload_over_ipv6(rt: HostRuntime) {
-    let payload = repeated(&rt, rt.alloc(), 1, 65516);
-    let header = tcp_header_with_options();
-    assert!(rt; header.calc_checksum_ipv6_raw(V6.0, V6.1, &payload) == Ok(0x873a));
-}
-
-// Checksums over IPv4 and IPv6 between these addresses: of a whole segment, ..
-fn of_segment(
-    rt: &impl Abort,
-    bytes: &[u8],
-    v4: ([u8; 4], [u8; 4]),
-    v6: ([u8; 16], [u8; 16]),
-) -> [Checksum; 2] {
-    let segment = tcp_segment(rt, bytes);
-    [
-        segment.calc_checksum_ipv4(v4.0, v4.1),
-        segment.calc_checksum_ipv6(v6.0, v6.1),
-    ]
-}
-
-// .. of the fields of its header, and a payload, ..
-fn of_fields(
-    header: &TcpHeader,
-    payload: &[u8],
-    v4: ([u8; 4], [u8; 4]),
-    v6: ([u8; 16], [u8; 16]),
-) -> [Checksum; 2] {
-    [
-        header.calc_checksum_ipv4_raw(v4.0, v4.1, payload),
-        header.calc_checksum_ipv6_raw(v6.0, v6.1, payload),
-    ]
-}
-
-// .. and of the bytes of its header, with no payload.
-fn of_header(rt: &impl Abort, bytes: &[u8]) -> [Checksum; 2] {
-    let header = tcp_header_slice(rt, bytes);
-    [
-        header.calc_checksum_ipv4_raw(V4.0, V4.1, &[]),
-        header.calc_checksum_ipv6_raw(V6.0, V6.1, &[]),
-    ]
-}
-
-// The same with the addresses of IP headers.
-fn of_fields_in_packets(rt: &impl Abort, header: &TcpHeader) -> [Checksum; 2] {
-    [
-        header.calc_checksum_ipv4(&ipv4_header(rt, IpNumber::TCP), &[]),
-        header.calc_checksum_ipv6(&ipv6_header(IpNumber::TCP), &[]),
-    ]
-}
-
-fn of_header_in_ipv4(rt: &impl Abort, bytes: &[u8]) -> Checksum {
-    let ipv4 = ipv4_header(rt, IpNumber::TCP).to_bytes();
-    let Ok(ipv4) = Ipv4HeaderSlice::from_slice(&ipv4) else {
-        panic!(rt; "no header");
-    };
-    tcp_header_slice(rt, bytes).calc_checksum_ipv4(&ipv4, &[])
-}
-
-fn of_header_in_ipv6(rt: &impl Abort, bytes: &[u8]) -> Checksum {
-    let ipv6 = ipv6_header(IpNumber::TCP).to_bytes();
-    let Ok(ipv6) = Ipv6HeaderSlice::from_slice(&ipv6) else {
-        panic!(rt; "no header");
-    };
-    tcp_header_slice(rt, bytes).calc_checksum_ipv6(&ipv6, &[])
-}
-
-// The first segment below with its three reserved bits set: slices sum them as they stand, which
-// gives 89da over IPv4 and a3d8 over IPv6, and fields don't have them.
-#[test]
-fn tcp_reserved_bits_are_summed(rt: HostRuntime) {
-    let mut bytes = SYN;
-    bytes[12] = 0x5e;
-    let as_they_stand = [Ok(0x89da), Ok(0xa3d8)];
-    let slices = [of_segment(&rt, &bytes, V4, V6), of_header(&rt, &bytes)];
-    assert!(rt; slices == [as_they_stand, as_they_stand]);
-}
-
-#[test]
-fn tcp_reserved_bits_are_not_fields(rt: HostRuntime) {
-    let mut bytes = SYN;
-    bytes[12] = 0x5e;
-    let fields = tcp_header_slice(&rt, &bytes).to_header();
-    assert!(rt; of_fields(&fields, &[], V4, V6) == [Ok(0x97da), Ok(0xb1d8)]);
-}
-
-// So many ones, but for the data offset: the checksum over IPv4 of the segment, ..
-fn whole(rt: &impl Abort, alloc: Global, data_offset: u8, len: usize) -> Checksum {
-    let bytes = ones_behind(rt, alloc, data_offset, len);
-    tcp_segment(rt, &bytes).calc_checksum_ipv4(V4.0, V4.1)
-}
-
-// .. and of its header and its payload apart.
-fn in_parts(rt: &impl Abort, alloc: Global, data_offset: u8, len: usize) -> Checksum {
-    let bytes = ones_behind(rt, alloc, data_offset, len);
-    let payload = tcp_segment(rt, &bytes).payload();
-    tcp_header_slice(rt, &bytes).calc_checksum_ipv4_raw(V4.0, V4.1, payload)
-}
-
-fn ones_behind(rt: &impl Abort, alloc: Global, data_offset: u8, len: usize) -> Vec<u8> {
-    let mut bytes = repeated(rt, alloc, 1, len);
-    if let Some(byte) = bytes.get_mut(12) {
-        *byte = data_offset;
-    }
-    bytes
-}
-
-// Segments of 65534 and 65535 bytes, and one byte more: a program apart gives 1e79 and 1d78, and
-// with 40 bytes of options 7e78 and 7d77.
-#[test]
-fn tcp_greatest_segment(rt: HostRuntime) {
-    let sums = [
-        whole(&rt, rt.alloc(), 0x50, 65534),
-        whole(&rt, rt.alloc(), 0x50, 65535),
-        whole(&rt, rt.alloc(), 0x50, 65536),
-    ];
-    assert!(rt; sums == [Ok(0x1e79), Ok(0x1d78), too_long(65536, 65535)]);
-}
-
-#[test]
-fn tcp_greatest_payload_of_a_header_slice(rt: HostRuntime) {
-    let sums = [
-        in_parts(&rt, rt.alloc(), 0x50, 65534),
-        in_parts(&rt, rt.alloc(), 0x50, 65535),
-        in_parts(&rt, rt.alloc(), 0x50, 65536),
-    ];
-    assert!(rt; sums == [Ok(0x1e79), Ok(0x1d78), too_long(65516, 65515)]);
-}
-
-#[test]
-fn tcp_greatest_payload_behind_options(rt: HostRuntime) {
-    let sums = [
-        in_parts(&rt, rt.alloc(), 0xf0, 65534),
-        in_parts(&rt, rt.alloc(), 0xf0, 65535),
-        in_parts(&rt, rt.alloc(), 0xf0, 65536),
-    ];
-    assert!(rt; sums == [Ok(0x7e78), Ok(0x7d77), too_long(65476, 65475)]);
-}
-
-#[test]
-fn laws_are_called() {
-    laws::examples::checksums();
-    laws::examples::greatest_lengths();
-}
-
-// No port but for the number 40905, and the payload 1 to 8.
-const SUM_OF_ZERO: [u8; 28] = [
-    0, 0, 0, 0, 0, 0, 0x9f, 0xc9, 0, 0, 0, 0, 0x50, 0, 0, 0, 0, 0, 0, 0, 1, 2, 3, 4, 5, 6, 7, 8,
-];
-
-#[test]
-fn tcp_zero_checksum(rt: HostRuntime) {
-    let nowhere = (([0; 4], [0; 4]), ([0; 16], [0; 16]));
-    let header = TcpHeader::new(0, 0, 40905, 0);
-    let sums = [
-        of_segment(&rt, &SUM_OF_ZERO, nowhere.0, nowhere.1),
-        of_fields(&header, &PAYLOAD, nowhere.0, nowhere.1),
-    ];
-    assert!(rt; sums == [[Ok(0), Ok(0)], [Ok(0), Ok(0)]]);
+    }))
 }
 
 // A first segment of port 1 to port 2: other tools give 97da over IPv4 and b1d8 over IPv6.
@@ -398,23 +218,152 @@ const SYN: [u8; 20] = [
 
 #[test]
 fn tcp_checksums_between_addresses(rt: HostRuntime) {
-    let header = tcp_header_slice(&rt, &SYN).to_header();
-    let found = [
-        of_fields(&header, &[], V4, V6),
-        of_header(&rt, &SYN),
-        of_segment(&rt, &SYN, V4, V6),
+    equal(&rt, &over_ipv4(&SYN, V4), &[sum(0x97da); 3]);
+    equal(&rt, &over_ipv6(&SYN, V6), &[sum(0xb1d8); 3]);
+}
+
+// The same with its three reserved bits set: slices sum them as they stand, which gives 89da over
+// IPv4 and a3d8 over IPv6, and fields don't have them.
+#[test]
+fn tcp_reserved_bits_are_summed(rt: HostRuntime) {
+    let mut bytes = SYN;
+    bytes[12] = 0x5e;
+    let wanted = [sum(0x89da), sum(0x89da), sum(0x97da)];
+    equal(&rt, &over_ipv4(&bytes, V4), &wanted);
+    let wanted = [sum(0xa3d8), sum(0xa3d8), sum(0xb1d8)];
+    equal(&rt, &over_ipv6(&bytes, V6), &wanted);
+}
+
+// No port but for the number 40905, and the payload 1 to 8.
+const SUM_OF_ZERO: [u8; 28] = [
+    0, 0, 0, 0, 0, 0, 0x9f, 0xc9, 0, 0, 0, 0, 0x50, 0, 0, 0, 0, 0, 0, 0, 1, 2, 3, 4, 5, 6, 7, 8,
+];
+
+#[test]
+fn tcp_zero_checksum(rt: HostRuntime) {
+    equal(&rt, &over_ipv4(&SUM_OF_ZERO, [[0; 4]; 2]), &[sum(0); 3]);
+    equal(&rt, &over_ipv6(&SUM_OF_ZERO, [[0; 16]; 2]), &[sum(0); 3]);
+}
+
+// The checksums over IPv4 of a segment of so many bytes, of which all behind this front are 1.
+fn of_ones(rt: &impl Abort, alloc: Global, front: &[u8], len: usize, wanted: Checksums) {
+    equal(rt, &over_ipv4(&filled(alloc, front, 1, len), V4), &wanted);
+}
+
+// From port 1 to port 2 with the number 3 and the window 1024.
+const HEADER: [u8; 20] = [
+    0, 1, 0, 2, 0, 0, 0, 3, 0, 0, 0, 0, 0x50, 0, 4, 0, 0, 0, 0, 0,
+];
+
+// The same in front of 40 bytes of options.
+const HEADER_OF_OPTIONS: [u8; 20] = [
+    0, 1, 0, 2, 0, 0, 0, 3, 0, 0, 0, 0, 0xf0, 0, 4, 0, 0, 0, 0, 0,
+];
+
+// The greatest payload over IPv4, of ones, behind headers of 20 and of 60 bytes, and one byte more:
+// other tools give 217b and 817a.
+#[test]
+fn tcp_greatest_payload(rt: HostRuntime) {
+    let longer = [
+        too_long(65536, 65535),
+        too_long(65516, 65515),
+        too_long(65516, 65515),
     ];
-    let sums = [Ok(0x97da), Ok(0xb1d8)];
-    assert!(rt; found == [sums, sums, sums]);
+    of_ones(&rt, rt.alloc(), &HEADER, 65535, [sum(0x217b); 3]);
+    of_ones(&rt, rt.alloc(), &HEADER, 65536, longer);
+}
+
+#[test]
+fn tcp_greatest_payload_with_options(rt: HostRuntime) {
+    let longer = [
+        too_long(65536, 65535),
+        too_long(65476, 65475),
+        too_long(65476, 65475),
+    ];
+    of_ones(&rt, rt.alloc(), &HEADER_OF_OPTIONS, 65535, [sum(0x817a); 3]);
+    of_ones(&rt, rt.alloc(), &HEADER_OF_OPTIONS, 65536, longer);
+}
+
+// Over IPv6, where a program apart gives 873a, the limit is above 4 gigabytes; `laws::examples` has
+// it.
+#[test]
+fn tcp_greater_payload_over_ipv6(rt: HostRuntime) {
+    let bytes = filled(rt.alloc(), &HEADER_OF_OPTIONS, 1, 60 + 65516);
+    equal(&rt, &over_ipv6(&bytes, V6), &[sum(0x873a); 3]);
+}
+
+// Segments of ones, but for the data offset, of 65534 and 65535 bytes, and one byte more: a program
+// apart gives 1e79 and 1d78, and with 40 bytes of options 7e78 and 7d77.
+#[test]
+fn tcp_greatest_segment(rt: HostRuntime) {
+    let ones = [1, 1, 1, 1, 1, 1, 1, 1, 1, 1, 1, 1, 0x50];
+    let longer = [
+        too_long(65536, 65535),
+        too_long(65516, 65515),
+        too_long(65516, 65515),
+    ];
+    of_ones(&rt, rt.alloc(), &ones, 65534, [sum(0x1e79); 3]);
+    of_ones(&rt, rt.alloc(), &ones, 65535, [sum(0x1d78); 3]);
+    of_ones(&rt, rt.alloc(), &ones, 65536, longer);
+}
+
+#[test]
+fn tcp_greatest_segment_with_options(rt: HostRuntime) {
+    let ones = [1, 1, 1, 1, 1, 1, 1, 1, 1, 1, 1, 1, 0xf0];
+    let longer = [
+        too_long(65536, 65535),
+        too_long(65476, 65475),
+        too_long(65476, 65475),
+    ];
+    of_ones(&rt, rt.alloc(), &ones, 65534, [sum(0x7e78); 3]);
+    of_ones(&rt, rt.alloc(), &ones, 65535, [sum(0x7d77); 3]);
+    of_ones(&rt, rt.alloc(), &ones, 65536, longer);
+}
+
+// The checksums of fields and of the bytes of a header in an IPv4 packet, with no payload.
+fn in_ipv4(bytes: &[u8], packet: &[u8]) -> Option<[Checksum; 2]> {
+    let ipv4 = ipv4_header(IpNumber::TCP);
+    match (
+        TcpHeaderSlice::from_slice(bytes),
+        Ipv4HeaderSlice::from_slice(packet),
+    ) {
+        (Ok(header), Ok(packet)) => Some([
+            header.to_header().calc_checksum_ipv4(&ipv4, &[]),
+            header.calc_checksum_ipv4(&packet, &[]),
+        ]),
+        _ => None,
+    }
+}
+
+// The same of IPv6.
+fn in_ipv6(bytes: &[u8], packet: &[u8]) -> Option<[Checksum; 2]> {
+    let ipv6 = ipv6_header(IpNumber::TCP);
+    match (
+        TcpHeaderSlice::from_slice(bytes),
+        Ipv6HeaderSlice::from_slice(packet),
+    ) {
+        (Ok(header), Ok(packet)) => Some([
+            header.to_header().calc_checksum_ipv6(&ipv6, &[]),
+            header.calc_checksum_ipv6(&packet, &[]),
+        ]),
+        _ => None,
+    }
 }
 
 #[test]
 fn tcp_checksums_in_packets(rt: HostRuntime) {
-    let header = tcp_header_slice(&rt, &SYN).to_header();
-    let found = [
-        of_fields_in_packets(&rt, &header),
-        [of_header_in_ipv4(&rt, &SYN), of_header_in_ipv6(&rt, &SYN)],
-    ];
-    let sums = [Ok(0x97da), Ok(0xb1d8)];
-    assert!(rt; found == [sums, sums]);
+    let packet = ipv4_header(IpNumber::TCP).to_bytes();
+    equal(
+        &rt,
+        &in_ipv4(&SYN, packet.as_slice()),
+        &Some([Ok(0x97da); 2]),
+    );
+    let packet = ipv6_header(IpNumber::TCP).to_bytes();
+    equal(&rt, &in_ipv6(&SYN, &packet), &Some([Ok(0xb1d8); 2]));
+}
+
+#[test]
+fn laws_are_called() {
+    laws::examples::checksums();
+    laws::examples::greatest_lengths();
 }

@@ -1,5 +1,6 @@
 //! TCP headers and segments.
 
+use crate::checks::{debugs, equal, shows};
 use ep_base::LenSource;
 use ep_base::err::{Layer, LenError};
 use ep_tcpudp::err::tcp::{HeaderError, HeaderSliceError};
@@ -14,6 +15,10 @@ use std::test::*;
 const BYTES: [u8; 26] = [
     0, 1, 0, 2, 0, 0, 0, 3, 0, 0, 0, 4, 0x6f, 0x91, 0, 5, 0, 6, 0, 7, 1, 1, 1, 0, 0xaa, 0xbb,
 ];
+
+const OPTIONS: &[u8] = &[1, 1, 1, 0];
+
+// The functions below have no contracts, as tests alone call them.
 
 fn fields() -> TcpHeader {
     TcpHeader {
@@ -37,65 +42,65 @@ fn fields() -> TcpHeader {
     }
 }
 
-fn too_short(required_len: usize, len: usize) -> HeaderSliceError {
+fn too_short(required_len: usize, len: usize, layer_start_offset: usize) -> HeaderSliceError {
     HeaderSliceError::Len(LenError {
         required_len,
         len,
         len_source: LenSource::Slice,
         layer: Layer::TcpHeader,
-        layer_start_offset: 0,
+        layer_start_offset,
     })
 }
 
-// The readers below end a test whose bytes they refuse. They have no contracts, as tests alone call
-// them.
-
-fn header_slice<'a>(rt: &impl Abort, bytes: &'a [u8]) -> TcpHeaderSlice<'a> {
-    let Ok(header) = TcpHeaderSlice::from_slice(bytes) else {
-        panic!(rt; "no header");
-    };
-    header
-}
-
-fn segment<'a>(rt: &impl Abort, bytes: &'a [u8]) -> TcpSlice<'a> {
-    let Ok(segment) = TcpSlice::from_slice(bytes) else {
-        panic!(rt; "no segment");
-    };
-    segment
+// What is left of the options of the header at the front.
+fn options_left(bytes: &[u8]) -> Option<usize> {
+    match TcpHeader::from_slice(bytes) {
+        Ok((header, _)) => Some(header.options_iterator().rest().len()),
+        Err(_) => None,
+    }
 }
 
 #[test]
 fn header_by_position(rt: HostRuntime) {
-    assert!(rt; TcpHeader::from_slice(&BYTES) == Ok((fields(), &BYTES[24..])));
+    equal(
+        &rt,
+        &TcpHeader::from_slice(&BYTES),
+        &Ok((fields(), &BYTES[24..])),
+    );
+    equal(&rt, &options_left(&BYTES), &Some(4));
 }
 
 #[test]
 fn bytes_by_position(rt: HostRuntime) {
     let header = fields();
-    let parts = (header.data_offset(), header.header_len(), header.options());
-    assert!(rt; parts == (6, 24, [1, 1, 1, 0].as_slice()));
+    equal(&rt, &(header.data_offset(), header.header_len()), &(6, 24));
+    equal(&rt, &header.options(), &OPTIONS);
     // The reserved bits are 0.
     let mut bytes = BYTES;
     bytes[12] = 0x61;
-    assert!(rt; header.to_bytes().as_slice() == &bytes[..24]);
+    equal(&rt, &header.to_bytes().as_slice(), &&bytes[..24]);
 }
 
 #[test]
 fn header_appended(rt: HostRuntime) {
     let mut buffer = Vec::new(rt.alloc());
-    let header = TcpHeader::new(1, 2, 3, 4);
-    let written = buffer.push(9).is_ok() && header.write(&mut buffer).is_ok();
+    let written = buffer.push(9).is_ok() && TcpHeader::new(1, 2, 3, 4).write(&mut buffer).is_ok();
     let bytes = [
         9, 0, 1, 0, 2, 0, 0, 0, 3, 0, 0, 0, 0, 0x50, 0, 0, 4, 0, 0, 0, 0,
     ];
-    assert!(rt; written && buffer.as_slice() == bytes.as_slice());
+    equal(
+        &rt,
+        &(written, buffer.as_slice()),
+        &(true, bytes.as_slice()),
+    );
 }
 
 #[test]
 fn a_header_of_zeros(rt: HostRuntime) {
-    assert!(rt; TcpHeader::default() == TcpHeader::new(0, 0, 0, 0));
+    equal(&rt, &TcpHeader::default(), &TcpHeader::new(0, 0, 0, 0));
 }
 
+// The flags of a header in their order, also of a segment below.
 fn flags_of(header: &TcpHeaderSlice<'_>) -> [bool; 9] {
     [
         header.ns(),
@@ -107,34 +112,6 @@ fn flags_of(header: &TcpHeaderSlice<'_>) -> [bool; 9] {
         header.rst(),
         header.syn(),
         header.fin(),
-    ]
-}
-
-// Both ports, both numbers, the data offset, the window, the checksum and the urgent pointer.
-fn numbers_of(header: &TcpHeaderSlice<'_>) -> [u32; 8] {
-    [
-        header.source_port().into(),
-        header.destination_port().into(),
-        header.sequence_number(),
-        header.acknowledgment_number(),
-        header.data_offset().into(),
-        header.window_size().into(),
-        header.checksum().into(),
-        header.urgent_pointer().into(),
-    ]
-}
-
-// The same of a segment, and its flags in the order of `flags_of`.
-fn numbers_of_segment(segment: &TcpSlice<'_>) -> [u32; 8] {
-    [
-        segment.source_port().into(),
-        segment.destination_port().into(),
-        segment.sequence_number(),
-        segment.acknowledgment_number(),
-        segment.data_offset().into(),
-        segment.window_size().into(),
-        segment.checksum().into(),
-        segment.urgent_pointer().into(),
     ]
 }
 
@@ -152,11 +129,49 @@ fn flags_of_segment(segment: &TcpSlice<'_>) -> [bool; 9] {
     ]
 }
 
+// Both ports, both numbers, the data offset, the window, the checksum and the urgent pointer.
+type Numbers = ([u16; 2], [u32; 2], u8, [u16; 3]);
+
+const NUMBERS: Numbers = ([1, 2], [3, 4], 6, [5, 6, 7]);
+
+fn numbers_of(header: &TcpHeaderSlice<'_>) -> Numbers {
+    (
+        [header.source_port(), header.destination_port()],
+        [header.sequence_number(), header.acknowledgment_number()],
+        header.data_offset(),
+        [
+            header.window_size(),
+            header.checksum(),
+            header.urgent_pointer(),
+        ],
+    )
+}
+
+fn numbers_of_segment(segment: &TcpSlice<'_>) -> Numbers {
+    (
+        [segment.source_port(), segment.destination_port()],
+        [segment.sequence_number(), segment.acknowledgment_number()],
+        segment.data_offset(),
+        [
+            segment.window_size(),
+            segment.checksum(),
+            segment.urgent_pointer(),
+        ],
+    )
+}
+
 // Whether the fields of a header give its 24 bytes again.
 fn is_written_again(bytes: &[u8]) -> bool {
     match TcpHeader::from_slice(bytes) {
         Ok((header, _)) => bytes.get(..24) == Some(header.to_bytes().as_slice()),
         Err(_) => false,
+    }
+}
+
+fn has_flags(rt: &impl Abort, bytes: &[u8], wanted: [bool; 9]) {
+    match TcpHeaderSlice::from_slice(bytes) {
+        Ok(header) => equal(rt, &flags_of(&header), &wanted),
+        Err(_) => panic!(rt; "no header"),
     }
 }
 
@@ -170,67 +185,51 @@ fn flags_at_their_bits(rt: HostRuntime) {
         bytes[13] = (bits & 0xff) as u8;
         let mut wanted = [false; 9];
         wanted[place] = true;
-        assert!(rt; flags_of(&header_slice(&rt, &bytes)) == wanted && is_written_again(&bytes));
+        has_flags(&rt, &bytes, wanted);
+        equal(&rt, &(place, is_written_again(&bytes)), &(place, true));
     }
 }
 
 #[test]
 fn getters_of_the_header_slice(rt: HostRuntime) {
-    let header = header_slice(&rt, &BYTES);
-    let parts = (
-        numbers_of(&header),
-        header.slice(),
-        header.options(),
-        header.options_iterator().rest().len(),
-    );
-    let options = [1, 1, 1, 0].as_slice();
-    assert!(rt; parts == ([1, 2, 3, 4, 6, 5, 6, 7], &BYTES[..24], options, 4));
-}
-
-#[test]
-fn fields_of_the_header_slice(rt: HostRuntime) {
-    assert!(rt; header_slice(&rt, &BYTES).to_header() == fields());
-}
-
-#[test]
-fn parts_of_the_segment(rt: HostRuntime) {
-    let segment = segment(&rt, &BYTES);
-    let parts = (
-        segment.slice(),
-        segment.header_slice(),
-        segment.header_len(),
-        segment.payload(),
-    );
-    assert!(rt; parts == (BYTES.as_slice(), &BYTES[..24], 24, &BYTES[24..]));
-}
-
-#[test]
-fn options_of_the_header(rt: HostRuntime) {
-    let bytes = BYTES;
-    let Ok((header, _)) = TcpHeader::from_slice(&bytes) else {
-        panic!(rt; "no header");
-    };
-    assert!(rt; header.options_iterator().rest().len() == 4);
-}
-
-#[test]
-fn options_of_the_segment(rt: HostRuntime) {
-    let segment = segment(&rt, &BYTES);
-    let parts = (segment.options(), segment.options_iterator().rest().len());
-    assert!(rt; parts == ([1, 1, 1, 0].as_slice(), 4));
-}
-
-#[test]
-fn fields_of_the_segment(rt: HostRuntime) {
-    assert!(rt; segment(&rt, &BYTES).to_header() == fields());
+    match TcpHeaderSlice::from_slice(&BYTES) {
+        Ok(header) => {
+            equal(&rt, &numbers_of(&header), &NUMBERS);
+            equal(&rt, &header.slice(), &&BYTES[..24]);
+            equal(&rt, &header.options(), &OPTIONS);
+            equal(&rt, &header.options_iterator().rest().len(), &4);
+            equal(&rt, &header.to_header(), &fields());
+        }
+        Err(_) => panic!(rt; "no header"),
+    }
 }
 
 #[test]
 fn getters_of_the_segment(rt: HostRuntime) {
-    let segment = segment(&rt, &BYTES);
-    let parts = (numbers_of_segment(&segment), flags_of_segment(&segment));
-    let flags = [true, true, false, false, true, false, false, false, true];
-    assert!(rt; parts == ([1, 2, 3, 4, 6, 5, 6, 7], flags));
+    match TcpSlice::from_slice(&BYTES) {
+        Ok(segment) => {
+            equal(&rt, &numbers_of_segment(&segment), &NUMBERS);
+            let flags = [true, true, false, false, true, false, false, false, true];
+            equal(&rt, &flags_of_segment(&segment), &flags);
+            equal(&rt, &segment.options(), &OPTIONS);
+            equal(&rt, &segment.options_iterator().rest().len(), &4);
+            equal(&rt, &segment.to_header(), &fields());
+        }
+        Err(_) => panic!(rt; "no segment"),
+    }
+}
+
+#[test]
+fn parts_of_the_segment(rt: HostRuntime) {
+    match TcpSlice::from_slice(&BYTES) {
+        Ok(segment) => {
+            equal(&rt, &segment.slice(), &BYTES.as_slice());
+            equal(&rt, &segment.header_slice(), &&BYTES[..24]);
+            equal(&rt, &segment.payload(), &&BYTES[24..]);
+            equal(&rt, &segment.header_len(), &24);
+        }
+        Err(_) => panic!(rt; "no segment"),
+    }
 }
 
 // Why these bytes are no segment, no header slice and no header.
@@ -244,32 +243,37 @@ fn refusals(bytes: &[u8]) -> [Option<HeaderSliceError>; 3] {
 
 #[test]
 fn faults_in_order(rt: HostRuntime) {
-    let refused = (refusals(&BYTES[..19]), refusals(&BYTES[..23]));
-    let wanted = ([Some(too_short(20, 19)); 3], [Some(too_short(24, 23)); 3]);
-    assert!(rt; refused == wanted);
+    equal(
+        &rt,
+        &refusals(&BYTES[..19]),
+        &[Some(too_short(20, 19, 0)); 3],
+    );
+    equal(
+        &rt,
+        &refusals(&BYTES[..23]),
+        &[Some(too_short(24, 23, 0)); 3],
+    );
 }
 
-// Every data offset below 5, whatever the reserved bits and ns are.
+fn too_small(data_offset: u8) -> HeaderSliceError {
+    HeaderSliceError::Content(HeaderError::DataOffsetTooSmall { data_offset })
+}
+
+// Every data offset below 5, whatever the reserved bits and ns are, and every one that says more
+// than the 26 bytes that are there.
 #[test]
-fn data_offsets_below_five(rt: HostRuntime) {
+fn faulty_data_offsets(rt: HostRuntime) {
     let mut bytes = BYTES;
     for data_offset in 0..5u8 {
-        let small = HeaderSliceError::Content(HeaderError::DataOffsetTooSmall { data_offset });
         bytes[12] = data_offset * 16 + 15;
-        let with_bits = refusals(&bytes);
+        equal(&rt, &refusals(&bytes), &[Some(too_small(data_offset)); 3]);
         bytes[12] = data_offset * 16;
-        assert!(rt; (with_bits, refusals(&bytes)) == ([Some(small); 3], [Some(small); 3]));
+        equal(&rt, &refusals(&bytes), &[Some(too_small(data_offset)); 3]);
     }
-}
-
-// Every data offset that says more than the 26 bytes that are there.
-#[test]
-fn data_offsets_above_the_bytes(rt: HostRuntime) {
-    let mut bytes = BYTES;
     for data_offset in 7..16u8 {
-        let short = too_short(4 * usize::from(data_offset), 26);
         bytes[12] = data_offset * 16;
-        assert!(rt; refusals(&bytes) == [Some(short); 3]);
+        let short = too_short(4 * usize::from(data_offset), 26, 0);
+        equal(&rt, &refusals(&bytes), &[Some(short); 3]);
     }
 }
 
@@ -283,57 +287,52 @@ fn errors_seen_from_further_out(rt: HostRuntime) {
         layer: Layer::TcpHeader,
         layer_start_offset: 0,
     });
-    let moved = HeaderSliceError::Len(LenError {
-        required_len: 20,
-        len: 19,
-        len_source: LenSource::Slice,
-        layer: Layer::TcpHeader,
-        layer_start_offset: 34,
-    });
+    equal(&rt, &short.add_slice_offset(34), &too_short(20, 19, 34));
     let small = HeaderSliceError::Content(HeaderError::DataOffsetTooSmall { data_offset: 4 });
-    let found = [short.add_slice_offset(34), small.add_slice_offset(34)];
-    assert!(rt; found == [moved, small]);
+    equal(&rt, &small.add_slice_offset(34), &small);
 }
 
 #[test]
-fn errors_as_text(rt: HostRuntime) -> Result<(), Fail> {
+fn errors_as_text(rt: HostRuntime) {
     let content = HeaderSliceError::from(HeaderError::DataOffsetTooSmall { data_offset: 4 });
+    shows(
+        &rt,
+        rt.alloc(),
+        &content,
+        "TCP header: the data offset is 4 and below 5",
+    );
     let long = TcpOptionWriteError::NotEnoughSpace(41);
-    let text = format!(in rt.alloc(); "{content} | {long}")?;
-    let wanted =
-        "TCP header: the data offset is 4 and below 5 | TCP options of 41 byte(s): a header has room for 40";
-    assert!(rt; text.as_str() == wanted);
-    Ok(())
+    shows(
+        &rt,
+        rt.alloc(),
+        &long,
+        "TCP options of 41 byte(s): a header has room for 40",
+    );
 }
 
 // Each view prints its own name, though both are one type.
 #[test]
-fn views_as_text(rt: HostRuntime) -> Result<(), Fail> {
+fn views_as_text(rt: HostRuntime) {
     let mut bytes = [0; 21];
     bytes[12] = 0x50;
-    let (header, segment) = (header_slice(&rt, &bytes), segment(&rt, &bytes));
-    let text = format!(in rt.alloc(); "{header:?} {segment:?}")?;
-    let wanted =
-        "TcpHeaderSlice { slice: [0, 0, 0, 0, 0, 0, 0, 0, 0, 0, 0, 0, 80, 0, 0, 0, 0, 0, 0, 0] } TcpSlice { slice: [0, 0, 0, 0, 0, 0, 0, 0, 0, 0, 0, 0, 80, 0, 0, 0, 0, 0, 0, 0, 0] }";
-    assert!(rt; text.as_str() == wanted);
-    Ok(())
+    let header =
+        "Ok(TcpHeaderSlice { slice: [0, 0, 0, 0, 0, 0, 0, 0, 0, 0, 0, 0, 80, 0, 0, 0, 0, 0, 0, 0] })";
+    debugs(&rt, rt.alloc(), &TcpHeaderSlice::from_slice(&bytes), header);
+    let segment =
+        "Ok(TcpSlice { slice: [0, 0, 0, 0, 0, 0, 0, 0, 0, 0, 0, 0, 80, 0, 0, 0, 0, 0, 0, 0, 0] })";
+    debugs(&rt, rt.alloc(), &TcpSlice::from_slice(&bytes), segment);
 }
 
 #[test]
 fn raw_options(rt: HostRuntime) {
     let mut header = TcpHeader::new(1, 2, 3, 4);
-    let padded = [1, 1, 1, 1, 1, 0, 0, 0].as_slice();
-    let set = header.set_options_raw(&[1, 1, 1, 1, 1]);
-    assert!(rt; (set, header.options()) == (Ok(()), padded));
+    equal(&rt, &header.set_options_raw(&[1, 1, 1, 1, 1]), &Ok(()));
+    equal(&rt, &header.options(), &[1, 1, 1, 1, 1, 0, 0, 0].as_slice());
     let refused = Err(TcpOptionWriteError::NotEnoughSpace(41));
-    assert!(rt; (header.set_options_raw(&[1; 41]), header.header_len()) == (refused, 28));
-}
-
-#[test]
-fn greatest_raw_options(rt: HostRuntime) {
-    let mut header = TcpHeader::new(1, 2, 3, 4);
-    let greatest = TcpHeader::MAX_DATA_OFFSET;
-    assert!(rt; (header.set_options_raw(&[1; 40]), header.data_offset()) == (Ok(()), greatest));
+    equal(&rt, &header.set_options_raw(&[1; 41]), &refused);
+    equal(&rt, &header.header_len(), &28);
+    equal(&rt, &header.set_options_raw(&[1; 40]), &Ok(()));
+    equal(&rt, &header.data_offset(), &TcpHeader::MAX_DATA_OFFSET);
 }
 
 #[test]
@@ -341,7 +340,7 @@ fn laws_are_called(rt: HostRuntime) {
     laws::tcp::sealed_sums_to_all_ones();
     laws::tcp::headers_are_their_bytes(&fields());
     let again = laws::tcp::header_is_read_again(&fields(), &BYTES);
-    assert!(rt; again == Ok((fields(), &BYTES[24..])));
+    equal(&rt, &again, &Ok((fields(), &BYTES[24..])));
 }
 
 #[test]
@@ -351,7 +350,11 @@ fn laws_of_options_are_called(rt: HostRuntime) {
         TcpOptions::from([1, 1, 1, 1]),
     );
     laws::tcp::options_hash_as_bytes(&a, &mut FoldHasher::default());
-    assert!(rt; laws::tcp::options_are_ordered_as_bytes(&a, &b) == Ordering::Less);
+    equal(
+        &rt,
+        &laws::tcp::options_are_ordered_as_bytes(&a, &b),
+        &Ordering::Less,
+    );
 }
 
 #[test]

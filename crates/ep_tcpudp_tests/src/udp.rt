@@ -1,5 +1,6 @@
 //! UDP headers and datagrams.
 
+use crate::checks::{debugs, equal};
 use ep_base::LenSource;
 use ep_base::err::{Layer, LenError, ValueTooBigError, ValueType};
 use ep_tcpudp::{UdpHeader, UdpHeaderSlice, UdpSlice, laws};
@@ -10,6 +11,8 @@ use std::test::*;
 const BYTES: [u8; 18] = [
     0, 1, 0, 2, 0, 16, 0xdb, 0xb4, 1, 2, 3, 4, 5, 6, 7, 8, 0xaa, 0xbb,
 ];
+
+// The functions below have no contracts, as tests alone call them.
 
 fn fields() -> UdpHeader {
     UdpHeader {
@@ -30,47 +33,32 @@ fn want(required_len: usize, len: usize, len_source: LenSource, layer: Layer) ->
     }
 }
 
-// The readers below end a test whose bytes they refuse. They have no contracts, as tests alone call
-// them.
-
-fn header_slice<'a>(rt: &impl Abort, bytes: &'a [u8]) -> UdpHeaderSlice<'a> {
-    let Ok(header) = UdpHeaderSlice::from_slice(bytes) else {
-        panic!(rt; "no header");
-    };
-    header
-}
-
-fn datagram<'a>(rt: &impl Abort, bytes: &'a [u8]) -> UdpSlice<'a> {
-    let Ok(datagram) = UdpSlice::from_slice(bytes) else {
-        panic!(rt; "no datagram");
-    };
-    datagram
-}
-
 #[test]
 fn header_by_position(rt: HostRuntime) {
     let short = want(8, 7, LenSource::Slice, Layer::UdpHeader);
-    let found = [
-        UdpHeader::from_slice(&BYTES),
-        UdpHeader::from_slice(&BYTES[..7]),
-    ];
-    assert!(rt; found == [Ok((fields(), &BYTES[8..])), Err(short)]);
+    equal(
+        &rt,
+        &UdpHeader::from_slice(&BYTES),
+        &Ok((fields(), &BYTES[8..])),
+    );
+    equal(&rt, &UdpHeader::from_slice(&BYTES[..7]), &Err(short));
 }
 
 #[test]
 fn bytes_by_position(rt: HostRuntime) {
     let bytes = [0, 1, 0, 2, 0, 16, 0xdb, 0xb4];
     let written = [fields().to_bytes(), UdpHeader::default().to_bytes()];
-    let lengths = (fields().header_len(), UdpHeader::LEN_U16);
-    let found = (written, UdpHeader::from_bytes(bytes), lengths);
-    assert!(rt; found == ([bytes, [0; 8]], fields(), (8, 8)));
+    equal(&rt, &written, &[bytes, [0; 8]]);
+    equal(&rt, &UdpHeader::from_bytes(bytes), &fields());
+    equal(&rt, &(fields().header_len(), UdpHeader::LEN_U16), &(8, 8));
 }
 
 #[test]
 fn header_appended(rt: HostRuntime) {
     let mut buffer = Vec::new(rt.alloc());
     let written = buffer.push(9).is_ok() && fields().write(&mut buffer).is_ok();
-    assert!(rt; written && buffer.as_slice() == [9, 0, 1, 0, 2, 0, 16, 0xdb, 0xb4].as_slice());
+    let wanted = (true, [9, 0, 1, 0, 2, 0, 16, 0xdb, 0xb4].as_slice());
+    equal(&rt, &(written, buffer.as_slice()), &wanted);
 }
 
 // Both ports, the length and the checksum.
@@ -94,28 +82,28 @@ fn numbers_of_datagram(datagram: &UdpSlice<'_>) -> [u16; 4] {
 
 #[test]
 fn getters_of_the_header_slice(rt: HostRuntime) {
-    let header = header_slice(&rt, &BYTES);
-    let parts = (numbers_of(&header), header.slice(), header.to_header());
-    assert!(rt; parts == ([1, 2, 16, 0xdbb4], &BYTES[..8], fields()));
+    match UdpHeaderSlice::from_slice(&BYTES) {
+        Ok(header) => {
+            equal(&rt, &numbers_of(&header), &[1, 2, 16, 0xdbb4]);
+            equal(&rt, &header.slice(), &&BYTES[..8]);
+            equal(&rt, &header.to_header(), &fields());
+        }
+        Err(_) => panic!(rt; "no header"),
+    }
 }
 
 #[test]
-fn parts_of_the_datagram(rt: HostRuntime) {
-    let datagram = datagram(&rt, &BYTES);
-    let parts = (
-        datagram.slice(),
-        datagram.header_slice(),
-        datagram.header_len(),
-        datagram.payload(),
-    );
-    assert!(rt; parts == (&BYTES[..16], &BYTES[..8], 8, &BYTES[8..16]));
-}
-
-#[test]
-fn fields_of_the_datagram(rt: HostRuntime) {
-    let datagram = datagram(&rt, &BYTES);
-    let parts = (numbers_of_datagram(&datagram), datagram.to_header());
-    assert!(rt; parts == ([1, 2, 16, 0xdbb4], fields()));
+fn getters_of_the_datagram(rt: HostRuntime) {
+    match UdpSlice::from_slice(&BYTES) {
+        Ok(datagram) => {
+            equal(&rt, &numbers_of_datagram(&datagram), &[1, 2, 16, 0xdbb4]);
+            equal(&rt, &datagram.to_header(), &fields());
+            equal(&rt, &datagram.slice(), &&BYTES[..16]);
+            equal(&rt, &datagram.header_slice(), &&BYTES[..8]);
+            equal(&rt, &datagram.header_len(), &8);
+        }
+        Err(_) => panic!(rt; "no datagram"),
+    }
 }
 
 // A datagram of 10 bytes whose length field is this.
@@ -131,65 +119,66 @@ fn payload(bytes: &[u8]) -> Result<(&[u8], LenSource), LenError> {
     }
 }
 
-#[test]
-fn lengths_of_datagrams(rt: HostRuntime) {
-    let all = [7, 8].as_slice();
-    assert!(rt; payload(&datagram_of(0)) == Ok((all, LenSource::Slice)));
-    assert!(rt; payload(&datagram_of(8)) == Ok((&all[..0], LenSource::UdpHeaderLen)));
-    assert!(rt; payload(&datagram_of(10)) == Ok((all, LenSource::UdpHeaderLen)));
+fn has_payload(rt: &impl Abort, bytes: &[u8], wanted: &[u8], bound: LenSource) {
+    equal(rt, &payload(bytes), &Ok((wanted, bound)));
 }
 
 #[test]
-fn bytes_behind_a_datagram(rt: HostRuntime) {
-    assert!(rt; payload(&BYTES) == Ok((&BYTES[8..16], LenSource::UdpHeaderLen)));
+fn lengths_of_datagrams(rt: HostRuntime) {
+    has_payload(&rt, &datagram_of(0), &[7, 8], LenSource::Slice);
+    has_payload(&rt, &datagram_of(8), &[], LenSource::UdpHeaderLen);
+    has_payload(&rt, &datagram_of(10), &[7, 8], LenSource::UdpHeaderLen);
+    has_payload(&rt, &BYTES, &BYTES[8..16], LenSource::UdpHeaderLen);
 }
 
 #[test]
 fn lengths_of_no_datagrams(rt: HostRuntime) {
     let beyond = want(11, 10, LenSource::Slice, Layer::UdpPayload);
     let short = want(8, 7, LenSource::Slice, Layer::UdpHeader);
-    let datagram = datagram_of(11);
-    assert!(rt; [payload(&datagram), payload(&[0; 7])] == [Err(beyond), Err(short)]);
+    equal(&rt, &payload(&datagram_of(11)), &Err(beyond));
+    equal(&rt, &payload(&[0; 7]), &Err(short));
 }
 
 #[test]
 fn lengths_below_eight(rt: HostRuntime) {
     for length in 1..8u8 {
         let below = want(8, length.into(), LenSource::UdpHeaderLen, Layer::UdpHeader);
-        assert!(rt; payload(&datagram_of(length)) == Err(below));
+        equal(&rt, &payload(&datagram_of(length)), &Err(below));
     }
 }
 
 #[test]
 fn headers_of_payload_lengths(rt: HostRuntime) {
     let header = UdpHeader {
-        source_port: 1,
-        destination_port: 2,
         length: 65535,
         checksum: 0,
+        ..fields()
     };
     let refused = ValueTooBigError {
         actual: 65528,
         max_allowed: 65527,
         value_type: ValueType::UdpPayloadLengthIpv4,
     };
-    let found = [
-        UdpHeader::without_ipv4_checksum(1, 2, 65527),
-        UdpHeader::without_ipv4_checksum(1, 2, 65528),
-    ];
-    assert!(rt; found == [Ok(header), Err(refused)]);
+    equal(
+        &rt,
+        &UdpHeader::without_ipv4_checksum(1, 2, 65527),
+        &Ok(header),
+    );
+    equal(
+        &rt,
+        &UdpHeader::without_ipv4_checksum(1, 2, 65528),
+        &Err(refused),
+    );
 }
 
 // Each view prints its own name, though both are one type.
 #[test]
-fn views_as_text(rt: HostRuntime) -> Result<(), Fail> {
+fn views_as_text(rt: HostRuntime) {
     let bytes = [0, 1, 0, 2, 0, 9, 0, 0, 7];
-    let (header, datagram) = (header_slice(&rt, &bytes), datagram(&rt, &bytes));
-    let text = format!(in rt.alloc(); "{header:?} {datagram:?}")?;
-    let wanted =
-        "UdpHeaderSlice { slice: [0, 1, 0, 2, 0, 9, 0, 0] } UdpSlice { slice: [0, 1, 0, 2, 0, 9, 0, 0, 7] }";
-    assert!(rt; text.as_str() == wanted);
-    Ok(())
+    let header = "Ok(UdpHeaderSlice { slice: [0, 1, 0, 2, 0, 9, 0, 0] })";
+    debugs(&rt, rt.alloc(), &UdpHeaderSlice::from_slice(&bytes), header);
+    let datagram = "Ok(UdpSlice { slice: [0, 1, 0, 2, 0, 9, 0, 0, 7] })";
+    debugs(&rt, rt.alloc(), &UdpSlice::from_slice(&bytes), datagram);
 }
 
 #[test]
@@ -197,7 +186,7 @@ fn laws_are_called(rt: HostRuntime) {
     laws::udp::sealed_sums_to_all_ones();
     laws::udp::headers_are_their_bytes(&fields());
     let again = laws::udp::header_is_read_again(&fields(), &BYTES);
-    assert!(rt; again == Ok((fields(), &BYTES[8..])));
+    equal(&rt, &again, &Ok((fields(), &BYTES[8..])));
 }
 
 #[test]
