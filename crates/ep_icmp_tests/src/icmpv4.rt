@@ -1,160 +1,213 @@
 //! Every type and code of RFC 792 that has a variant, both ways, and neighbours that have none.
-use ep_icmp::icmpv4::*;
-use ep_icmp::{IcmpEchoHeader, Icmpv4Header, Icmpv4Slice, Icmpv4Type};
+use crate::checks::{equal, shows};
+use ep_icmp::Icmpv4Slice;
+use std::process::Abort;
 
-// Whether the kind has this type and code and these four bytes behind the checksum, both ways.
-fn is_kind(numbers: [u8; 2], bytes5to8: [u8; 4], kind: Icmpv4Type) -> bool {
-    let [type_u8, code_u8] = numbers;
-    let [b0, b1, b2, b3] = bytes5to8;
-    let bytes = [type_u8, code_u8, 0x12, 0x34, b0, b1, b2, b3];
-    let read = match Icmpv4Slice::from_slice(&bytes) {
-        Ok(message) => message.icmp_type() == kind,
-        Err(_) => false,
+// A message of eight bytes, its kind, and what that kind's header is written as.
+fn is_kind(rt: &(impl Abort + AllocGlobal), bytes: &[u8; 8], kind: &str, written: &[u8; 8]) {
+    let Ok(message) = Icmpv4Slice::from_slice(bytes) else {
+        panic!(rt; "no message");
     };
-    let header = Icmpv4Header {
-        icmp_type: kind,
-        checksum: 0x1234,
-    };
-    read && header.to_bytes().as_slice() == bytes.as_slice()
+    shows(rt, kind, &message.icmp_type(), kind);
+    let header = message.header().to_bytes();
+    equal(rt, kind, &header.as_slice(), &written.as_slice());
 }
 
-// Whether this type and code have no variant.
-fn is_unknown(type_u8: u8, code_u8: u8) -> bool {
-    let bytes5to8 = [0xa1, 0xb2, 0xc3, 0xd4];
-    let kind = Icmpv4Type::Unknown {
-        type_u8,
-        code_u8,
-        bytes5to8,
-    };
-    is_kind([type_u8, code_u8], bytes5to8, kind)
-}
-
-fn is_unreachable(code_u8: u8, header: DestUnreachableHeader) -> bool {
-    is_kind(
-        [3, code_u8],
-        [0; 4],
-        Icmpv4Type::DestinationUnreachable(header),
-    )
-}
-
-fn is_redirect(code_u8: u8, code: RedirectCode) -> bool {
-    let header = RedirectHeader {
-        code,
-        gateway_internet_address: [10, 0, 0, 1],
-    };
-    is_kind([5, code_u8], [10, 0, 0, 1], Icmpv4Type::Redirect(header))
-}
+const UNREACHABLE: &[(u8, &str)] = &[
+    (0, "DestinationUnreachable(Network)"),
+    (1, "DestinationUnreachable(Host)"),
+    (2, "DestinationUnreachable(Protocol)"),
+    (3, "DestinationUnreachable(Port)"),
+    (5, "DestinationUnreachable(SourceRouteFailed)"),
+    (6, "DestinationUnreachable(NetworkUnknown)"),
+    (7, "DestinationUnreachable(HostUnknown)"),
+    (8, "DestinationUnreachable(Isolated)"),
+    (9, "DestinationUnreachable(NetworkProhibited)"),
+    (10, "DestinationUnreachable(HostProhibited)"),
+    (11, "DestinationUnreachable(TosNetwork)"),
+    (12, "DestinationUnreachable(TosHost)"),
+    (13, "DestinationUnreachable(FilterProhibited)"),
+    (14, "DestinationUnreachable(HostPrecedenceViolation)"),
+    (15, "DestinationUnreachable(PrecedenceCutoff)"),
+];
 
 #[test]
 fn codes_of_destination_unreachable(rt: HostRuntime) {
-    use DestUnreachableHeader::*;
-    for (code, header) in [
-        (0, Network),
-        (1, Host),
-        (2, Protocol),
-        (3, Port),
-        (5, SourceRouteFailed),
-        (6, NetworkUnknown),
-        (7, HostUnknown),
-    ] {
-        assert!(rt; is_unreachable(code, header), "code {code}");
+    for (code, kind) in UNREACHABLE.iter() {
+        let bytes = [3, *code, 0x12, 0x34, 0, 0, 0, 0];
+        is_kind(&rt, &bytes, kind, &bytes);
     }
 }
 
+// The other types and codes: 258 is 0102, 772 is 0304.
+const KINDS: &[([u8; 8], &str)] = &[
+    (
+        [3, 4, 0x12, 0x34, 0, 0, 0x05, 0xdc],
+        "DestinationUnreachable(FragmentationNeeded { next_hop_mtu: 1500 })",
+    ),
+    (
+        [5, 0, 0x12, 0x34, 10, 0, 0, 1],
+        "Redirect(RedirectHeader { code: RedirectForNetwork, \
+            gateway_internet_address: [10, 0, 0, 1] })",
+    ),
+    (
+        [5, 1, 0x12, 0x34, 10, 0, 0, 1],
+        "Redirect(RedirectHeader { code: RedirectForHost, \
+            gateway_internet_address: [10, 0, 0, 1] })",
+    ),
+    (
+        [5, 2, 0x12, 0x34, 10, 0, 0, 1],
+        "Redirect(RedirectHeader { code: RedirectForTypeOfServiceAndNetwork, \
+            gateway_internet_address: [10, 0, 0, 1] })",
+    ),
+    (
+        [5, 3, 0x12, 0x34, 10, 0, 0, 1],
+        "Redirect(RedirectHeader { code: RedirectForTypeOfServiceAndHost, \
+            gateway_internet_address: [10, 0, 0, 1] })",
+    ),
+    (
+        [0, 0, 0x12, 0x34, 1, 2, 3, 4],
+        "EchoReply(IcmpEchoHeader { id: 258, seq: 772 })",
+    ),
+    (
+        [8, 0, 0x12, 0x34, 1, 2, 3, 4],
+        "EchoRequest(IcmpEchoHeader { id: 258, seq: 772 })",
+    ),
+    (
+        [11, 0, 0x12, 0x34, 0, 0, 0, 0],
+        "TimeExceeded(TtlExceededInTransit)",
+    ),
+    (
+        [11, 1, 0x12, 0x34, 0, 0, 0, 0],
+        "TimeExceeded(FragmentReassemblyTimeExceeded)",
+    ),
+    (
+        [12, 0, 0x12, 0x34, 20, 0, 0, 0],
+        "ParameterProblem(PointerIndicatesError(20))",
+    ),
+    (
+        [12, 1, 0x12, 0x34, 0, 0, 0, 0],
+        "ParameterProblem(MissingRequiredOption)",
+    ),
+    (
+        [12, 2, 0x12, 0x34, 0, 0, 0, 0],
+        "ParameterProblem(BadLength)",
+    ),
+];
+
 #[test]
-fn later_codes_of_destination_unreachable(rt: HostRuntime) {
-    use DestUnreachableHeader::*;
-    for (code, header) in [
-        (8, Isolated),
-        (9, NetworkProhibited),
-        (10, HostProhibited),
-        (11, TosNetwork),
-        (12, TosHost),
-        (13, FilterProhibited),
-        (14, HostPrecedenceViolation),
-        (15, PrecedenceCutoff),
-    ] {
-        assert!(rt; is_unreachable(code, header), "code {code}");
+fn other_types_and_codes(rt: HostRuntime) {
+    for (bytes, kind) in KINDS.iter() {
+        is_kind(&rt, bytes, kind, bytes);
     }
 }
 
-#[test]
-fn a_length_for_the_next_hop(rt: HostRuntime) {
-    let header = DestUnreachableHeader::FragmentationNeeded { next_hop_mtu: 1500 };
-    let kind = Icmpv4Type::DestinationUnreachable(header);
-    assert!(rt; is_kind([3, 4], [0, 0, 0x05, 0xdc], kind));
-}
+// One code above those of a type that has variants, and types that have none: a1b2c3d4 in decimals.
+const UNKNOWN: &[(u8, u8, &str)] = &[
+    (
+        0,
+        1,
+        "Unknown { type_u8: 0, code_u8: 1, bytes5to8: [161, 178, 195, 212] }",
+    ),
+    (
+        3,
+        16,
+        "Unknown { type_u8: 3, code_u8: 16, bytes5to8: [161, 178, 195, 212] }",
+    ),
+    (
+        5,
+        4,
+        "Unknown { type_u8: 5, code_u8: 4, bytes5to8: [161, 178, 195, 212] }",
+    ),
+    (
+        8,
+        1,
+        "Unknown { type_u8: 8, code_u8: 1, bytes5to8: [161, 178, 195, 212] }",
+    ),
+    (
+        11,
+        2,
+        "Unknown { type_u8: 11, code_u8: 2, bytes5to8: [161, 178, 195, 212] }",
+    ),
+    (
+        12,
+        3,
+        "Unknown { type_u8: 12, code_u8: 3, bytes5to8: [161, 178, 195, 212] }",
+    ),
+    (
+        1,
+        0,
+        "Unknown { type_u8: 1, code_u8: 0, bytes5to8: [161, 178, 195, 212] }",
+    ),
+    (
+        4,
+        0,
+        "Unknown { type_u8: 4, code_u8: 0, bytes5to8: [161, 178, 195, 212] }",
+    ),
+    (
+        10,
+        0,
+        "Unknown { type_u8: 10, code_u8: 0, bytes5to8: [161, 178, 195, 212] }",
+    ),
+    (
+        13,
+        1,
+        "Unknown { type_u8: 13, code_u8: 1, bytes5to8: [161, 178, 195, 212] }",
+    ),
+    (
+        14,
+        1,
+        "Unknown { type_u8: 14, code_u8: 1, bytes5to8: [161, 178, 195, 212] }",
+    ),
+    (
+        15,
+        0,
+        "Unknown { type_u8: 15, code_u8: 0, bytes5to8: [161, 178, 195, 212] }",
+    ),
+    (
+        255,
+        255,
+        "Unknown { type_u8: 255, code_u8: 255, bytes5to8: [161, 178, 195, 212] }",
+    ),
+];
 
 #[test]
-fn codes_of_redirect(rt: HostRuntime) {
-    use RedirectCode::*;
-    for (code_u8, code) in [
-        (0, RedirectForNetwork),
-        (1, RedirectForHost),
-        (2, RedirectForTypeOfServiceAndNetwork),
-        (3, RedirectForTypeOfServiceAndHost),
-    ] {
-        assert!(rt; is_redirect(code_u8, code), "code {code_u8}");
+fn types_and_codes_without_a_variant(rt: HostRuntime) {
+    for (type_u8, code, kind) in UNKNOWN.iter() {
+        let bytes = [*type_u8, *code, 0x12, 0x34, 0xa1, 0xb2, 0xc3, 0xd4];
+        is_kind(&rt, &bytes, kind, &bytes);
     }
 }
 
+// Unused bytes are written as 0.
 #[test]
-fn echo_messages(rt: HostRuntime) {
-    let echo = IcmpEchoHeader {
-        id: 0x0102,
-        seq: 0x0304,
-    };
-    let found = [
-        is_kind([0, 0], [1, 2, 3, 4], Icmpv4Type::EchoReply(echo)),
-        is_kind([8, 0], [1, 2, 3, 4], Icmpv4Type::EchoRequest(echo)),
-    ];
-    assert!(rt; found == [true, true]);
-}
-
-#[test]
-fn codes_of_time_exceeded(rt: HostRuntime) {
-    use TimeExceededCode::*;
-    let in_transit = Icmpv4Type::TimeExceeded(TtlExceededInTransit);
-    let reassembly = Icmpv4Type::TimeExceeded(FragmentReassemblyTimeExceeded);
-    let found = [
-        is_kind([11, 0], [0; 4], in_transit),
-        is_kind([11, 1], [0; 4], reassembly),
-    ];
-    assert!(rt; found == [true, true]);
-}
-
-#[test]
-fn codes_of_parameter_problem(rt: HostRuntime) {
-    use ParameterProblemHeader::*;
-    for (code, first, header) in [
-        (0, 20, PointerIndicatesError(20)),
-        (1, 0, MissingRequiredOption),
-        (2, 0, BadLength),
-    ] {
-        let kind = Icmpv4Type::ParameterProblem(header);
-        assert!(rt; is_kind([12, code], [first, 0, 0, 0], kind), "code {code}");
-    }
-}
-
-// One code above those of a type that has variants.
-#[test]
-fn codes_without_a_variant(rt: HostRuntime) {
-    for (type_u8, code) in [(0, 1), (3, 16), (5, 4), (8, 1), (11, 2), (12, 3)] {
-        assert!(rt; is_unknown(type_u8, code), "type {type_u8}");
-    }
-}
-
-#[test]
-fn types_without_a_variant(rt: HostRuntime) {
-    for (type_u8, code) in [
-        (1, 0),
-        (4, 0),
-        (10, 0),
-        (13, 1),
-        (14, 1),
-        (15, 0),
-        (255, 255),
-    ] {
-        assert!(rt; is_unknown(type_u8, code), "type {type_u8}");
-    }
+fn unused_bytes(rt: HostRuntime) {
+    let host = "DestinationUnreachable(Host)";
+    is_kind(
+        &rt,
+        &[3, 1, 5, 6, 1, 2, 3, 4],
+        host,
+        &[3, 1, 5, 6, 0, 0, 0, 0],
+    );
+    let mtu = "DestinationUnreachable(FragmentationNeeded { next_hop_mtu: 772 })";
+    is_kind(
+        &rt,
+        &[3, 4, 5, 6, 1, 2, 3, 4],
+        mtu,
+        &[3, 4, 5, 6, 0, 0, 3, 4],
+    );
+    let pointer = "ParameterProblem(PointerIndicatesError(1))";
+    is_kind(
+        &rt,
+        &[12, 0, 5, 6, 1, 2, 3, 4],
+        pointer,
+        &[12, 0, 5, 6, 1, 0, 0, 0],
+    );
+    let reassembly = "TimeExceeded(FragmentReassemblyTimeExceeded)";
+    is_kind(
+        &rt,
+        &[11, 1, 5, 6, 1, 2, 3, 4],
+        reassembly,
+        &[11, 1, 5, 6, 0, 0, 0, 0],
+    );
 }

@@ -1,151 +1,262 @@
 //! Every type and code of RFC 4443 that has a variant, both ways, and neighbours that have none.
-use ep_icmp::icmpv6::*;
-use ep_icmp::{IcmpEchoHeader, Icmpv6Header, Icmpv6Slice, Icmpv6Type};
+use crate::checks::{equal, shows};
+use ep_icmp::{IcmpEchoHeader, Icmpv6Slice, Icmpv6Type};
+use std::process::Abort;
 
-// Whether the kind has this type and code and these four bytes behind the checksum, both ways.
-fn is_kind(numbers: [u8; 2], bytes5to8: [u8; 4], kind: Icmpv6Type) -> bool {
-    let [type_u8, code_u8] = numbers;
-    let [b0, b1, b2, b3] = bytes5to8;
-    let bytes = [type_u8, code_u8, 0x12, 0x34, b0, b1, b2, b3];
-    let read = match Icmpv6Slice::from_slice(&bytes) {
-        Ok(message) => message.icmp_type() == kind,
-        Err(_) => false,
+// A message of eight bytes, its kind, and what that kind's header is written as.
+fn is_kind(rt: &(impl Abort + AllocGlobal), bytes: &[u8; 8], kind: &str, written: &[u8; 8]) {
+    let Ok(message) = Icmpv6Slice::from_slice(bytes) else {
+        panic!(rt; "no message");
     };
-    let named = [kind.type_u8(), kind.code_u8()] == numbers;
-    let header = Icmpv6Header {
-        icmp_type: kind,
-        checksum: 0x1234,
-    };
-    read && named && header.to_bytes().as_slice() == bytes.as_slice()
+    shows(rt, kind, &message.icmp_type(), kind);
+    equal(
+        rt,
+        kind,
+        &numbers(&message.icmp_type()),
+        &[bytes[0], bytes[1]],
+    );
+    let header = message.header().to_bytes();
+    equal(rt, kind, &header.as_slice(), &written.as_slice());
 }
 
-// Whether this type and code have no variant.
-fn is_unknown(type_u8: u8, code_u8: u8) -> bool {
-    let bytes5to8 = [0xa1, 0xb2, 0xc3, 0xd4];
-    let kind = Icmpv6Type::Unknown {
-        type_u8,
-        code_u8,
-        bytes5to8,
-    };
-    is_kind([type_u8, code_u8], bytes5to8, kind)
+fn numbers(kind: &Icmpv6Type) -> [u8; 2] {
+    [kind.type_u8(), kind.code_u8()]
 }
 
-fn is_unreachable(code_u8: u8, code: DestUnreachableCode) -> bool {
-    is_kind(
-        [1, code_u8],
-        [0; 4],
-        Icmpv6Type::DestinationUnreachable(code),
-    )
-}
-
-fn is_problem(code_u8: u8, code: ParameterProblemCode) -> bool {
-    let header = ParameterProblemHeader {
-        code,
-        pointer: 0x01020304,
-    };
-    is_kind(
-        [4, code_u8],
-        [1, 2, 3, 4],
-        Icmpv6Type::ParameterProblem(header),
-    )
-}
+// 258 is 0102, 772 is 0304, and 16909060 is 01020304.
+const KINDS: &[([u8; 8], &str)] = &[
+    (
+        [1, 0, 0x12, 0x34, 0, 0, 0, 0],
+        "DestinationUnreachable(NoRoute)",
+    ),
+    (
+        [1, 1, 0x12, 0x34, 0, 0, 0, 0],
+        "DestinationUnreachable(Prohibited)",
+    ),
+    (
+        [1, 2, 0x12, 0x34, 0, 0, 0, 0],
+        "DestinationUnreachable(BeyondScope)",
+    ),
+    (
+        [1, 3, 0x12, 0x34, 0, 0, 0, 0],
+        "DestinationUnreachable(Address)",
+    ),
+    (
+        [1, 4, 0x12, 0x34, 0, 0, 0, 0],
+        "DestinationUnreachable(Port)",
+    ),
+    (
+        [1, 5, 0x12, 0x34, 0, 0, 0, 0],
+        "DestinationUnreachable(SourceAddressFailedPolicy)",
+    ),
+    (
+        [1, 6, 0x12, 0x34, 0, 0, 0, 0],
+        "DestinationUnreachable(RejectRoute)",
+    ),
+    (
+        [3, 0, 0x12, 0x34, 0, 0, 0, 0],
+        "TimeExceeded(HopLimitExceeded)",
+    ),
+    (
+        [3, 1, 0x12, 0x34, 0, 0, 0, 0],
+        "TimeExceeded(FragmentReassemblyTimeExceeded)",
+    ),
+    (
+        [128, 0, 0x12, 0x34, 1, 2, 3, 4],
+        "EchoRequest(IcmpEchoHeader { id: 258, seq: 772 })",
+    ),
+    (
+        [129, 0, 0x12, 0x34, 1, 2, 3, 4],
+        "EchoReply(IcmpEchoHeader { id: 258, seq: 772 })",
+    ),
+    ([2, 0, 0x12, 0x34, 0, 0, 5, 0], "PacketTooBig { mtu: 1280 }"),
+];
 
 #[test]
-fn codes_of_destination_unreachable(rt: HostRuntime) {
-    use DestUnreachableCode::*;
-    for (code_u8, code) in [
-        (0, NoRoute),
-        (1, Prohibited),
-        (2, BeyondScope),
-        (3, Address),
-        (4, Port),
-        (5, SourceAddressFailedPolicy),
-        (6, RejectRoute),
-    ] {
-        assert!(rt; is_unreachable(code_u8, code), "code {code_u8}");
+fn types_and_codes(rt: HostRuntime) {
+    for (bytes, kind) in KINDS.iter() {
+        is_kind(&rt, bytes, kind, bytes);
     }
 }
 
-#[test]
-fn codes_of_time_exceeded(rt: HostRuntime) {
-    use TimeExceededCode::*;
-    let hop_limit = Icmpv6Type::TimeExceeded(HopLimitExceeded);
-    let reassembly = Icmpv6Type::TimeExceeded(FragmentReassemblyTimeExceeded);
-    let found = [
-        is_kind([3, 0], [0; 4], hop_limit),
-        is_kind([3, 1], [0; 4], reassembly),
-    ];
-    assert!(rt; found == [true, true]);
-}
+const PROBLEMS: &[(u8, &str)] = &[
+    (
+        0,
+        "ParameterProblem(ParameterProblemHeader { \
+            code: ErroneousHeaderField, pointer: 16909060 })",
+    ),
+    (
+        1,
+        "ParameterProblem(ParameterProblemHeader { \
+            code: UnrecognizedNextHeader, pointer: 16909060 })",
+    ),
+    (
+        2,
+        "ParameterProblem(ParameterProblemHeader { \
+            code: UnrecognizedIpv6Option, pointer: 16909060 })",
+    ),
+    (
+        3,
+        "ParameterProblem(ParameterProblemHeader { \
+            code: Ipv6FirstFragmentIncompleteHeaderChain, pointer: 16909060 })",
+    ),
+    (
+        4,
+        "ParameterProblem(ParameterProblemHeader { \
+            code: SrUpperLayerHeaderError, pointer: 16909060 })",
+    ),
+    (
+        5,
+        "ParameterProblem(ParameterProblemHeader { \
+            code: UnrecognizedNextHeaderByIntermediateNode, pointer: 16909060 })",
+    ),
+    (
+        6,
+        "ParameterProblem(ParameterProblemHeader { \
+            code: ExtensionHeaderTooBig, pointer: 16909060 })",
+    ),
+    (
+        7,
+        "ParameterProblem(ParameterProblemHeader { \
+            code: ExtensionHeaderChainTooLong, pointer: 16909060 })",
+    ),
+    (
+        8,
+        "ParameterProblem(ParameterProblemHeader { \
+            code: TooManyExtensionHeaders, pointer: 16909060 })",
+    ),
+    (
+        9,
+        "ParameterProblem(ParameterProblemHeader { \
+            code: TooManyOptionsInExtensionHeader, pointer: 16909060 })",
+    ),
+    (
+        10,
+        "ParameterProblem(ParameterProblemHeader { \
+            code: OptionTooBig, pointer: 16909060 })",
+    ),
+];
 
 #[test]
 fn codes_of_parameter_problem(rt: HostRuntime) {
-    use ParameterProblemCode::*;
-    for (code_u8, code) in [
-        (0, ErroneousHeaderField),
-        (1, UnrecognizedNextHeader),
-        (2, UnrecognizedIpv6Option),
-        (3, Ipv6FirstFragmentIncompleteHeaderChain),
-        (4, SrUpperLayerHeaderError),
-        (5, UnrecognizedNextHeaderByIntermediateNode),
-    ] {
-        assert!(rt; is_problem(code_u8, code), "code {code_u8}");
+    for (code, kind) in PROBLEMS.iter() {
+        let bytes = [4, *code, 0x12, 0x34, 1, 2, 3, 4];
+        is_kind(&rt, &bytes, kind, &bytes);
     }
 }
 
-#[test]
-fn later_codes_of_parameter_problem(rt: HostRuntime) {
-    use ParameterProblemCode::*;
-    for (code_u8, code) in [
-        (6, ExtensionHeaderTooBig),
-        (7, ExtensionHeaderChainTooLong),
-        (8, TooManyExtensionHeaders),
-        (9, TooManyOptionsInExtensionHeader),
-        (10, OptionTooBig),
-    ] {
-        assert!(rt; is_problem(code_u8, code), "code {code_u8}");
-    }
-}
+// One code above those of a type that has variants, types that have none, and those of neighbor
+// discovery: a1b2c3d4 in decimals.
+const UNKNOWN: &[(u8, u8, &str)] = &[
+    (
+        1,
+        7,
+        "Unknown { type_u8: 1, code_u8: 7, bytes5to8: [161, 178, 195, 212] }",
+    ),
+    (
+        2,
+        1,
+        "Unknown { type_u8: 2, code_u8: 1, bytes5to8: [161, 178, 195, 212] }",
+    ),
+    (
+        3,
+        2,
+        "Unknown { type_u8: 3, code_u8: 2, bytes5to8: [161, 178, 195, 212] }",
+    ),
+    (
+        4,
+        11,
+        "Unknown { type_u8: 4, code_u8: 11, bytes5to8: [161, 178, 195, 212] }",
+    ),
+    (
+        128,
+        1,
+        "Unknown { type_u8: 128, code_u8: 1, bytes5to8: [161, 178, 195, 212] }",
+    ),
+    (
+        129,
+        1,
+        "Unknown { type_u8: 129, code_u8: 1, bytes5to8: [161, 178, 195, 212] }",
+    ),
+    (
+        0,
+        0,
+        "Unknown { type_u8: 0, code_u8: 0, bytes5to8: [161, 178, 195, 212] }",
+    ),
+    (
+        5,
+        0,
+        "Unknown { type_u8: 5, code_u8: 0, bytes5to8: [161, 178, 195, 212] }",
+    ),
+    (
+        127,
+        0,
+        "Unknown { type_u8: 127, code_u8: 0, bytes5to8: [161, 178, 195, 212] }",
+    ),
+    (
+        130,
+        0,
+        "Unknown { type_u8: 130, code_u8: 0, bytes5to8: [161, 178, 195, 212] }",
+    ),
+    (
+        255,
+        255,
+        "Unknown { type_u8: 255, code_u8: 255, bytes5to8: [161, 178, 195, 212] }",
+    ),
+    (
+        133,
+        0,
+        "Unknown { type_u8: 133, code_u8: 0, bytes5to8: [161, 178, 195, 212] }",
+    ),
+    (
+        134,
+        0,
+        "Unknown { type_u8: 134, code_u8: 0, bytes5to8: [161, 178, 195, 212] }",
+    ),
+    (
+        135,
+        0,
+        "Unknown { type_u8: 135, code_u8: 0, bytes5to8: [161, 178, 195, 212] }",
+    ),
+    (
+        136,
+        0,
+        "Unknown { type_u8: 136, code_u8: 0, bytes5to8: [161, 178, 195, 212] }",
+    ),
+    (
+        137,
+        0,
+        "Unknown { type_u8: 137, code_u8: 0, bytes5to8: [161, 178, 195, 212] }",
+    ),
+];
 
 #[test]
-fn kinds_of_one_code(rt: HostRuntime) {
-    let echo = IcmpEchoHeader {
-        id: 0x0102,
-        seq: 0x0304,
-    };
-    let too_big = Icmpv6Type::PacketTooBig { mtu: 1280 };
-    let found = [
-        is_kind([128, 0], [1, 2, 3, 4], Icmpv6Type::EchoRequest(echo)),
-        is_kind([129, 0], [1, 2, 3, 4], Icmpv6Type::EchoReply(echo)),
-        is_kind([2, 0], [0, 0, 5, 0], too_big),
-    ];
-    assert!(rt; found == [true, true, true]);
-}
-
-// One code above those of a type that has variants.
-#[test]
-fn codes_without_a_variant(rt: HostRuntime) {
-    for (type_u8, code) in [(1, 7), (2, 1), (3, 2), (4, 11), (128, 1), (129, 1)] {
-        assert!(rt; is_unknown(type_u8, code), "type {type_u8}");
-    }
-}
-
-#[test]
-fn types_without_a_variant(rt: HostRuntime) {
-    for (type_u8, code) in [(0, 0), (5, 0), (127, 0), (130, 0), (255, 255)] {
-        assert!(rt; is_unknown(type_u8, code), "type {type_u8}");
-    }
-}
-
-#[test]
-fn neighbor_discovery(rt: HostRuntime) {
-    for type_u8 in 133..138u8 {
-        assert!(rt; is_unknown(type_u8, 0), "type {type_u8}");
+fn types_and_codes_without_a_variant(rt: HostRuntime) {
+    for (type_u8, code, kind) in UNKNOWN.iter() {
+        let bytes = [*type_u8, *code, 0x12, 0x34, 0xa1, 0xb2, 0xc3, 0xd4];
+        is_kind(&rt, &bytes, kind, &bytes);
     }
 }
 
 #[test]
 fn lengths_of_an_echo_request(rt: HostRuntime) {
     let kind = Icmpv6Type::EchoRequest(IcmpEchoHeader { id: 1, seq: 2 });
-    assert!(rt; (kind.header_len(), kind.fixed_payload_size()) == (8, None));
+    equal(
+        &rt,
+        "lengths",
+        &(kind.header_len(), kind.fixed_payload_size()),
+        &(8, None),
+    );
+}
+
+// Unused bytes are written as 0.
+#[test]
+fn unused_bytes(rt: HostRuntime) {
+    let address = "DestinationUnreachable(Address)";
+    is_kind(
+        &rt,
+        &[1, 3, 5, 6, 1, 2, 3, 4],
+        address,
+        &[1, 3, 5, 6, 0, 0, 0, 0],
+    );
 }

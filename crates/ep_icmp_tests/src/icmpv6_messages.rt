@@ -1,10 +1,9 @@
 //! ICMPv6 messages of RFC 4443: lengths, bytes and checksums.
+use crate::checks::{equal, shows};
 use ep_base::LenSource;
 use ep_base::err::{Layer, LenError};
-use ep_icmp::icmpv6::*;
 use ep_icmp::{IcmpEchoHeader, Icmpv6Header, Icmpv6Slice, Icmpv6Type};
 use std::process::Abort;
-use std::test::*;
 
 const SOURCE: [u8; 16] = [0xfe, 0x80, 0, 0, 0, 0, 0, 0, 0, 0, 0, 0, 0, 0, 0, 1];
 
@@ -16,16 +15,27 @@ const PING: [u8; 12] = [128, 0, 0, 0, 0, 1, 0, 1, 0x61, 0x62, 0x63, 0x64];
 // A packet too big message between these addresses, of an odd length.
 const TOO_BIG: [u8; 11] = [2, 0, 0x98, 0x57, 0, 0, 5, 0xdc, 0x60, 1, 2];
 
+// 38999 is 9857.
+const TOO_BIG_HEADER: &str =
+    "Icmpv6Header { icmp_type: PacketTooBig { mtu: 1500 }, checksum: 38999 }";
+
 fn too_big() -> Icmpv6Type {
     Icmpv6Type::PacketTooBig { mtu: 1500 }
 }
 
 // Why these bytes are refused as a slice and as a header.
-fn refusals(bytes: &[u8]) -> [Option<LenError>; 2] {
-    [
-        Icmpv6Slice::from_slice(bytes).err(),
-        Icmpv6Header::from_slice(bytes).err(),
-    ]
+fn slice_refusal(bytes: &[u8]) -> Option<LenError> {
+    match Icmpv6Slice::from_slice(bytes) {
+        Ok(_) => None,
+        Err(error) => Some(error),
+    }
+}
+
+fn header_refusal(bytes: &[u8]) -> Option<LenError> {
+    match Icmpv6Header::from_slice(bytes) {
+        Ok(_) => None,
+        Err(error) => Some(error),
+    }
 }
 
 fn too_short(len: usize) -> Option<LenError> {
@@ -38,12 +48,22 @@ fn too_short(len: usize) -> Option<LenError> {
     })
 }
 
+fn has_refusals(rt: &impl Abort, bytes: &[u8], error: Option<LenError>) {
+    equal(rt, "slice", &(bytes, slice_refusal(bytes)), &(bytes, error));
+    equal(
+        rt,
+        "header",
+        &(bytes, header_refusal(bytes)),
+        &(bytes, error),
+    );
+}
+
 fn is_taken_from_eight_bytes_on(rt: &impl Abort, bytes: &[u8; 12]) {
     for len in 0..8usize {
-        assert!(rt; refusals(&bytes[..len]) == [too_short(len), too_short(len)]);
+        has_refusals(rt, &bytes[..len], too_short(len));
     }
     for len in 8..13usize {
-        assert!(rt; refusals(&bytes[..len]) == [None, None]);
+        has_refusals(rt, &bytes[..len], None);
     }
 }
 
@@ -65,162 +85,132 @@ fn every_front_of_every_kind(rt: HostRuntime) {
     }
 }
 
-// Type and code, checksum, the four bytes behind it, and the length of the header.
-type Fields = ([u8; 2], u16, [u8; 4], usize);
+// Type, code, checksum, the four bytes behind it, and the length of the header.
+fn numbers(message: &Icmpv6Slice<'_>) -> (u8, u8, u16, [u8; 4], usize) {
+    (
+        message.type_u8(),
+        message.code_u8(),
+        message.checksum(),
+        message.bytes5to8(),
+        message.header_len(),
+    )
+}
 
-// Those of a message, and its bytes and its payload.
-fn parts(bytes: &[u8]) -> Option<(Fields, &[u8], &[u8])> {
-    match Icmpv6Slice::from_slice(bytes) {
-        Ok(message) => {
-            let fields = (
-                [message.type_u8(), message.code_u8()],
-                message.checksum(),
-                message.bytes5to8(),
-                message.header_len(),
-            );
-            Some((fields, message.slice(), message.payload()))
-        }
-        Err(_) => None,
-    }
+// All bytes, and those behind the header.
+fn parts<'a>(message: &Icmpv6Slice<'a>) -> [&'a [u8]; 2] {
+    [message.slice(), message.payload()]
 }
 
 #[test]
-fn parts_of_a_message(rt: HostRuntime) {
-    let fields = ([2, 0], 0x9857, [0, 0, 5, 0xdc], 8);
-    assert!(rt; parts(&TOO_BIG) == Some((fields, TOO_BIG.as_slice(), &[0x60, 1, 2])));
-}
-
-fn is_copied(bytes: &[u8]) -> bool {
-    match Icmpv6Slice::from_slice(bytes) {
-        Ok(message) => {
-            let copy: Result<_, _> = message.clone();
-            copy == Ok(message)
-        }
-        Err(_) => false,
-    }
-}
-
-#[test]
-fn a_copy_of_a_message(rt: HostRuntime) {
-    assert!(rt; is_copied(&TOO_BIG));
-}
-
-// The header of a message that is sliced.
-fn header_of(bytes: &[u8]) -> Option<Icmpv6Header> {
-    match Icmpv6Slice::from_slice(bytes) {
-        Ok(message) => Some(message.header()),
-        Err(_) => None,
-    }
-}
-
-fn too_big_header() -> Icmpv6Header {
-    Icmpv6Header {
-        icmp_type: too_big(),
-        checksum: 0x9857,
-    }
+fn a_view_of_a_message(rt: HostRuntime) {
+    let Ok(message) = Icmpv6Slice::from_slice(&TOO_BIG) else {
+        panic!(rt; "no message");
+    };
+    let wanted = (2, 0, 0x9857, [0, 0, 5, 0xdc], 8);
+    equal(&rt, "packet too big", &numbers(&message), &wanted);
+    equal(
+        &rt,
+        "packet too big",
+        &parts(&message),
+        &[&TOO_BIG, &[0x60, 1, 2]],
+    );
+    shows(&rt, "packet too big", &message.header(), TOO_BIG_HEADER);
+    let copy: Result<_, _> = message.clone();
+    equal(&rt, "packet too big", &copy, &Ok(message));
 }
 
 #[test]
 fn the_header_of_a_message(rt: HostRuntime) {
-    let read = Icmpv6Header::from_slice(&TOO_BIG);
-    assert!(rt; read == Ok((too_big_header(), &[0x60, 1, 2])));
-    assert!(rt; header_of(&TOO_BIG) == Some(too_big_header()));
-}
-
-#[test]
-fn calls_of_a_header(rt: HostRuntime) {
-    let header = too_big_header();
+    let Ok((header, rest)) = Icmpv6Header::from_slice(&TOO_BIG) else {
+        panic!(rt; "no header");
+    };
+    shows(&rt, "packet too big", &header, TOO_BIG_HEADER);
+    equal(&rt, "packet too big", &rest, &[0x60, 1, 2].as_slice());
     let lengths = (header.header_len(), header.fixed_payload_size());
+    equal(&rt, "packet too big", &lengths, &(8, None));
     let copy: Result<_, _> = header.clone();
-    assert!(rt; (lengths, copy) == ((8, None), Ok(header)));
+    equal(&rt, "packet too big", &copy, &Ok(header));
 }
 
-fn is_valid(bytes: &[u8], source: [u8; 16], destination: [u8; 16]) -> Option<bool> {
+fn is_valid(rt: &impl Abort, bytes: &[u8], source: [u8; 16], destination: [u8; 16], wanted: bool) {
     match Icmpv6Slice::from_slice(bytes) {
-        Ok(message) => Some(message.is_checksum_valid(source, destination)),
-        Err(_) => None,
+        Ok(message) => {
+            let found = message.is_checksum_valid(source, destination);
+            equal(rt, "checksum", &(bytes, found), &(bytes, wanted));
+        }
+        Err(_) => panic!(rt; "no message"),
     }
 }
 
 #[test]
 fn a_checksum_that_is_right(rt: HostRuntime) {
-    let mut changed = TOO_BIG;
-    changed[10] = 3;
-    let found = [
-        is_valid(&TOO_BIG, SOURCE, DESTINATION),
-        is_valid(&TOO_BIG, SOURCE, [0; 16]),
-        is_valid(&changed, SOURCE, DESTINATION),
-    ];
-    assert!(rt; found == [Some(true), Some(false), Some(false)]);
+    is_valid(&rt, &TOO_BIG, SOURCE, DESTINATION, true);
+    is_valid(&rt, &TOO_BIG, SOURCE, [0; 16], false);
+    let changed = [2, 0, 0x98, 0x57, 0, 0, 5, 0xdc, 0x60, 1, 3];
+    is_valid(&rt, &changed, SOURCE, DESTINATION, false);
 }
 
 #[test]
 fn both_zeros_are_right(rt: HostRuntime) {
-    let zero = [129, 0, 0, 0, 0x7e, 0xbd, 0, 0];
-    let all_ones = [129, 0, 0xff, 0xff, 0x7e, 0xbd, 0, 0];
-    let kind = Icmpv6Type::EchoReply(IcmpEchoHeader { id: 0x7ebd, seq: 0 });
-    let found = (
-        is_valid(&zero, [0; 16], [0; 16]),
-        is_valid(&all_ones, [0; 16], [0; 16]),
-        kind.calc_checksum([0; 16], [0; 16], &[]),
+    is_valid(
+        &rt,
+        &[129, 0, 0, 0, 0x7e, 0xbd, 0, 0],
+        [0; 16],
+        [0; 16],
+        true,
     );
-    assert!(rt; found == (Some(true), Some(true), Ok(0)));
+    is_valid(
+        &rt,
+        &[129, 0, 0xff, 0xff, 0x7e, 0xbd, 0, 0],
+        [0; 16],
+        [0; 16],
+        true,
+    );
+    let kind = Icmpv6Type::EchoReply(IcmpEchoHeader { id: 0x7ebd, seq: 0 });
+    let sum = kind.calc_checksum([0; 16], [0; 16], &[]);
+    equal(&rt, "sum", &sum, &Ok(0));
 }
 
 #[test]
 fn checksums(rt: HostRuntime) {
-    let payload = *b"abcdefghijklmnopqrstuvwabcdefghi";
+    let sum = too_big().calc_checksum(SOURCE, DESTINATION, &[0x60, 1, 2]);
+    equal(&rt, "too big", &sum, &Ok(0x9857));
     let echo = Icmpv6Type::EchoRequest(IcmpEchoHeader { id: 1, seq: 1 });
-    let sums = [
-        too_big().calc_checksum(SOURCE, DESTINATION, &[0x60, 1, 2]),
-        echo.calc_checksum(SOURCE, DESTINATION, &payload),
-    ];
-    assert!(rt; sums == [Ok(0x9857), Ok(0xd771)]);
+    let payload = *b"abcdefghijklmnopqrstuvwabcdefghi";
+    let sum = echo.calc_checksum(SOURCE, DESTINATION, &payload);
+    equal(&rt, "echo", &sum, &Ok(0xd771));
 }
+
+// The text of a header that is made.
+const MADE: &str = "Ok(Icmpv6Header { icmp_type: PacketTooBig { mtu: 1500 }, checksum: 38999 })";
 
 #[test]
 fn headers_with_a_checksum(rt: HostRuntime) {
-    let payload = [0x60, 1, 2];
-    let sealed = Icmpv6Header::with_checksum(too_big(), SOURCE, DESTINATION, &payload);
-    assert!(rt; sealed == Ok(too_big_header()));
-    let header = too_big().to_header(SOURCE, DESTINATION, &payload);
-    assert!(rt; header == Ok(too_big_header()));
+    let sealed = Icmpv6Header::with_checksum(too_big(), SOURCE, DESTINATION, &[0x60, 1, 2]);
+    shows(&rt, "sealed", &sealed, MADE);
+    let header = too_big().to_header(SOURCE, DESTINATION, &[0x60, 1, 2]);
+    shows(&rt, "of the kind", &header, MADE);
 }
 
 #[test]
 fn a_checksum_that_is_set(rt: HostRuntime) {
     let mut header = Icmpv6Header::new(too_big());
-    let before = header.checksum;
+    equal(&rt, "new", &header.checksum, &0);
     let set = header.update_checksum(SOURCE, DESTINATION, &[0x60, 1, 2]);
-    let bytes = header.to_bytes();
-    assert!(rt; (before, set, bytes.as_slice()) == (0, Ok(()), &TOO_BIG[..8]));
+    equal(&rt, "set", &set, &Ok(()));
+    equal(&rt, "set", &header.to_bytes().as_slice(), &&TOO_BIG[..8]);
 }
 
 #[test]
 fn a_header_behind_a_byte_that_is_there(rt: HostRuntime) {
+    let header = Icmpv6Header {
+        icmp_type: too_big(),
+        checksum: 0x9857,
+    };
     let mut buffer = Vec::new(rt.alloc());
-    let written = buffer.push(9).is_ok() && too_big_header().write(&mut buffer).is_ok();
+    let done = buffer.push(9).is_ok() && header.write(&mut buffer).is_ok();
     let bytes = [9, 2, 0, 0x98, 0x57, 0, 0, 5, 0xdc].as_slice();
-    assert!(rt; written && buffer.as_slice() == bytes);
-}
-
-fn is_written_as(bytes: [u8; 8], canonical: [u8; 8]) -> bool {
-    match Icmpv6Slice::from_slice(&bytes) {
-        Ok(message) => message.header().to_bytes().as_slice() == canonical.as_slice(),
-        Err(_) => false,
-    }
-}
-
-#[test]
-fn unused_bytes(rt: HostRuntime) {
-    assert!(rt; is_written_as([1, 3, 5, 6, 1, 2, 3, 4], [1, 3, 5, 6, 0, 0, 0, 0]));
-}
-
-fn kind_of(bytes: &[u8]) -> Option<Icmpv6Type> {
-    match Icmpv6Slice::from_slice(bytes) {
-        Ok(message) => Some(message.icmp_type()),
-        Err(_) => None,
-    }
+    equal(&rt, "written", &buffer.as_slice(), &bytes);
 }
 
 #[test]
@@ -230,7 +220,14 @@ fn unknown_with_the_numbers_of_another_variant(rt: HostRuntime) {
         code_u8: 4,
         bytes5to8: [0; 4],
     });
-    let port = Icmpv6Type::DestinationUnreachable(DestUnreachableCode::Port);
     let bytes = header.to_bytes();
-    assert!(rt; kind_of(bytes.as_slice()) == Some(port));
+    match Icmpv6Slice::from_slice(bytes.as_slice()) {
+        Ok(message) => shows(
+            &rt,
+            "kind",
+            &message.icmp_type(),
+            "DestinationUnreachable(Port)",
+        ),
+        Err(_) => panic!(rt; "no message"),
+    }
 }

@@ -3,6 +3,8 @@
 #![tactic(auto)]
 
 #[cfg(test)]
+mod checks;
+#[cfg(test)]
 mod icmpv4;
 #[cfg(test)]
 mod icmpv4_messages;

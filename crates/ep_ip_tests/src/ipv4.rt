@@ -1,13 +1,14 @@
 //! IPv4 headers and their options against values from outside.
 
-use ep_base::err::{Layer, LenError, ValueTooBigError, ValueType};
-use ep_base::{IpDscp, IpEcn, IpFragOffset, IpNumber, LenSource};
-use ep_ip::err::ipv4::{BadOptionsLen, HeaderError, HeaderSliceError};
+use crate::checks::{equal, shows};
+use ep_base::err::{Layer, LenError, ValueTooBigError};
+use ep_base::{IpFragOffset, IpNumber, LenSource};
+use ep_ip::err::ipv4::{HeaderError, HeaderSliceError};
 use ep_ip::laws::ipv4 as laws;
 use ep_ip::{Ipv4Header, Ipv4HeaderSlice, Ipv4Options};
-use std::alloc::{AllocError, Global};
 use std::cmp::Ordering;
 use std::hash::FoldHasher;
+use std::process::Abort;
 use std::test::*;
 
 // A header with four bytes of options, made by hand after RFC 791, and two bytes behind it.
@@ -16,55 +17,73 @@ const BYTES: [u8; 26] = [
     0xaa, 0xbb,
 ];
 
-fn too_short(required_len: usize, len: usize) -> HeaderSliceError {
-    HeaderSliceError::Len(LenError {
-        required_len,
-        len,
-        len_source: LenSource::Slice,
-        layer: Layer::Ipv4Header,
-        layer_start_offset: 0,
-    })
+// Its fields, read by hand: length in words, code point, congestion, time to live and protocol;
+// total length, identification, offset and checksum; whether it is not to be fragmented, has more
+// fragments, and is a fragment's.
+const IN_BYTES: [u8; 5] = [6, 8, 1, 64, 17];
+
+const IN_WORDS: [u16; 4] = [30, 7, 5, 0x439f];
+
+const FLAGS: [bool; 3] = [false, true, true];
+
+fn in_bytes(header: &Ipv4Header) -> [u8; 5] {
+    [
+        header.ihl(),
+        header.dscp.value(),
+        header.ecn.value(),
+        header.time_to_live,
+        header.protocol.0,
+    ]
 }
 
-// The fields of `BYTES`, read by hand.
-fn fields() -> Result<Ipv4Header, ValueTooBigError<u16>> {
-    Ok(Ipv4Header {
-        dscp: IpDscp::CS1,
-        ecn: IpEcn::Ect1,
-        total_len: 30,
-        identification: 7,
-        dont_fragment: false,
-        more_fragments: true,
-        fragment_offset: IpFragOffset::try_new(5)?,
-        time_to_live: 64,
-        protocol: IpNumber::UDP,
-        header_checksum: 0x439f,
-        source: [10, 0, 0, 1],
-        destination: [10, 0, 0, 2],
-        options: Ipv4Options::from([1, 1, 1, 0]),
-    })
+fn in_words(header: &Ipv4Header) -> [u16; 4] {
+    [
+        header.total_len,
+        header.identification,
+        header.fragment_offset.value(),
+        header.header_checksum,
+    ]
+}
+
+fn flags(header: &Ipv4Header) -> [bool; 3] {
+    [
+        header.dont_fragment,
+        header.more_fragments,
+        header.is_fragmenting_payload(),
+    ]
+}
+
+fn has_the_fields(rt: &impl Abort, header: &Ipv4Header) {
+    equal(rt, "bytes", &in_bytes(header), &IN_BYTES);
+    equal(rt, "words", &in_words(header), &IN_WORDS);
+    equal(rt, "flags", &flags(header), &FLAGS);
+    let addresses = [header.source, header.destination];
+    equal(rt, "addresses", &addresses, &[[10, 0, 0, 1], [10, 0, 0, 2]]);
+    equal(
+        rt,
+        "options",
+        &header.options.as_slice(),
+        &[1, 1, 1, 0].as_slice(),
+    );
 }
 
 #[test]
 fn fields_by_position(rt: HostRuntime) {
-    let bytes = BYTES;
-    let Ok((header, rest)) = Ipv4Header::from_slice(&bytes) else {
+    let Ok((header, rest)) = Ipv4Header::from_slice(&BYTES) else {
         panic!(rt; "no header");
     };
-    let found = (
-        rest,
-        header.ihl(),
-        header.header_len(),
-        header.payload_len(),
-        header.is_fragmenting_payload(),
-        fields() == Ok(header),
+    has_the_fields(&rt, &header);
+    equal(&rt, "rest", &rest, &[0xaa, 0xbb].as_slice());
+    equal(
+        &rt,
+        "lengths",
+        &(header.header_len(), header.payload_len()),
+        &(24, Ok(6)),
     );
-    assert!(rt; found == (&bytes[24..], 6, 24, Ok(6), true, true));
 }
 
-fn bytes_of(header: &Ipv4HeaderSlice<'_>) -> [u8; 6] {
+fn in_bytes_of_view(header: &Ipv4HeaderSlice<'_>) -> [u8; 5] {
     [
-        header.version(),
         header.ihl(),
         header.dcp().value(),
         header.ecn().value(),
@@ -73,7 +92,7 @@ fn bytes_of(header: &Ipv4HeaderSlice<'_>) -> [u8; 6] {
     ]
 }
 
-fn words_of(header: &Ipv4HeaderSlice<'_>) -> [u16; 4] {
+fn in_words_of_view(header: &Ipv4HeaderSlice<'_>) -> [u16; 4] {
     [
         header.total_len(),
         header.identification(),
@@ -82,7 +101,7 @@ fn words_of(header: &Ipv4HeaderSlice<'_>) -> [u16; 4] {
     ]
 }
 
-fn flags_of(header: &Ipv4HeaderSlice<'_>) -> [bool; 3] {
+fn flags_of_view(header: &Ipv4HeaderSlice<'_>) -> [bool; 3] {
     [
         header.dont_fragment(),
         header.more_fragments(),
@@ -91,188 +110,187 @@ fn flags_of(header: &Ipv4HeaderSlice<'_>) -> [bool; 3] {
 }
 
 #[test]
-fn getters_of_the_slice(rt: HostRuntime) {
-    let bytes = BYTES;
-    let Ok(header) = Ipv4HeaderSlice::from_slice(&bytes) else {
+fn fields_of_a_view(rt: HostRuntime) {
+    let Ok(header) = Ipv4HeaderSlice::from_slice(&BYTES) else {
         panic!(rt; "no header");
     };
-    let found = (bytes_of(&header), words_of(&header), flags_of(&header));
-    assert!(rt;
-        found
-            == (
-                [4, 6, 8, 1, 64, 17],
-                [30, 7, 5, 0x439f],
-                [false, true, true]
-            )
-    );
+    equal(&rt, "version", &header.version(), &4);
+    equal(&rt, "bytes", &in_bytes_of_view(&header), &IN_BYTES);
+    equal(&rt, "words", &in_words_of_view(&header), &IN_WORDS);
+    equal(&rt, "flags", &flags_of_view(&header), &FLAGS);
+    has_the_fields(&rt, &header.to_header());
+}
+
+// All bytes and those of the options, and the addresses.
+fn parts<'a>(header: &Ipv4HeaderSlice<'a>) -> ([&'a [u8]; 2], [[u8; 4]; 2]) {
+    (
+        [header.slice(), header.options()],
+        [header.source(), header.destination()],
+    )
 }
 
 #[test]
-fn addresses_and_header_of_the_slice(rt: HostRuntime) {
-    let bytes = BYTES;
-    let Ok(header) = Ipv4HeaderSlice::from_slice(&bytes) else {
+fn parts_of_a_view(rt: HostRuntime) {
+    let Ok(header) = Ipv4HeaderSlice::from_slice(&BYTES) else {
         panic!(rt; "no header");
     };
-    let found = (
-        header.source(),
-        header.destination(),
-        fields() == Ok(header.to_header()),
-    );
-    assert!(rt; found == ([10, 0, 0, 1], [10, 0, 0, 2], true));
+    let addresses = [[10, 0, 0, 1], [10, 0, 0, 2]];
+    let wanted = ([&BYTES[..24], &[1, 1, 1, 0]], addresses);
+    equal(&rt, "bytes", &parts(&header), &wanted);
+    equal(&rt, "bytes", &header.payload_len(), &Ok(6));
 }
 
-#[test]
-fn parts_of_the_slice(rt: HostRuntime) {
-    let bytes = BYTES;
-    let Ok(header) = Ipv4HeaderSlice::from_slice(&bytes) else {
-        panic!(rt; "no header");
-    };
-    let found = (header.slice(), header.options(), header.payload_len());
-    assert!(rt; found == (&bytes[..24], &bytes[20..24], Ok(6)));
+// Why these bytes are no view of a header and no header.
+fn refusal(bytes: &[u8]) -> Option<HeaderSliceError> {
+    match Ipv4HeaderSlice::from_slice(bytes) {
+        Ok(_) => None,
+        Err(error) => Some(error),
+    }
+}
+
+fn header_refusal(bytes: &[u8]) -> Option<HeaderSliceError> {
+    match Ipv4Header::from_slice(bytes) {
+        Ok(_) => None,
+        Err(error) => Some(error),
+    }
+}
+
+fn too_short(required_len: usize, len: usize) -> Option<HeaderSliceError> {
+    Some(HeaderSliceError::Len(LenError {
+        required_len,
+        len,
+        len_source: LenSource::Slice,
+        layer: Layer::Ipv4Header,
+        layer_start_offset: 0,
+    }))
+}
+
+fn is_refused(rt: &impl Abort, bytes: &[u8], error: Option<HeaderSliceError>) {
+    equal(rt, "view", &refusal(bytes), &error);
+    equal(rt, "header", &header_refusal(bytes), &error);
 }
 
 #[test]
 fn every_front_of_a_header(rt: HostRuntime) {
-    let bytes = BYTES;
-    for len in 0..24 {
-        let refused = too_short(if len < 20 { 20 } else { 24 }, len);
-        let found = (
-            Ipv4HeaderSlice::from_slice(&bytes[..len]) == Err(refused),
-            Ipv4Header::from_slice(&bytes[..len]) == Err(refused),
-        );
-        assert!(rt; found == (true, true));
+    for len in 0..20usize {
+        is_refused(&rt, &BYTES[..len], too_short(20, len));
+    }
+    for len in 20..24usize {
+        is_refused(&rt, &BYTES[..len], too_short(24, len));
     }
 }
+
+// A byte, how often it stands there, and why that is no header.
+const FAULTS: &[(u8, usize, &str)] = &[
+    (
+        0x63,
+        20,
+        "Some(Content(UnexpectedVersion { version_number: 6 }))",
+    ),
+    (
+        0x43,
+        20,
+        "Some(Content(HeaderLengthSmallerThanHeader { ihl: 3 }))",
+    ),
+    (
+        0x4f,
+        20,
+        "Some(Len(LenError { required_len: 60, len: 20, len_source: Slice, layer: Ipv4Header, \
+            layer_start_offset: 0 }))",
+    ),
+    (
+        0x63,
+        19,
+        "Some(Len(LenError { required_len: 20, len: 19, len_source: Slice, layer: Ipv4Header, \
+            layer_start_offset: 0 }))",
+    ),
+];
 
 #[test]
 fn faults_in_order(rt: HostRuntime) {
-    let version_6 = HeaderError::UnexpectedVersion { version_number: 6 };
-    let words_3 = HeaderError::HeaderLengthSmallerThanHeader { ihl: 3 };
-    for (bytes, refused) in [
-        ([0x63; 20], HeaderSliceError::Content(version_6)),
-        ([0x43; 20], HeaderSliceError::Content(words_3)),
-        ([0x4f; 20], too_short(60, 20)),
-    ] {
-        assert!(rt; Ipv4HeaderSlice::from_slice(&bytes) == Err(refused));
+    for (byte, len, refused) in FAULTS.iter() {
+        let bytes = [*byte; 20];
+        let (front, _) = bytes.split_at((*len).min(20));
+        shows(&rt, "front", &refusal(front), refused);
     }
-    assert!(rt; Ipv4HeaderSlice::from_slice(&[0x63; 19]) == Err(too_short(20, 19)));
 }
 
+// From byte 14 on to 18, and to the greatest place that a `usize` names.
 #[test]
-fn error_in_a_later_place(rt: HostRuntime) {
-    let error = LenError {
-        required_len: 20,
-        len: 19,
-        len_source: LenSource::Slice,
-        layer: Layer::Ipv4Header,
-        layer_start_offset: 14,
-    };
-    let moved = LenError {
-        layer_start_offset: 18,
-        ..error
-    };
+fn errors_in_later_places(rt: HostRuntime) {
+    let error = LenError::too_few_bytes(Layer::Ipv4Header, 20, 19).add_offset(14);
+    let moved = HeaderSliceError::Len(error).add_slice_offset(4);
+    let wanted = "Len(LenError { required_len: 20, len: 19, len_source: Slice, \
+        layer: Ipv4Header, layer_start_offset: 18 })";
+    shows(&rt, "18", &moved, wanted);
+    let last = HeaderSliceError::Len(error).add_slice_offset(0xffff_ffff_ffff_fff1);
+    let wanted = "Len(LenError { required_len: 20, len: 19, len_source: Slice, \
+        layer: Ipv4Header, layer_start_offset: 18446744073709551615 })";
+    shows(&rt, "last", &last, wanted);
     let content = HeaderSliceError::Content(HeaderError::UnexpectedVersion { version_number: 6 });
-    let found = [
-        HeaderSliceError::Len(error).add_slice_offset(4),
-        content.add_slice_offset(4),
-    ];
-    assert!(rt; found == [HeaderSliceError::Len(moved), content]);
+    equal(&rt, "4", &content.add_slice_offset(4), &content);
+    equal(
+        &rt,
+        "last",
+        &content.add_slice_offset(0xffff_ffff_ffff_ffff),
+        &content,
+    );
 }
 
-// From byte 14 to the greatest place that a `usize` names.
-#[test]
-fn error_in_the_greatest_place(rt: HostRuntime) {
-    let error = LenError {
-        required_len: 20,
-        len: 19,
-        len_source: LenSource::Slice,
-        layer: Layer::Ipv4Header,
-        layer_start_offset: 14,
-    };
-    let last = LenError {
-        layer_start_offset: 0xffff_ffff_ffff_ffff,
-        ..error
-    };
-    let content = HeaderSliceError::Content(HeaderError::UnexpectedVersion { version_number: 6 });
-    let found = [
-        HeaderSliceError::Len(error).add_slice_offset(0xffff_ffff_ffff_fff1),
-        content.add_slice_offset(0xffff_ffff_ffff_ffff),
-    ];
-    assert!(rt; found == [HeaderSliceError::Len(last), content]);
-}
+// More fragments and an offset, each set or not, and whether the header is a fragment's.
+const FRAGMENTS: &[(bool, u16, bool)] = &[
+    (false, 0, false),
+    (false, 1, true),
+    (true, 0, true),
+    (true, 8191, true),
+];
 
-// More fragments and an offset, each set or not.
-// Whether a header with this flag and offset is a fragment's: what it says, and what a view of its
-// bytes says.
-fn is_fragment_with(more_fragments: bool, offset: u16) -> Option<(bool, bool)> {
-    let Ok(fragment_offset) = IpFragOffset::try_new(offset) else {
-        return None;
-    };
-    let header = Ipv4Header {
-        more_fragments,
-        fragment_offset,
-        ..Ipv4Header::default()
-    };
-    let bytes = header.to_bytes();
-    match Ipv4HeaderSlice::from_slice(bytes.as_slice()) {
-        Ok(view) => Some((
-            header.is_fragmenting_payload(),
-            view.is_fragmenting_payload(),
-        )),
-        Err(_) => None,
-    }
+fn header_with(more_fragments: bool, offset: u16) -> Ipv4Header {
+    let mut header = Ipv4Header::default();
+    header.more_fragments = more_fragments;
+    header.fragment_offset = IpFragOffset::try_new(offset).unwrap_or(IpFragOffset::ZERO);
+    header
 }
 
 #[test]
 fn fragments(rt: HostRuntime) {
-    for (more_fragments, offset, is_fragment) in [
-        (false, 0, false),
-        (false, 1, true),
-        (true, 0, true),
-        (true, 8191, true),
-    ] {
-        let found = is_fragment_with(more_fragments, offset);
-        assert!(rt; found == Some((is_fragment, is_fragment)));
+    for (more_fragments, offset, is_fragment) in FRAGMENTS.iter() {
+        let header = header_with(*more_fragments, *offset);
+        equal(&rt, "offset", &header.fragment_offset.value(), offset);
+        let wanted = (*more_fragments, *offset, *is_fragment);
+        let found = header.is_fragmenting_payload();
+        equal(&rt, "header", &(*more_fragments, *offset, found), &wanted);
+        let bytes = header.to_bytes();
+        let Ok(view) = Ipv4HeaderSlice::from_slice(bytes.as_slice()) else {
+            panic!(rt; "no view");
+        };
+        let found = view.is_fragmenting_payload();
+        equal(&rt, "view", &(*more_fragments, *offset, found), &wanted);
     }
-}
-
-#[test]
-fn total_length_below_the_header(rt: HostRuntime) {
-    let header = Ipv4Header {
-        total_len: 19,
-        ..Ipv4Header::default()
-    };
-    assert!(rt;
-        header.payload_len()
-            == Err(LenError {
-                required_len: 20,
-                len: 19,
-                len_source: LenSource::Ipv4HeaderTotalLen,
-                layer: Layer::Ipv4Packet,
-                layer_start_offset: 0,
-            })
-    );
 }
 
 #[test]
 fn default_header(rt: HostRuntime) {
     let header = Ipv4Header::default();
-    let fields = Ipv4Header {
-        dscp: IpDscp::ZERO,
-        ecn: IpEcn::NotEct,
-        total_len: 0,
-        identification: 0,
-        dont_fragment: true,
-        more_fragments: false,
-        fragment_offset: IpFragOffset::ZERO,
-        time_to_live: 0,
-        protocol: IpNumber(255),
-        header_checksum: 0,
-        source: [0; 4],
-        destination: [0; 4],
-        options: Ipv4Options::default(),
-    };
-    assert!(rt; (header.is_fragmenting_payload(), header == fields) == (false, true));
+    equal(&rt, "bytes", &in_bytes(&header), &[5, 0, 0, 0, 255]);
+    equal(&rt, "words", &in_words(&header), &[0, 0, 0, 0]);
+    equal(&rt, "flags", &flags(&header), &[true, false, false]);
+    equal(
+        &rt,
+        "addresses",
+        &[header.source, header.destination],
+        &[[0; 4]; 2],
+    );
+    equal(&rt, "options", &header.options.as_slice(), &[].as_slice());
+}
+
+#[test]
+fn total_length_below_the_header(rt: HostRuntime) {
+    let mut header = Ipv4Header::default();
+    header.total_len = 19;
+    let error = "Err(LenError { required_len: 20, len: 19, len_source: Ipv4HeaderTotalLen, \
+        layer: Ipv4Packet, layer_start_offset: 0 })";
+    shows(&rt, "19", &header.payload_len(), error);
 }
 
 // A header with no options, whose checksum was summed by hand.
@@ -280,115 +298,79 @@ fn header_without_options() -> Result<Ipv4Header, ValueTooBigError<u16>> {
     Ipv4Header::new(8, 64, IpNumber::UDP, [10, 0, 0, 1], [10, 0, 0, 2])
 }
 
-const BYTES_WITHOUT_OPTIONS: [u8; 20] = [
-    0x45, 0, 0, 28, 0, 0, 0x40, 0, 64, 17, 0x26, 0xcf, 10, 0, 0, 1, 10, 0, 0, 2,
-];
-
 // The header behind a byte that is there, with the checksum that is computed, and once more with
-// its own.
-fn written_twice(alloc: Global, header: &Ipv4Header) -> Result<Vec<u8>, AllocError> {
-    let mut buffer = Vec::new(alloc);
-    buffer.push(9)?;
-    header.write(&mut buffer)?;
-    header.write_raw(&mut buffer)?;
-    Ok(buffer)
-}
-
-fn is_written_twice(alloc: Global, bytes: &[u8]) -> bool {
-    let Ok(header) = header_without_options() else {
-        return false;
-    };
-    match written_twice(alloc, &header) {
-        Ok(buffer) => buffer.as_slice() == bytes,
-        Err(_) => false,
-    }
-}
-
+// its own, which is 0.
 #[test]
 fn written_behind_a_byte(rt: HostRuntime) {
-    let mut written = [9; 41];
-    let bytes = BYTES_WITHOUT_OPTIONS;
-    written[1..21].copy_from_slice(&bytes);
-    written[21..].copy_from_slice(&bytes);
-    written[31] = 0;
-    written[32] = 0;
-    assert!(rt; is_written_twice(rt.alloc(), &written));
+    let Ok(header) = header_without_options() else {
+        panic!(rt; "no header");
+    };
+    let mut buffer = Vec::new(rt.alloc());
+    let done = buffer.push(9).is_ok()
+        && header.write(&mut buffer).is_ok()
+        && header.write_raw(&mut buffer).is_ok();
+    let written = [
+        9, 0x45, 0, 0, 28, 0, 0, 0x40, 0, 64, 17, 0x26, 0xcf, 10, 0, 0, 1, 10, 0, 0, 2, 0x45, 0, 0,
+        28, 0, 0, 0x40, 0, 64, 17, 0, 0, 10, 0, 0, 1, 10, 0, 0, 2,
+    ];
+    equal(&rt, "written", &buffer.as_slice(), &written.as_slice());
 }
 
 #[test]
 fn the_checksum_of_a_header_without_options(rt: HostRuntime) {
-    let Ok(header) = header_without_options() else {
+    let Ok(mut header) = header_without_options() else {
         panic!(rt; "no header");
     };
-    let bytes = header.to_bytes();
-    let found = (
-        header.dont_fragment,
-        header.calc_header_checksum(),
-        &bytes.as_slice()[10..12],
-    );
-    assert!(rt; found == (true, 0x26cf, [0, 0].as_slice()));
+    equal(&rt, "flag", &header.dont_fragment, &true);
+    equal(&rt, "sum", &header.calc_header_checksum(), &0x26cf);
+    equal(&rt, "its own", &header.header_checksum, &0);
+    header.identification = 0x26cf;
+    equal(&rt, "zero", &header.calc_header_checksum(), &0);
 }
 
 #[test]
 fn bytes_of_a_header_with_options(rt: HostRuntime) {
-    let bytes = BYTES;
-    let Ok((header, _)) = Ipv4Header::read_from_slice(&bytes) else {
+    let Ok((header, _)) = Ipv4Header::read_from_slice(&BYTES) else {
         panic!(rt; "no header");
     };
-    let written = header.to_bytes();
-    let found = (
-        written.as_slice(),
-        header.calc_header_checksum(),
-        header.options(),
-    );
-    assert!(rt; found == (&bytes[..24], 0x439f, &bytes[20..24]));
-}
-
-#[test]
-fn checksum_zero(rt: HostRuntime) {
-    let Ok(mut header) = header_without_options() else {
-        panic!(rt; "no header");
-    };
-    header.identification = 0x26cf;
-    assert!(rt; header.calc_header_checksum() == 0);
-}
-
-// The refusal of a payload of an IPv4 packet.
-fn too_big(actual: usize, max_allowed: usize) -> ValueTooBigError<usize> {
-    ValueTooBigError {
-        actual,
-        max_allowed,
-        value_type: ValueType::Ipv4PayloadLength,
-    }
+    equal(&rt, "bytes", &header.to_bytes().as_slice(), &&BYTES[..24]);
+    equal(&rt, "sum", &header.calc_header_checksum(), &0x439f);
+    equal(&rt, "options", &header.options(), &[1, 1, 1, 0].as_slice());
 }
 
 #[test]
 fn payload_lengths(rt: HostRuntime) {
     let mut header = Ipv4Header::default();
-    let of_40 = header.set_options(&[7; 40]);
-    let of_6 = header.set_options(&[7; 6]);
-    let most = header.max_payload_len();
-    assert!(rt; (of_40, of_6, most) == (Ok(()), Err(BadOptionsLen { bad_len: 6 }), 65475));
-    let set = header.set_payload_len(65475);
-    let refused = header.set_payload_len(65476);
-    let found = (set, refused, header.total_len, header.payload_len());
-    assert!(rt; found == (Ok(()), Err(too_big(65476, 65475)), 65535, Ok(65475)));
+    equal(&rt, "40 bytes", &header.set_options(&[7; 40]), &Ok(()));
+    let refused = "Err(BadOptionsLen { bad_len: 6 })";
+    shows(&rt, "6 bytes", &header.set_options(&[7; 6]), refused);
+    equal(&rt, "most", &header.max_payload_len(), &65475);
+    equal(&rt, "set", &header.set_payload_len(65475), &Ok(()));
+    let refused = "Err(ValueTooBigError { actual: 65476, max_allowed: 65475, \
+        value_type: Ipv4PayloadLength })";
+    shows(&rt, "too big", &header.set_payload_len(65476), refused);
+    equal(
+        &rt,
+        "set",
+        &(header.total_len, header.payload_len()),
+        &(65535, Ok(65475)),
+    );
 }
 
 // The total length of a header in front of a payload of this length.
 fn total_len(payload_len: u16) -> Result<u16, ValueTooBigError<u16>> {
-    let header = Ipv4Header::new(payload_len, 1, IpNumber::UDP, [0; 4], [0; 4])?;
-    Ok(header.total_len)
+    match Ipv4Header::new(payload_len, 1, IpNumber::UDP, [0; 4], [0; 4]) {
+        Ok(header) => Ok(header.total_len),
+        Err(error) => Err(error),
+    }
 }
 
 #[test]
 fn payload_lengths_of_new_headers(rt: HostRuntime) {
-    let refused = ValueTooBigError {
-        actual: 65516,
-        max_allowed: 65515,
-        value_type: ValueType::Ipv4PayloadLength,
-    };
-    assert!(rt; (total_len(65515), total_len(65516)) == (Ok(65535), Err(refused)));
+    equal(&rt, "65515", &total_len(65515), &Ok(65535));
+    let refused = "Err(ValueTooBigError { actual: 65516, max_allowed: 65515, \
+        value_type: Ipv4PayloadLength })";
+    shows(&rt, "65516", &total_len(65516), refused);
 }
 
 #[test]
@@ -398,51 +380,44 @@ fn header_lengths(rt: HostRuntime) {
         Ipv4Header::MAX_LEN,
         Ipv4Header::SERIALIZED_SIZE,
     ];
-    assert!(rt; (lens, Ipv4Header::MIN_LEN_U16, Ipv4Options::MAX_LEN) == ([20, 60, 20], 20, 40));
+    equal(&rt, "lengths", &lens, &[20, 60, 20]);
+    let others = (Ipv4Header::MIN_LEN_U16, Ipv4Options::MAX_LEN);
+    equal(&rt, "others", &others, &(20, 40));
 }
 
-// Whether options hold so many bytes, each of them 1.
-fn are_ones(options: &Ipv4Options, len: usize) -> bool {
-    let (ones, _) = [1; 40].split_at(len.min(40));
-    options.len() == len && options.as_slice() == ones
+// Options hold so many bytes, each of them 1.
+fn are_ones(rt: &impl Abort, options: Ipv4Options, len: usize) {
+    let ones = [1; 40];
+    let (ones, _) = ones.split_at(len.min(40));
+    equal(rt, "options", &options.as_slice(), &ones);
+    equal(rt, "length", &options.len(), &len);
 }
 
 #[test]
 fn options_of_arrays(rt: HostRuntime) {
-    let short = [
-        are_ones(&Ipv4Options::from([1; 0]), 0),
-        are_ones(&Ipv4Options::from([1; 4]), 4),
-        are_ones(&Ipv4Options::from([1; 8]), 8),
-        are_ones(&Ipv4Options::from([1; 12]), 12),
-        are_ones(&Ipv4Options::from([1; 16]), 16),
-    ];
-    assert!(rt; short == [true; 5]);
+    are_ones(&rt, Ipv4Options::from([1; 0]), 0);
+    are_ones(&rt, Ipv4Options::from([1; 4]), 4);
+    are_ones(&rt, Ipv4Options::from([1; 8]), 8);
+    are_ones(&rt, Ipv4Options::from([1; 12]), 12);
+    are_ones(&rt, Ipv4Options::from([1; 16]), 16);
+    are_ones(&rt, Ipv4Options::from([1; 20]), 20);
 }
 
 #[test]
 fn options_of_long_arrays(rt: HostRuntime) {
-    let long = [
-        are_ones(&Ipv4Options::from([1; 20]), 20),
-        are_ones(&Ipv4Options::from([1; 24]), 24),
-        are_ones(&Ipv4Options::from([1; 28]), 28),
-        are_ones(&Ipv4Options::from([1; 32]), 32),
-        are_ones(&Ipv4Options::from([1; 36]), 36),
-        are_ones(&Ipv4Options::from([1; 40]), 40),
-    ];
-    assert!(rt; long == [true; 6]);
+    are_ones(&rt, Ipv4Options::from([1; 24]), 24);
+    are_ones(&rt, Ipv4Options::from([1; 28]), 28);
+    are_ones(&rt, Ipv4Options::from([1; 32]), 32);
+    are_ones(&rt, Ipv4Options::from([1; 36]), 36);
+    are_ones(&rt, Ipv4Options::from([1; 40]), 40);
 }
 
 #[test]
 fn option_lengths(rt: HostRuntime) {
-    let found = (
-        Ipv4Options::try_from([1, 2, 3].as_slice()).err(),
-        Ipv4Options::try_from([0; 44].as_slice()).err(),
-    );
-    let refused = (
-        Some(BadOptionsLen { bad_len: 3 }),
-        Some(BadOptionsLen { bad_len: 44 }),
-    );
-    assert!(rt; found == refused);
+    let three = Ipv4Options::try_from([1, 2, 3].as_slice()).err();
+    shows(&rt, "3", &three, "Some(BadOptionsLen { bad_len: 3 })");
+    let many = Ipv4Options::try_from([0; 44].as_slice()).err();
+    shows(&rt, "44", &many, "Some(BadOptionsLen { bad_len: 44 })");
 }
 
 #[test]
@@ -450,56 +425,62 @@ fn options_written_anew(rt: HostRuntime) {
     let Ok(mut options) = Ipv4Options::try_from([1, 2, 3, 4].as_slice()) else {
         panic!(rt; "no options");
     };
-    let found = (
-        options.len(),
-        options.len_u8(),
-        options.is_empty(),
-        Ipv4Options::new().is_empty(),
-    );
-    assert!(rt; found == (4, 4, false, true));
+    equal(&rt, "before", &options.as_slice(), &[1, 2, 3, 4].as_slice());
+    let found = (options.len(), options.len_u8(), options.is_empty());
+    equal(&rt, "before", &found, &(4, 4, false));
+    equal(&rt, "new", &Ipv4Options::new().is_empty(), &true);
     for byte in options.as_mut_slice() {
         *byte = 9;
     }
-    assert!(rt; options.as_slice() == [9; 4].as_slice());
+    equal(&rt, "anew", &options.as_slice(), &[9; 4].as_slice());
 }
 
 #[test]
 fn laws_are_called(rt: HostRuntime) {
-    let bytes = BYTES;
-    let Ok(slice) = Ipv4HeaderSlice::from_slice(&bytes) else {
+    let Ok(slice) = Ipv4HeaderSlice::from_slice(&BYTES) else {
         panic!(rt; "no header");
     };
     laws::same_fields_from_same_bytes();
     let (of_slice, of_header) = laws::payload_lengths_agree(&slice);
-    let found = (
-        of_slice == of_header,
-        laws::slices_are_equal_as_bytes(&slice, &slice),
-        laws::header_lengths(),
+    equal(&rt, "payload", &of_slice, &of_header);
+    equal(
+        &rt,
+        "equal",
+        &laws::slices_are_equal_as_bytes(&slice, &slice),
+        &true,
     );
-    assert!(rt; found == (true, true, [20, 60, 20]));
+    equal(&rt, "lengths", &laws::header_lengths(), &[20, 60, 20]);
 }
 
 #[test]
 fn laws_of_a_header_are_called(rt: HostRuntime) {
-    let bytes = BYTES;
-    let Ok(header) = fields() else {
+    let Ok((header, _)) = Ipv4Header::from_slice(&BYTES) else {
         panic!(rt; "no header");
     };
-    let Ok((again, rest)) = laws::header_is_read_again(&header, &bytes) else {
+    let Ok((again, rest)) = laws::header_is_read_again(&header, &BYTES) else {
         panic!(rt; "no header again");
     };
+    equal(&rt, "rest", &rest, &[0xaa, 0xbb].as_slice());
+    equal(
+        &rt,
+        "equal",
+        &laws::headers_are_equal_as_fields(&header, &again),
+        &true,
+    );
     let copy: Result<_, _> = laws::header_is_copied(&header);
-    let equal = laws::headers_are_equal_as_fields(&header, &again);
-    assert!(rt; (rest, equal, copy == Ok(again)) == (&bytes[24..], true, true));
+    equal(&rt, "copy", &copy, &Ok(again));
 }
 
 #[test]
 fn laws_of_options_are_called(rt: HostRuntime) {
     let options = Ipv4Options::from([1, 1, 1, 0]);
     laws::options_hash_as_bytes(&options, &mut FoldHasher::default());
-    let found = (
-        laws::options_are_equal_as_bytes(&options, &options),
-        laws::options_are_ordered_as_bytes(&options, &Ipv4Options::new()),
+    equal(
+        &rt,
+        "equal",
+        &laws::options_are_equal_as_bytes(&options, &options),
+        &true,
     );
-    assert!(rt; found == (true, Ordering::Greater));
+    let order = laws::options_are_ordered_as_bytes(&options, &Ipv4Options::new());
+    equal(&rt, "order", &order, &Ordering::Greater);
 }

@@ -1,13 +1,13 @@
 //! IPv6 headers and the walk against values from outside.
 
-ghost use Rattle.std.specs.Prelude.{◌≡◌};
-
-use ep_base::err::{Layer, LenError, ValueTooBigError, ValueType};
+use crate::checks::{equal, shows};
+use ep_base::err::{Layer, LenError};
 use ep_base::{IpDscp, IpEcn, IpNumber, Ipv6FlowLabel, LenSource};
 use ep_ip::err::ipv6::{HeaderError, HeaderSliceError};
 use ep_ip::laws::ipv6 as laws;
 use ep_ip::{Ipv6Header, Ipv6HeaderSlice};
 use std::alloc::{AllocError, Global};
+use std::process::Abort;
 use std::test::*;
 
 // A header by the layout of RFC 8200, section 3, and two bytes behind it.
@@ -16,9 +16,17 @@ const BYTES: [u8; 42] = [
     0xfd, 0, 0, 0, 0, 0, 0, 0, 0, 0, 0, 0, 0, 0, 0, 2, 0xaa, 0xbb,
 ];
 
-fn len_error(required_len: usize, len: usize, layer: Layer, layer_start_offset: usize) -> LenError
-    ensures { result.layer_start_offset ≡ layer_start_offset }
-{
+// Its fields, read by hand: 171 is ab, 843505 is cdef1, 4660 is 1234 and 253 is fd.
+const FIELDS: &str = "Ipv6Header { traffic_class: 171, flow_label: Ipv6FlowLabel(843505), \
+    payload_length: 4660, next_header: IpNumber(17), hop_limit: 64, \
+    source: [253, 0, 0, 0, 0, 0, 0, 0, 0, 0, 0, 0, 0, 0, 0, 1], \
+    destination: [253, 0, 0, 0, 0, 0, 0, 0, 0, 0, 0, 0, 0, 0, 0, 2] }";
+
+const SOURCE: [u8; 16] = [0xfd, 0, 0, 0, 0, 0, 0, 0, 0, 0, 0, 0, 0, 0, 0, 1];
+
+const DESTINATION: [u8; 16] = [0xfd, 0, 0, 0, 0, 0, 0, 0, 0, 0, 0, 0, 0, 0, 0, 2];
+
+fn too_short(required_len: usize, len: usize, layer: Layer, layer_start_offset: usize) -> LenError {
     LenError {
         required_len,
         len,
@@ -28,54 +36,37 @@ fn len_error(required_len: usize, len: usize, layer: Layer, layer_start_offset: 
     }
 }
 
-// The fields of `BYTES`, read by hand.
-fn fields() -> Option<Ipv6Header> {
-    match Ipv6FlowLabel::try_new(0xcdef1) {
-        Ok(flow_label) => Some(Ipv6Header {
-            traffic_class: 0xab,
-            flow_label,
-            payload_length: 0x1234,
-            next_header: IpNumber::UDP,
-            hop_limit: 64,
-            source: [0xfd, 0, 0, 0, 0, 0, 0, 0, 0, 0, 0, 0, 0, 0, 0, 1],
-            destination: [0xfd, 0, 0, 0, 0, 0, 0, 0, 0, 0, 0, 0, 0, 0, 0, 2],
-        }),
-        Err(_) => None,
-    }
-}
-
 #[test]
-fn a_header_and_its_rest(rt: HostRuntime) {
-    let bytes = BYTES;
-    let Ok((header, rest)) = Ipv6Header::from_slice(&bytes) else {
+fn fields_by_position(rt: HostRuntime) {
+    let Ok((header, rest)) = Ipv6Header::from_slice(&BYTES) else {
         panic!(rt; "no header");
     };
-    assert!(rt; (Some(header), rest) == (fields(), &bytes[40..]));
+    shows(&rt, "bytes", &header, FIELDS);
+    equal(&rt, "bytes", &rest, &[0xaa, 0xbb].as_slice());
+    let Ok((header, rest)) = Ipv6Header::read_from_slice(&BYTES) else {
+        panic!(rt; "no header is read");
+    };
+    shows(&rt, "bytes", &header, FIELDS);
+    equal(&rt, "bytes", &rest, &[0xaa, 0xbb].as_slice());
 }
 
-#[test]
-fn a_header_that_is_read_and_its_rest(rt: HostRuntime) {
-    let bytes = BYTES;
-    let Ok((header, rest)) = Ipv6Header::read_from_slice(&bytes) else {
-        panic!(rt; "no header");
-    };
-    assert!(rt; (Some(header), rest) == (fields(), &bytes[40..]));
+// Code point, congestion and the length of the header.
+fn parts(header: &Ipv6Header) -> (u8, IpEcn, usize) {
+    (header.dscp().value(), header.ecn(), header.header_len())
 }
 
 #[test]
 fn a_header_of_fields(rt: HostRuntime) {
-    let bytes = BYTES;
-    let Some(header) = fields() else {
+    let Ok((header, _)) = Ipv6Header::from_slice(&BYTES) else {
         panic!(rt; "no header");
     };
-    let written = header.to_bytes();
-    let found = (
-        header.dscp().value(),
-        header.ecn(),
-        header.header_len(),
-        written.as_slice(),
+    shows(
+        &rt,
+        "bytes",
+        &parts(&header),
+        "(42, CongestionExperienced, 40)",
     );
-    assert!(rt; found == (42, IpEcn::CongestionExperienced, 40, &bytes[..40]));
+    equal(&rt, "bytes", &header.to_bytes().as_slice(), &&BYTES[..40]);
 }
 
 // The view's numbers before the addresses.
@@ -90,115 +81,113 @@ fn numbers(view: &Ipv6HeaderSlice<'_>) -> (u8, u8, u32, u16, u8, u8) {
     )
 }
 
+fn parts_of_view(view: &Ipv6HeaderSlice<'_>) -> (u8, IpEcn, usize) {
+    (view.dscp().value(), view.ecn(), view.header_len())
+}
+
 #[test]
-fn a_view_of_a_header(rt: HostRuntime) {
-    let bytes = BYTES;
-    let Ok(view) = Ipv6HeaderSlice::from_slice(&bytes) else {
+fn fields_of_a_view(rt: HostRuntime) {
+    let Ok(view) = Ipv6HeaderSlice::from_slice(&BYTES) else {
         panic!(rt; "no header");
     };
-    let found = (
-        numbers(&view),
-        view.slice(),
-        view.header_len(),
-        view.dscp().value(),
-        view.ecn(),
+    let wanted = (6, 0xab, 0xcdef1, 0x1234, 17, 64);
+    equal(&rt, "bytes", &numbers(&view), &wanted);
+    shows(
+        &rt,
+        "bytes",
+        &parts_of_view(&view),
+        "(42, CongestionExperienced, 40)",
     );
-    let numbers = (6, 0xab, 0xcdef1, 0x1234, 17, 64);
-    assert!(rt; found == (numbers, &bytes[..40], 40, 42, IpEcn::CongestionExperienced));
+    let addresses = [view.source(), view.destination()];
+    equal(&rt, "bytes", &addresses, &[SOURCE, DESTINATION]);
+    shows(&rt, "bytes", &view.to_header(), FIELDS);
 }
 
 #[test]
-fn addresses_of_a_view(rt: HostRuntime) {
-    let bytes = BYTES;
-    let Ok(view) = Ipv6HeaderSlice::from_slice(&bytes) else {
+fn a_view_is_its_bytes(rt: HostRuntime) {
+    let Ok(view) = Ipv6HeaderSlice::from_slice(&BYTES) else {
         panic!(rt; "no header");
     };
-    let source = [0xfd, 0, 0, 0, 0, 0, 0, 0, 0, 0, 0, 0, 0, 0, 0, 1];
-    let destination = [0xfd, 0, 0, 0, 0, 0, 0, 0, 0, 0, 0, 0, 0, 0, 0, 2];
-    assert!(rt; (view.source(), view.destination()) == (source, destination));
-}
-
-#[test]
-fn a_view_is_its_header(rt: HostRuntime) {
-    let bytes = BYTES;
-    let Ok(view) = Ipv6HeaderSlice::from_slice(&bytes) else {
-        panic!(rt; "no header");
-    };
+    equal(&rt, "bytes", &view.slice(), &&BYTES[..40]);
     let copy: Result<_, _> = view.clone();
-    let header = Some(view.to_header());
-    assert!(rt; (header == fields(), copy == Ok(view)) == (true, true));
+    equal(&rt, "bytes", &copy, &Ok(view));
+}
+
+// Why these bytes are no header and no view of one.
+fn header_refusal(bytes: &[u8]) -> Option<HeaderSliceError> {
+    match Ipv6Header::from_slice(bytes) {
+        Ok(_) => None,
+        Err(error) => Some(error),
+    }
+}
+
+fn refusal(bytes: &[u8]) -> Option<HeaderSliceError> {
+    match Ipv6HeaderSlice::from_slice(bytes) {
+        Ok(_) => None,
+        Err(error) => Some(error),
+    }
 }
 
 #[test]
 fn every_front_of_a_header(rt: HostRuntime) {
-    let bytes = BYTES;
-    for len in 0..40 {
-        let error = HeaderSliceError::Len(len_error(40, len, Layer::Ipv6Header, 0));
-        let refused = Ipv6Header::from_slice(&bytes[..len]) == Err(error);
-        let found = Ipv6HeaderSlice::from_slice(&bytes[..len]).err();
-        assert!(rt; (refused, found) == (true, Some(error)));
+    for len in 0..40usize {
+        let front = &BYTES[..len];
+        let error = HeaderSliceError::Len(too_short(40, len, Layer::Ipv6Header, 0));
+        equal(&rt, "front", &header_refusal(front), &Some(error));
+        equal(&rt, "front", &refusal(front), &Some(error));
     }
-    for len in 40..43 {
-        assert!(rt; Ipv6Header::from_slice(&bytes[..len]).is_ok());
+    for len in 40..43usize {
+        let front = &BYTES[..len];
+        equal(&rt, "front", &header_refusal(front), &None);
     }
 }
 
 #[test]
 fn the_length_is_tested_before_the_version(rt: HostRuntime) {
-    let bytes = [0x45; 41];
-    assert!(rt;
-        Ipv6Header::from_slice(&bytes[..39])
-            == Err(HeaderSliceError::Len(len_error(40, 39, Layer::Ipv6Header, 0)))
-    );
-    for version_number in 0..16 {
+    let short = HeaderSliceError::Len(too_short(40, 39, Layer::Ipv6Header, 0));
+    equal(&rt, "39", &header_refusal(&[0x45; 39]), &Some(short));
+    for version_number in 0..16u8 {
         let bytes = [version_number * 16 + 15; 40];
         let error = HeaderError::UnexpectedVersion { version_number };
-        if version_number != 6 {
-            assert!(rt; Ipv6Header::from_slice(&bytes) == Err(HeaderSliceError::Content(error)));
-        } else {
-            assert!(rt; Ipv6Header::from_slice(&bytes).is_ok());
-        }
+        let refused = match version_number {
+            6 => None,
+            _ => Some(HeaderSliceError::Content(error)),
+        };
+        let found = (version_number, header_refusal(&bytes));
+        equal(&rt, "version", &found, &(version_number, refused));
     }
 }
 
+// From byte 5 on to 19, and to the greatest place that a `usize` names.
 #[test]
 fn errors_further_on(rt: HostRuntime) {
-    let short = HeaderSliceError::Len(len_error(40, 3, Layer::Ipv6Header, 5));
-    let moved = HeaderSliceError::Len(len_error(40, 3, Layer::Ipv6Header, 19));
+    let error = LenError::too_few_bytes(Layer::Ipv6Header, 40, 3).add_offset(5);
+    let moved = HeaderSliceError::Len(error).add_slice_offset(14);
+    let wanted = too_short(40, 3, Layer::Ipv6Header, 19);
+    equal(&rt, "19", &moved, &HeaderSliceError::Len(wanted));
+    let last = HeaderSliceError::Len(error).add_slice_offset(0xffff_ffff_ffff_fffa);
+    let wanted = too_short(40, 3, Layer::Ipv6Header, 0xffff_ffff_ffff_ffff);
+    equal(&rt, "last", &last, &HeaderSliceError::Len(wanted));
     let content = HeaderSliceError::Content(HeaderError::UnexpectedVersion { version_number: 4 });
-    let found = [short.add_slice_offset(14), content.add_slice_offset(14)];
-    assert!(rt; found == [moved, content]);
-}
-
-// From byte 5 to the greatest place that a `usize` names.
-#[test]
-fn error_in_the_greatest_place(rt: HostRuntime) {
-    let short = HeaderSliceError::Len(len_error(40, 3, Layer::Ipv6Header, 5));
-    let last = HeaderSliceError::Len(len_error(40, 3, Layer::Ipv6Header, 0xffff_ffff_ffff_ffff));
-    let content = HeaderSliceError::Content(HeaderError::UnexpectedVersion { version_number: 4 });
-    let found = [
-        short.add_slice_offset(0xffff_ffff_ffff_fffa),
-        content.add_slice_offset(0xffff_ffff_ffff_ffff),
-    ];
-    assert!(rt; found == [last, content]);
-}
-
-// Whether the header is written behind a byte as these.
-fn is_appended(alloc: Global, header: &Ipv6Header, bytes: &[u8]) -> bool {
-    let mut buffer = Vec::new(alloc);
-    buffer.push(9).is_ok()
-        && header.write(&mut buffer).is_ok()
-        && buffer.first() == Some(&9)
-        && buffer.get(1..) == Some(bytes)
+    equal(&rt, "14", &content.add_slice_offset(14), &content);
+    equal(
+        &rt,
+        "last",
+        &content.add_slice_offset(0xffff_ffff_ffff_ffff),
+        &content,
+    );
 }
 
 #[test]
 fn a_header_behind_a_byte_that_is_there(rt: HostRuntime) {
-    let bytes = BYTES;
-    let Ok((header, _rest)) = Ipv6Header::from_slice(&bytes) else {
+    let Ok((header, _)) = Ipv6Header::from_slice(&BYTES) else {
         panic!(rt; "no header");
     };
-    assert!(rt; is_appended(rt.alloc(), &header, &bytes[..40]));
+    let mut buffer = Vec::new(rt.alloc());
+    let done = buffer.push(0xbb).is_ok() && header.write(&mut buffer).is_ok();
+    let mut written = BYTES;
+    written.rotate_right(1);
+    equal(&rt, "written", &buffer.as_slice(), &&written[..41]);
 }
 
 #[test]
@@ -207,82 +196,92 @@ fn fields_set(rt: HostRuntime) {
     let mut bytes = [0; 40];
     bytes[0] = 0x60;
     bytes[6] = 255;
-    assert!(rt; (header.to_bytes(), header.flow_label) == (bytes, Ipv6FlowLabel::ZERO));
+    equal(&rt, "default", &header.to_bytes(), &bytes);
+    equal(&rt, "default", &header.flow_label, &Ipv6FlowLabel::ZERO);
     header.traffic_class = 0xab;
     header.set_ecn(IpEcn::Ect1);
-    let with_ecn = header.traffic_class;
+    equal(&rt, "congestion", &header.traffic_class, &0xa9);
     header.set_dscp(IpDscp::EF);
-    assert!(rt; (with_ecn, header.traffic_class) == (0xa9, 0xb9));
+    equal(&rt, "code point", &header.traffic_class, &0xb9);
 }
 
 #[test]
 fn payload_lengths_set(rt: HostRuntime) {
     let mut header = Ipv6Header::default();
-    let found = (
-        header.set_payload_length(65535),
-        header.set_payload_length(65536),
-        header.payload_length,
-    );
-    let refused = ValueTooBigError {
-        actual: 65536,
-        max_allowed: 65535,
-        value_type: ValueType::Ipv6PayloadLength,
-    };
-    assert!(rt; found == (Ok(()), Err(refused), 65535));
+    equal(&rt, "65535", &header.set_payload_length(65535), &Ok(()));
+    let refused = "Err(ValueTooBigError { actual: 65536, max_allowed: 65535, \
+        value_type: Ipv6PayloadLength })";
+    shows(&rt, "65536", &header.set_payload_length(65536), refused);
+    equal(&rt, "set", &header.payload_length, &65535);
 }
 
 #[test]
 fn laws_at_two_headers(rt: HostRuntime) {
-    let bytes = BYTES;
-    let Some(header) = fields() else {
+    let Ok((header, _)) = Ipv6Header::from_slice(&BYTES) else {
         panic!(rt; "no header");
     };
+    let other = Ipv6Header::default();
     laws::headers_are_their_bytes(&header);
-    let copy: Result<_, _> = laws::header_is_copied(&header);
-    let found = (
-        laws::header_is_read_again(&header, &bytes).is_ok(),
-        laws::headers_are_equal_as_fields(&header, &header),
-        laws::headers_are_equal_as_fields(&header, &Ipv6Header::default()),
-        copy == Ok(header),
+    equal(
+        &rt,
+        "again",
+        &laws::header_is_read_again(&header, &BYTES).is_ok(),
+        &true,
     );
-    assert!(rt; found == (true, true, false, true));
+    equal(
+        &rt,
+        "itself",
+        &laws::headers_are_equal_as_fields(&header, &header),
+        &true,
+    );
+    equal(
+        &rt,
+        "another",
+        &laws::headers_are_equal_as_fields(&header, &other),
+        &false,
+    );
+    let copy: Result<_, _> = laws::header_is_copied(&header);
+    equal(&rt, "copy", &copy, &Ok(header));
 }
 
 #[test]
 fn laws_of_no_header(rt: HostRuntime) {
-    let bytes = BYTES;
-    let Ok(view) = Ipv6HeaderSlice::from_slice(&bytes) else {
+    let Ok(view) = Ipv6HeaderSlice::from_slice(&BYTES) else {
         panic!(rt; "no header");
     };
     laws::traffic_class_has_two_parts();
     laws::skip_follows_every_walk();
     laws::skipped_numbers_are_ext_headers();
-    let found = (
-        laws::header_lengths(),
-        laws::slices_are_equal_as_bytes(&view, &view),
+    equal(&rt, "lengths", &laws::header_lengths(), &[40, 40]);
+    equal(
+        &rt,
+        "equal",
+        &laws::slices_are_equal_as_bytes(&view, &view),
+        &true,
     );
-    assert!(rt; found == ([40, 40], true));
+}
+
+fn walk(bytes: &[u8], first: u8) -> Result<(IpNumber, &[u8]), LenError> {
+    Ipv6Header::skip_all_header_extensions_in_slice(bytes, IpNumber(first))
 }
 
 #[test]
-fn skip_walk(rt: HostRuntime) {
+fn walks(rt: HostRuntime) {
     let bytes = [60, 0, 0, 0, 0, 0, 0, 0, 17, 0, 0, 0, 0, 0, 0, 0, 0xaa, 0xbb];
-    let found = (
-        Ipv6Header::skip_all_header_extensions_in_slice(&bytes, IpNumber(0)),
-        Ipv6Header::skip_counted(&bytes, IpNumber(0)).1,
+    shows(
+        &rt,
+        "two",
+        &walk(&bytes, 0),
+        "Ok((IpNumber(17), [170, 187]))",
     );
-    assert!(rt; found == (Ok((IpNumber::UDP, &bytes[16..])), 3));
-    let want = len_error(2, 1, Layer::Ipv6ExtHeader, 0);
-    assert!(rt; Ipv6Header::skip_all_header_extensions_in_slice(&[6], IpNumber(43)) == Err(want));
-}
-
-#[test]
-fn skip_walk_to_the_end_of_the_slice(rt: HostRuntime) {
+    let (_, turns) = Ipv6Header::skip_counted(&bytes, IpNumber(0));
+    equal(&rt, "turns", &turns, &3);
+    // To the end of the slice.
     let bytes = [0, 0, 0, 0, 0, 0, 0, 0, 17, 0, 0, 0, 0, 0, 0, 0];
-    assert!(rt;
-        Ipv6Header::skip_all_header_extensions_in_slice(&bytes, IpNumber(60))
-            == Ok((IpNumber::UDP, [].as_slice()))
-    );
+    shows(&rt, "end", &walk(&bytes, 60), "Ok((IpNumber(17), []))");
+    let want = "Err(LenError { required_len: 2, len: 1, len_source: Slice, \
+        layer: Ipv6ExtHeader, layer_start_offset: 0 })";
+    shows(&rt, "want", &walk(&[6], 43), want);
 }
 
 // Hop-by-hop options of 16 bytes, an authentication header of 12, a fragment header of 8 whose
@@ -292,69 +291,84 @@ const ROW: [u8; 54] = [
     0, 0, 0, 0, 0, 6, 1, 0, 0, 0, 0, 0, 0, 0, 0, 0, 0, 0, 0, 0, 0, 7, 8,
 ];
 
-// What a front of `ROW` of so many bytes wants, and the turns of the walk.
-fn want_in_front(len: usize) -> (Option<LenError>, usize) {
-    let row = ROW;
-    let (front, _) = row.split_at(len.min(54));
-    match Ipv6Header::skip_counted(front, IpNumber(0)) {
-        (Ok(_), turns) => (None, turns),
-        (Err(error), turns) => (Some(error), turns),
-    }
+#[test]
+fn headers_in_a_row(rt: HostRuntime) {
+    let found = Ipv6Header::skip_counted(&ROW, IpNumber(0));
+    shows(&rt, "row", &found, "(Ok((IpNumber(6), [7, 8])), 5)");
 }
+
+// A front of `ROW` that ends within a header: what is wanted there, and the turns of the walk.
+fn front_wants(rt: &impl Abort, len: usize, want: LenError, turns: usize) {
+    let (front, _) = ROW.split_at(len.min(54));
+    let found = Ipv6Header::skip_counted(front, IpNumber(0));
+    equal(rt, "front", &found, &(Err(want), turns));
+}
+
+// The headers' places and lengths.
+const HEADERS: &[(usize, usize)] = &[(0, 16), (16, 12), (28, 8), (36, 16)];
 
 #[test]
 fn every_front_of_headers_in_a_row(rt: HostRuntime) {
-    // The headers' places and lengths.
-    let headers = [(0, 16), (16, 12), (28, 8), (36, 16)];
-    for (i, (offset, header_len)) in headers.into_iter().enumerate() {
-        for len in 0..header_len {
-            let required_len = if len < 2 { 2 } else { header_len };
-            let want = len_error(required_len, len, Layer::Ipv6ExtHeader, offset);
-            assert!(rt; want_in_front(offset + len) == (Some(want), i + 1));
+    let mut turns = 0usize;
+    for (offset, header_len) in HEADERS.iter() {
+        turns = turns.saturating_add(1);
+        for len in 0..*header_len {
+            let required_len = if len < 2 { 2 } else { *header_len };
+            let want = too_short(required_len, len, Layer::Ipv6ExtHeader, *offset);
+            front_wants(&rt, offset.saturating_add(len), want, turns);
         }
     }
 }
 
-#[test]
-fn headers_in_a_row(rt: HostRuntime) {
-    let row = ROW;
-    let found = Ipv6Header::skip_counted(&row, IpNumber(0));
-    assert!(rt; found == (Ok((IpNumber::TCP, &row[52..])), 5));
+// The number of a header and its length where its second byte is 2.
+const LENGTHS: &[(u8, usize)] = &[
+    (0, 24),
+    (43, 24),
+    (44, 8),
+    (51, 16),
+    (60, 24),
+    (135, 24),
+    (139, 24),
+    (140, 24),
+    (6, 24),
+];
+
+fn is_skipped(rt: &impl Abort, number: u8, bytes: &[u8; 32], len: usize) {
+    let (whole, rest) = bytes.split_at(len.min(32));
+    let (cut, _) = whole.split_at(len.min(32).saturating_sub(1));
+    let next = Ipv6Header::skip_header_extension_in_slice(bytes, IpNumber(number));
+    equal(
+        rt,
+        "whole",
+        &(number, next),
+        &(number, Ok((IpNumber(99), rest))),
+    );
+    let want = too_short(len, cut.len(), Layer::Ipv6ExtHeader, 0);
+    let refused = Ipv6Header::skip_header_extension_in_slice(cut, IpNumber(number));
+    equal(rt, "cut", &(number, refused), &(number, Err(want)));
 }
 
 #[test]
 fn one_header_by_its_number(rt: HostRuntime) {
     let mut bytes = [99; 32];
     bytes[1] = 2;
-    let lens = [
-        (0, 24),
-        (43, 24),
-        (44, 8),
-        (51, 16),
-        (60, 24),
-        (135, 24),
-        (139, 24),
-        (140, 24),
-        (6, 24),
-    ];
-    for (number, len) in lens {
-        let want = len_error(len, len - 1, Layer::Ipv6ExtHeader, 0);
-        let whole = Ipv6Header::skip_header_extension_in_slice(&bytes, IpNumber(number));
-        let cut = Ipv6Header::skip_header_extension_in_slice(&bytes[..len - 1], IpNumber(number));
-        let found = (whole == Ok((IpNumber(99), &bytes[len..])), cut == Err(want));
-        assert!(rt; found == (true, true));
+    for (number, len) in LENGTHS.iter() {
+        is_skipped(&rt, *number, &bytes, *len);
     }
 }
 
 #[test]
 fn numbers_that_are_skipped(rt: HostRuntime) {
     let bytes = [253, 0, 0, 0, 0, 0, 0, 0, 5];
-    for n in 0..=255 {
+    for n in 0..=255u8 {
         let skipped = matches!(n, 0 | 43 | 44 | 51 | 60 | 135 | 139 | 140);
         let (number, behind) = if skipped { (253, 8) } else { (n, 0) };
-        assert!(rt;
-            Ipv6Header::skip_all_header_extensions_in_slice(&bytes, IpNumber(n))
-                == Ok((IpNumber(number), &bytes[behind..]))
+        let (_, rest) = bytes.split_at(behind);
+        equal(
+            &rt,
+            "walk",
+            &(n, walk(&bytes, n)),
+            &(n, Ok((IpNumber(number), rest))),
         );
     }
 }
@@ -369,13 +383,26 @@ fn row_of(alloc: Global, before_the_last: usize) -> Result<Vec<u8>, AllocError> 
     Ok(bytes)
 }
 
-#[test]
-fn walks_over_thousands_of_headers(rt: HostRuntime) -> Result<(), Fail> {
-    for (before_the_last, turns) in [(8189, 8191), (8190, 8192)] {
-        let bytes = row_of(rt.alloc(), before_the_last)?;
-        let end = [1, 2, 3, 4, 5, 6, 7];
-        let found = Ipv6Header::skip_counted(&bytes, IpNumber(60));
-        assert!(rt; found == (Ok((IpNumber(253), end.as_slice())), turns));
+fn has_turns(rt: &(impl Abort + AllocGlobal), before_the_last: usize, told: &str) {
+    match row_of(rt.alloc(), before_the_last) {
+        Ok(bytes) => {
+            let found = Ipv6Header::skip_counted(&bytes, IpNumber(60));
+            shows(rt, "turns", &found, told);
+        }
+        Err(_) => panic!(rt; "no memory"),
     }
-    Ok(())
+}
+
+#[test]
+fn walks_over_thousands_of_headers(rt: HostRuntime) {
+    has_turns(
+        &rt,
+        8189,
+        "(Ok((IpNumber(253), [1, 2, 3, 4, 5, 6, 7])), 8191)",
+    );
+    has_turns(
+        &rt,
+        8190,
+        "(Ok((IpNumber(253), [1, 2, 3, 4, 5, 6, 7])), 8192)",
+    );
 }

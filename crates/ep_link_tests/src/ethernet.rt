@@ -1,155 +1,180 @@
 //! Ethernet II headers (RFC 894).
-use ep_base::err::{Layer, LenError, SliceWriteSpaceError};
-use ep_base::{EtherType, LenSource};
+use crate::checks::{equal, shows};
+use ep_base::LenSource;
+use ep_base::err::{Layer, LenError};
 use ep_link::laws::ethernet::*;
 use ep_link::laws::traits::*;
 use ep_link::{Ethernet2Header, Ethernet2HeaderSlice, Ethernet2Slice};
-use std::alloc::Global;
+use std::process::Abort;
 
 // Destination 1 to 6, source 7 to 12, IPv4; and what stands behind it.
 const BYTES: [u8; 16] = [1, 2, 3, 4, 5, 6, 7, 8, 9, 10, 11, 12, 8, 0, 21, 22];
 
+const FRONT: [u8; 14] = [1, 2, 3, 4, 5, 6, 7, 8, 9, 10, 11, 12, 8, 0];
+
+// 2048 is 0800.
+const FIELDS: &str = "Ethernet2Header { source: [7, 8, 9, 10, 11, 12], \
+    destination: [1, 2, 3, 4, 5, 6], ether_type: EtherType(2048) }";
+
 fn header() -> Ethernet2Header {
-    Ethernet2Header {
-        source: [7, 8, 9, 10, 11, 12],
-        destination: [1, 2, 3, 4, 5, 6],
-        ether_type: EtherType::IPV4,
-    }
+    Ethernet2Header::from_bytes(FRONT)
 }
 
 #[test]
 fn a_header_both_ways(rt: HostRuntime) {
-    let bytes = BYTES;
-    let front = [1, 2, 3, 4, 5, 6, 7, 8, 9, 10, 11, 12, 8, 0];
-    assert!(rt; Ethernet2Header::from_slice(&bytes) == Ok((header(), &bytes[14..])));
-    let found = (
-        Ethernet2Header::from_bytes(front),
-        header().to_bytes(),
-        header().header_len(),
-        Ethernet2Header::default().to_bytes(),
+    let Ok((header, rest)) = Ethernet2Header::from_slice(&BYTES) else {
+        panic!(rt; "no header");
+    };
+    shows(&rt, &BYTES, &header, FIELDS);
+    equal(&rt, &BYTES, &rest, &[21, 22].as_slice());
+    equal(
+        &rt,
+        &BYTES,
+        &(header.to_bytes(), header.header_len()),
+        &(FRONT, 14),
     );
-    assert!(rt; found == (header(), front, 14, [0; 14]));
+    shows(&rt, &FRONT, &Ethernet2Header::from_bytes(FRONT), FIELDS);
+    equal(
+        &rt,
+        &"zeros",
+        &Ethernet2Header::default().to_bytes(),
+        &[0; 14],
+    );
+}
+
+// Destination, source and ether type, and the header's fields.
+fn is_header(rt: &(impl Abort + AllocGlobal), slice: &Ethernet2HeaderSlice<'_>) {
+    equal(rt, &"to", &slice.destination(), &[1, 2, 3, 4, 5, 6]);
+    equal(rt, &"from", &slice.source(), &[7, 8, 9, 10, 11, 12]);
+    equal(rt, &"ether type", &slice.ether_type().0, &0x0800);
+    shows(rt, &"fields", &slice.to_header(), FIELDS);
 }
 
 #[test]
-fn fields_of_a_header_slice(rt: HostRuntime) {
-    let bytes = BYTES;
-    let Ok(slice) = Ethernet2HeaderSlice::from_slice(&bytes) else {
+fn fields_of_a_view(rt: HostRuntime) {
+    let Ok(slice) = Ethernet2HeaderSlice::from_slice(&BYTES) else {
         panic!(rt; "no header");
     };
-    let found = (
-        slice.slice(),
-        slice.destination(),
-        slice.source(),
-        slice.ether_type(),
-        slice.to_header(),
-    );
-    let (to, from) = ([1, 2, 3, 4, 5, 6], [7, 8, 9, 10, 11, 12]);
-    assert!(rt; found == (&bytes[..14], to, from, EtherType::IPV4, header()));
+    equal(&rt, &BYTES, &slice.slice(), &FRONT.as_slice());
+    is_header(&rt, &slice);
+}
+
+// The same of a frame.
+fn is_frame(rt: &(impl Abort + AllocGlobal), frame: &Ethernet2Slice<'_>) {
+    equal(rt, &"to", &frame.destination(), &[1, 2, 3, 4, 5, 6]);
+    equal(rt, &"from", &frame.source(), &[7, 8, 9, 10, 11, 12]);
+    equal(rt, &"ether type", &frame.ether_type().0, &0x0800);
+    shows(rt, &"fields", &frame.to_header(), FIELDS);
+}
+
+// All bytes, the header and what stands behind it.
+fn parts<'a>(frame: &Ethernet2Slice<'a>) -> [&'a [u8]; 3] {
+    [frame.slice(), frame.header_slice(), frame.payload_slice()]
 }
 
 #[test]
-fn fields_of_a_frame(rt: HostRuntime) {
-    let bytes = BYTES;
-    let Ok(frame) = Ethernet2Slice::from_slice_without_fcs(&bytes) else {
+fn fields_and_parts_of_a_frame(rt: HostRuntime) {
+    let Ok(frame) = Ethernet2Slice::from_slice_without_fcs(&BYTES) else {
         panic!(rt; "no header");
     };
-    let found = (
-        frame.header_len(),
-        frame.destination(),
-        frame.source(),
-        frame.ether_type(),
-        frame.to_header(),
-    );
-    let (to, from) = ([1, 2, 3, 4, 5, 6], [7, 8, 9, 10, 11, 12]);
-    assert!(rt; found == (14, to, from, EtherType::IPV4, header()));
+    is_frame(&rt, &frame);
+    equal(&rt, &BYTES, &frame.header_len(), &14);
+    equal(&rt, &BYTES, &parts(&frame), &[&BYTES, &FRONT, &[21, 22]]);
+    let payload =
+        "EtherPayloadSlice { ether_type: EtherType(2048), len_source: Slice, payload: [21, 22] }";
+    shows(&rt, &BYTES, &frame.payload(), payload);
 }
 
-#[test]
-fn parts_of_a_frame(rt: HostRuntime) {
-    let bytes = BYTES;
-    let Ok(frame) = Ethernet2Slice::from_slice_without_fcs(&bytes) else {
-        panic!(rt; "no header");
-    };
-    let payload = frame.payload();
-    let parts = (frame.slice(), frame.header_slice(), frame.payload_slice());
-    assert!(rt; parts == (bytes.as_slice(), &bytes[..14], &bytes[14..]));
-    assert!(rt; (payload.ether_type, payload.len_source) == (EtherType::IPV4, LenSource::Slice));
+// Why these bytes are no header, no view of one and no frame.
+fn header_refusal(bytes: &[u8]) -> Option<LenError> {
+    match Ethernet2Header::from_slice(bytes) {
+        Ok(_) => None,
+        Err(error) => Some(error),
+    }
+}
+
+fn header_slice_refusal(bytes: &[u8]) -> Option<LenError> {
+    match Ethernet2HeaderSlice::from_slice(bytes) {
+        Ok(_) => None,
+        Err(error) => Some(error),
+    }
+}
+
+fn refusal(bytes: &[u8]) -> Option<LenError> {
+    match Ethernet2Slice::from_slice_without_fcs(bytes) {
+        Ok(_) => None,
+        Err(error) => Some(error),
+    }
+}
+
+fn too_short(len: usize) -> Option<LenError> {
+    Some(LenError {
+        required_len: 14,
+        len,
+        len_source: LenSource::Slice,
+        layer: Layer::Ethernet2Header,
+        layer_start_offset: 0,
+    })
 }
 
 #[test]
 fn every_front_of_a_header(rt: HostRuntime) {
-    let bytes = BYTES;
-    for len in 0..14 {
-        let error = LenError {
-            required_len: 14,
-            len,
-            len_source: LenSource::Slice,
-            layer: Layer::Ethernet2Header,
-            layer_start_offset: 0,
-        };
-        let refused = Ethernet2Header::from_slice(&bytes[..len]) == Err(error);
-        let found = (
-            Ethernet2HeaderSlice::from_slice(&bytes[..len]).err(),
-            Ethernet2Slice::from_slice_without_fcs(&bytes[..len]).err(),
-        );
-        assert!(rt; (refused, found) == (true, (Some(error), Some(error))));
+    for len in 0..14usize {
+        let front = &BYTES[..len];
+        equal(&rt, &front, &header_refusal(front), &too_short(len));
+        equal(&rt, &front, &header_slice_refusal(front), &too_short(len));
+        equal(&rt, &front, &refusal(front), &too_short(len));
     }
-    assert!(rt; Ethernet2Slice::from_slice_without_fcs(&bytes[..14]).is_ok());
+    equal(&rt, &FRONT, &refusal(&FRONT), &None);
 }
 
-// The ether type 1234 and nothing behind it, and a frame that ends within its ether type.
+// The ether type 1234, which is 4660, and nothing behind it.
 #[test]
-fn frames_of_few_bytes(rt: HostRuntime) {
+fn a_frame_of_few_bytes(rt: HostRuntime) {
     let bytes = [2, 0, 0, 0, 0, 2, 2, 0, 0, 0, 0, 1, 0x12, 0x34];
     let Ok(frame) = Ethernet2Slice::from_slice_without_fcs(&bytes) else {
         panic!(rt; "no header");
     };
-    let payload = frame.payload();
-    let whole = (payload.ether_type, payload.payload.is_empty());
-    let cut = Ethernet2Slice::from_slice_without_fcs(&bytes[..13]).err();
-    let want = LenError::too_few_bytes(Layer::Ethernet2Header, 14, 13);
-    assert!(rt; (whole, cut) == ((EtherType(0x1234), true), Some(want)));
+    let payload =
+        "EtherPayloadSlice { ether_type: EtherType(4660), len_source: Slice, payload: [] }";
+    shows(&rt, &bytes, &frame.payload(), payload);
 }
 
 #[test]
 fn a_header_written_over_a_slice(rt: HostRuntime) {
     let mut bytes = [9; 16];
-    let done = header().write_to_slice(&mut bytes);
+    shows(&rt, &"16", &header().write_to_slice(&mut bytes), "Ok(())");
     let written = [1, 2, 3, 4, 5, 6, 7, 8, 9, 10, 11, 12, 8, 0, 9, 9];
-    assert!(rt; (done, bytes) == (Ok(()), written));
+    equal(&rt, &"16", &bytes, &written);
     let mut few = [9; 13];
-    let refused = header().write_to_slice(&mut few);
-    let error = SliceWriteSpaceError {
-        required_len: 14,
-        len: 13,
-        layer: Layer::Ethernet2Header,
-        layer_start_offset: 0,
-    };
-    assert!(rt; (refused, few) == (Err(error), [9; 13]));
-}
-
-// Whether the header is written behind a byte as these.
-fn is_appended(alloc: Global, bytes: &[u8]) -> bool {
-    let mut buffer = Vec::new(alloc);
-    buffer.push(9).is_ok()
-        && header().write(&mut buffer).is_ok()
-        && buffer.first() == Some(&9)
-        && buffer.get(1..) == Some(bytes)
+    let error = "Err(SliceWriteSpaceError { required_len: 14, len: 13, layer: Ethernet2Header, \
+        layer_start_offset: 0 })";
+    shows(&rt, &"13", &header().write_to_slice(&mut few), error);
+    equal(&rt, &"13", &few, &[9; 13]);
 }
 
 #[test]
 fn a_header_behind_a_byte_that_is_there(rt: HostRuntime) {
-    let bytes = BYTES;
-    assert!(rt; is_appended(rt.alloc(), &bytes[..14]));
+    let mut buffer = Vec::new(rt.alloc());
+    let done = buffer.push(9).is_ok() && header().write(&mut buffer).is_ok();
+    let written = [9, 1, 2, 3, 4, 5, 6, 7, 8, 9, 10, 11, 12, 8, 0];
+    equal(&rt, &done, &buffer.as_slice(), &written.as_slice());
 }
 
 #[test]
 fn laws(rt: HostRuntime) {
-    let bytes = BYTES;
-    let is_read_again = header_is_read_again(&header(), &bytes).is_ok();
-    assert!(rt; (header_lengths(), is_read_again) == ([14], true));
+    let is_read_again = header_is_read_again(&header(), &BYTES).is_ok();
+    equal(
+        &rt,
+        &"laws",
+        &(header_lengths(), is_read_again),
+        &([14], true),
+    );
     headers_are_their_bytes(&header());
+}
+
+#[test]
+fn laws_without_a_result() {
     fields_by_hand();
     types_are_plain_data();
     orders_are_of_numbers();

@@ -5,6 +5,8 @@
 #[cfg(test)]
 mod arp;
 #[cfg(test)]
+mod checks;
+#[cfg(test)]
 mod ethernet;
 #[cfg(test)]
 mod link;

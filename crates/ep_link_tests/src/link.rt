@@ -1,194 +1,159 @@
 //! Link headers of either kind.
+use crate::checks::{equal, shows};
 use ep_base::{EtherType, LenSource};
 use ep_link::{
-    ArpHardwareId, Ethernet2Header, Ethernet2Slice, LinkHeader, LinkSlice, LinuxSllHeader,
-    LinuxSllPacketType, LinuxSllPayloadSlice, LinuxSllProtocolType, LinuxSllSlice,
+    Ethernet2Header, Ethernet2Slice, LinkHeader, LinkSlice, LinuxSllHeader, LinuxSllPayloadSlice,
+    LinuxSllProtocolType, LinuxSllSlice,
 };
 use ep_tag::EtherPayloadSlice;
-use std::alloc::Global;
+use std::process::Abort;
 
 const ETHERNET: [u8; 14] = [1, 2, 3, 4, 5, 6, 7, 8, 9, 10, 11, 12, 8, 0];
 
+// 2048 is 0800.
+const ETHERNET_FIELDS: &str = "Ethernet2Header { source: [7, 8, 9, 10, 11, 12], \
+    destination: [1, 2, 3, 4, 5, 6], ether_type: EtherType(2048) }";
+
 const SLL: [u8; 16] = [0, 4, 0, 1, 0, 6, 1, 2, 3, 4, 5, 6, 0, 0, 8, 6];
 
-fn ethernet2() -> Ethernet2Header {
-    Ethernet2Header {
-        source: [7, 8, 9, 10, 11, 12],
-        destination: [1, 2, 3, 4, 5, 6],
-        ether_type: EtherType::IPV4,
-    }
+// An outgoing packet over Ethernet: 2054 is 0806.
+const SLL_FIELDS: &str = "LinuxSllHeader { packet_type: LinuxSllPacketType(4), \
+    arp_hrd_type: ArpHardwareId(1), sender_address_valid_length: 6, \
+    sender_address: [1, 2, 3, 4, 5, 6, 0, 0], protocol_type: EtherType(EtherType(2054)) }";
+
+fn ethernet2() -> LinkHeader {
+    LinkHeader::from(Ethernet2Header::from_bytes(ETHERNET))
 }
 
-fn linux_sll() -> LinuxSllHeader {
-    LinuxSllHeader {
-        packet_type: LinuxSllPacketType::OUTGOING,
-        arp_hrd_type: ArpHardwareId::ETHERNET,
-        sender_address_valid_length: 6,
-        sender_address: [1, 2, 3, 4, 5, 6, 0, 0],
-        protocol_type: LinuxSllProtocolType::EtherType(EtherType::ARP),
+fn linux_sll(rt: &impl Abort) -> LinkHeader {
+    match LinuxSllHeader::from_slice(&SLL) {
+        Ok((header, _)) => LinkHeader::from(header),
+        Err(_) => panic!(rt; "no header"),
     }
 }
 
 #[test]
 fn one_kind_or_the_other(rt: HostRuntime) {
-    let ethernet = LinkHeader::from(ethernet2());
-    let found = (
-        ethernet.ethernet2() == Some(ethernet2()),
-        LinkHeader::from(ethernet2()).linux_sll() == None,
-        LinkHeader::Ethernet2(ethernet2()).header_len(),
+    shows(&rt, &ETHERNET, &ethernet2().linux_sll(), "None");
+    let Some(header) = ethernet2().ethernet2() else {
+        panic!(rt; "no Ethernet header");
+    };
+    shows(&rt, &ETHERNET, &header, ETHERNET_FIELDS);
+    equal(
+        &rt,
+        &ETHERNET,
+        &LinkHeader::Ethernet2(header).header_len(),
+        &14,
     );
-    assert!(rt; found == (true, true, 14));
-    let found = (
-        LinkHeader::from(linux_sll()).ethernet2() == None,
-        LinkHeader::from(linux_sll()).linux_sll() == Some(linux_sll()),
-        LinkHeader::LinuxSll(linux_sll()).header_len(),
-    );
-    assert!(rt; found == (true, true, 16));
+}
+
+#[test]
+fn the_other_kind_or_the_one(rt: HostRuntime) {
+    shows(&rt, &SLL, &linux_sll(&rt).ethernet2(), "None");
+    let Some(header) = linux_sll(&rt).linux_sll() else {
+        panic!(rt; "no header of a cooked capture");
+    };
+    shows(&rt, &SLL, &header, SLL_FIELDS);
+    equal(&rt, &SLL, &LinkHeader::LinuxSll(header).header_len(), &16);
 }
 
 #[test]
 fn an_ethernet_header_written_anew(rt: HostRuntime) {
-    let mut header = LinkHeader::Ethernet2(ethernet2());
-    let is_other = header.mut_linux_sll().is_some();
+    let mut header = ethernet2();
+    equal(&rt, &ETHERNET, &header.mut_linux_sll().is_some(), &false);
     if let Some(ethernet2) = header.mut_ethernet2() {
         ethernet2.ether_type = EtherType::ARP;
     }
-    let mut changed = ethernet2();
-    changed.ether_type = EtherType::ARP;
-    assert!(rt; (is_other, header) == (false, LinkHeader::Ethernet2(changed)));
+    let changed = "Ethernet2(Ethernet2Header { source: [7, 8, 9, 10, 11, 12], \
+        destination: [1, 2, 3, 4, 5, 6], ether_type: EtherType(2054) })";
+    shows(&rt, &ETHERNET, &header, changed);
 }
 
 #[test]
 fn a_cooked_header_written_anew(rt: HostRuntime) {
-    let mut header = LinkHeader::LinuxSll(linux_sll());
-    let is_other = header.mut_ethernet2().is_some();
+    let mut header = linux_sll(&rt);
+    equal(&rt, &SLL, &header.mut_ethernet2().is_some(), &false);
     if let Some(linux_sll) = header.mut_linux_sll() {
         linux_sll.sender_address_valid_length = 8;
     }
-    let mut changed = linux_sll();
-    changed.sender_address_valid_length = 8;
-    assert!(rt; (is_other, header) == (false, LinkHeader::LinuxSll(changed)));
-}
-
-// Whether both headers are written behind a byte as these.
-fn are_appended(alloc: Global, ethernet: &[u8], sll: &[u8]) -> bool {
-    let mut buffer = Vec::new(alloc);
-    buffer.push(9).is_ok()
-        && LinkHeader::Ethernet2(ethernet2())
-            .write(&mut buffer)
-            .is_ok()
-        && LinkHeader::LinuxSll(linux_sll()).write(&mut buffer).is_ok()
-        && buffer.first() == Some(&9)
-        && buffer.get(1..15) == Some(ethernet)
-        && buffer.get(15..) == Some(sll)
+    let changed = "LinuxSll(LinuxSllHeader { packet_type: LinuxSllPacketType(4), \
+        arp_hrd_type: ArpHardwareId(1), sender_address_valid_length: 8, \
+        sender_address: [1, 2, 3, 4, 5, 6, 0, 0], protocol_type: EtherType(EtherType(2054)) })";
+    shows(&rt, &SLL, &header, changed);
 }
 
 #[test]
 fn headers_behind_a_byte_that_is_there(rt: HostRuntime) {
-    assert!(rt; are_appended(rt.alloc(), &ETHERNET, &SLL));
+    let (ethernet, cooked) = (ethernet2(), linux_sll(&rt));
+    let mut buffer = Vec::new(rt.alloc());
+    let done = buffer.push(9).is_ok()
+        && ethernet.write(&mut buffer).is_ok()
+        && cooked.write(&mut buffer).is_ok();
+    let written = [
+        9, 1, 2, 3, 4, 5, 6, 7, 8, 9, 10, 11, 12, 8, 0, 0, 4, 0, 1, 0, 6, 1, 2, 3, 4, 5, 6, 0, 0,
+        8, 6,
+    ];
+    equal(&rt, &done, &buffer.as_slice(), &written.as_slice());
 }
 
-// The header of an Ethernet II frame, and that of a cooked packet.
-fn ethernet_header(bytes: &[u8]) -> Option<LinkHeader> {
-    match Ethernet2Slice::from_slice_without_fcs(bytes) {
-        Ok(frame) => LinkSlice::Ethernet2(frame).to_header(),
-        Err(_) => None,
-    }
-}
-
-fn cooked_header(bytes: &[u8]) -> Option<LinkHeader> {
-    match LinuxSllSlice::from_slice(bytes) {
-        Ok(packet) => LinkSlice::LinuxSll(packet).to_header(),
-        Err(_) => None,
-    }
-}
-
-#[test]
-fn fields_of_slices(rt: HostRuntime) {
-    let (ethernet, sll) = (ETHERNET, SLL);
-    let found = (ethernet_header(&ethernet), cooked_header(&sll));
-    let headers = (
-        Some(LinkHeader::Ethernet2(ethernet2())),
-        Some(LinkHeader::LinuxSll(linux_sll())),
-    );
-    assert!(rt; found == headers);
+// The header and what an ether type names behind it, if there are such, as texts.
+fn is_link(rt: &(impl Abort + AllocGlobal), link: &LinkSlice<'_>, header: &str, payload: &str) {
+    shows(rt, &header, &link.to_header(), header);
+    shows(rt, &header, &link.ether_payload(), payload);
 }
 
 #[test]
-fn no_fields_of_payloads(rt: HostRuntime) {
-    let bytes = ETHERNET;
-    let ether = LinkSlice::EtherPayload(EtherPayloadSlice {
-        ether_type: EtherType::IPV4,
-        len_source: LenSource::Slice,
-        payload: &bytes,
-    });
-    let sll = LinkSlice::LinuxSllPayload(LinuxSllPayloadSlice {
-        protocol_type: LinuxSllProtocolType::Ignored(1),
-        payload: &bytes,
-    });
-    assert!(rt; (ether.to_header(), sll.to_header()) == (None, None));
+fn a_frame(rt: HostRuntime) {
+    let bytes = [1, 2, 3, 4, 5, 6, 7, 8, 9, 10, 11, 12, 8, 0, 7, 8];
+    let Ok(frame) = Ethernet2Slice::from_slice_without_fcs(&bytes) else {
+        panic!(rt; "no frame");
+    };
+    let header = "Some(Ethernet2(Ethernet2Header { source: [7, 8, 9, 10, 11, 12], \
+        destination: [1, 2, 3, 4, 5, 6], ether_type: EtherType(2048) }))";
+    let payload = "Some(EtherPayloadSlice { ether_type: EtherType(2048), len_source: Slice, \
+        payload: [7, 8] })";
+    is_link(&rt, &LinkSlice::Ethernet2(frame), header, payload);
 }
 
-// The payload behind the ether type of an Ethernet II frame, and of a cooked packet.
-fn ethernet_payload(bytes: &[u8]) -> Option<EtherPayloadSlice<'_>> {
-    match Ethernet2Slice::from_slice_without_fcs(bytes) {
-        Ok(frame) => LinkSlice::Ethernet2(frame).ether_payload(),
-        Err(_) => None,
-    }
-}
-
-fn cooked_payload(bytes: &[u8]) -> Option<EtherPayloadSlice<'_>> {
-    match LinuxSllSlice::from_slice(bytes) {
-        Ok(packet) => LinkSlice::LinuxSll(packet).ether_payload(),
-        Err(_) => None,
-    }
-}
-
-fn named(ether_type: EtherType, payload: &[u8]) -> EtherPayloadSlice<'_> {
-    EtherPayloadSlice {
-        ether_type,
-        len_source: LenSource::Slice,
-        payload,
-    }
-}
-
-// An Ethernet II frame and a packet of ether type 0806 name it; 802.11 with radiotap gives the
-// same number no meaning.
+// A packet of ether type 0806 names it; 802.11 with radiotap, hardware type 803, gives the same
+// number no meaning.
 #[test]
-fn payloads_behind_ether_types(rt: HostRuntime) {
-    let frame = [1, 2, 3, 4, 5, 6, 7, 8, 9, 10, 11, 12, 8, 0, 7, 8];
-    let packet = [0, 4, 0, 1, 0, 6, 1, 2, 3, 4, 5, 6, 0, 0, 8, 6, 9];
-    let mut radiotap = packet;
-    radiotap[2] = 3;
-    radiotap[3] = 0x23;
-    let found = (
-        ethernet_payload(&frame),
-        cooked_payload(&packet),
-        LinuxSllSlice::from_slice(&radiotap).is_ok(),
-        cooked_payload(&radiotap).is_none(),
-    );
-    let ip = Some(named(EtherType::IPV4, &frame[14..]));
-    let arp = Some(named(EtherType::ARP, &packet[16..]));
-    assert!(rt; found == (ip, arp, true, true));
+fn cooked_packets(rt: HostRuntime) {
+    let mut bytes = [0, 4, 0, 1, 0, 6, 1, 2, 3, 4, 5, 6, 0, 0, 8, 6, 9];
+    let Ok(packet) = LinuxSllSlice::from_slice(&bytes) else {
+        panic!(rt; "no packet");
+    };
+    let header = "Some(LinuxSll(LinuxSllHeader { packet_type: LinuxSllPacketType(4), \
+        arp_hrd_type: ArpHardwareId(1), sender_address_valid_length: 6, \
+        sender_address: [1, 2, 3, 4, 5, 6, 0, 0], protocol_type: EtherType(EtherType(2054)) }))";
+    let payload = "Some(EtherPayloadSlice { ether_type: EtherType(2054), len_source: Slice, \
+        payload: [9] })";
+    is_link(&rt, &LinkSlice::LinuxSll(packet), header, payload);
+    bytes[2] = 3;
+    bytes[3] = 0x23;
+    let Ok(radiotap) = LinuxSllSlice::from_slice(&bytes) else {
+        panic!(rt; "no packet");
+    };
+    let header = "Some(LinuxSll(LinuxSllHeader { packet_type: LinuxSllPacketType(4), \
+        arp_hrd_type: ArpHardwareId(803), sender_address_valid_length: 6, \
+        sender_address: [1, 2, 3, 4, 5, 6, 0, 0], protocol_type: Ignored(2054) }))";
+    is_link(&rt, &LinkSlice::LinuxSll(radiotap), header, "None");
 }
 
+// 34525 is 86dd.
 #[test]
 fn payloads_without_a_header(rt: HostRuntime) {
-    let bytes = ETHERNET;
-    let named = EtherPayloadSlice {
-        ether_type: EtherType::IPV6,
-        len_source: LenSource::MacsecShortLength,
-        payload: &bytes,
-    };
     let ether = LinkSlice::EtherPayload(EtherPayloadSlice {
         ether_type: EtherType::IPV6,
         len_source: LenSource::MacsecShortLength,
-        payload: &bytes,
+        payload: &[1, 2],
     });
+    let payload = "Some(EtherPayloadSlice { ether_type: EtherType(34525), \
+        len_source: MacsecShortLength, payload: [1, 2] })";
+    is_link(&rt, &ether, "None", payload);
     let sll = LinkSlice::LinuxSllPayload(LinuxSllPayloadSlice {
         protocol_type: LinuxSllProtocolType::NetlinkProtocolType(0x0800),
-        payload: &bytes,
+        payload: &[1, 2],
     });
-    let found = (ether.ether_payload(), sll.ether_payload().is_none());
-    assert!(rt; found == (Some(named), true));
+    is_link(&rt, &sll, "None", "None");
 }

@@ -1,4 +1,5 @@
 //! Headers of Linux cooked captures.
+use crate::checks::{equal, reads, shows};
 use ep_base::err::{Layer, LenError};
 use ep_base::{EtherType, LenSource};
 use ep_link::err::linux_sll::{HeaderError, HeaderSliceError};
@@ -8,159 +9,186 @@ use ep_link::{
     LinuxSllProtocolType, LinuxSllSlice,
 };
 use ep_tag::EtherPayloadSlice;
-use std::test::Fail;
+use std::process::Abort;
 
 // To this machine over Ethernet, an address of 6 bytes, IPv4; and what stands behind it.
 const BYTES: [u8; 18] = [0, 0, 0, 1, 0, 6, 1, 2, 3, 4, 5, 6, 0, 0, 8, 0, 21, 22];
 
-fn header() -> LinuxSllHeader {
-    LinuxSllHeader {
-        packet_type: LinuxSllPacketType::HOST,
-        arp_hrd_type: ArpHardwareId::ETHERNET,
-        sender_address_valid_length: 6,
-        sender_address: [1, 2, 3, 4, 5, 6, 0, 0],
-        protocol_type: LinuxSllProtocolType::EtherType(EtherType::IPV4),
-    }
-}
+// 2048 is 0800.
+const FIELDS: &str = "LinuxSllHeader { packet_type: LinuxSllPacketType(0), \
+    arp_hrd_type: ArpHardwareId(1), sender_address_valid_length: 6, \
+    sender_address: [1, 2, 3, 4, 5, 6, 0, 0], protocol_type: EtherType(EtherType(2048)) }";
+
+// The fields but the protocol, and the protocol.
+const NUMBERS: &str = "(LinuxSllPacketType(0), ArpHardwareId(1), 6, [1, 2, 3, 4, 5, 6, 0, 0])";
+
+const PROTOCOL: &str = "EtherType(EtherType(2048))";
+
+type Numbers = (LinuxSllPacketType, ArpHardwareId, u16, [u8; 8]);
 
 #[test]
 fn a_header_both_ways(rt: HostRuntime) {
-    let bytes = BYTES;
-    assert!(rt; LinuxSllHeader::from_slice(&bytes) == Ok((header(), &bytes[16..])));
-    let written = header().to_bytes();
-    assert!(rt; (written.as_slice(), header().header_len()) == (&bytes[..16], 16));
-}
-
-#[test]
-fn fields_of_a_header_slice(rt: HostRuntime) {
-    let bytes = BYTES;
-    let Ok(slice) = LinuxSllHeaderSlice::from_slice(&bytes) else {
+    let Ok((header, rest)) = LinuxSllHeader::from_slice(&BYTES) else {
         panic!(rt; "no header");
     };
-    let numbers = (
+    shows(&rt, &BYTES, &header, FIELDS);
+    equal(&rt, &BYTES, &rest, &[21, 22].as_slice());
+    equal(&rt, &BYTES, &header.to_bytes().as_slice(), &&BYTES[..16]);
+    equal(&rt, &BYTES, &header.header_len(), &16);
+}
+
+fn numbers_of_view(slice: &LinuxSllHeaderSlice<'_>) -> Numbers {
+    (
         slice.packet_type(),
         slice.arp_hrd_type(),
         slice.sender_address_valid_length(),
         slice.sender_address(),
-    );
-    let found = (
-        slice.slice(),
-        numbers,
-        slice.protocol_type(),
-        slice.to_header(),
-    );
-    let address = [1, 2, 3, 4, 5, 6, 0, 0];
-    let numbers = (
-        LinuxSllPacketType::HOST,
-        ArpHardwareId::ETHERNET,
-        6,
-        address,
-    );
-    assert!(rt; found == (&bytes[..16], numbers, header().protocol_type, header()));
+    )
+}
+
+#[test]
+fn fields_of_a_view(rt: HostRuntime) {
+    let Ok(slice) = LinuxSllHeaderSlice::from_slice(&BYTES) else {
+        panic!(rt; "no header");
+    };
+    equal(&rt, &BYTES, &slice.slice(), &&BYTES[..16]);
+    shows(&rt, &BYTES, &numbers_of_view(&slice), NUMBERS);
+    shows(&rt, &BYTES, &slice.protocol_type(), PROTOCOL);
+    shows(&rt, &BYTES, &slice.to_header(), FIELDS);
+}
+
+fn numbers(slice: &LinuxSllSlice<'_>) -> Numbers {
+    (
+        slice.packet_type(),
+        slice.arp_hrd_type(),
+        slice.sender_address_valid_length(),
+        slice.sender_address(),
+    )
 }
 
 #[test]
 fn fields_of_a_packet(rt: HostRuntime) {
-    let bytes = BYTES;
-    let Ok(slice) = LinuxSllSlice::from_slice(&bytes) else {
+    let Ok(slice) = LinuxSllSlice::from_slice(&BYTES) else {
         panic!(rt; "no packet");
     };
-    let found = (
-        slice.packet_type(),
-        slice.arp_hrd_type(),
-        slice.sender_address_valid_length(),
-        slice.sender_address(),
-        slice.protocol_type(),
-    );
-    let address = [1, 2, 3, 4, 5, 6, 0, 0];
-    let protocol = LinuxSllProtocolType::EtherType(EtherType::IPV4);
-    let fields = (
-        LinuxSllPacketType::HOST,
-        ArpHardwareId::ETHERNET,
-        6,
-        address,
-        protocol,
-    );
-    assert!(rt; found == fields);
+    shows(&rt, &BYTES, &numbers(&slice), NUMBERS);
+    shows(&rt, &BYTES, &slice.protocol_type(), PROTOCOL);
+    shows(&rt, &BYTES, &slice.to_header(), FIELDS);
+}
+
+// All bytes and those behind the header, and the header's length.
+fn parts<'a>(slice: &LinuxSllSlice<'a>) -> ([&'a [u8]; 2], usize) {
+    ([slice.slice(), slice.payload_slice()], slice.header_len())
 }
 
 #[test]
 fn parts_of_a_packet(rt: HostRuntime) {
-    let bytes = BYTES;
-    let Ok(slice) = LinuxSllSlice::from_slice(&bytes) else {
+    let Ok(slice) = LinuxSllSlice::from_slice(&BYTES) else {
         panic!(rt; "no packet");
     };
-    let found = (
-        slice.slice(),
-        slice.header_len(),
-        slice.payload_slice(),
-        slice.to_header(),
-    );
-    assert!(rt; found == (bytes.as_slice(), 16, &bytes[16..], header()));
+    equal(&rt, &BYTES, &parts(&slice), &([&BYTES, &[21, 22]], 16));
+    let payload =
+        "LinuxSllPayloadSlice { protocol_type: EtherType(EtherType(2048)), payload: [21, 22] }";
+    shows(&rt, &BYTES, &slice.payload(), payload);
 }
 
-#[test]
-fn a_payload_behind_an_ether_type(rt: HostRuntime) {
-    let bytes = BYTES;
-    let Ok(slice) = LinuxSllSlice::from_slice(&bytes) else {
-        panic!(rt; "no packet");
+// A payload as one that an ether type names, as a text, and that one back.
+fn is_named(rt: &(impl Abort + AllocGlobal), payload: LinuxSllPayloadSlice<'_>) {
+    let Ok(ether_payload) = EtherPayloadSlice::try_from(payload) else {
+        panic!(rt; "no ether type");
     };
-    let payload = slice.payload();
-    assert!(rt; (payload.protocol_type, payload.payload) == (header().protocol_type, &bytes[16..]));
+    let named =
+        "EtherPayloadSlice { ether_type: EtherType(2048), len_source: Slice, payload: [21, 22] }";
+    shows(rt, &"named", &ether_payload, named);
+    let again =
+        "LinuxSllPayloadSlice { protocol_type: EtherType(EtherType(2048)), payload: [21, 22] }";
+    shows(
+        rt,
+        &"again",
+        &LinuxSllPayloadSlice::from(ether_payload),
+        again,
+    );
 }
 
 #[test]
 fn an_ether_payload_and_back(rt: HostRuntime) {
-    let bytes = BYTES;
-    let protocol = header().protocol_type;
-    let Ok(slice) = LinuxSllSlice::from_slice(&bytes) else {
-        panic!(rt; "no packet");
-    };
-    let Ok(ether_payload) = EtherPayloadSlice::try_from(slice.payload()) else {
-        panic!(rt; "no ether type");
-    };
-    let found = (ether_payload.ether_type, ether_payload.len_source);
-    let again = LinuxSllPayloadSlice::from(ether_payload);
-    assert!(rt; found == (EtherType::IPV4, LenSource::Slice));
-    assert!(rt; (again.protocol_type, again.payload) == (protocol, &bytes[16..]));
+    match LinuxSllSlice::from_slice(&BYTES) {
+        Ok(slice) => is_named(&rt, slice.payload()),
+        Err(_) => panic!(rt; "no packet"),
+    }
 }
+
+const WITHOUT_AN_ETHER_TYPE: &[LinuxSllProtocolType] = &[
+    LinuxSllProtocolType::Ignored(0x0800),
+    LinuxSllProtocolType::NetlinkProtocolType(0x0800),
+    LinuxSllProtocolType::GenericRoutingEncapsulationProtocolType(0x0800),
+    LinuxSllProtocolType::LinuxNonstandardEtherType(4),
+];
 
 #[test]
 fn payloads_behind_no_ether_type(rt: HostRuntime) {
-    let bytes = BYTES;
-    for protocol_type in [
-        LinuxSllProtocolType::Ignored(0x0800),
-        LinuxSllProtocolType::NetlinkProtocolType(0x0800),
-        LinuxSllProtocolType::GenericRoutingEncapsulationProtocolType(0x0800),
-        LinuxSllProtocolType::LinuxNonstandardEtherType(4),
-    ] {
+    for protocol_type in WITHOUT_AN_ETHER_TYPE.iter() {
         let payload = LinuxSllPayloadSlice {
-            protocol_type,
-            payload: &bytes,
+            protocol_type: *protocol_type,
+            payload: &BYTES,
         };
-        assert!(rt; EtherPayloadSlice::try_from(payload).is_err());
+        let is_refused = EtherPayloadSlice::try_from(payload).is_err();
+        equal(&rt, protocol_type, &is_refused, &true);
     }
+}
+
+// Why these bytes are no header, no view of one and no packet.
+fn header_refusal(bytes: &[u8]) -> Option<HeaderSliceError> {
+    match LinuxSllHeader::from_slice(bytes) {
+        Ok(_) => None,
+        Err(error) => Some(error),
+    }
+}
+
+fn header_slice_refusal(bytes: &[u8]) -> Option<HeaderSliceError> {
+    match LinuxSllHeaderSlice::from_slice(bytes) {
+        Ok(_) => None,
+        Err(error) => Some(error),
+    }
+}
+
+fn refusal(bytes: &[u8]) -> Option<HeaderSliceError> {
+    match LinuxSllSlice::from_slice(bytes) {
+        Ok(_) => None,
+        Err(error) => Some(error),
+    }
+}
+
+fn is_refused(rt: &impl Abort, bytes: &[u8], error: HeaderSliceError) {
+    equal(rt, &bytes, &header_refusal(bytes), &Some(error));
+    equal(rt, &bytes, &header_slice_refusal(bytes), &Some(error));
+    equal(rt, &bytes, &refusal(bytes), &Some(error));
+}
+
+fn too_short(len: usize) -> HeaderSliceError {
+    HeaderSliceError::Len(LenError {
+        required_len: 16,
+        len,
+        len_source: LenSource::Slice,
+        layer: Layer::LinuxSllHeader,
+        layer_start_offset: 0,
+    })
 }
 
 #[test]
 fn every_front_of_a_header(rt: HostRuntime) {
-    let bytes = BYTES;
-    for len in 0..16 {
-        let error = HeaderSliceError::Len(LenError {
-            required_len: 16,
-            len,
-            len_source: LenSource::Slice,
-            layer: Layer::LinuxSllHeader,
-            layer_start_offset: 0,
-        });
-        let refused = LinuxSllHeader::from_slice(&bytes[..len]) == Err(error);
-        let found = (
-            LinuxSllHeaderSlice::from_slice(&bytes[..len]).err(),
-            LinuxSllSlice::from_slice(&bytes[..len]).err(),
-        );
-        assert!(rt; (refused, found) == (true, (Some(error), Some(error))));
+    for len in 0..16usize {
+        is_refused(&rt, &BYTES[..len], too_short(len));
     }
-    assert!(rt; LinuxSllSlice::from_slice(&bytes[..16]).is_ok());
+    equal(&rt, &"whole", &refusal(&BYTES[..16]), &None);
+}
+
+#[test]
+fn a_packet_type_that_is_refused(rt: HostRuntime) {
+    let mut bytes = BYTES;
+    bytes[1] = 5;
+    let error = HeaderError::UnsupportedPacketTypeField { packet_type: 5 };
+    is_refused(&rt, &bytes, HeaderSliceError::from(error));
 }
 
 fn packet_type(number: u16) -> Option<u16> {
@@ -172,142 +200,136 @@ fn packet_type(number: u16) -> Option<u16> {
 
 #[test]
 fn packet_types(rt: HostRuntime) {
-    for number in 0..5 {
-        assert!(rt; packet_type(number) == Some(number));
+    for number in 0..5u16 {
+        equal(&rt, &number, &packet_type(number), &Some(number));
     }
-    let found = (
-        LinuxSllPacketType::try_from(5),
-        LinuxSllPacketType::default(),
-        LinuxSllPacketType::OUTGOING.value(),
+    let unsupported = "Err(UnsupportedPacketTypeField { packet_type: 5 })";
+    shows(&rt, &5, &LinuxSllPacketType::try_from(5), unsupported);
+    shows(
+        &rt,
+        &"default",
+        &LinuxSllPacketType::default(),
+        "LinuxSllPacketType(0)",
     );
-    let unsupported = HeaderError::UnsupportedPacketTypeField { packet_type: 5 };
-    assert!(rt; found == (Err(unsupported), LinuxSllPacketType::HOST, 4));
-}
-
-#[test]
-fn a_packet_type_that_is_refused(rt: HostRuntime) {
-    let mut bytes = BYTES;
-    bytes[1] = 5;
-    let unsupported = HeaderError::UnsupportedPacketTypeField { packet_type: 5 };
-    let error = HeaderSliceError::from(unsupported);
-    let refused = LinuxSllHeader::from_slice(&bytes) == Err(error);
-    let found = (
-        LinuxSllHeaderSlice::from_slice(&bytes).err(),
-        LinuxSllSlice::from_slice(&bytes).err(),
-    );
-    assert!(rt; (refused, found) == (true, (Some(error), Some(error))));
+    equal(&rt, &"outgoing", &LinuxSllPacketType::OUTGOING.value(), &4);
 }
 
 #[test]
 fn errors_further_on(rt: HostRuntime) {
     let unsupported = HeaderError::UnsupportedPacketTypeField { packet_type: 5 };
-    let error = HeaderSliceError::from(unsupported);
-    let want = LenError {
-        required_len: 16,
-        len: 7,
-        len_source: LenSource::Slice,
-        layer: Layer::LinuxSllHeader,
-        layer_start_offset: 4,
-    };
-    let further = LenError {
-        layer_start_offset: 7,
-        ..want
-    };
-    let found = [
-        error.add_slice_offset(3),
-        HeaderSliceError::Len(want).add_slice_offset(3),
-    ];
-    assert!(rt; found == [error, HeaderSliceError::Len(further)]);
+    let content = HeaderSliceError::from(unsupported);
+    equal(&rt, &"content", &content.add_slice_offset(3), &content);
+    let want = LenError::too_few_bytes(Layer::LinuxSllHeader, 16, 7).add_offset(4);
+    let further = "Len(LenError { required_len: 16, len: 7, len_source: Slice, \
+        layer: LinuxSllHeader, layer_start_offset: 7 })";
+    shows(
+        &rt,
+        &"want",
+        &HeaderSliceError::Len(want).add_slice_offset(3),
+        further,
+    );
 }
+
+// The hardware type and the number of a protocol, and what they name.
+const PROTOCOLS: &[(u16, u16, LinuxSllProtocolType)] = &[
+    (824, 7, LinuxSllProtocolType::NetlinkProtocolType(7)),
+    (
+        778,
+        0x0800,
+        LinuxSllProtocolType::GenericRoutingEncapsulationProtocolType(0x0800),
+    ),
+    (803, 0x0800, LinuxSllProtocolType::Ignored(0x0800)),
+    (770, 7, LinuxSllProtocolType::Ignored(7)),
+    (
+        1,
+        0x0600,
+        LinuxSllProtocolType::EtherType(EtherType(0x0600)),
+    ),
+    (
+        1,
+        0x05ff,
+        LinuxSllProtocolType::LinuxNonstandardEtherType(0x05ff),
+    ),
+    (
+        65535,
+        0x86dd,
+        LinuxSllProtocolType::EtherType(EtherType(0x86dd)),
+    ),
+];
 
 #[test]
 fn protocols_by_hardware_type(rt: HostRuntime) {
-    let table = [
-        (824, 7, LinuxSllProtocolType::NetlinkProtocolType(7)),
-        (
-            778,
-            0x0800,
-            LinuxSllProtocolType::GenericRoutingEncapsulationProtocolType(0x0800),
-        ),
-        (803, 0x0800, LinuxSllProtocolType::Ignored(0x0800)),
-        (770, 7, LinuxSllProtocolType::Ignored(7)),
-        (
-            1,
-            0x0600,
-            LinuxSllProtocolType::EtherType(EtherType(0x0600)),
-        ),
-        (
-            1,
-            0x05ff,
-            LinuxSllProtocolType::LinuxNonstandardEtherType(0x05ff),
-        ),
-        (
-            65535,
-            0x86dd,
-            LinuxSllProtocolType::EtherType(EtherType::IPV6),
-        ),
-    ];
-    for (hardware_type, number, protocol) in table {
-        let read = LinuxSllProtocolType::from((ArpHardwareId(hardware_type), number));
-        assert!(rt; (read, u16::from(protocol)) == (protocol, number));
+    for (hardware_type, number, protocol) in PROTOCOLS.iter() {
+        let read = LinuxSllProtocolType::from((ArpHardwareId(*hardware_type), *number));
+        equal(&rt, hardware_type, &read, protocol);
+        equal(&rt, hardware_type, &u16::from(*protocol), number);
     }
 }
+
+// A protocol, its new number, and what it is then.
+const CHANGED: &[(LinuxSllProtocolType, u16, LinuxSllProtocolType)] = &[
+    (
+        LinuxSllProtocolType::Ignored(1),
+        9,
+        LinuxSllProtocolType::Ignored(9),
+    ),
+    (
+        LinuxSllProtocolType::NetlinkProtocolType(1),
+        9,
+        LinuxSllProtocolType::NetlinkProtocolType(9),
+    ),
+    (
+        LinuxSllProtocolType::GenericRoutingEncapsulationProtocolType(1),
+        9,
+        LinuxSllProtocolType::GenericRoutingEncapsulationProtocolType(9),
+    ),
+    (
+        LinuxSllProtocolType::EtherType(EtherType::IPV4),
+        9,
+        LinuxSllProtocolType::LinuxNonstandardEtherType(9),
+    ),
+    (
+        LinuxSllProtocolType::LinuxNonstandardEtherType(9),
+        0x86dd,
+        LinuxSllProtocolType::EtherType(EtherType::IPV6),
+    ),
+];
 
 #[test]
 fn numbers_set_anew(rt: HostRuntime) {
-    let table = [
-        (
-            LinuxSllProtocolType::Ignored(1),
-            LinuxSllProtocolType::Ignored(9),
-        ),
-        (
-            LinuxSllProtocolType::NetlinkProtocolType(1),
-            LinuxSllProtocolType::NetlinkProtocolType(9),
-        ),
-        (
-            LinuxSllProtocolType::GenericRoutingEncapsulationProtocolType(1),
-            LinuxSllProtocolType::GenericRoutingEncapsulationProtocolType(9),
-        ),
-        (
-            LinuxSllProtocolType::EtherType(EtherType::IPV4),
-            LinuxSllProtocolType::LinuxNonstandardEtherType(9),
-        ),
-    ];
-    for (mut protocol, changed) in table {
-        protocol.change_value(9);
-        assert!(rt; protocol == changed);
+    for (before, number, wanted) in CHANGED.iter() {
+        let mut protocol = *before;
+        protocol.change_value(*number);
+        equal(&rt, before, &protocol, wanted);
     }
-    let mut protocol = LinuxSllProtocolType::LinuxNonstandardEtherType(9);
-    protocol.change_value(0x86dd);
-    assert!(rt; protocol == LinuxSllProtocolType::EtherType(EtherType::IPV6));
 }
 
 #[test]
-fn error_texts(rt: HostRuntime) -> Result<(), Fail> {
-    let text = format!(in rt.alloc();
-        "{} | {}",
-        HeaderSliceError::Content(HeaderError::UnsupportedPacketTypeField { packet_type: 5 }),
-        HeaderError::UnsupportedArpHardwareId {
-            arp_hardware_type: ArpHardwareId(7)
-        }
-    )?;
-    assert!(rt;
-        text.as_str()
-            == "Linux cooked capture header error: unsupported packet type 5 | Linux cooked capture header error: unsupported hardware type 7"
-    );
-    Ok(())
+fn error_texts(rt: HostRuntime) {
+    let packet_type = HeaderError::UnsupportedPacketTypeField { packet_type: 5 };
+    let text = "Linux cooked capture header error: unsupported packet type 5";
+    reads(&rt, &HeaderSliceError::Content(packet_type), text);
+    let hardware_type = HeaderError::UnsupportedArpHardwareId {
+        arp_hardware_type: ArpHardwareId(7),
+    };
+    let text = "Linux cooked capture header error: unsupported hardware type 7";
+    reads(&rt, &hardware_type, text);
 }
 
 #[test]
 fn laws(rt: HostRuntime) {
-    let bytes = BYTES;
-    let found = (
-        header_lengths(),
-        packet_type_constants().len(),
-        header_is_read_again(&header(), &bytes).is_ok(),
+    let Ok((header, _)) = LinuxSllHeader::from_slice(&BYTES) else {
+        panic!(rt; "no header");
+    };
+    let is_read_again = header_is_read_again(&header, &BYTES).is_ok();
+    equal(
+        &rt,
+        &"lengths",
+        &(header_lengths(), is_read_again),
+        &([16], true),
     );
-    assert!(rt; found == ([16], 5, true));
-    headers_are_their_bytes(&header());
+    equal(&rt, &"constants", &packet_type_constants().len(), &5);
+    headers_are_their_bytes(&header);
     number_stays();
     protocols_by_hand();
 }

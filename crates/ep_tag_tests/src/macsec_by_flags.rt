@@ -1,165 +1,219 @@
 //! MACsec headers and payloads under every flag and short length (IEEE 802.1AE, clause 9).
-use crate::macsec::{Payload, header_refusals, payload_of, refusal, want};
+use crate::checks::equal;
+use crate::macsec::{header_refusal, header_slice_refusal, refusal, want};
 use ep_base::err::Layer;
 use ep_base::{EtherType, LenSource};
 use ep_tag::err::macsec::{HeaderError, HeaderSliceError};
-use ep_tag::{MacsecPType, MacsecSlice};
+use ep_tag::{MacsecPType, MacsecPayloadSlice, MacsecSlice};
+use std::process::Abort;
 
-// The lengths of a payload behind short lengths 0, 1, 2, 3, 47 and 63, or none where they are
-// refused.
-type PayloadLens = [Option<u8>; 6];
+const SHORT_LENS: [u8; 6] = [0, 1, 2, 3, 47, 63];
 
-// Where the two bytes of the ether type belong to the header and are counted by the short length,
-// ..
-fn unmodified(whole: u8) -> PayloadLens {
-    [Some(whole), None, Some(0), Some(1), Some(45), Some(61)]
-}
+// The flags E, C and SC of the first of 80 bytes, the length of the header, what its payload is,
+// and the lengths of the payload behind `SHORT_LENS`, or none where they are refused: the two
+// bytes of an ether type belong to the header, and are counted by the short length.
+type Row = (u8, u8, MacsecPType, [Option<u8>; 6]);
 
-// .. and where they do not.
-fn modified(whole: u8) -> PayloadLens {
-    [Some(whole), Some(1), Some(2), Some(3), Some(47), Some(63)]
-}
-
-// Of 80 bytes: the flags E, C and SC of the first one, the length of the header, what its payload
-// is, and the payload's lengths.
-fn by_flags() -> [(u8, u8, MacsecPType, PayloadLens); 8] {
-    let no_identifier = MacsecPType::Unmodified(EtherType(0x0607));
-    let identifier = MacsecPType::Unmodified(EtherType(0x0e0f));
+fn by_flags() -> [Row; 8] {
     [
-        (0, 8, no_identifier, unmodified(72)),
-        (0x20, 16, identifier, unmodified(64)),
-        (0x04, 6, MacsecPType::Modified, modified(74)),
-        (0x24, 14, MacsecPType::Modified, modified(66)),
-        (0x08, 6, MacsecPType::EncryptedUnmodified, modified(74)),
-        (0x28, 14, MacsecPType::EncryptedUnmodified, modified(66)),
-        (0x0c, 6, MacsecPType::Encrypted, modified(74)),
-        (0x2c, 14, MacsecPType::Encrypted, modified(66)),
+        (
+            0,
+            8,
+            MacsecPType::Unmodified(EtherType(0x0607)),
+            [Some(72), None, Some(0), Some(1), Some(45), Some(61)],
+        ),
+        (
+            0x20,
+            16,
+            MacsecPType::Unmodified(EtherType(0x0e0f)),
+            [Some(64), None, Some(0), Some(1), Some(45), Some(61)],
+        ),
+        (
+            0x04,
+            6,
+            MacsecPType::Modified,
+            [Some(74), Some(1), Some(2), Some(3), Some(47), Some(63)],
+        ),
+        (
+            0x24,
+            14,
+            MacsecPType::Modified,
+            [Some(66), Some(1), Some(2), Some(3), Some(47), Some(63)],
+        ),
+        (
+            0x08,
+            6,
+            MacsecPType::EncryptedUnmodified,
+            [Some(74), Some(1), Some(2), Some(3), Some(47), Some(63)],
+        ),
+        (
+            0x28,
+            14,
+            MacsecPType::EncryptedUnmodified,
+            [Some(66), Some(1), Some(2), Some(3), Some(47), Some(63)],
+        ),
+        (
+            0x0c,
+            6,
+            MacsecPType::Encrypted,
+            [Some(74), Some(1), Some(2), Some(3), Some(47), Some(63)],
+        ),
+        (
+            0x2c,
+            14,
+            MacsecPType::Encrypted,
+            [Some(66), Some(1), Some(2), Some(3), Some(47), Some(63)],
+        ),
     ]
 }
 
-// 80 bytes, each its own place but the first two.
+// Each its own place.
+const NUMBERED: [u8; 80] = [
+    0, 1, 2, 3, 4, 5, 6, 7, 8, 9, 10, 11, 12, 13, 14, 15, 16, 17, 18, 19, 20, 21, 22, 23, 24, 25,
+    26, 27, 28, 29, 30, 31, 32, 33, 34, 35, 36, 37, 38, 39, 40, 41, 42, 43, 44, 45, 46, 47, 48, 49,
+    50, 51, 52, 53, 54, 55, 56, 57, 58, 59, 60, 61, 62, 63, 64, 65, 66, 67, 68, 69, 70, 71, 72, 73,
+    74, 75, 76, 77, 78, 79,
+];
+
 fn numbered(first: u8, short_len: u8) -> [u8; 80] {
-    let mut bytes = [0; 80];
-    for place in 2..80u8 {
-        bytes[usize::from(place)] = place;
-    }
+    let mut bytes = NUMBERED;
     bytes[0] = first;
     bytes[1] = short_len;
     bytes
 }
 
-const SHORT_LENS: [u8; 6] = [0, 1, 2, 3, 47, 63];
+// What the header says of the payload, the ether type of the payload and what bounds it, where it
+// is unmodified, and its bytes.
+type Told<'a> = (MacsecPType, Option<(EtherType, LenSource)>, &'a [u8]);
 
-// What the header says of the payload, and the payload.
-type Told<'a> = Result<(MacsecPType, Payload<'a>), HeaderSliceError>;
-
-fn told(bytes: &[u8]) -> Told<'_> {
-    let macsec = MacsecSlice::from_slice(bytes)?;
-    Ok((macsec.header.ptype(), payload_of(&macsec)))
+fn told<'a>(macsec: &MacsecSlice<'a>) -> Told<'a> {
+    let ptype = macsec.header.ptype();
+    match &macsec.payload {
+        MacsecPayloadSlice::Unmodified(payload) => {
+            let named = (payload.ether_type, payload.len_source);
+            (ptype, Some(named), payload.payload)
+        }
+        MacsecPayloadSlice::Modified(bytes) => (ptype, None, bytes),
+    }
 }
 
-// What `by_flags` says of a header that its payload stands behind.
-fn expected(
-    bytes: &[u8],
-    header_len: u8,
-    ptype: MacsecPType,
-    short_len: u8,
-    payload_len: Option<u8>,
-) -> Told<'_> {
-    let Some(payload_len) = payload_len else {
-        return Err(HeaderError::InvalidUnmodifiedShortLen.into());
+fn read(bytes: &[u8]) -> Result<Told<'_>, HeaderSliceError> {
+    match MacsecSlice::from_slice(bytes) {
+        Ok(macsec) => Ok(told(&macsec)),
+        Err(error) => Err(error),
+    }
+}
+
+// What a row says of a payload of this length behind its header.
+fn expected<'a>(row: &Row, short_len: u8, payload: &'a [u8]) -> Told<'a> {
+    let len_source = match short_len {
+        0 => LenSource::Slice,
+        _ => LenSource::MacsecShortLength,
     };
+    match row.2 {
+        MacsecPType::Unmodified(ether_type) => { (row.2, Some((ether_type, len_source)), payload) }
+        ptype => (ptype, None, payload),
+    }
+}
+
+// The part of the bytes behind a header of this length, as far as it is there.
+fn behind(bytes: &[u8], header_len: u8, len: u8) -> &[u8] {
     let start = usize::from(header_len);
-    let payload = bytes.get(start..start + usize::from(payload_len));
-    let len_source = if short_len == 0 {
-        LenSource::Slice
-    } else {
-        LenSource::MacsecShortLength
+    bytes.get(start..start + usize::from(len)).unwrap_or(&[])
+}
+
+fn is_told(rt: &impl Abort, row: &Row, short_len: u8, payload_len: Option<u8>) {
+    let bytes = numbered(row.0, short_len);
+    let wanted = match payload_len {
+        Some(len) => Ok(expected(row, short_len, behind(&bytes, row.1, len))),
+        None => Err(HeaderSliceError::Content(HeaderError::InvalidUnmodifiedShortLen)),
     };
-    let named = match ptype {
-        MacsecPType::Unmodified(ether_type) => Some((ether_type, len_source)),
-        _ => None,
-    };
-    Ok((ptype, (named, payload.unwrap_or(&[]))))
+    let flags = [row.0, short_len];
+    equal(rt, "flags", &(flags, read(&bytes)), &(flags, wanted));
 }
 
 #[test]
 fn every_flag_and_short_length(rt: HostRuntime) {
-    for (flags, header_len, ptype, payload_lens) in by_flags() {
-        for (short_len, payload_len) in SHORT_LENS.into_iter().zip(payload_lens) {
-            let bytes = numbered(flags, short_len);
-            let expected = expected(&bytes, header_len, ptype, short_len, payload_len);
-            assert!(rt; told(&bytes) == expected);
+    for row in by_flags() {
+        for i in 0..6usize {
+            is_told(&rt, &row, SHORT_LENS[i], row.3[i]);
         }
     }
 }
 
 #[test]
 fn every_flag_and_short_length_of_version_1(rt: HostRuntime) {
-    for (flags, _, _, _) in by_flags() {
-        for short_len in SHORT_LENS {
-            let error = HeaderError::UnexpectedVersion.into();
-            assert!(rt; refusal(&numbered(0x80 | flags, short_len)) == Some(error));
+    let error = Some(HeaderSliceError::Content(HeaderError::UnexpectedVersion));
+    for row in by_flags() {
+        for short_len in SHORT_LENS.iter() {
+            let bytes = numbered(0x80 | row.0, *short_len);
+            let flags = [row.0, *short_len];
+            equal(&rt, "flags", &(flags, refusal(&bytes)), &(flags, error));
         }
     }
 }
 
-// The refusal of one byte fewer than header and payload, and what it is to be.
-fn one_byte_fewer(
-    flags: u8,
-    header_len: u8,
-    short_len: u8,
-    payload_len: Option<u8>,
-) -> Option<(Option<HeaderSliceError>, HeaderSliceError)> {
-    let header_len = usize::from(header_len);
-    let whole_len = header_len + usize::from(payload_len.unwrap_or(0));
-    let (required_len, layer) = if whole_len == header_len {
+// Tries the first `len` bytes of a header of `header_len` bytes, which needs `whole_len` with its
+// payload.
+fn front_is_refused(
+    rt: &impl Abort,
+    bytes: &[u8],
+    len: usize,
+    header_len: usize,
+    whole_len: usize,
+) {
+    let (required_len, layer) = if len < 6 {
+        (6, Layer::MacsecHeader)
+    } else if len < header_len {
         (header_len, Layer::MacsecHeader)
     } else {
         (whole_len, Layer::MacsecPacket)
     };
-    let bytes = numbered(flags, short_len);
-    let len = whole_len.saturating_sub(1);
-    Some((refusal(bytes.get(..len)?), want(required_len, len, layer)))
+    let error = Some(want(required_len, len, layer));
+    let (front, _) = bytes.split_at(len.min(bytes.len()));
+    equal(
+        rt,
+        "payload",
+        &(bytes.first(), refusal(front)),
+        &(bytes.first(), error),
+    );
+    if len < header_len {
+        equal(rt, "front", &header_refusal(front), &error);
+        equal(rt, "front", &header_slice_refusal(front), &error);
+    }
 }
 
+// One byte fewer than header and payload.
 #[test]
 fn every_flag_and_short_length_of_too_few_bytes(rt: HostRuntime) {
-    for (flags, header_len, _, payload_lens) in by_flags() {
-        let [_, _, two, three, forty_seven, greatest] = payload_lens;
-        for (short_len, payload_len) in [(2, two), (3, three), (47, forty_seven), (63, greatest)] {
-            let Some((refused, error)) = one_byte_fewer(flags, header_len, short_len, payload_len)
-            else {
-                panic!(rt; "too few bytes");
-            };
-            assert!(rt; refused == Some(error));
+    for row in by_flags() {
+        for i in 2..6usize {
+            let header_len = usize::from(row.1);
+            let whole_len = header_len.saturating_add(usize::from(row.3[i].unwrap_or(0)));
+            let bytes = numbered(row.0, SHORT_LENS[i]);
+            front_is_refused(
+                &rt,
+                &bytes,
+                whole_len.saturating_sub(1),
+                header_len,
+                whole_len,
+            );
         }
     }
 }
 
-// The refusal of the first `len` bytes of a header of `header_len` bytes, which needs `whole_len`
-// with its payload.
-fn front_refused(len: usize, header_len: usize, whole_len: usize) -> HeaderSliceError {
-    if len < 6 {
-        want(6, len, Layer::MacsecHeader)
-    } else if len < header_len {
-        want(header_len, len, Layer::MacsecHeader)
-    } else {
-        want(whole_len, len, Layer::MacsecPacket)
+// Every front of a header with its payload.
+fn fronts_are_refused(rt: &impl Abort, bytes: &[u8; 80], header_len: usize, whole_len: usize) {
+    for len in 0..whole_len {
+        front_is_refused(rt, bytes, len, header_len, whole_len);
     }
+    let (whole, _) = bytes.split_at(whole_len.min(80));
+    equal(rt, "whole", &refusal(whole), &None);
 }
 
 #[test]
 fn every_front_of_a_header_with_its_payload(rt: HostRuntime) {
     // Encrypted, with an identifier, and 3 bytes of payload; and unmodified, with 5 of them.
-    for (flags, short_len, header_len, whole_len) in [(0x28, 3, 14, 17), (0x20, 7, 16, 21)] {
-        let bytes = numbered(flags, short_len);
-        for len in 0..whole_len {
-            let error = Some(front_refused(len, header_len, whole_len));
-            let front = &bytes[..len];
-            let header_is_refused = len >= header_len || header_refusals(front) == [error; 2];
-            assert!(rt; header_is_refused && refusal(front) == error);
-        }
-        assert!(rt; refusal(&bytes[..whole_len]).is_none());
-    }
+    fronts_are_refused(&rt, &numbered(0x28, 3), 14, 17);
+    fronts_are_refused(&rt, &numbered(0x20, 7), 16, 21);
 }

@@ -1,137 +1,102 @@
 //! Bounded numbers.
-use ep_base::err::{ValueTooBigError, ValueType};
+use crate::checks::{equal, reads, shows};
 use ep_tag::laws::numbers::*;
 use ep_tag::laws::traits::*;
 use ep_tag::{MacsecAn, MacsecShortLen, VlanId, VlanPcp};
-use std::test::Fail;
-
-// The readers below answer a number and no more: a value that a test held would bring its contract
-// into the proof of everything behind it.
-
-fn vlan_id(value: u16) -> Option<u16> {
-    Some(VlanId::try_new(value).ok()?.value())
-}
-
-fn vlan_pcp(value: u8) -> Option<u8> {
-    Some(VlanPcp::try_new(value).ok()?.value())
-}
-
-fn macsec_an(value: u8) -> Option<u8> {
-    Some(MacsecAn::try_new(value).ok()?.value())
-}
-
-fn macsec_short_len(value: u8) -> Option<u8> {
-    Some(MacsecShortLen::try_new(value).ok()?.value())
-}
 
 #[test]
 fn greatest_numbers(rt: HostRuntime) {
-    let bytes = [vlan_pcp(7), macsec_an(3), macsec_short_len(63)];
-    let greatest = [
-        Some(VlanPcp::MAX_U8),
-        Some(MacsecAn::MAX_U8),
-        Some(MacsecShortLen::MAX_U8),
-    ];
-    assert!(rt; (vlan_id(4095), bytes) == (Some(VlanId::MAX_U16), greatest));
-}
-
-fn converted_vlan_id(value: u16) -> Option<u16> {
-    Some(u16::from(VlanId::try_from(value).ok()?))
-}
-
-fn converted_vlan_pcp(value: u8) -> Option<u8> {
-    Some(u8::from(VlanPcp::try_from(value).ok()?))
-}
-
-fn converted_macsec_an(value: u8) -> Option<u8> {
-    Some(u8::from(MacsecAn::try_from(value).ok()?))
-}
-
-fn converted_macsec_short_len(value: u8) -> Option<u8> {
-    Some(u8::from(MacsecShortLen::try_from(value).ok()?))
-}
-
-#[test]
-fn converted_numbers(rt: HostRuntime) {
-    let bytes = [
-        converted_vlan_pcp(5),
-        converted_macsec_an(2),
-        converted_macsec_short_len(47),
-    ];
-    assert!(rt; (converted_vlan_id(5), bytes) == (Some(5), [Some(5), Some(2), Some(47)]));
-}
-
-fn too_big(actual: u8, max_allowed: u8, value_type: ValueType) -> ValueTooBigError<u8> {
-    ValueTooBigError {
-        actual,
-        max_allowed,
-        value_type,
-    }
+    shows(
+        &rt,
+        "identifier",
+        &VlanId::try_new(4095),
+        "Ok(VlanId(4095))",
+    );
+    shows(&rt, "priority", &VlanPcp::try_new(7), "Ok(VlanPcp(7))");
+    shows(&rt, "association", &MacsecAn::try_new(3), "Ok(MacsecAn(3))");
+    shows(
+        &rt,
+        "short length",
+        &MacsecShortLen::try_new(63),
+        "Ok(MacsecShortLen(63))",
+    );
+    let greatest = [VlanPcp::MAX_U8, MacsecAn::MAX_U8, MacsecShortLen::MAX_U8];
+    equal(
+        &rt,
+        "greatest",
+        &(VlanId::MAX_U16, greatest),
+        &(4095, [7, 3, 63]),
+    );
 }
 
 #[test]
 fn refused_numbers(rt: HostRuntime) {
-    let id = ValueTooBigError {
-        actual: 4096,
-        max_allowed: 4095,
-        value_type: ValueType::VlanId,
-    };
-    let bytes = [
-        VlanPcp::try_new(8).err(),
-        MacsecAn::try_from(4).err(),
-        MacsecShortLen::try_new(64).err(),
-    ];
-    let errors = [
-        Some(too_big(8, 7, ValueType::VlanPcp)),
-        Some(too_big(4, 3, ValueType::MacsecAn)),
-        Some(too_big(64, 63, ValueType::MacsecShortLen)),
-    ];
-    assert!(rt; (VlanId::try_new(4096).err(), bytes) == (Some(id), errors));
+    let id = "Err(ValueTooBigError { actual: 4096, max_allowed: 4095, value_type: VlanId })";
+    shows(&rt, "identifier", &VlanId::try_new(4096), id);
+    let pcp = "Err(ValueTooBigError { actual: 8, max_allowed: 7, value_type: VlanPcp })";
+    shows(&rt, "priority", &VlanPcp::try_new(8), pcp);
+    let an = "Err(ValueTooBigError { actual: 4, max_allowed: 3, value_type: MacsecAn })";
+    shows(&rt, "association", &MacsecAn::try_from(4), an);
+    let len = "Err(ValueTooBigError { actual: 64, max_allowed: 63, value_type: MacsecShortLen })";
+    shows(&rt, "short length", &MacsecShortLen::try_new(64), len);
+}
+
+fn vlan_id(value: u16) -> VlanId {
+    VlanId::try_from(value).unwrap_or(VlanId::ZERO)
+}
+
+fn vlan_pcp(value: u8) -> VlanPcp {
+    VlanPcp::try_from(value).unwrap_or(VlanPcp::ZERO)
+}
+
+fn macsec_an(value: u8) -> MacsecAn {
+    MacsecAn::try_from(value).unwrap_or(MacsecAn::ZERO)
+}
+
+fn macsec_short_len(value: u8) -> MacsecShortLen {
+    MacsecShortLen::try_from(value).unwrap_or(MacsecShortLen::ZERO)
+}
+
+#[test]
+fn converted_numbers(rt: HostRuntime) {
+    equal(&rt, "identifier", &u16::from(vlan_id(5)), &5);
+    equal(&rt, "priority", &u8::from(vlan_pcp(5)), &5);
+    equal(&rt, "association", &u8::from(macsec_an(2)), &2);
+    equal(&rt, "short length", &u8::from(macsec_short_len(47)), &47);
+}
+
+#[test]
+fn texts(rt: HostRuntime) {
+    reads(&rt, &vlan_id(4095), "4095");
+    reads(&rt, &vlan_pcp(6), "6");
+    reads(&rt, &macsec_an(1), "1");
+    reads(&rt, &macsec_short_len(10), "10");
 }
 
 #[test]
 fn zeros(rt: HostRuntime) {
-    let defaults = (
-        VlanId::default(),
-        VlanPcp::default(),
-        MacsecAn::default(),
-        MacsecShortLen::default(),
+    equal(&rt, "identifier", &VlanId::default(), &VlanId::ZERO);
+    equal(&rt, "priority", &VlanPcp::default(), &VlanPcp::ZERO);
+    equal(&rt, "association", &MacsecAn::default(), &MacsecAn::ZERO);
+    equal(
+        &rt,
+        "short length",
+        &MacsecShortLen::default(),
+        &MacsecShortLen::ZERO,
     );
-    let zeros = (
-        VlanId::ZERO,
-        VlanPcp::ZERO,
-        MacsecAn::ZERO,
-        MacsecShortLen::ZERO,
-    );
-    assert!(rt; defaults == zeros);
-}
-
-#[test]
-fn texts(rt: HostRuntime) -> Result<(), Fail> {
-    let id = VlanId::try_new(4095).unwrap_or(VlanId::ZERO);
-    let pcp = VlanPcp::try_new(6).unwrap_or(VlanPcp::ZERO);
-    let an = MacsecAn::try_new(1).unwrap_or(MacsecAn::ZERO);
-    let short_len = MacsecShortLen::try_new(10).unwrap_or(MacsecShortLen::ZERO);
-    let text = format!(in rt.alloc(); "{id} {pcp} {an} {short_len}")?;
-    assert!(rt; text.as_str() == "4095 6 1 10");
-    Ok(())
 }
 
 #[test]
 fn laws(rt: HostRuntime) {
-    let constants = (
-        vlan_id_constants(),
-        vlan_pcp_constants(),
-        macsec_an_constants(),
-        macsec_short_len_constants(),
+    shows(&rt, "identifier", &vlan_id_constants(), "[VlanId(0)]");
+    shows(&rt, "priority", &vlan_pcp_constants(), "[VlanPcp(0)]");
+    shows(&rt, "association", &macsec_an_constants(), "[MacsecAn(0)]");
+    shows(
+        &rt,
+        "short length",
+        &macsec_short_len_constants(),
+        "[MacsecShortLen(0)]",
     );
-    let zeros = (
-        [VlanId::ZERO],
-        [VlanPcp::ZERO],
-        [MacsecAn::ZERO],
-        [MacsecShortLen::ZERO],
-    );
-    assert!(rt; constants == zeros);
 }
 
 #[test]

@@ -1,0 +1,27 @@
+//! Comparisons as functions: each is proved once, and a call of it costs the proof of a test
+//! little. They have no contracts: tests alone call them, and are run.
+
+use std::fmt::{Debug, Display};
+use std::process::Abort;
+use std::test::*;
+
+/// Fails where a row is told otherwise than wanted, and shows all three.
+pub fn equal<T: PartialEq + Debug>(rt: &impl Abort, row: &str, told: &T, wanted: &T) {
+    assert_eq!(rt; told, wanted, "{row}");
+}
+
+/// The same of the text that a value is shown as.
+pub fn shows<T: Debug>(rt: &(impl Abort + AllocGlobal), row: &str, told: &T, wanted: &str) {
+    match format!(in rt.alloc(); "{told:?}") {
+        Ok(text) => equal(rt, row, &text.as_str(), &wanted),
+        Err(_) => panic!(rt; "no memory for a text"),
+    }
+}
+
+/// The same of the text that a value is printed as.
+pub fn reads<T: Display>(rt: &(impl Abort + AllocGlobal), told: &T, wanted: &str) {
+    match format!(in rt.alloc(); "{told}") {
+        Ok(text) => equal(rt, "text", &text.as_str(), &wanted),
+        Err(_) => panic!(rt; "no memory for a text"),
+    }
+}
