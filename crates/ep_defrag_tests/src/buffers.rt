@@ -12,7 +12,7 @@ use std::alloc::Global;
 use std::process::Abort;
 use std::test::*;
 
-const SCRIPTS: [Script; 10] = [
+const SCRIPTS: &[Script] = &[
     Script {
         name: "a new buffer",
         rule: OverlapRule::Overwrites,
@@ -160,12 +160,12 @@ const SCRIPTS: [Script; 10] = [
 
 #[test]
 fn fragments_as_they_come(rt: HostRuntime) {
-    runs_all(&rt, rt.alloc(), &SCRIPTS);
+    runs_all(&rt, rt.alloc(), SCRIPTS);
 }
 
-const FIRST: [u8; 8] = [0x01, 0x02, 0x03, 0x04, 0x05, 0x06, 0x07, 0x08];
+const FIRST: &[u8] = &[0x01, 0x02, 0x03, 0x04, 0x05, 0x06, 0x07, 0x08];
 
-const SECOND: [u8; 8] = [0x11, 0x12, 0x13, 0x14, 0x15, 0x16, 0x17, 0x18];
+const SECOND: &[u8] = &[0x11, 0x12, 0x13, 0x14, 0x15, 0x16, 0x17, 0x18];
 
 #[test]
 fn all_of_a_repeat_and_its_end(rt: HostRuntime) {
@@ -177,7 +177,7 @@ fn all_of_a_repeat_and_its_end(rt: HostRuntime) {
     ];
     let mut buf = empty(rt.alloc());
     equal(&rt, &buf.add_all(&all), &Ok(3));
-    holds(&rt, buf.is_complete() && has_bytes(&buf, &SECOND));
+    holds(&rt, buf.is_complete() && has_bytes(&buf, SECOND));
 }
 
 const WITH_A_GAP: Left = Left {
@@ -240,7 +240,7 @@ fn a_copy_is_equal(rt: HostRuntime) {
 }
 
 // A fragment for a buffer, and what comes where its memory serves again.
-const AGAIN: [(Step, Script); 2] = [
+const AGAIN: &[(Step, Script)] = &[
     (
         Step(0, false, &[0; 9], Whole, 9),
         Script {

@@ -7,7 +7,7 @@ use std::alloc::Global;
 use std::process::Abort;
 use std::test::*;
 
-const TEXTS: [(Refusal, &str); 5] = [
+const TEXTS: &[(Refusal, &str)] = &[
     (
         Unaligned(123, 15),
         "Payload length 15 of IP fragment (offset 123) is not a multiple of 8. This is only allowed for the last fragment packet.",
@@ -47,7 +47,7 @@ fn texts_of_refusals(rt: HostRuntime) {
 }
 
 // A refusal, and one that is greater.
-const ORDERED: [(&str, Refusal, Refusal); 5] = [
+const ORDERED: &[(&str, Refusal, Refusal)] = &[
     (
         "the length before the end",
         Unaligned(5, 9),

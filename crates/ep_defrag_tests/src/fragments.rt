@@ -7,7 +7,7 @@ use std::alloc::Global;
 use std::process::Abort;
 
 /// The zero bytes that fragments are cut from.
-pub const ZEROS: [u8; 64] = [0; 64];
+pub const ZEROS: &[u8] = &[0; 64];
 
 /// An empty buffer; no contract, as above.
 pub fn empty(alloc: Global) -> IpDefragBuf {

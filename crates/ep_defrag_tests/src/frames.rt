@@ -2,8 +2,6 @@
 //! contracts: tests alone call them, and are run.
 
 use crate::checks::holds;
-use crate::pool_scripts::Message;
-use ep_base::{IpNumber, LenSource};
 use ep_defrag::defrag::{IpDefragError, IpDefragPayloadVec, IpDefragPool};
 use ep_packet::SlicedPacket;
 use std::hash::BuildHasher;
@@ -11,80 +9,81 @@ use std::process::Abort;
 use std::test::*;
 
 /// The first half over IPv4, with identification 7.
-pub const FIRST: [u8; 42] = [
+pub const FIRST: &[u8] = &[
     0x02, 0, 0, 0, 0, 0x02, 0x02, 0, 0, 0, 0, 0x01, 0x08, 0x00, 0x45, 0, 0, 0x1c, 0, 0x07, 0x20,
     0x00, 0x40, 0x11, 0x46, 0xc8, 0x0a, 0, 0, 0x01, 0x0a, 0, 0, 0x02, 0x00, 0x01, 0x00, 0x02, 0x00,
     0x10, 0xdb, 0xb4,
 ];
 
 /// The second half.
-pub const SECOND: [u8; 42] = [
+pub const SECOND: &[u8] = &[
     0x02, 0, 0, 0, 0, 0x02, 0x02, 0, 0, 0, 0, 0x01, 0x08, 0x00, 0x45, 0, 0, 0x1c, 0, 0x07, 0x00,
     0x01, 0x40, 0x11, 0x66, 0xc7, 0x0a, 0, 0, 0x01, 0x0a, 0, 0, 0x02, 0x01, 0x02, 0x03, 0x04, 0x05,
     0x06, 0x07, 0x08,
 ];
 
 /// The message.
-pub const MESSAGE: [u8; 16] = [
+pub const MESSAGE: &[u8] = &[
     0x00, 0x01, 0x00, 0x02, 0x00, 0x10, 0xdb, 0xb4, 0x01, 0x02, 0x03, 0x04, 0x05, 0x06, 0x07, 0x08,
 ];
 
-/// The message over IPv6.
-pub const IPV6_MESSAGE: [u8; 16] = [
-    0, 0x01, 0, 0x02, 0, 0x10, 0xf5, 0xb2, 0x01, 0x02, 0x03, 0x04, 0x05, 0x06, 0x07, 0x08,
-];
-
 /// The message over IPv4 as it is handed out.
-pub const UDP: Message = Message {
-    ip_number: IpNumber::UDP,
-    len_source: LenSource::Ipv4HeaderTotalLen,
-    bytes: &MESSAGE,
-};
+pub const UDP: &str = "Payload(IpDefragPayloadVec { ip_number: IpNumber(17), \
+    len_source: Ipv4HeaderTotalLen, \
+    payload: [0, 1, 0, 2, 0, 16, 219, 180, 1, 2, 3, 4, 5, 6, 7, 8] })";
+
+/// The same where it is given back then.
+pub const LENT_UDP: &str = "Payload(IpDefragPayloadVec { ip_number: IpNumber(17), \
+    len_source: Ipv4HeaderTotalLen, \
+    payload: [0, 1, 0, 2, 0, 16, 219, 180, 1, 2, 3, 4, 5, 6, 7, 8] }) given back";
 
 /// The message over IPv6 as it is handed out.
-pub const IPV6_UDP: Message = Message {
-    ip_number: IpNumber::UDP,
-    len_source: LenSource::Ipv6HeaderPayloadLen,
-    bytes: &IPV6_MESSAGE,
-};
+pub const IPV6_UDP: &str = "Payload(IpDefragPayloadVec { ip_number: IpNumber(17), \
+    len_source: Ipv6HeaderPayloadLen, \
+    payload: [0, 1, 0, 2, 0, 16, 245, 178, 1, 2, 3, 4, 5, 6, 7, 8] })";
+
+/// The same where it is given back then.
+pub const LENT_IPV6_UDP: &str = "Payload(IpDefragPayloadVec { ip_number: IpNumber(17), \
+    len_source: Ipv6HeaderPayloadLen, \
+    payload: [0, 1, 0, 2, 0, 16, 245, 178, 1, 2, 3, 4, 5, 6, 7, 8] }) given back";
 
 /// The second half over IPv6, with identification 7.
-pub const IPV6_SECOND: [u8; 70] = [
+pub const IPV6_SECOND: &[u8] = &[
     0x02, 0, 0, 0, 0, 0x02, 0x02, 0, 0, 0, 0, 0x01, 0x86, 0xdd, 0x60, 0, 0, 0, 0, 0x10, 0x2c, 0x40,
     0xfd, 0, 0, 0, 0, 0, 0, 0, 0, 0, 0, 0, 0, 0, 0, 0x01, 0xfd, 0, 0, 0, 0, 0, 0, 0, 0, 0, 0, 0, 0,
     0, 0, 0x02, 0x11, 0, 0, 0x08, 0, 0, 0, 0x07, 0x01, 0x02, 0x03, 0x04, 0x05, 0x06, 0x07, 0x08,
 ];
 
 /// The first half.
-pub const IPV6_FIRST: [u8; 70] = [
+pub const IPV6_FIRST: &[u8] = &[
     0x02, 0, 0, 0, 0, 0x02, 0x02, 0, 0, 0, 0, 0x01, 0x86, 0xdd, 0x60, 0, 0, 0, 0, 0x10, 0x2c, 0x40,
     0xfd, 0, 0, 0, 0, 0, 0, 0, 0, 0, 0, 0, 0, 0, 0, 0x01, 0xfd, 0, 0, 0, 0, 0, 0, 0, 0, 0, 0, 0, 0,
     0, 0, 0x02, 0x11, 0, 0, 0x01, 0, 0, 0, 0x07, 0, 0x01, 0, 0x02, 0, 0x10, 0xf5, 0xb2,
 ];
 
 /// The second half 8 bytes further behind.
-pub const BEHIND: [u8; 42] = [
+pub const BEHIND: &[u8] = &[
     0x02, 0, 0, 0, 0, 0x02, 0x02, 0, 0, 0, 0, 0x01, 0x08, 0, 0x45, 0, 0, 0x1c, 0, 0x07, 0, 0x02,
     0x40, 0x11, 0x66, 0xc7, 0x0a, 0, 0, 0x01, 0x0a, 0, 0, 0x02, 0x01, 0x02, 0x03, 0x04, 0x05, 0x06,
     0x07, 0x08,
 ];
 
 /// The second half over IPv6 8 bytes further behind, behind which more follow.
-pub const IPV6_BEHIND: [u8; 70] = [
+pub const IPV6_BEHIND: &[u8] = &[
     0x02, 0, 0, 0, 0, 0x02, 0x02, 0, 0, 0, 0, 0x01, 0x86, 0xdd, 0x60, 0, 0, 0, 0, 0x10, 0x2c, 0x40,
     0xfd, 0, 0, 0, 0, 0, 0, 0, 0, 0, 0, 0, 0, 0, 0, 0x01, 0xfd, 0, 0, 0, 0, 0, 0, 0, 0, 0, 0, 0, 0,
     0, 0, 0x02, 0x11, 0, 0, 0x11, 0, 0, 0, 0x07, 0x01, 0x02, 0x03, 0x04, 0x05, 0x06, 0x07, 0x08,
 ];
 
 /// The first half over IPv4 behind three VLAN tags, of the identifiers 5, 6 and 7.
-pub const TAGGED_FIRST: [u8; 54] = [
+pub const TAGGED_FIRST: &[u8] = &[
     0x02, 0, 0, 0, 0, 0x02, 0x02, 0, 0, 0, 0, 0x01, 0x81, 0, 0, 0x05, 0x81, 0, 0, 0x06, 0x81, 0, 0,
     0x07, 0x08, 0, 0x45, 0, 0, 0x1c, 0, 0x07, 0x20, 0, 0x40, 0x11, 0x46, 0xc8, 0x0a, 0, 0, 0x01,
     0x0a, 0, 0, 0x02, 0, 0x01, 0, 0x02, 0, 0x10, 0xdb, 0xb4,
 ];
 
 /// The second half behind the same tags.
-pub const TAGGED_SECOND: [u8; 54] = [
+pub const TAGGED_SECOND: &[u8] = &[
     0x02, 0, 0, 0, 0, 0x02, 0x02, 0, 0, 0, 0, 0x01, 0x81, 0, 0, 0x05, 0x81, 0, 0, 0x06, 0x81, 0, 0,
     0x07, 0x08, 0, 0x45, 0, 0, 0x1c, 0, 0x07, 0, 0x01, 0x40, 0x11, 0x66, 0xc7, 0x0a, 0, 0, 0x01,
     0x0a, 0, 0, 0x02, 0x01, 0x02, 0x03, 0x04, 0x05, 0x06, 0x07, 0x08,

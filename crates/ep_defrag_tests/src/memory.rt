@@ -57,23 +57,23 @@ fn a_copy_wants_memory(rt: HostRuntime) {
     let mut buf = empty(rt.alloc());
     let zero = offset(&rt, 0);
     holds(&rt, buf.try_clone().is_ok());
-    let taken = buf.add(zero, false, &ZEROS).is_ok() || buf.add(zero, false, &ZEROS).is_ok();
+    let taken = buf.add(zero, false, ZEROS).is_ok() || buf.add(zero, false, ZEROS).is_ok();
     holds(&rt, taken);
     let copied = is_its_copy(&buf).or(is_its_copy(&buf));
     equal(&rt, &copied, &Some(true));
-    holds(&rt, has_bytes(&buf, &ZEROS));
+    holds(&rt, has_bytes(&buf, ZEROS));
 }
 
-const BYTES: [u8; 8] = [1, 2, 3, 4, 5, 6, 7, 8];
+const BYTES: &[u8] = &[1, 2, 3, 4, 5, 6, 7, 8];
 
 // Hands a fragment in twice. Where the first call finds no memory for this end, another one does.
 // It has no contract, as tests alone call it.
 fn comes_twice(rt: &impl Abort, buf: &mut IpDefragBuf, offset: IpFragOffset, len: usize) {
-    if let Err(error) = buf.add(offset, true, &BYTES) {
+    if let Err(error) = buf.add(offset, true, BYTES) {
         equal(rt, &error, &IpDefragError::AllocationFailure { len });
-        holds(rt, buf.add(offset, true, &BYTES).is_ok());
+        holds(rt, buf.add(offset, true, BYTES).is_ok());
     }
-    holds(rt, buf.add(offset, true, &BYTES).is_ok());
+    holds(rt, buf.add(offset, true, BYTES).is_ok());
 }
 
 /// A fragment that is there already wants no memory, where overlaps are refused.

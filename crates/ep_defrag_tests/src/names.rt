@@ -4,75 +4,73 @@ use crate::checks::holds_in;
 use crate::frames::{
     FIRST, IPV6_FIRST, IPV6_SECOND, SECOND, TAGGED_FIRST, TAGGED_SECOND, UDP, delivers,
 };
-use crate::pool_scripts::Answer::{Hands, Nothing};
-use crate::pool_scripts::Call::Frame;
-use crate::pool_scripts::{Script, Step, runs_all};
+use crate::pool_scripts::{NOTHING, Script, runs_all};
 use ep_defrag::defrag::IpDefragPool;
 use std::alloc::Global;
 use std::process::Abort;
 use std::test::*;
 
 /// The halves of a message, and the byte of the second one that is of its name.
-const NAMES: [(&str, &[u8], &[u8], usize); 19] = [
-    ("first byte of the identification", &FIRST, &SECOND, 18),
-    ("last byte of the identification", &FIRST, &SECOND, 19),
-    ("protocol", &FIRST, &SECOND, 23),
-    ("first byte of the source", &FIRST, &SECOND, 26),
-    ("last byte of the source", &FIRST, &SECOND, 29),
-    ("first byte of the destination", &FIRST, &SECOND, 30),
-    ("last byte of the destination", &FIRST, &SECOND, 33),
+const NAMES: &[(&str, &[u8], &[u8], usize)] = &[
+    ("first byte of the identification", FIRST, SECOND, 18),
+    ("last byte of the identification", FIRST, SECOND, 19),
+    ("protocol", FIRST, SECOND, 23),
+    ("first byte of the source", FIRST, SECOND, 26),
+    ("last byte of the source", FIRST, SECOND, 29),
+    ("first byte of the destination", FIRST, SECOND, 30),
+    ("last byte of the destination", FIRST, SECOND, 33),
     (
         "first byte of the source over IPv6",
-        &IPV6_FIRST,
-        &IPV6_SECOND,
+        IPV6_FIRST,
+        IPV6_SECOND,
         22,
     ),
     (
         "last byte of the source over IPv6",
-        &IPV6_FIRST,
-        &IPV6_SECOND,
+        IPV6_FIRST,
+        IPV6_SECOND,
         37,
     ),
     (
         "first byte of the destination over IPv6",
-        &IPV6_FIRST,
-        &IPV6_SECOND,
+        IPV6_FIRST,
+        IPV6_SECOND,
         38,
     ),
     (
         "last byte of the destination over IPv6",
-        &IPV6_FIRST,
-        &IPV6_SECOND,
+        IPV6_FIRST,
+        IPV6_SECOND,
         53,
     ),
-    ("protocol over IPv6", &IPV6_FIRST, &IPV6_SECOND, 54),
+    ("protocol over IPv6", IPV6_FIRST, IPV6_SECOND, 54),
     (
         "identification over IPv6, byte 0",
-        &IPV6_FIRST,
-        &IPV6_SECOND,
+        IPV6_FIRST,
+        IPV6_SECOND,
         58,
     ),
     (
         "identification over IPv6, byte 1",
-        &IPV6_FIRST,
-        &IPV6_SECOND,
+        IPV6_FIRST,
+        IPV6_SECOND,
         59,
     ),
     (
         "identification over IPv6, byte 2",
-        &IPV6_FIRST,
-        &IPV6_SECOND,
+        IPV6_FIRST,
+        IPV6_SECOND,
         60,
     ),
     (
         "identification over IPv6, byte 3",
-        &IPV6_FIRST,
-        &IPV6_SECOND,
+        IPV6_FIRST,
+        IPV6_SECOND,
         61,
     ),
-    ("first identifier", &TAGGED_FIRST, &TAGGED_SECOND, 15),
-    ("second identifier", &TAGGED_FIRST, &TAGGED_SECOND, 19),
-    ("third identifier", &TAGGED_FIRST, &TAGGED_SECOND, 23),
+    ("first identifier", TAGGED_FIRST, TAGGED_SECOND, 15),
+    ("second identifier", TAGGED_FIRST, TAGGED_SECOND, 19),
+    ("third identifier", TAGGED_FIRST, TAGGED_SECOND, 23),
 ];
 
 // Whether the second half completes the message, and not where one byte is changed. It has no
@@ -103,30 +101,27 @@ fn names_in_each_part(rt: HostRuntime) {
 }
 
 // The second half with a time to live of 1.
-const OTHER_TIME: [u8; 42] = [
+const OTHER_TIME: &[u8] = &[
     0x02, 0, 0, 0, 0, 0x02, 0x02, 0, 0, 0, 0, 0x01, 0x08, 0, 0x45, 0, 0, 0x1c, 0, 0x07, 0, 0x01,
     0x01, 0x11, 0x66, 0xc7, 0x0a, 0, 0, 0x01, 0x0a, 0, 0, 0x02, 0x01, 0x02, 0x03, 0x04, 0x05, 0x06,
     0x07, 0x08,
 ];
 
-const SCRIPTS: [Script; 2] = [
-    Script {
-        name: "the time to live names nothing",
-        steps: &[
-            Step(Frame(&FIRST, 1, 0), Nothing, 1, 0),
-            Step(Frame(&OTHER_TIME, 2, 0), Hands(&UDP), 0, 0),
+const SCRIPTS: &[Script] = &[
+    (
+        "the time to live names nothing",
+        &[(FIRST, 1, 0, NOTHING, 1, 0), (OTHER_TIME, 2, 0, UDP, 0, 0)],
+    ),
+    (
+        "tags and none",
+        &[
+            (TAGGED_FIRST, 1, 0, NOTHING, 1, 0),
+            (SECOND, 2, 0, NOTHING, 2, 0),
         ],
-    },
-    Script {
-        name: "tags and none",
-        steps: &[
-            Step(Frame(&TAGGED_FIRST, 1, 0), Nothing, 1, 0),
-            Step(Frame(&SECOND, 2, 0), Nothing, 2, 0),
-        ],
-    },
+    ),
 ];
 
 #[test]
 fn names_with_other_parts(rt: HostRuntime) {
-    runs_all(&rt, rt.alloc(), &SCRIPTS);
+    runs_all(&rt, rt.alloc(), SCRIPTS);
 }

@@ -10,44 +10,44 @@ use ep_defrag::defrag::{IpFragRange, OverlapRule};
 use std::test::*;
 
 // The bytes from one place to another of a message whose bytes count from 1.
-const BYTES_0_8: [u8; 8] = [1, 2, 3, 4, 5, 6, 7, 8];
+const BYTES_0_8: &[u8] = &[1, 2, 3, 4, 5, 6, 7, 8];
 
-const BYTES_8_16: [u8; 8] = [9, 10, 11, 12, 13, 14, 15, 16];
+const BYTES_8_16: &[u8] = &[9, 10, 11, 12, 13, 14, 15, 16];
 
-const BYTES_16_24: [u8; 8] = [17, 18, 19, 20, 21, 22, 23, 24];
+const BYTES_16_24: &[u8] = &[17, 18, 19, 20, 21, 22, 23, 24];
 
-const BYTES_24_32: [u8; 8] = [25, 26, 27, 28, 29, 30, 31, 32];
+const BYTES_24_32: &[u8] = &[25, 26, 27, 28, 29, 30, 31, 32];
 
-const BYTES_0_16: [u8; 16] = [1, 2, 3, 4, 5, 6, 7, 8, 9, 10, 11, 12, 13, 14, 15, 16];
+const BYTES_0_16: &[u8] = &[1, 2, 3, 4, 5, 6, 7, 8, 9, 10, 11, 12, 13, 14, 15, 16];
 
-const BYTES_8_24: [u8; 16] = [
+const BYTES_8_24: &[u8] = &[
     9, 10, 11, 12, 13, 14, 15, 16, 17, 18, 19, 20, 21, 22, 23, 24,
 ];
 
-const BYTES_16_32: [u8; 16] = [
+const BYTES_16_32: &[u8] = &[
     17, 18, 19, 20, 21, 22, 23, 24, 25, 26, 27, 28, 29, 30, 31, 32,
 ];
 
-const BYTES_0_24: [u8; 24] = [
+const BYTES_0_24: &[u8] = &[
     1, 2, 3, 4, 5, 6, 7, 8, 9, 10, 11, 12, 13, 14, 15, 16, 17, 18, 19, 20, 21, 22, 23, 24,
 ];
 
-const BYTES_8_32: [u8; 24] = [
+const BYTES_8_32: &[u8] = &[
     9, 10, 11, 12, 13, 14, 15, 16, 17, 18, 19, 20, 21, 22, 23, 24, 25, 26, 27, 28, 29, 30, 31, 32,
 ];
 
-const BYTES_0_32: [u8; 32] = [
+const BYTES_0_32: &[u8] = &[
     1, 2, 3, 4, 5, 6, 7, 8, 9, 10, 11, 12, 13, 14, 15, 16, 17, 18, 19, 20, 21, 22, 23, 24, 25, 26,
     27, 28, 29, 30, 31, 32,
 ];
 
 // Bytes 8 to 24 behind eight that are open.
-const OPEN_BYTES: [u8; 24] = [
+const OPEN_BYTES: &[u8] = &[
     0, 0, 0, 0, 0, 0, 0, 0, 9, 10, 11, 12, 13, 14, 15, 16, 17, 18, 19, 20, 21, 22, 23, 24,
 ];
 
 // Units 1 and 2 of a message.
-const MIDDLE: Step = Step(1, true, &BYTES_8_24, Open, 24);
+const MIDDLE: Step = Step(1, true, BYTES_8_24, Open, 24);
 
 const CLASH_AT_0: Answer = Refused(Overlap(0, 8));
 
@@ -59,14 +59,11 @@ const NEW: Left = Left {
 };
 
 /// Behind units 1 and 2 of a message each of these clashes, and the buffer is empty then.
-const CLASHES: [Script; 11] = [
+const CLASHES: &[Script] = &[
     Script {
         name: "the first of the units",
         rule: OverlapRule::Refuses,
-        steps: &[
-            MIDDLE,
-            Step(1, true, &BYTES_8_16, Refused(Overlap(1, 8)), 0),
-        ],
+        steps: &[MIDDLE, Step(1, true, BYTES_8_16, Refused(Overlap(1, 8)), 0)],
         left: NEW,
     },
     Script {
@@ -74,7 +71,7 @@ const CLASHES: [Script; 11] = [
         rule: OverlapRule::Refuses,
         steps: &[
             MIDDLE,
-            Step(2, true, &BYTES_16_24, Refused(Overlap(2, 8)), 0),
+            Step(2, true, BYTES_16_24, Refused(Overlap(2, 8)), 0),
         ],
         left: NEW,
     },
@@ -83,7 +80,7 @@ const CLASHES: [Script; 11] = [
         rule: OverlapRule::Refuses,
         steps: &[
             MIDDLE,
-            Step(0, true, &BYTES_0_16, Refused(Overlap(0, 16)), 0),
+            Step(0, true, BYTES_0_16, Refused(Overlap(0, 16)), 0),
         ],
         left: NEW,
     },
@@ -92,7 +89,7 @@ const CLASHES: [Script; 11] = [
         rule: OverlapRule::Refuses,
         steps: &[
             MIDDLE,
-            Step(2, true, &BYTES_16_32, Refused(Overlap(2, 16)), 0),
+            Step(2, true, BYTES_16_32, Refused(Overlap(2, 16)), 0),
         ],
         left: NEW,
     },
@@ -101,7 +98,7 @@ const CLASHES: [Script; 11] = [
         rule: OverlapRule::Refuses,
         steps: &[
             MIDDLE,
-            Step(0, true, &BYTES_0_32, Refused(Overlap(0, 32)), 0),
+            Step(0, true, BYTES_0_32, Refused(Overlap(0, 32)), 0),
         ],
         left: NEW,
     },
@@ -110,7 +107,7 @@ const CLASHES: [Script; 11] = [
         rule: OverlapRule::Refuses,
         steps: &[
             MIDDLE,
-            Step(1, true, &BYTES_8_32, Refused(Overlap(1, 24)), 0),
+            Step(1, true, BYTES_8_32, Refused(Overlap(1, 24)), 0),
         ],
         left: NEW,
     },
@@ -119,7 +116,7 @@ const CLASHES: [Script; 11] = [
         rule: OverlapRule::Refuses,
         steps: &[
             MIDDLE,
-            Step(0, true, &BYTES_0_24, Refused(Overlap(0, 24)), 0),
+            Step(0, true, BYTES_0_24, Refused(Overlap(0, 24)), 0),
         ],
         left: NEW,
     },
@@ -128,14 +125,14 @@ const CLASHES: [Script; 11] = [
         rule: OverlapRule::Refuses,
         steps: &[
             MIDDLE,
-            Step(1, false, &BYTES_8_24, Refused(Overlap(1, 16)), 0),
+            Step(1, false, BYTES_8_24, Refused(Overlap(1, 16)), 0),
         ],
         left: NEW,
     },
     Script {
         name: "a last one before the front",
         rule: OverlapRule::Refuses,
-        steps: &[MIDDLE, Step(0, false, &BYTES_0_8, CLASH_AT_0, 0)],
+        steps: &[MIDDLE, Step(0, false, BYTES_0_8, CLASH_AT_0, 0)],
         left: NEW,
     },
     Script {
@@ -154,12 +151,12 @@ const CLASHES: [Script; 11] = [
 
 #[test]
 fn each_overlap_empties_the_buffer(rt: HostRuntime) {
-    runs_all(&rt, rt.alloc(), &CLASHES);
+    runs_all(&rt, rt.alloc(), CLASHES);
 }
 
 /// Behind the same units these are taken: the same fragment, neighbours, fragments without bytes
 /// where more follow, and a last one behind them.
-const NO_OVERLAPS: [Script; 8] = [
+const NO_OVERLAPS: &[Script] = &[
     Script {
         name: "the same fragment",
         rule: OverlapRule::Refuses,
@@ -167,37 +164,37 @@ const NO_OVERLAPS: [Script; 8] = [
         left: Left {
             end: None,
             sections: &[IpFragRange { start: 8, end: 24 }],
-            data: &OPEN_BYTES,
+            data: OPEN_BYTES,
         },
     },
     Script {
         name: "before the front",
         rule: OverlapRule::Refuses,
-        steps: &[MIDDLE, Step(0, true, &BYTES_0_8, Open, 24)],
+        steps: &[MIDDLE, Step(0, true, BYTES_0_8, Open, 24)],
         left: Left {
             end: None,
             sections: &[IpFragRange { start: 0, end: 24 }],
-            data: &BYTES_0_24,
+            data: BYTES_0_24,
         },
     },
     Script {
         name: "behind the end",
         rule: OverlapRule::Refuses,
-        steps: &[MIDDLE, Step(3, true, &BYTES_24_32, Open, 32)],
+        steps: &[MIDDLE, Step(3, true, BYTES_24_32, Open, 32)],
         left: Left {
             end: None,
             sections: &[IpFragRange { start: 8, end: 32 }],
-            data: &OPEN_BYTES,
+            data: OPEN_BYTES,
         },
     },
     Script {
         name: "a last one behind the end",
         rule: OverlapRule::Refuses,
-        steps: &[MIDDLE, Step(3, false, &BYTES_24_32, Open, 32)],
+        steps: &[MIDDLE, Step(3, false, BYTES_24_32, Open, 32)],
         left: Left {
             end: Some(32),
             sections: &[IpFragRange { start: 8, end: 32 }],
-            data: &OPEN_BYTES,
+            data: OPEN_BYTES,
         },
     },
     Script {
@@ -207,7 +204,7 @@ const NO_OVERLAPS: [Script; 8] = [
         left: Left {
             end: Some(24),
             sections: &[IpFragRange { start: 8, end: 24 }],
-            data: &OPEN_BYTES,
+            data: OPEN_BYTES,
         },
     },
     Script {
@@ -217,7 +214,7 @@ const NO_OVERLAPS: [Script; 8] = [
         left: Left {
             end: None,
             sections: &[IpFragRange { start: 8, end: 24 }],
-            data: &OPEN_BYTES,
+            data: OPEN_BYTES,
         },
     },
     Script {
@@ -227,7 +224,7 @@ const NO_OVERLAPS: [Script; 8] = [
         left: Left {
             end: None,
             sections: &[IpFragRange { start: 8, end: 24 }],
-            data: &OPEN_BYTES,
+            data: OPEN_BYTES,
         },
     },
     Script {
@@ -240,17 +237,17 @@ const NO_OVERLAPS: [Script; 8] = [
                 IpFragRange { start: 0, end: 0 },
                 IpFragRange { start: 8, end: 24 },
             ],
-            data: &OPEN_BYTES,
+            data: OPEN_BYTES,
         },
     },
 ];
 
 #[test]
 fn what_is_no_overlap(rt: HostRuntime) {
-    runs_all(&rt, rt.alloc(), &NO_OVERLAPS);
+    runs_all(&rt, rt.alloc(), NO_OVERLAPS);
 }
 
-const MESSAGES: [Script; 6] = [
+const MESSAGES: &[Script] = &[
     Script {
         name: "a new buffer",
         rule: OverlapRule::Refuses,
@@ -261,7 +258,7 @@ const MESSAGES: [Script; 6] = [
         name: "other bytes at the same place",
         rule: OverlapRule::Refuses,
         steps: &[
-            Step(0, true, &BYTES_0_8, Open, 8),
+            Step(0, true, BYTES_0_8, Open, 8),
             Step(0, true, &[0; 8], CLASH_AT_0, 0),
         ],
         left: NEW,
@@ -270,39 +267,39 @@ const MESSAGES: [Script; 6] = [
         name: "the clashing fragment began nothing",
         rule: OverlapRule::Refuses,
         steps: &[
-            Step(0, true, &BYTES_0_8, Open, 8),
+            Step(0, true, BYTES_0_8, Open, 8),
             Step(0, true, &[0; 8], CLASH_AT_0, 0),
-            Step(1, false, &BYTES_8_16, Open, 16),
-            Step(0, true, &BYTES_0_8, Whole, 16),
+            Step(1, false, BYTES_8_16, Open, 16),
+            Step(0, true, BYTES_0_8, Whole, 16),
         ],
         left: Left {
             end: Some(16),
             sections: &[IpFragRange { start: 0, end: 16 }],
-            data: &BYTES_0_16,
+            data: BYTES_0_16,
         },
     },
     Script {
         name: "fragments in any order",
         rule: OverlapRule::Refuses,
         steps: &[
-            Step(3, false, &BYTES_24_32, Open, 32),
-            Step(1, true, &BYTES_8_16, Open, 32),
-            Step(2, true, &BYTES_16_24, Open, 32),
-            Step(1, true, &BYTES_8_16, Open, 32),
-            Step(3, false, &BYTES_24_32, Open, 32),
-            Step(0, true, &BYTES_0_8, Whole, 32),
+            Step(3, false, BYTES_24_32, Open, 32),
+            Step(1, true, BYTES_8_16, Open, 32),
+            Step(2, true, BYTES_16_24, Open, 32),
+            Step(1, true, BYTES_8_16, Open, 32),
+            Step(3, false, BYTES_24_32, Open, 32),
+            Step(0, true, BYTES_0_8, Whole, 32),
         ],
         left: Left {
             end: Some(32),
             sections: &[IpFragRange { start: 0, end: 32 }],
-            data: &BYTES_0_32,
+            data: BYTES_0_32,
         },
     },
     Script {
         name: "refusals before an overlap",
         rule: OverlapRule::Refuses,
         steps: &[
-            Step(1, false, &BYTES_8_16, Open, 16),
+            Step(1, false, BYTES_8_16, Open, 16),
             Step(1, true, &[0; 16], Refused(Conflict(16, 24)), 16),
             Step(1, true, &[0; 7], Refused(Unaligned(1, 7)), 16),
         ],
@@ -316,7 +313,7 @@ const MESSAGES: [Script; 6] = [
         name: "a message behind the refusals",
         rule: OverlapRule::Refuses,
         steps: &[
-            Step(1, false, &BYTES_8_16, Open, 16),
+            Step(1, false, BYTES_8_16, Open, 16),
             Step(1, true, &[0; 16], Refused(Conflict(16, 24)), 16),
             Step(1, true, &[0; 7], Refused(Unaligned(1, 7)), 16),
             Step(0, true, &[0; 8], Whole, 16),
@@ -331,13 +328,13 @@ const MESSAGES: [Script; 6] = [
 
 #[test]
 fn messages_without_overlaps(rt: HostRuntime) {
-    runs_all(&rt, rt.alloc(), &MESSAGES);
+    runs_all(&rt, rt.alloc(), MESSAGES);
 }
 
 const FROM_THE_FRONT: Left = Left {
     end: Some(16),
     sections: &[IpFragRange { start: 0, end: 16 }],
-    data: &BYTES_0_16,
+    data: BYTES_0_16,
 };
 
 /// An overlap among fragments in a row is passed over, and they go on with the empty buffer.
@@ -361,19 +358,19 @@ const TO_BE_COPIED: Script = Script {
     name: "to be copied",
     rule: OverlapRule::Refuses,
     steps: &[
-        Step(0, true, &BYTES_0_8, Open, 8),
+        Step(0, true, BYTES_0_8, Open, 8),
         Step(1, true, &[], Open, 8),
     ],
     left: Left {
         end: None,
         sections: &[IpFragRange { start: 0, end: 8 }],
-        data: &BYTES_0_8,
+        data: BYTES_0_8,
     },
 };
 
-const REPEAT: Step = Step(0, true, &BYTES_0_8, Open, 8);
+const REPEAT: Step = Step(0, true, BYTES_0_8, Open, 8);
 
-const CLASH: Step = Step(0, true, &BYTES_0_16, Refused(Overlap(0, 16)), 0);
+const CLASH: Step = Step(0, true, BYTES_0_16, Refused(Overlap(0, 16)), 0);
 
 #[test]
 fn a_copy_refuses_overlaps_too(rt: HostRuntime) {

@@ -13,40 +13,54 @@ use std::test::*;
 #[test]
 fn a_message_wants_memory(rt: HostRuntime) {
     let mut pool = IpDefragPool::new(rt.alloc());
-    if let Err(error) = process(&rt, &mut pool, &FIRST, 1, 0) {
+    if let Err(error) = process(&rt, &mut pool, FIRST, 1, 0) {
         equal(&rt, &error, &IpDefragError::AllocationFailure { len: 8 });
-        waits(&rt, &mut pool, &FIRST, 1, 0);
+        waits(&rt, &mut pool, FIRST, 1, 0);
     }
-    if let Err(error) = process(&rt, &mut pool, &SECOND, 2, 1) {
+    if let Err(error) = process(&rt, &mut pool, SECOND, 2, 1) {
         equal(&rt, &error, &IpDefragError::AllocationFailure { len: 16 });
-        waits(&rt, &mut pool, &SECOND, 2, 1);
+        waits(&rt, &mut pool, SECOND, 2, 1);
     }
     keep_from(&rt, &mut pool, 2);
-    holds(&rt, !delivers_at_last(&rt, &mut pool, &SECOND, 0, 16));
-    holds(&rt, delivers_at_last(&rt, &mut pool, &FIRST, 1, 8));
+    holds(&rt, !delivers_at_last(&rt, &mut pool, SECOND, 0, 16));
+    holds(&rt, delivers_at_last(&rt, &mut pool, FIRST, 1, 8));
+}
+
+const TWICE: &[PoolCall<'static>] = &[
+    PoolCall::Frame {
+        frame: FIRST,
+        timestamp: 1,
+        channel: 0,
+    },
+    PoolCall::Frame {
+        frame: FIRST,
+        timestamp: 1,
+        channel: 0,
+    },
+];
+
+// Whether one of the replies is that nothing is complete; no contract, as tests alone call it.
+fn one_waits(replies: &[PoolReply]) -> bool {
+    for reply in replies {
+        if matches!(reply, PoolReply::Nothing) {
+            return true;
+        }
+    }
+    false
 }
 
 #[test]
 fn a_list_of_calls_wants_memory(rt: HostRuntime) {
     let mut pool = IpDefragPool::new(rt.alloc());
-    let frame = |frame| PoolCall::Frame {
-        frame,
-        timestamp: 1,
-        channel: 0,
-    };
-    let calls = [frame(&FIRST[..]), frame(&FIRST[..])];
-    match run_calls(rt.alloc(), &mut pool, &calls) {
+    match run_calls(rt.alloc(), &mut pool, TWICE) {
         Ok(replies) => {
             // At most one of the two wanted memory.
-            let waiting = replies
-                .iter()
-                .filter(|reply| matches!(reply, PoolReply::Nothing));
-            holds(&rt, waiting.count() >= 1);
-            holds(&rt, delivers_at_last(&rt, &mut pool, &SECOND, 0, 16));
+            holds(&rt, one_waits(&replies));
+            holds(&rt, delivers_at_last(&rt, &mut pool, SECOND, 0, 16));
         }
         Err(_) => {
-            waits(&rt, &mut pool, &SECOND, 2, 0);
-            holds(&rt, run_calls(rt.alloc(), &mut pool, &calls).is_ok());
+            waits(&rt, &mut pool, SECOND, 2, 0);
+            holds(&rt, run_calls(rt.alloc(), &mut pool, TWICE).is_ok());
         }
     }
 }
@@ -74,18 +88,99 @@ fn delivers_at_last(
 fn many_messages_want_memory(rt: HostRuntime) {
     let mut pool = IpDefragPool::new(rt.alloc());
     for channel in 0..10u32 {
-        holds(&rt, !delivers_at_last(&rt, &mut pool, &FIRST, channel, 8));
+        holds(&rt, !delivers_at_last(&rt, &mut pool, FIRST, channel, 8));
         holds(
             &rt,
-            !delivers_at_last(&rt, &mut pool, &IPV6_SECOND, channel, 16),
+            !delivers_at_last(&rt, &mut pool, IPV6_SECOND, channel, 16),
         );
     }
     for channel in 0..10u32 {
-        holds(&rt, delivers_at_last(&rt, &mut pool, &SECOND, channel, 16));
+        holds(&rt, delivers_at_last(&rt, &mut pool, SECOND, channel, 16));
         holds(
             &rt,
-            delivers_at_last(&rt, &mut pool, &IPV6_FIRST, channel, 8),
+            delivers_at_last(&rt, &mut pool, IPV6_FIRST, channel, 8),
         );
+    }
+}
+
+const HALVES: &[PoolCall<'static>] = &[
+    PoolCall::Frame {
+        frame: FIRST,
+        timestamp: 1,
+        channel: 0,
+    },
+    PoolCall::Frame {
+        frame: FIRST,
+        timestamp: 1,
+        channel: 1,
+    },
+    PoolCall::Frame {
+        frame: FIRST,
+        timestamp: 1,
+        channel: 2,
+    },
+    PoolCall::Frame {
+        frame: FIRST,
+        timestamp: 1,
+        channel: 3,
+    },
+    PoolCall::Frame {
+        frame: FIRST,
+        timestamp: 1,
+        channel: 4,
+    },
+    PoolCall::Frame {
+        frame: FIRST,
+        timestamp: 1,
+        channel: 5,
+    },
+];
+
+const RESTS: &[PoolCall<'static>] = &[
+    PoolCall::Frame {
+        frame: SECOND,
+        timestamp: 2,
+        channel: 0,
+    },
+    PoolCall::Frame {
+        frame: SECOND,
+        timestamp: 2,
+        channel: 1,
+    },
+    PoolCall::Frame {
+        frame: SECOND,
+        timestamp: 2,
+        channel: 2,
+    },
+    PoolCall::Frame {
+        frame: SECOND,
+        timestamp: 2,
+        channel: 3,
+    },
+    PoolCall::Frame {
+        frame: SECOND,
+        timestamp: 2,
+        channel: 4,
+    },
+    PoolCall::Frame {
+        frame: SECOND,
+        timestamp: 2,
+        channel: 5,
+    },
+];
+
+// Whether a message's halves had memory both: one of them may have wanted it. It has no contract, as
+// tests alone call it.
+fn had_memory(rt: &impl Abort, begun: &PoolReply, ended: &PoolReply) -> bool {
+    match (begun, ended) {
+        (PoolReply::Nothing, PoolReply::Payload(message)) => {
+            equal(rt, &message.payload.as_slice(), &MESSAGE);
+            true
+        }
+        (PoolReply::Refused(IpDefragError::AllocationFailure { len: 8 }), PoolReply::Nothing)
+        | (PoolReply::Nothing, PoolReply::Refused(IpDefragError::AllocationFailure { len: 16 })) =>
+            { false }
+        _ => panic!(rt; "the replies are others"),
     }
 }
 
@@ -93,41 +188,12 @@ fn many_messages_want_memory(rt: HostRuntime) {
 #[test]
 fn one_of_many_calls_wants_memory(rt: HostRuntime) {
     let mut pool = IpDefragPool::new(rt.alloc());
-    let first = |channel| PoolCall::Frame {
-        frame: &FIRST[..],
-        timestamp: 1,
-        channel,
-    };
-    let second = |channel| PoolCall::Frame {
-        frame: &SECOND[..],
-        timestamp: 2,
-        channel,
-    };
-    let calls = [first(0), first(1), first(2), first(3), first(4), first(5)];
-    let begun = at_last(&rt, rt.alloc(), &mut pool, &calls);
-    let calls = [
-        second(0),
-        second(1),
-        second(2),
-        second(3),
-        second(4),
-        second(5),
-    ];
-    let ended = at_last(&rt, rt.alloc(), &mut pool, &calls);
+    let begun = at_last(&rt, rt.alloc(), &mut pool, HALVES);
+    let ended = at_last(&rt, rt.alloc(), &mut pool, RESTS);
     let mut wanting = 0u32;
-    for pair in begun.iter().zip(ended.iter()) {
-        match pair {
-            (PoolReply::Nothing, PoolReply::Payload(message)) => {
-                equal(&rt, &message.payload.as_slice(), &MESSAGE.as_slice());
-            }
-            (PoolReply::Refused(IpDefragError::AllocationFailure { len: 8 }), PoolReply::Nothing)
-            | (
-                PoolReply::Nothing,
-                PoolReply::Refused(IpDefragError::AllocationFailure { len: 16 }),
-            ) => {
-                wanting = wanting.wrapping_add(1);
-            }
-            _ => panic!(rt; "the replies are others"),
+    for (begun, ended) in begun.iter().zip(ended.iter()) {
+        if !had_memory(&rt, begun, ended) {
+            wanting = wanting.wrapping_add(1);
         }
     }
     holds(&rt, wanting <= 1);

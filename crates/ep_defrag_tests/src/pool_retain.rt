@@ -2,43 +2,41 @@
 
 use crate::checks::holds;
 use crate::frames::{FIRST, SECOND, UDP, waits};
-use crate::pool_scripts::Answer::{Hands, Nothing, Retained};
-use crate::pool_scripts::Call::{Frame, KeepFrom};
-use crate::pool_scripts::{Script, Step, runs_all};
+use crate::pool_scripts::{KEEP_FROM, NOTHING, RETAINED, Script, runs_all};
 use ep_defrag::defrag::IpDefragPool;
 use std::cell::Cell;
 use std::test::*;
 
-const SCRIPTS: [Script; 2] = [
-    Script {
-        name: "a time at the bound",
-        steps: &[
-            Step(Frame(&FIRST, 1, 0), Nothing, 1, 0),
-            Step(Frame(&FIRST, 2, 1), Nothing, 2, 0),
-            Step(Frame(&FIRST, 3, 2), Nothing, 3, 0),
-            Step(KeepFrom(2), Retained, 2, 1),
-            Step(Frame(&SECOND, 4, 0), Nothing, 3, 0),
-            Step(Frame(&SECOND, 4, 1), Hands(&UDP), 2, 0),
-            Step(Frame(&SECOND, 4, 2), Hands(&UDP), 1, 0),
+const SCRIPTS: &[Script] = &[
+    (
+        "a time at the bound",
+        &[
+            (FIRST, 1, 0, NOTHING, 1, 0),
+            (FIRST, 2, 1, NOTHING, 2, 0),
+            (FIRST, 3, 2, NOTHING, 3, 0),
+            (KEEP_FROM, 2, 0, RETAINED, 2, 1),
+            (SECOND, 4, 0, NOTHING, 3, 0),
+            (SECOND, 4, 1, UDP, 2, 0),
+            (SECOND, 4, 2, UDP, 1, 0),
         ],
-    },
+    ),
     // An accepted fragment renews its message's time.
-    Script {
-        name: "a renewed time at the bound",
-        steps: &[
-            Step(Frame(&FIRST, 1, 0), Nothing, 1, 0),
-            Step(Frame(&FIRST, 1, 1), Nothing, 2, 0),
-            Step(Frame(&FIRST, 2, 1), Nothing, 2, 0),
-            Step(KeepFrom(2), Retained, 1, 1),
-            Step(Frame(&SECOND, 3, 0), Nothing, 2, 0),
-            Step(Frame(&SECOND, 3, 1), Hands(&UDP), 1, 0),
+    (
+        "a renewed time at the bound",
+        &[
+            (FIRST, 1, 0, NOTHING, 1, 0),
+            (FIRST, 1, 1, NOTHING, 2, 0),
+            (FIRST, 2, 1, NOTHING, 2, 0),
+            (KEEP_FROM, 2, 0, RETAINED, 1, 1),
+            (SECOND, 3, 0, NOTHING, 2, 0),
+            (SECOND, 3, 1, UDP, 1, 0),
         ],
-    },
+    ),
 ];
 
 #[test]
 fn times_at_the_bound(rt: HostRuntime) {
-    runs_all(&rt, rt.alloc(), &SCRIPTS);
+    runs_all(&rt, rt.alloc(), SCRIPTS);
 }
 
 /// No clause says how often the test is asked: once for each message, whether it stays or goes.
@@ -48,7 +46,7 @@ fn asked_once_for_each_message(rt: HostRuntime) {
     let asked = Cell::new(0u32);
     let times = Cell::new(0u64);
     for (channel, time) in [(0, 1), (1, 10), (2, 100), (3, 1000), (4, 10000)] {
-        waits(&rt, &mut pool, &FIRST, time, channel);
+        waits(&rt, &mut pool, FIRST, time, channel);
     }
     for (bound, left, sum) in [
         (100, 5, 11111),

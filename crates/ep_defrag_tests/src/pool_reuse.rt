@@ -3,54 +3,54 @@
 
 use crate::checks::{equal, holds};
 use crate::frames::{
-    FIRST, IPV6_FIRST, IPV6_SECOND, IPV6_UDP, MESSAGE, SECOND, UDP, keep_from, process, waits,
+    FIRST, IPV6_FIRST, IPV6_SECOND, LENT_IPV6_UDP, LENT_UDP, MESSAGE, SECOND, UDP, keep_from,
+    process, waits,
 };
 use crate::pool_refusals::UNALIGNED;
-use crate::pool_scripts::Answer::{Hands, Lends, Nothing, Refused, Retained};
-use crate::pool_scripts::Call::{Frame, KeepFrom};
-use crate::pool_scripts::{Script, Step, goes_through, runs_all};
-use crate::refusals::Refusal::Unaligned;
+use crate::pool_scripts::{
+    KEEP_FROM, NOTHING, REFUSED_UNALIGNED, RETAINED, Script, goes_through, runs_all,
+};
 use ep_base::{IpNumber, LenSource};
 use ep_defrag::defrag::{IpDefragPayloadVec, IpDefragPool};
 use std::process::Abort;
 use std::test::*;
 
-const SCRIPTS: [Script; 3] = [
+const SCRIPTS: &[Script] = &[
     // It leaves its buffer, and the next one takes it.
-    Script {
-        name: "a message that is dropped",
-        steps: &[
-            Step(Frame(&FIRST, 1, 0), Nothing, 1, 0),
-            Step(KeepFrom(2), Retained, 0, 1),
-            Step(Frame(&FIRST, 3, 0), Nothing, 1, 0),
+    (
+        "a message that is dropped",
+        &[
+            (FIRST, 1, 0, NOTHING, 1, 0),
+            (KEEP_FROM, 2, 0, RETAINED, 0, 1),
+            (FIRST, 3, 0, NOTHING, 1, 0),
         ],
-    },
+    ),
     // It leaves nothing, and takes no spare buffer.
-    Script {
-        name: "a refused first fragment",
-        steps: &[
-            Step(Frame(&UNALIGNED, 1, 0), Refused(Unaligned(0, 7)), 0, 0),
-            Step(Frame(&FIRST, 1, 0), Nothing, 1, 0),
-            Step(KeepFrom(u64::MAX), Retained, 0, 1),
-            Step(Frame(&UNALIGNED, 1, 0), Refused(Unaligned(0, 7)), 0, 1),
+    (
+        "a refused first fragment",
+        &[
+            (UNALIGNED, 1, 0, REFUSED_UNALIGNED, 0, 0),
+            (FIRST, 1, 0, NOTHING, 1, 0),
+            (KEEP_FROM, u64::MAX, 0, RETAINED, 0, 1),
+            (UNALIGNED, 1, 0, REFUSED_UNALIGNED, 0, 1),
         ],
-    },
+    ),
     // A buffer that held other bytes has 0 at the open places of the next message, and its sections
     // complete nothing there.
-    Script {
-        name: "used memory shows nothing",
-        steps: &[
-            Step(Frame(&FIRST, 1, 0), Nothing, 1, 0),
-            Step(KeepFrom(u64::MAX), Retained, 0, 1),
-            Step(Frame(&SECOND, 1, 0), Nothing, 1, 0),
-            Step(Frame(&FIRST, 1, 0), Hands(&UDP), 0, 0),
+    (
+        "used memory shows nothing",
+        &[
+            (FIRST, 1, 0, NOTHING, 1, 0),
+            (KEEP_FROM, u64::MAX, 0, RETAINED, 0, 1),
+            (SECOND, 1, 0, NOTHING, 1, 0),
+            (FIRST, 1, 0, UDP, 0, 0),
         ],
-    },
+    ),
 ];
 
 #[test]
 fn buffers_to_spare(rt: HostRuntime) {
-    runs_all(&rt, rt.alloc(), &SCRIPTS);
+    runs_all(&rt, rt.alloc(), SCRIPTS);
 }
 
 /// A pool takes the buffer of a message of another one, too.
@@ -58,7 +58,7 @@ fn buffers_to_spare(rt: HostRuntime) {
 fn a_message_that_is_given(rt: HostRuntime) -> Result<(), Fail> {
     let mut pool = IpDefragPool::<u64, u32>::new(rt.alloc());
     let mut payload = Vec::new(rt.alloc());
-    payload.extend_from_slice(&MESSAGE)?;
+    payload.extend_from_slice(MESSAGE)?;
     let message = IpDefragPayloadVec {
         ip_number: IpNumber::UDP,
         len_source: LenSource::Ipv4HeaderTotalLen,
@@ -70,21 +70,21 @@ fn a_message_that_is_given(rt: HostRuntime) -> Result<(), Fail> {
 }
 
 // Messages in turn, from the front and from the end.
-const IN_TURN: Script = Script {
-    name: "ten times over",
-    steps: &[
-        Step(Frame(&FIRST, 1, 0), Nothing, 1, 0),
-        Step(Frame(&SECOND, 2, 0), Lends(&UDP), 0, 1),
-        Step(Frame(&IPV6_SECOND, 1, 0), Nothing, 1, 0),
-        Step(Frame(&IPV6_FIRST, 2, 0), Lends(&IPV6_UDP), 0, 1),
+const IN_TURN: Script = (
+    "ten times over",
+    &[
+        (FIRST, 1, 0, NOTHING, 1, 0),
+        (SECOND, 2, 0, LENT_UDP, 0, 1),
+        (IPV6_SECOND, 1, 0, NOTHING, 1, 0),
+        (IPV6_FIRST, 2, 0, LENT_IPV6_UDP, 0, 1),
     ],
-};
+);
 
 #[test]
 fn ten_times_over(rt: HostRuntime) {
     let mut pool = IpDefragPool::new(rt.alloc());
     for _ in 0..10 {
-        goes_through(&rt, &mut pool, &IN_TURN);
+        goes_through(&rt, rt.alloc(), &mut pool, &IN_TURN);
     }
 }
 
@@ -102,9 +102,9 @@ fn reuse_wants_memory(rt: HostRuntime) {
     for channel in 0..3u32 {
         let spare = pool.spare_len();
         let open = pool.open_len();
-        if process(&rt, &mut pool, &FIRST, 1, channel).is_err() {
+        if process(&rt, &mut pool, FIRST, 1, channel).is_err() {
             has_counts(&rt, &pool, open, spare);
-            waits(&rt, &mut pool, &FIRST, 1, channel);
+            waits(&rt, &mut pool, FIRST, 1, channel);
         }
     }
     has_counts(&rt, &pool, 3, 0);
@@ -112,17 +112,17 @@ fn reuse_wants_memory(rt: HostRuntime) {
     has_counts(&rt, &pool, 0, 3);
     for channel in 0..3u32 {
         // The half ends behind what the buffer held.
-        if process(&rt, &mut pool, &SECOND, 1, channel).is_err() {
-            waits(&rt, &mut pool, &SECOND, 1, channel);
+        if process(&rt, &mut pool, SECOND, 1, channel).is_err() {
+            waits(&rt, &mut pool, SECOND, 1, channel);
         }
-        let Ok(Some(whole)) = process(&rt, &mut pool, &FIRST, 1, channel) else {
+        let Ok(Some(whole)) = process(&rt, &mut pool, FIRST, 1, channel) else {
             panic!(rt; "the first half doesn't complete the message");
         };
         let spare = pool.spare_len();
         if let Err(whole) = pool.return_buf(whole) {
             holds(
                 &rt,
-                whole.payload.as_slice() == &MESSAGE[..] && pool.spare_len() == spare,
+                whole.payload.as_slice() == MESSAGE && pool.spare_len() == spare,
             );
             holds(&rt, pool.return_buf(whole).is_ok());
         }

@@ -5,7 +5,7 @@ use ep_defrag::defrag::IpFragRange;
 use std::test::*;
 
 // Two ranges, and what they are as one.
-const MERGED: [((u16, u16), (u16, u16), Option<(u16, u16)>); 6] = [
+const MERGED: &[((u16, u16), (u16, u16), Option<(u16, u16)>)] = &[
     ((3, 7), (1, 8), Some((1, 8))),
     ((1, 8), (3, 7), Some((1, 8))),
     ((0, 1), (2, 3), None),

@@ -6,7 +6,7 @@ use ep_base::IpNumber;
 use ep_fragments::defrag::{IpDefragBuf, IpDefragError, OverlapRule, checked_end};
 use std::test::*;
 
-const RULES: [OverlapRule; 2] = [OverlapRule::Overwrites, OverlapRule::Refuses];
+const RULES: &[OverlapRule] = &[OverlapRule::Overwrites, OverlapRule::Refuses];
 
 #[test]
 fn buffers_of_each_rule(rt: HostRuntime) {

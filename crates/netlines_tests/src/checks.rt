@@ -41,18 +41,3 @@ pub fn repeated(alloc: Global, bytes: &[u8], times: usize) -> Result<Vec<u8>, Al
     }
     Ok(all)
 }
-
-/// Puts parts one behind the other into the front of a room, as far as they fit, and tells how many
-/// bytes that are. It takes no memory.
-pub fn join(parts: &[&[u8]], room: &mut [u8]) -> usize {
-    let mut len = 0usize;
-    for part in parts {
-        for byte in *part {
-            if let Some(place) = room.get_mut(len) {
-                *place = *byte;
-                len = len.saturating_add(1);
-            }
-        }
-    }
-    len
-}

@@ -15,7 +15,7 @@ const FAILS: Fault = Fault::Fails(ErrorKind::Other);
 // A text, its answers, a fault of a read, and how the run ends then.
 type Read = (&'static [u8], &'static [u8], Fault, Result<(), RunError>);
 
-const FAILING_READS: [Read; 3] = [
+const FAILING_READS: &[Read] = &[
     (BAD_LINES, BAD_ANSWERS, INTERRUPTED, Err(RunError::Read)),
     (BAD_LINES, BAD_ANSWERS, FAILS, Err(RunError::Read)),
     (
@@ -26,7 +26,7 @@ const FAILING_READS: [Read; 3] = [
     ),
 ];
 
-const ENDING_READS: [Read; 1] = [(BAD_LINES, BAD_ANSWERS, Fault::MovesNone, Ok(()))];
+const ENDING_READS: &[Read] = &[(BAD_LINES, BAD_ANSWERS, Fault::MovesNone, Ok(()))];
 
 // How many lines of a text's front have an answer: those that are ended, and one that the end of
 // the input ends.
@@ -89,7 +89,7 @@ fn ends_at_a_read_that_gives_nothing(rt: HostRuntime) {
 // A text, how many bytes a read gives, its answers, a fault of a write, and the error.
 type Write = (&'static [u8], usize, &'static [u8], Fault, RunError);
 
-const FAILING_WRITES: [Write; 5] = [
+const FAILING_WRITES: &[Write] = &[
     (BAD_LINES, 1, BAD_ANSWERS, INTERRUPTED, RunError::Write),
     (BAD_LINES, 1, BAD_ANSWERS, FAILS, RunError::Write),
     (
@@ -115,18 +115,29 @@ const FAILING_WRITES: [Write; 5] = [
     ),
 ];
 
-// This write of a byte is the fault, and no other follows.
-fn write_is_last(rt: &(impl Abort + AllocGlobal), row: &Write, at: usize) {
-    let (text, piece, answers, fault, error) = *row;
+/// Compares a run over a reader of so many bytes a call and a writer of a byte a call, of which one
+/// is a fault: its end, the writes, and what they took.
+pub(super) fn are_writes(
+    rt: &(impl Abort + AllocGlobal),
+    text: &[u8],
+    piece: usize,
+    at: usize,
+    fault: Fault,
+    wanted: (Result<(), RunError>, usize, &[u8]),
+) {
     let mut reader = FaultReader::new(text, piece);
     let mut writer = FaultWriter::failing(rt.alloc(), 1, at, fault);
     let result = run(rt.alloc(), &mut reader, &mut writer);
-    equal(
-        rt,
-        &(at, result, writer.calls),
-        &(at, Err(error), at.saturating_add(1)),
-    );
-    equal(rt, &Some(writer.taken.as_slice()), &answers.get(..at));
+    let told = (result, writer.calls, writer.taken.as_slice());
+    equal(rt, &(at, told), &(at, wanted));
+}
+
+// This write of a byte is the fault, and no other follows.
+fn write_is_last(rt: &(impl Abort + AllocGlobal), row: &Write, at: usize) {
+    let (text, piece, answers, fault, error) = *row;
+    let taken = answers.get(..at).unwrap_or(&[]);
+    let wanted = (Err(error), at.saturating_add(1), taken);
+    are_writes(rt, text, piece, at, fault, wanted);
 }
 
 fn each_write_is_last(rt: &(impl Abort + AllocGlobal), tally: &mut Tally, row: &Write) {
@@ -149,7 +160,7 @@ fn stops_at_each_write_that_fails(rt: HostRuntime) -> Result<(), Fail> {
 
 // So many empty lines, and the writes of their answers: those to one read go out together, as 65536
 // bytes and one reply more fit a write.
-const FEW_WRITES: [(usize, usize); 6] = [
+const FEW_WRITES: &[(usize, usize)] = &[
     (0, 0),
     (1, 1),
     (3, 1),

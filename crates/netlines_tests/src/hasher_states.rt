@@ -1,6 +1,6 @@
 //! A run with random keys for the names of messages: the bytes that the state of a fixed seed has.
-use crate::checks::{equal, repeated};
-use crate::texts::{ROUND, ROUND_ANSWERS};
+use crate::checks::equal;
+use crate::texts::{TWO_ROUNDS, TWO_ROUNDS_ANSWERS};
 use fault_devices::{FaultReader, FaultWriter};
 use netlines::{READ_COUNT_LIMIT, run_with_hasher};
 use std::hash::RandomState;
@@ -28,8 +28,7 @@ fn answers_by_random_keys(
 
 #[test]
 fn puts_messages_together(rt: HostRuntime) -> Result<(), Fail> {
-    let text = repeated(rt.alloc(), ROUND, 3)?;
-    let wanted = repeated(rt.alloc(), ROUND_ANSWERS, 3)?;
-    answers_by_random_keys(&rt, RandomState::new(&rt)?, &text, &wanted);
+    let state = RandomState::new(&rt)?;
+    answers_by_random_keys(&rt, state, TWO_ROUNDS, TWO_ROUNDS_ANSWERS);
     Ok(())
 }

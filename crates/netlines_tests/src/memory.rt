@@ -1,44 +1,45 @@
 //! Without memory. `tools/faults_tried` runs each of these tests once for each of its growths, and
 //! refuses that one: then a call tells of it and of nothing else, what it worked on is as before,
 //! and the same call succeeds after it. All growths are those of the calls.
-use crate::checks::{equal, holds, join};
+use crate::checks::{equal, holds};
 use crate::post::{FRAME, MESSAGE, MESSAGE_V6, SEGMENT, letter, stream};
-use crate::rows::{FIRST_HALF, TWO_ANSWERS, TWO_FRAGMENTS};
+use crate::rows::{TWO_ANSWERS, TWO_FRAGMENTS};
 use crate::sealing::{Header, transport};
-use crate::texts::{ROUND, ROUND_ANSWERS};
+use crate::texts::{TWO_ROUNDS, TWO_ROUNDS_ANSWERS};
 use fault_devices::FaultReader;
 use netlines::{PostError, RunError, SealError, post, run, seal_message};
 use std::process::Abort;
 use std::test::*;
 
-// The input and its answers, in parts, and the lengths of the answers to the lines before one that
-// takes memory.
-type Run = (
-    &'static [&'static [u8]],
-    &'static [&'static [u8]],
-    &'static [usize],
-);
+// The first half of a message, a line that forgets it, both halves and a line that forgets nothing.
+const FORGOTTEN_HALF: &[u8] = b"\
+    frame 0 02000000000202000000000108004500001c00072000401146c80a0000010a000002\
+    000100020010dbb4\n\
+    forget 2\n\
+    frame 0 02000000000202000000000108004500001c00072000401146c80a0000010a000002\
+    000100020010dbb4\n\
+    frame 0 02000000000202000000000108004500001c00070001401166c70a0000010a000002\
+    0102030405060708\n\
+    forget 100\n";
 
-const RUNS: [Run; 4] = [
-    (&[TWO_FRAGMENTS], &[TWO_ANSWERS], &[0, 5]),
+const FORGOTTEN_ANSWERS: &[u8] = b"wait\nok\nwait\n\
+    message 17 good 000100020010dbb40102030405060708\nok\n";
+
+// The input and its answers, and the lengths of the answers to the lines before one that takes
+// memory.
+type Run = (&'static [u8], &'static [u8], &'static [usize]);
+
+const RUNS: &[Run] = &[
+    (TWO_FRAGMENTS, TWO_ANSWERS, &[0, 5]),
     // The second round takes the buffers of the first.
     (
-        &[ROUND, ROUND],
-        &[ROUND_ANSWERS, ROUND_ANSWERS],
+        TWO_ROUNDS,
+        TWO_ROUNDS_ANSWERS,
         &[0, 5, 54, 59, 64, 120, 125, 174, 179, 184],
     ),
-    // The first half, a line that forgets it, both halves and a line that forgets nothing.
-    (
-        &[FIRST_HALF, b"forget 2\n", TWO_FRAGMENTS, b"forget 100\n"],
-        &[b"wait\nok\n", TWO_ANSWERS, b"ok\n"],
-        &[0, 8, 13],
-    ),
+    (FORGOTTEN_HALF, FORGOTTEN_ANSWERS, &[0, 8, 13]),
     // Lines that hold no fragment take no memory, so a run answers all of them or reads nothing.
-    (
-        &[b"\nforget\nforget 7"],
-        &[b"bad line\nbad line\nok\n"],
-        &[0],
-    ),
+    (b"\nforget\nforget 7", b"bad line\nbad line\nok\n", &[0]),
 ];
 
 // Whether a run answers the whole input. If not, it found no memory, and what it wrote are the
@@ -68,30 +69,17 @@ fn is_answered(
     false
 }
 
-fn one_of_two_is_answered(rt: &(impl Abort + AllocGlobal), row: &Run) {
-    let (input_parts, answer_parts, fronts) = *row;
-    let mut input_room = [0u8; 1000];
-    let input_len = join(input_parts, &mut input_room);
-    let mut answer_room = [0u8; 300];
-    let answer_len = join(answer_parts, &mut answer_room);
-    let (Some(input), Some(answers)) = (input_room.get(..input_len), answer_room.get(..answer_len))
-    else {
-        panic!(rt; "no room");
-    };
-    let first = is_answered(rt, input, answers, fronts);
-    let second = is_answered(rt, input, answers, fronts);
-    holds(rt, first || second);
-}
-
 #[test]
 fn runs_want_memory(rt: HostRuntime) {
-    for row in RUNS.iter() {
-        one_of_two_is_answered(&rt, row);
+    for (input, answers, fronts) in RUNS.iter() {
+        let first = is_answered(&rt, input, answers, fronts);
+        let second = is_answered(&rt, input, answers, fronts);
+        holds(&rt, first || second);
     }
 }
 
 // Behind two tags over IPv6.
-const TAGGED: [u8; 78] = [
+const TAGGED: &[u8] = &[
     2, 0, 0, 0, 0, 2, 2, 0, 0, 0, 0, 1, 0x88, 0xa8, 0, 5, 0x81, 0, 0, 9, 0x86, 0xdd, 0x60, 0, 0, 0,
     0, 0x10, 0x11, 0x40, 0xfd, 0, 0, 0, 0, 0, 0, 0, 0, 0, 0, 0, 0, 0, 0, 1, 0xfd, 0, 0, 0, 0, 0, 0,
     0, 0, 0, 0, 0, 0, 0, 0, 2, 0, 1, 0, 2, 0, 0x10, 0xf5, 0xb2, 1, 2, 3, 4, 5, 6, 7, 8,
@@ -123,10 +111,10 @@ type Posted = (
     &'static [&'static [u8]],
 );
 
-const POSTED: [Posted; 3] = [
-    (4, 17, &[], &MESSAGE, &[], &[&FRAME]),
-    (6, 17, &[5, 9], &MESSAGE_V6, &[], &[&TAGGED]),
-    (4, 6, &[], &SEGMENT, &[8, 16], PIECES),
+const POSTED: &[Posted] = &[
+    (4, 17, &[], MESSAGE, &[], &[FRAME]),
+    (6, 17, &[5, 9], MESSAGE_V6, &[], &[TAGGED]),
+    (4, 6, &[], SEGMENT, &[8, 16], PIECES),
 ];
 
 // Whether the message is posted; the only refusal is that of memory.
@@ -165,7 +153,7 @@ fn a_frame_wants_memory(rt: HostRuntime) {
 // The IP version, a number, cuts, and why the message isn't posted.
 type Refused = (u8, u8, &'static [u32], PostError);
 
-const REFUSED: [Refused; 3] = [
+const REFUSED: &[Refused] = &[
     (4, 51, &[], PostError::ExtensionNumber),
     (6, 1, &[], PostError::IcmpOfOtherVersion),
     (4, 17, &[7], PostError::Cuts { index: 0 }),
@@ -173,13 +161,7 @@ const REFUSED: [Refused; 3] = [
 
 fn is_refused(rt: &(impl Abort + AllocGlobal), row: &Refused) {
     let (version, number, cuts, refusal) = *row;
-    let told = post(
-        rt.alloc(),
-        &letter(rt, version, number, &[]),
-        &MESSAGE,
-        cuts,
-    )
-    .err();
+    let told = post(rt.alloc(), &letter(rt, version, number, &[]), MESSAGE, cuts).err();
     equal(rt, &told, &Some(refusal));
 }
 
@@ -213,11 +195,8 @@ fn seals(rt: &(impl Abort + AllocGlobal), version: u8, message: &[u8]) -> bool {
 
 #[test]
 fn sealed_messages_want_memory(rt: HostRuntime) {
-    let first = seals(&rt, 4, &MESSAGE);
-    let second = seals(&rt, 4, &MESSAGE);
+    let first = seals(&rt, 4, MESSAGE);
+    let second = seals(&rt, 4, MESSAGE);
     holds(&rt, first || second);
-    holds(
-        &rt,
-        seals(&rt, 6, &MESSAGE_V6) || seals(&rt, 6, &MESSAGE_V6),
-    );
+    holds(&rt, seals(&rt, 6, MESSAGE_V6) || seals(&rt, 6, MESSAGE_V6));
 }

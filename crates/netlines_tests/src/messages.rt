@@ -38,7 +38,7 @@ const SEGMENT: &[u8] = &[
 ];
 
 // The IP version, a number, a message, and what is told of it.
-const VERDICTS: [(u8, u8, &[u8], Verdict); 12] = [
+const VERDICTS: &[(u8, u8, &[u8], Verdict)] = &[
     // All ones.
     (4, 1, &[0, 0, 0, 0, 0, 0, 0, 0], Verdict::Bad),
     (4, 1, &[0xff, 0xff, 0, 0, 0, 0, 0, 0], Verdict::Good),
@@ -84,7 +84,7 @@ fn verdict_of_reply(checksum: u16, payload: &[u8]) -> Option<Verdict> {
 }
 
 // Words of ffff and of 0, and 16 words 0101 with 0100 behind them.
-const REPLIES: [(u16, &[u8], Verdict); 6] = [
+const REPLIES: &[(u16, &[u8], Verdict)] = &[
     (0, &[0xff; 64], Verdict::Good),
     (0xffff, &[0xff; 64], Verdict::Good),
     (0xffff, &[0; 64], Verdict::Good),
@@ -138,11 +138,11 @@ fn kind_and_len(number: u8, bytes: &[u8]) -> (u8, usize) {
     }
 }
 
-const BYTES: [u8; 20] = [
+const BYTES: &[u8] = &[
     0xff, 0xff, 0, 0, 0, 8, 0, 0, 0, 0, 0, 0, 0x50, 0, 0, 0, 0, 0, 0, 0,
 ];
 
-const KINDS: [(u8, (u8, usize)); 6] = [
+const KINDS: &[(u8, (u8, usize))] = &[
     (1, (1, 20)),
     (6, (2, 20)),
     (17, (3, 8)),
@@ -156,7 +156,7 @@ fn a_message_is_the_slice_of_its_protocol(rt: HostRuntime) {
     for (number, wanted) in KINDS.iter() {
         equal(
             &rt,
-            &(*number, kind_and_len(*number, &BYTES)),
+            &(*number, kind_and_len(*number, BYTES)),
             &(*number, *wanted),
         );
     }
@@ -168,7 +168,7 @@ fn fault(number: u8, message: &[u8]) -> Option<SliceError> {
 }
 
 // A number, a message, how many bytes are wanted, and in which layer.
-const REFUSALS: [(u8, &[u8], usize, Layer); 5] = [
+const REFUSALS: &[(u8, &[u8], usize, Layer)] = &[
     (1, &[0; 7], 8, Layer::Icmpv4),
     (6, &[0; 19], 20, Layer::TcpHeader),
     (17, &[0; 7], 8, Layer::UdpHeader),

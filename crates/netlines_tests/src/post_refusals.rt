@@ -1,37 +1,25 @@
 //! Messages that are not posted, and their neighbours that are.
-use crate::checks::equal;
-use crate::post::{MESSAGE, letter};
-use netlines::{Letter, PostError, post};
-use std::alloc::Global;
-use std::process::Abort;
+use crate::post::{MESSAGE, is_told};
 use std::test::*;
 
-// The number of frames, or why there are none.
-fn told(alloc: Global, letter: &Letter, message: &[u8], cuts: &[u32]) -> Result<usize, PostError> {
-    match post(alloc, letter, message, cuts) {
-        Ok(frames) => Ok(frames.len()),
-        Err(error) => Err(error),
-    }
-}
-
 // The IP version, a number, the length of a message of zeros, its cuts, and what is told.
-type Row = (u8, u8, usize, &'static [u32], Result<usize, PostError>);
+type Row = (u8, u8, usize, &'static [u32], &'static str);
 
-const EXTENSION: Result<usize, PostError> = Err(PostError::ExtensionNumber);
+const EXTENSION: &str = "ExtensionNumber";
 
-const OTHER_ICMP: Result<usize, PostError> = Err(PostError::IcmpOfOtherVersion);
+const OTHER_ICMP: &str = "IcmpOfOtherVersion";
 
-const TOO_LONG: Result<usize, PostError> = Err(PostError::MessageTooLong);
+const TOO_LONG: &str = "MessageTooLong";
 
-const CUT_0: Result<usize, PostError> = Err(PostError::Cuts { index: 0 });
+const CUT_0: &str = "Cuts { index: 0 }";
 
-const CUT_1: Result<usize, PostError> = Err(PostError::Cuts { index: 1 });
+const CUT_1: &str = "Cuts { index: 1 }";
 
-const PIECE_0: Result<usize, PostError> = Err(PostError::PieceTooLong { index: 0 });
+const PIECE_0: &str = "PieceTooLong { index: 0 }";
 
-const PIECE_1: Result<usize, PostError> = Err(PostError::PieceTooLong { index: 1 });
+const PIECE_1: &str = "PieceTooLong { index: 1 }";
 
-const ROWS: [Row; 35] = [
+const ROWS: &[Row] = &[
     // By number and length over IPv6.
     (6, 0, 16, &[], EXTENSION),
     (6, 43, 16, &[], EXTENSION),
@@ -66,35 +54,28 @@ const ROWS: [Row; 35] = [
     (4, 253, 16, &[8, 16], CUT_1),
     // Long pieces over IPv4.
     (4, 253, 65535, &[], PIECE_0),
-    (4, 253, 65535, &[32768], Ok(2)),
+    (4, 253, 65535, &[32768], "frames: 2\n"),
     (4, 253, 65535, &[8], PIECE_1),
     (4, 253, 65535, &[65528], PIECE_0),
     // Long pieces over IPv6.
-    (6, 253, 65535, &[], Ok(1)),
-    (6, 253, 65535, &[8], Ok(2)),
+    (6, 253, 65535, &[], "frames: 1\n"),
+    (6, 253, 65535, &[8], "frames: 2\n"),
     (6, 253, 65535, &[65528], PIECE_0),
 ];
-
-fn posts_or_refuses(rt: &(impl Abort + AllocGlobal), zeros: &[u8], row: &Row) {
-    let (version, number, len, cuts, wanted) = *row;
-    let message = zeros.get(..len).unwrap_or(&[]);
-    let told = told(rt.alloc(), &letter(rt, version, number, &[]), message, cuts);
-    let told = (version, number, message.len(), cuts, told);
-    equal(rt, &told, &(version, number, len, cuts, wanted));
-}
 
 #[test]
 fn refusals_and_their_neighbours(rt: HostRuntime) -> Result<(), Fail> {
     let zeros = vec![in rt.alloc(); 0u8; 65536]?;
-    for row in ROWS.iter() {
-        posts_or_refuses(&rt, &zeros, row);
+    for (version, number, len, cuts, wanted) in ROWS.iter() {
+        let message = zeros.get(..*len).unwrap_or(&[]);
+        is_told(&rt, *version, *number, &[], message, cuts, wanted);
     }
     Ok(())
 }
 
 // The numbers of extension headers and that of ICMP are refused over IPv6, and the number of the
 // authentication header and that of ICMPv6 alone over IPv4. These are sent.
-const SENT: [(u8, u8); 17] = [
+const SENT: &[(u8, u8)] = &[
     (6, 6),
     (6, 17),
     (6, 50),
@@ -114,14 +95,9 @@ const SENT: [(u8, u8); 17] = [
     (4, 253),
 ];
 
-fn is_sent(rt: &(impl Abort + AllocGlobal), version: u8, number: u8) {
-    let told = told(rt.alloc(), &letter(rt, version, number, &[]), &MESSAGE, &[]);
-    equal(rt, &(version, number, told), &(version, number, Ok(1)));
-}
-
 #[test]
 fn numbers_that_are_sent(rt: HostRuntime) {
     for (version, number) in SENT.iter() {
-        is_sent(&rt, *version, *number);
+        is_told(&rt, *version, *number, &[], MESSAGE, &[], "frames: 1\n");
     }
 }

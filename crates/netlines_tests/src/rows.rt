@@ -1,5 +1,6 @@
 //! Worked rows from a reader that fails, and to writers that take little.
 use crate::checks::equal;
+use crate::faults::are_writes;
 use fault_devices::{Fault, FaultReader, FaultWriter};
 use netlines::{RunError, run, run_bounded};
 use std::io::ErrorKind;
@@ -14,17 +15,7 @@ pub const UNCUT_UDP: &[u8] = b"frame 0 \
 /// The answer to it.
 pub const MESSAGE: &[u8] = b"message 17 good 000100020010dbb40102030405060708\n";
 
-/// The first half of that message.
-pub const FIRST_HALF: &[u8] = b"frame 0 \
-    0200000000020200000000010800\
-    4500001c00072000401146c80a0000010a000002000100020010dbb4\n";
-
-/// The second half.
-pub const SECOND_HALF: &[u8] = b"frame 0 \
-    0200000000020200000000010800\
-    4500001c00070001401166c70a0000010a0000020102030405060708\n";
-
-/// Both.
+/// The halves of that message in two frames.
 pub const TWO_FRAGMENTS: &[u8] = b"frame 0 \
     0200000000020200000000010800\
     4500001c00072000401146c80a0000010a000002000100020010dbb4\n\
@@ -48,7 +39,7 @@ fn three_reads_of_one_byte(rt: HostRuntime) {
 // has no such write.
 type Row = (usize, Fault, Result<(), RunError>, usize, &'static [u8]);
 
-const WRITES: [Row; 3] = [
+const WRITES: &[Row] = &[
     (
         3,
         Fault::Fails(ErrorKind::Other),
@@ -60,19 +51,11 @@ const WRITES: [Row; 3] = [
     (usize::MAX, Fault::MovesNone, Ok(()), 54, TWO_ANSWERS),
 ];
 
-fn writes_bytes(rt: &(impl Abort + AllocGlobal), row: &Row) {
-    let (at, fault, answer, calls, taken) = *row;
-    let mut reader = TWO_FRAGMENTS;
-    let mut writer = FaultWriter::failing(rt.alloc(), 1, at, fault);
-    let result = run(rt.alloc(), &mut reader, &mut writer);
-    let told = (result, writer.calls, writer.taken.as_slice());
-    equal(rt, &told, &(answer, calls, taken));
-}
-
 #[test]
 fn each_write_takes_one_byte(rt: HostRuntime) {
-    for row in WRITES.iter() {
-        writes_bytes(&rt, row);
+    for (at, fault, answer, calls, taken) in WRITES.iter() {
+        let wanted = (*answer, *calls, *taken);
+        are_writes(&rt, TWO_FRAGMENTS, usize::MAX, *at, *fault, wanted);
     }
 }
 

@@ -40,25 +40,42 @@ pub const ON_THEIR_WAY_ANSWERS: &[u8] = b"\
     wait\n\
     bad line\n";
 
-/// The halves of a UDP message (the row `two_fragments`), and then the three pieces of a TCP
+/// Twice the halves of a UDP message (the row `two_fragments`), and then the three pieces of a TCP
 /// segment in the order third, first, second (the row `posted_tcp`).
-pub const ROUND: &[u8; 457] =
-    b"frame 0 02000000000202000000000108004500001c00072000401146c80a0000010a000002\
-    000100020010dbb4\nframe 0 02000000000202000000000108004500001c00070001401166c70a0000010a000002\
-    0102030405060708\nframe 0 02000000000202000000000108004500001800070002400666d50a0000010a000002\
-    97da0000\nframe 0 02000000000202000000000108004500001c00072000400646d30a0000010a000002\
-    0001000200000003\nframe 0 02000000000202000000000108004500001c00072001400646d20a0000010a000002\
+pub const TWO_ROUNDS: &[u8] = b"\
+    frame 0 02000000000202000000000108004500001c00072000401146c80a0000010a000002\
+    000100020010dbb4\n\
+    frame 0 02000000000202000000000108004500001c00070001401166c70a0000010a000002\
+    0102030405060708\n\
+    frame 0 02000000000202000000000108004500001800070002400666d50a0000010a000002\
+    97da0000\n\
+    frame 0 02000000000202000000000108004500001c00072000400646d30a0000010a000002\
+    0001000200000003\n\
+    frame 0 02000000000202000000000108004500001c00072001400646d20a0000010a000002\
+    0000000050020400\n\
+    frame 0 02000000000202000000000108004500001c00072000401146c80a0000010a000002\
+    000100020010dbb4\n\
+    frame 0 02000000000202000000000108004500001c00070001401166c70a0000010a000002\
+    0102030405060708\n\
+    frame 0 02000000000202000000000108004500001800070002400666d50a0000010a000002\
+    97da0000\n\
+    frame 0 02000000000202000000000108004500001c00072000400646d30a0000010a000002\
+    0001000200000003\n\
+    frame 0 02000000000202000000000108004500001c00072001400646d20a0000010a000002\
     0000000050020400\n";
 
 /// The answers to these lines.
-pub const ROUND_ANSWERS: &[u8; 120] = b"wait\nmessage 17 good 000100020010dbb40102030405060708\n\
+pub const TWO_ROUNDS_ANSWERS: &[u8] = b"\
+    wait\nmessage 17 good 000100020010dbb40102030405060708\n\
+    wait\nwait\nmessage 6 good 0001000200000003000000005002040097da0000\n\
+    wait\nmessage 17 good 000100020010dbb40102030405060708\n\
     wait\nwait\nmessage 6 good 0001000200000003000000005002040097da0000\n";
 
 const BAD_LINE: &[u8] = b"bad line\n";
 
 const TWO_BAD: &[u8] = b"bad line\nbad line\n";
 
-const TEXTS: [(&[u8], &[u8]); 9] = [
+const TEXTS: &[(&[u8], &[u8])] = &[
     (b"", b""),
     (b"\n", BAD_LINE),
     (b"x", BAD_LINE),
@@ -68,28 +85,37 @@ const TEXTS: [(&[u8], &[u8]); 9] = [
     (b"\n\nx\n", b"bad line\nbad line\nbad line\n"),
     (BAD_LINES, BAD_ANSWERS),
     (ON_THEIR_WAY, ON_THEIR_WAY_ANSWERS),
+    // Frames that messages are posted as, without an end of the line.
+    (
+        b"frame 4294967295 02000000000202000000000186dd6000000000101140fd00000000000\
+        0000000000000000001fd000000000000000000000000000002000100020010f5b201020\
+        30405060708",
+        b"message 17 good 000100020010f5b20102030405060708\n",
+    ),
+    (
+        b"frame 4294967295 02000000000202000000000188a800058100000908004500002400070\
+        000401166c00a0000010a000002000100020010dbb40102030405060708",
+        b"message 17 good 000100020010dbb40102030405060708\n",
+    ),
+    (
+        b"frame 4294967295 02000000000202000000000108004500002800070000400666c70a000\
+        0010a0000020001000200000003000000005002040097da0000",
+        b"message 6 good 0001000200000003000000005002040097da0000\n",
+    ),
 ];
 
 // A text in memory.
-fn answers_in_memory(rt: &(impl Abort + AllocGlobal), text: &[u8], wanted: &[u8]) {
+pub(super) fn answers_in_memory(rt: &(impl Abort + AllocGlobal), text: &[u8], wanted: &[u8]) {
     match answers(rt.alloc(), text) {
         Ok(told) => equal(rt, &told.as_slice(), &wanted),
         Err(_) => panic!(rt; "no memory"),
     }
 }
 
-// Reads and writes of all bytes that there is room for.
-fn answers_at_once(rt: &(impl Abort + AllocGlobal), text: &[u8], wanted: &[u8]) {
-    let mut reader = text;
-    let mut output = Vec::new(rt.alloc());
-    let result = run(rt.alloc(), &mut reader, &mut output);
-    equal(rt, &(result, output.as_slice()), &(Ok(()), wanted));
-}
-
-// A byte a call.
-fn answers_by_bytes(rt: &(impl Abort + AllocGlobal), text: &[u8], wanted: &[u8]) {
-    let mut reader = FaultReader::new(text, 1);
-    let mut writer = FaultWriter::new(rt.alloc(), 1);
+// So many bytes a call.
+fn answers_in_pieces(rt: &(impl Abort + AllocGlobal), text: &[u8], wanted: &[u8], piece: usize) {
+    let mut reader = FaultReader::new(text, piece);
+    let mut writer = FaultWriter::new(rt.alloc(), piece);
     let result = run(rt.alloc(), &mut reader, &mut writer);
     equal(rt, &(result, writer.taken.as_slice()), &(Ok(()), wanted));
 }
@@ -98,8 +124,8 @@ fn answers_by_bytes(rt: &(impl Abort + AllocGlobal), text: &[u8], wanted: &[u8])
 fn answers_each_line_once(rt: HostRuntime) {
     for (text, wanted) in TEXTS.iter() {
         answers_in_memory(&rt, text, wanted);
-        answers_at_once(&rt, text, wanted);
-        answers_by_bytes(&rt, text, wanted);
+        answers_in_pieces(&rt, text, wanted, usize::MAX);
+        answers_in_pieces(&rt, text, wanted, 1);
     }
 }
 
@@ -107,13 +133,13 @@ fn answers_each_line_once(rt: HostRuntime) {
 // line is skipped, and messages are put together in the memory of those before them.
 type Long = (&'static [u8], usize, &'static [u8], &'static [u8], usize);
 
-const LONG_TEXTS: [Long; 6] = [
+const LONG_TEXTS: &[Long] = &[
     (b"\n", 150_000, b"", BAD_LINE, 150_000),
     (b"x", 199_999, b"\nx\n", BAD_LINE, 2),
     (b"x", 200_000, b"\nx\n", BAD_LINE, 2),
     (b"x", 200_001, b"\nx\n", BAD_LINE, 2),
     (b"x", 400_003, b"\nx\n", BAD_LINE, 2),
-    (ROUND, 10, b"", ROUND_ANSWERS, 10),
+    (TWO_ROUNDS, 5, b"", TWO_ROUNDS_ANSWERS, 5),
 ];
 
 fn answers_long_text(rt: &(impl Abort + AllocGlobal), row: &Long) -> Result<(), Fail> {
@@ -122,7 +148,7 @@ fn answers_long_text(rt: &(impl Abort + AllocGlobal), row: &Long) -> Result<(), 
     text.extend_from_slice(end)?;
     let wanted = repeated(rt.alloc(), answer, count)?;
     answers_in_memory(rt, &text, &wanted);
-    answers_at_once(rt, &text, &wanted);
+    answers_in_pieces(rt, &text, &wanted, usize::MAX);
     Ok(())
 }
 

@@ -7,6 +7,20 @@ use std::alloc::Global;
 use std::process::Abort;
 use test_captures::capture_of;
 
+/// The frames of `test_captures`, by reference: a proof has no table of them then.
+pub(super) const FRAMES: &[&str] = &test_captures::FRAMES;
+
+/// Those that are refused once they are put together.
+pub(super) const REFUSED_WHOLE: &[&str] = &test_captures::REFUSED_WHOLE;
+
+/// A capture of the first so many frames.
+pub(super) fn captured_front(rt: &impl Abort, alloc: Global, count: usize) -> Vec<u8> {
+    match FRAMES.get(..count) {
+        Some(frames) => captured(rt, alloc, 1, frames),
+        None => panic!(rt; "no so many frames"),
+    }
+}
+
 /// A capture of these frames.
 pub(super) fn captured(rt: &impl Abort, alloc: Global, link_type: u32, frames: &[&str]) -> Vec<u8> {
     let Ok(capture) = capture_of(alloc, link_type, frames) else {

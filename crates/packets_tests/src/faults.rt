@@ -1,6 +1,6 @@
 //! Runs that fail on the way or tell how far they are, and when lines are written.
 
-use crate::captured::captured;
+use crate::captured::{FRAMES, captured, captured_front};
 use crate::checks::{equal, holds};
 use crate::outcomes::{LINES, are_counted, are_written, end_of_lines, every_packet};
 use captures::{RunError, Skipped};
@@ -11,7 +11,7 @@ use std::alloc::{AllocError, Global};
 use std::cell::Cell;
 use std::io::{self, ErrorKind, Read, Write};
 use std::process::Abort;
-use test_captures::{FRAMES, capture_of};
+use test_captures::capture_of;
 
 // The file header, and the first record: its header and a frame of 54 bytes.
 const FIRST_END: usize = 24 + 16 + 54;
@@ -35,7 +35,7 @@ fn is_failed_by_read(rt: &impl Abort, alloc: Global, capture: &[u8], kind: Error
 
 #[test]
 fn readers_that_fail(rt: HostRuntime) {
-    let capture = captured(&rt, rt.alloc(), 1, &FRAMES);
+    let capture = captured(&rt, rt.alloc(), 1, FRAMES);
     is_failed_by_read(&rt, rt.alloc(), capture.as_slice(), ErrorKind::Other);
     is_failed_by_read(&rt, rt.alloc(), capture.as_slice(), ErrorKind::Interrupted);
 }
@@ -57,7 +57,7 @@ fn is_failed_by_write(
     equal(rt, &writer.taken.as_slice(), &TAKEN);
 }
 
-const FAILED_WRITES: [(Fault, RunError); 3] = [
+const FAILED_WRITES: &[(Fault, RunError)] = &[
     (Fault::Fails(ErrorKind::Other), RunError::Write),
     (Fault::Fails(ErrorKind::Interrupted), RunError::Write),
     (Fault::MovesNone, RunError::WriteZero),
@@ -65,7 +65,7 @@ const FAILED_WRITES: [(Fault, RunError); 3] = [
 
 #[test]
 fn what_failing_writers_took(rt: HostRuntime) {
-    let capture = captured(&rt, rt.alloc(), 1, &FRAMES);
+    let capture = captured(&rt, rt.alloc(), 1, FRAMES);
     for (fault, wanted) in FAILED_WRITES.iter() {
         is_failed_by_write(&rt, rt.alloc(), capture.as_slice(), *fault, *wanted);
     }
@@ -93,7 +93,7 @@ impl LineWriter for LongLines {
 // What comes before is written.
 #[test]
 fn no_memory_for_a_line(rt: HostRuntime) {
-    let capture = captured(&rt, rt.alloc(), 1, &FRAMES);
+    let capture = captured(&rt, rt.alloc(), 1, FRAMES);
     are_written(
         &rt,
         rt.alloc(),
@@ -117,8 +117,7 @@ fn is_long_line(line: &[u8]) -> bool {
 // Lines wait for a read that isn't there, up to 64 KB: here two lines each time, and then the rest.
 #[test]
 fn long_output_is_written_in_pieces(rt: HostRuntime) {
-    let [one, two, three, four, five, ..] = FRAMES;
-    let capture = captured(&rt, rt.alloc(), 1, &[one, two, three, four, five]);
+    let capture = captured_front(&rt, rt.alloc(), 5);
     let rules = every_packet(rt.alloc());
     let lines = LongLines {
         len: 40_000,
@@ -150,8 +149,7 @@ impl LineWriter for ThreeLines {
 // Other ends than that of the line are left out.
 #[test]
 fn a_packet_has_one_line(rt: HostRuntime) {
-    let [one, two, ..] = FRAMES;
-    let capture = captured(&rt, rt.alloc(), 1, &[one, two]);
+    let capture = captured_front(&rt, rt.alloc(), 2);
     are_written(
         &rt,
         rt.alloc(),
@@ -211,10 +209,13 @@ const RECORD: usize = 16 + 42;
 
 const LINE: usize = 13;
 
+// The third of the frames.
+const ARP: &str =
+    "ffffffffffff020000000001080600010800060400010200000000010a0000010000000000000a000002";
+
 #[test]
 fn lines_are_written_before_the_next_read(rt: HostRuntime) {
-    let [_, _, arp, ..] = FRAMES;
-    let capture = captured(&rt, rt.alloc(), 1, &[arp, arp, arp, arp]);
+    let capture = captured(&rt, rt.alloc(), 1, &[ARP; 4]);
     let rules = every_packet(rt.alloc());
     let (written, late) = (Cell::new(0usize), Cell::new(false));
     let reader = WatchingReader {

@@ -10,7 +10,7 @@ use std::process::Abort;
 
 // Where a keyword of the registry is that of a header here (4 IPv4, 41 IPv6, 143 Ethernet), or is
 // less known, another name stands for it.
-const NAMES: [(u8, &str); 47] = [
+const NAMES: &[(u8, &str)] = &[
     (0, "HOPOPT"),
     (1, "ICMP"),
     (2, "IGMP"),
@@ -60,7 +60,7 @@ const NAMES: [(u8, &str); 47] = [
     (145, "NSH"),
 ];
 
-const PROTOCOLS: [(&str, Option<Protocol>); 21] = [
+const PROTOCOLS: &[(&str, Option<Protocol>)] = &[
     ("eth", Some(Protocol::Ethernet)),
     ("Ethernet", Some(Protocol::Ethernet)),
     ("VLAN", Some(Protocol::Vlan)),
@@ -113,7 +113,7 @@ fn names_of_numbers(rt: HostRuntime) {
 }
 
 // Other names of numbers, and one of none.
-const OTHERS: [(&str, Option<IpNumber>); 3] = [
+const OTHERS: &[(&str, Option<IpNumber>)] = &[
     ("sctp", Some(IpNumber(132))),
     ("253", Some(IpNumber(253))),
     ("tcq", None),
@@ -134,7 +134,7 @@ fn numbers_of_names(rt: HostRuntime) {
 }
 
 // As a summary tells them.
-const TEXTS_OF_PROTOCOLS: [(Protocol, &str); 8] = [
+const TEXTS_OF_PROTOCOLS: &[(Protocol, &str)] = &[
     (Protocol::Ethernet, "Ethernet"),
     (Protocol::Vlan, "VLAN"),
     (Protocol::Macsec, "MACsec"),
@@ -152,7 +152,7 @@ fn texts_of_protocols(rt: HostRuntime) {
     }
 }
 
-const TEXTS_OF_REASONS: [(Reason, &str); 15] = [
+const TEXTS_OF_REASONS: &[(Reason, &str)] = &[
     (Reason::CutOff(Layer::Ipv4Header), "IPv4 header cut off"),
     (Reason::CookedPacketType, "cooked packet of an unknown type"),
     (
@@ -189,7 +189,7 @@ fn reasons(rt: HostRuntime) {
     }
 }
 
-const REASONS_OF_ERRORS: [(SliceError, Reason); 4] = [
+const REASONS_OF_ERRORS: &[(SliceError, Reason)] = &[
     (
         SliceError::LinuxSll(linux_sll::HeaderError::UnsupportedPacketTypeField { packet_type: 8 }),
         Reason::CookedPacketType,

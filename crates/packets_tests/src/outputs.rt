@@ -95,7 +95,7 @@ fn an_empty_report(rt: HostRuntime) {
     is_text(&rt, text.as_slice(), REPORT);
 }
 
-const STATUSES: [(RunError, u8); 6] = [
+const STATUSES: &[(RunError, u8)] = &[
     (
         RunError::Capture(
             CaptureError::CutOff,

@@ -20,7 +20,7 @@ const PLAIN: ShowOptions = ShowOptions {
 };
 
 // An error, its line, its object and the reason.
-const ERRORS: [(SliceError, &str, &str, &str); 4] = [
+const ERRORS: &[(SliceError, &str, &str, &str)] = &[
     (
         SliceError::LinuxSll(linux_sll::HeaderError::UnsupportedPacketTypeField { packet_type: 8 }),
         "    3   0.000000 refused: cooked packet of type 8",

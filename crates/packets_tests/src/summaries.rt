@@ -1,7 +1,7 @@
 //! What is taken of packets and counted. The frames are those of `test_captures`; what is taken of
 //! them was counted by hand.
 
-use crate::captured::{captured, dissected, first};
+use crate::captured::{FRAMES, REFUSED_WHOLE, captured, dissected, first};
 use crate::checks::{equal, holds};
 use crate::outcomes::{every_packet, packets_of};
 use captures::{Packets, Skipped, Unfit};
@@ -14,11 +14,10 @@ use packets::{
 use std::alloc::Global;
 use std::hash::{BuildHasher, RandomState};
 use std::process::Abort;
-use test_captures::{FRAMES, REFUSED_WHOLE};
 
 type Taken = (Option<IpNumber>, Option<Reason>, Option<PartState>);
 
-const TAKEN: [Taken; 10] = [
+const TAKEN: &[Taken] = &[
     (Some(IpNumber::TCP), None, None),
     (Some(IpNumber::UDP), None, None),
     (None, None, None),
@@ -38,7 +37,7 @@ fn taken(packet: &Dissection<'_>) -> Taken {
 
 #[test]
 fn outlines(rt: HostRuntime) {
-    let capture = captured(&rt, rt.alloc(), 1, &FRAMES);
+    let capture = captured(&rt, rt.alloc(), 1, FRAMES);
     let mut dissector = Dissector::new(rt.alloc());
     let mut rows = TAKEN.iter();
     for packet in Packets::new(Unfit::Refuse, capture.as_slice()) {
@@ -134,7 +133,7 @@ const ALL_READ: Ending = Ending {
 
 #[test]
 fn summary(rt: HostRuntime) {
-    let capture = captured(&rt, rt.alloc(), 1, &FRAMES);
+    let capture = captured(&rt, rt.alloc(), 1, FRAMES);
     let (Ok(addresses), Ok(reasons)) = (RandomState::new(&rt), RandomState::new(&rt)) else {
         panic!(rt; "no random numbers");
     };
@@ -158,7 +157,7 @@ fn are_refused(rt: &impl Abort, summary: &Summary) {
 // Parts that complete what can't be read are refused, and are parts that complete a message.
 #[test]
 fn messages_that_are_refused(rt: HostRuntime) {
-    let capture = captured(&rt, rt.alloc(), 1, &REFUSED_WHOLE);
+    let capture = captured(&rt, rt.alloc(), 1, REFUSED_WHOLE);
     let mut summary = Summary::new(rt.alloc());
     let (rules, reader) = (every_packet(rt.alloc()), capture.as_slice());
     let ending = summarize(rt.alloc(), &rules, &mut summary, reader, &mut NoProgress);

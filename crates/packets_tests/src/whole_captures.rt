@@ -1,6 +1,6 @@
 //! Runs over whole captures by reads of one byte, and over packets that are passed over.
 
-use crate::captured::captured;
+use crate::captured::{FRAMES, captured};
 use crate::checks::equal;
 use crate::outcomes::{LINES, are_counted, are_written, end_of_lines, every_packet, packets_of};
 use captures::{CaptureError, Place, RunError, Skipped, Unfit};
@@ -8,7 +8,6 @@ use fault_devices::FaultReader;
 use packets::{Ending, Rules};
 use std::alloc::Global;
 use std::process::Abort;
-use test_captures::FRAMES;
 
 const LINES_OF_UDP: &[u8] =
     b"    2   0.00\n    5   0.00\n    6   0.00\n    9   0.01\n   10   0.01\n";
@@ -16,7 +15,7 @@ const LINES_OF_UDP: &[u8] =
 // Packets that the filter keeps back are counted too.
 #[test]
 fn lines_of_packets_that_are_let_through(rt: HostRuntime) {
-    let capture = captured(&rt, rt.alloc(), 1, &FRAMES);
+    let capture = captured(&rt, rt.alloc(), 1, FRAMES);
     let rules = packets_of(&rt, rt.alloc(), "udp");
     let reader = FaultReader::new(capture.as_slice(), 1);
     are_written(
@@ -39,14 +38,14 @@ const ONE_OPEN: Ending = Ending {
 // One message waits at the end, of whose parts the first one came.
 #[test]
 fn counts_of_packets_that_are_let_through(rt: HostRuntime) {
-    let capture = captured(&rt, rt.alloc(), 1, &FRAMES);
+    let capture = captured(&rt, rt.alloc(), 1, FRAMES);
     let rules = packets_of(&rt, rt.alloc(), "udp");
     let reader = FaultReader::new(capture.as_slice(), 1);
     are_counted(&rt, rt.alloc(), &rules, reader, ONE_OPEN, 5);
 }
 
 // Bytes that begin like no IP packet, between two that do.
-const RAW: [&str; 3] = [
+const RAW: &[&str] = &[
     "450000140001000040fd00000a0000010a000063",
     "00",
     "450000140001000040fd00000a0000020a000063",
@@ -84,7 +83,7 @@ fn passes_over(
     len: usize,
     packets: u64,
 ) {
-    let capture = captured(rt, alloc, 101, &RAW);
+    let capture = captured(rt, alloc, 101, RAW);
     let rules = Rules {
         unfit,
         ..every_packet(alloc)

@@ -7,7 +7,7 @@ use std::alloc::{AllocError, Global};
 use std::process::Abort;
 
 // The outputs and their options. Nothing is asked for by the last ones.
-const OUTPUTS: [(&[&str], &str); 11] = [
+const OUTPUTS: &[(&[&str], &str)] = &[
     (
         &["packets_cli", "show", "x.pcap"],
         "Show(SinceFirst, None, Auto)",
@@ -63,7 +63,7 @@ fn words_of_outputs(rt: HostRuntime) {
     }
 }
 
-const RULES: [&str; 8] = [
+const RULES: &[&str] = &[
     "packets_cli",
     "json",
     "--skip",
@@ -80,7 +80,7 @@ fn words_of_rules(rt: HostRuntime) {
     let Ok(command) = command(rt.alloc()) else {
         panic!(rt; "no memory");
     };
-    let Ok(matches) = command.try_get_matches_from(&RULES) else {
+    let Ok(matches) = command.try_get_matches_from(RULES) else {
         panic!(rt; "refused");
     };
     let Ok(Some(asked)) = asked_for(rt.alloc(), &matches) else {
