@@ -3,4 +3,6 @@
 #![tactic(auto)]
 
 #[cfg(test)]
+mod memory;
+#[cfg(test)]
 mod paths;
