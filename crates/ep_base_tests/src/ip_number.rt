@@ -1,194 +1,206 @@
 //! The internet protocol numbers against the registry.
 
+use crate::checks::{equal, reads, shows};
 use ep_base::{IpNumber, IpTrafficClass, ip_number};
-use std::test::Fail;
+use std::process::Abort;
+
+// The numbers from 0 on, and those from 100 on.
+const FROM_0: &[IpNumber] = &[
+    IpNumber::IPV6_HEADER_HOP_BY_HOP,
+    IpNumber::ICMP,
+    IpNumber::IGMP,
+    IpNumber::GGP,
+    IpNumber::IPV4,
+    IpNumber::STREAM,
+    IpNumber::TCP,
+    IpNumber::CBT,
+    IpNumber::EGP,
+    IpNumber::IGP,
+    IpNumber::BBN_RCC_MON,
+    IpNumber::NVP_II,
+    IpNumber::PUP,
+    IpNumber::ARGUS,
+    IpNumber::EMCON,
+    IpNumber::XNET,
+    IpNumber::CHAOS,
+    IpNumber::UDP,
+    IpNumber::MUX,
+    IpNumber::DCN_MEAS,
+    IpNumber::HMP,
+    IpNumber::PRM,
+    IpNumber::XNS_IDP,
+    IpNumber::TRUNK1,
+    IpNumber::TRUNK2,
+    IpNumber::LEAF1,
+    IpNumber::LEAF2,
+    IpNumber::RDP,
+    IpNumber::IRTP,
+    IpNumber::ISO_TP4,
+    IpNumber::NET_BLT,
+    IpNumber::MFE_NSP,
+    IpNumber::MERIT_INP,
+    IpNumber::DCCP,
+    IpNumber::THIRD_PARTY_CONNECT_PROTOCOL,
+    IpNumber::IDPR,
+    IpNumber::XTP,
+    IpNumber::DDP,
+    IpNumber::IDPR_CMTP,
+    IpNumber::TP_PLUS_PLUS,
+    IpNumber::IL,
+    IpNumber::IPV6,
+    IpNumber::SDRP,
+    IpNumber::IPV6_ROUTE_HEADER,
+    IpNumber::IPV6_FRAGMENTATION_HEADER,
+    IpNumber::IDRP,
+    IpNumber::RSVP,
+    IpNumber::GRE,
+    IpNumber::DSR,
+    IpNumber::BNA,
+    IpNumber::ENCAPSULATING_SECURITY_PAYLOAD,
+    IpNumber::AUTHENTICATION_HEADER,
+    IpNumber::INLSP,
+    IpNumber::SWIPE,
+    IpNumber::NARP,
+    IpNumber::MOBILE,
+    IpNumber::TLSP,
+    IpNumber::SKIP,
+    IpNumber::IPV6_ICMP,
+    IpNumber::IPV6_NO_NEXT_HEADER,
+    IpNumber::IPV6_DESTINATION_OPTIONS,
+    IpNumber::ANY_HOST_INTERNAL_PROTOCOL,
+    IpNumber::CFTP,
+    IpNumber::ANY_LOCAL_NETWORK,
+    IpNumber::SAT_EXPAK,
+    IpNumber::KRYTOLAN,
+    IpNumber::RVD,
+    IpNumber::IPPC,
+    IpNumber::ANY_DISTRIBUTED_FILE_SYSTEM,
+    IpNumber::SAT_MON,
+    IpNumber::VISA,
+    IpNumber::IPCV,
+    IpNumber::CPNX,
+    IpNumber::CPHB,
+    IpNumber::WSN,
+    IpNumber::PVP,
+    IpNumber::BR_SAT_MON,
+    IpNumber::SUN_ND,
+    IpNumber::WB_MON,
+    IpNumber::WB_EXPAK,
+    IpNumber::ISO_IP,
+    IpNumber::VMTP,
+    IpNumber::SECURE_VMTP,
+    IpNumber::VINES,
+    IpNumber::TTP_OR_IPTM,
+    IpNumber::NSFNET_IGP,
+    IpNumber::DGP,
+    IpNumber::TCF,
+    IpNumber::EIGRP,
+    IpNumber::OSPFIGP,
+    IpNumber::SPRITE_RPC,
+    IpNumber::LARP,
+    IpNumber::MTP,
+    IpNumber::AX25,
+    IpNumber::IPIP,
+    IpNumber::MICP,
+    IpNumber::SCC_SP,
+    IpNumber::ETHER_IP,
+    IpNumber::ENCAP,
+];
+
+const FROM_100: &[IpNumber] = &[
+    IpNumber::GMTP,
+    IpNumber::IFMP,
+    IpNumber::PNNI,
+    IpNumber::PIM,
+    IpNumber::ARIS,
+    IpNumber::SCPS,
+    IpNumber::QNX,
+    IpNumber::ACTIVE_NETWORKS,
+    IpNumber::IP_COMP,
+    IpNumber::SITRA_NETWORKS_PROTOCOL,
+    IpNumber::COMPAQ_PEER,
+    IpNumber::IPX_IN_IP,
+    IpNumber::VRRP,
+    IpNumber::PGM,
+    IpNumber::ANY_ZERO_HOP_PROTOCOL,
+    IpNumber::LAYER2_TUNNELING_PROTOCOL,
+    IpNumber::DDX,
+    IpNumber::IATP,
+    IpNumber::STP,
+    IpNumber::SRP,
+    IpNumber::UTI,
+    IpNumber::SIMPLE_MESSAGE_PROTOCOL,
+    IpNumber::SM,
+    IpNumber::PTP,
+    IpNumber::ISIS_OVER_IPV4,
+    IpNumber::FIRE,
+    IpNumber::CRTP,
+    IpNumber::CRUDP,
+    IpNumber::SSCOPMCE,
+    IpNumber::IPLT,
+    IpNumber::SPS,
+    IpNumber::PIPE,
+    IpNumber::SCTP,
+    IpNumber::FC,
+    IpNumber::RSVP_E2E_IGNORE,
+    IpNumber::MOBILITY_HEADER,
+    IpNumber::UDP_LITE,
+    IpNumber::MPLS_IN_IP,
+    IpNumber::MANET,
+    IpNumber::HIP,
+    IpNumber::SHIM6,
+    IpNumber::WESP,
+    IpNumber::ROHC,
+];
+
+fn are_numbered(rt: &impl Abort, numbers: &[IpNumber], first: u8) {
+    let mut wanted = first;
+    for number in numbers.iter() {
+        equal(rt, "number", &number.0, &wanted);
+        wanted = wanted.wrapping_add(1);
+    }
+}
 
 #[test]
 fn ip_number_constants(rt: HostRuntime) {
-    let from_0 = [
-        IpNumber::IPV6_HEADER_HOP_BY_HOP,
-        IpNumber::ICMP,
-        IpNumber::IGMP,
-        IpNumber::GGP,
-        IpNumber::IPV4,
-        IpNumber::STREAM,
-        IpNumber::TCP,
-        IpNumber::CBT,
-        IpNumber::EGP,
-        IpNumber::IGP,
-        IpNumber::BBN_RCC_MON,
-        IpNumber::NVP_II,
-        IpNumber::PUP,
-        IpNumber::ARGUS,
-        IpNumber::EMCON,
-        IpNumber::XNET,
-        IpNumber::CHAOS,
-        IpNumber::UDP,
-        IpNumber::MUX,
-        IpNumber::DCN_MEAS,
-        IpNumber::HMP,
-        IpNumber::PRM,
-        IpNumber::XNS_IDP,
-        IpNumber::TRUNK1,
-        IpNumber::TRUNK2,
-        IpNumber::LEAF1,
-        IpNumber::LEAF2,
-        IpNumber::RDP,
-        IpNumber::IRTP,
-        IpNumber::ISO_TP4,
-        IpNumber::NET_BLT,
-        IpNumber::MFE_NSP,
-        IpNumber::MERIT_INP,
-        IpNumber::DCCP,
-        IpNumber::THIRD_PARTY_CONNECT_PROTOCOL,
-        IpNumber::IDPR,
-        IpNumber::XTP,
-        IpNumber::DDP,
-        IpNumber::IDPR_CMTP,
-        IpNumber::TP_PLUS_PLUS,
-        IpNumber::IL,
-        IpNumber::IPV6,
-        IpNumber::SDRP,
-        IpNumber::IPV6_ROUTE_HEADER,
-        IpNumber::IPV6_FRAGMENTATION_HEADER,
-        IpNumber::IDRP,
-        IpNumber::RSVP,
-        IpNumber::GRE,
-        IpNumber::DSR,
-        IpNumber::BNA,
-        IpNumber::ENCAPSULATING_SECURITY_PAYLOAD,
-        IpNumber::AUTHENTICATION_HEADER,
-        IpNumber::INLSP,
-        IpNumber::SWIPE,
-        IpNumber::NARP,
-        IpNumber::MOBILE,
-        IpNumber::TLSP,
-        IpNumber::SKIP,
-        IpNumber::IPV6_ICMP,
-        IpNumber::IPV6_NO_NEXT_HEADER,
-        IpNumber::IPV6_DESTINATION_OPTIONS,
-        IpNumber::ANY_HOST_INTERNAL_PROTOCOL,
-        IpNumber::CFTP,
-        IpNumber::ANY_LOCAL_NETWORK,
-        IpNumber::SAT_EXPAK,
-        IpNumber::KRYTOLAN,
-        IpNumber::RVD,
-        IpNumber::IPPC,
-        IpNumber::ANY_DISTRIBUTED_FILE_SYSTEM,
-        IpNumber::SAT_MON,
-        IpNumber::VISA,
-        IpNumber::IPCV,
-        IpNumber::CPNX,
-        IpNumber::CPHB,
-        IpNumber::WSN,
-        IpNumber::PVP,
-        IpNumber::BR_SAT_MON,
-        IpNumber::SUN_ND,
-        IpNumber::WB_MON,
-        IpNumber::WB_EXPAK,
-        IpNumber::ISO_IP,
-        IpNumber::VMTP,
-        IpNumber::SECURE_VMTP,
-        IpNumber::VINES,
-        IpNumber::TTP_OR_IPTM,
-        IpNumber::NSFNET_IGP,
-        IpNumber::DGP,
-        IpNumber::TCF,
-        IpNumber::EIGRP,
-        IpNumber::OSPFIGP,
-        IpNumber::SPRITE_RPC,
-        IpNumber::LARP,
-        IpNumber::MTP,
-        IpNumber::AX25,
-        IpNumber::IPIP,
-        IpNumber::MICP,
-        IpNumber::SCC_SP,
-        IpNumber::ETHER_IP,
-        IpNumber::ENCAP,
+    are_numbered(&rt, FROM_0, 0);
+    are_numbered(&rt, FROM_100, 100);
+    let testing = [
+        IpNumber::EXPERIMENTAL_AND_TESTING_0,
+        IpNumber::EXPERIMENTAL_AND_TESTING_1,
     ];
-    for (value, number) in from_0.iter().enumerate() {
-        assert!(rt; usize::from(number.0) == value);
-    }
-}
-
-#[test]
-fn ip_number_constants_from_100(rt: HostRuntime) {
-    let from_100 = [
-        IpNumber::GMTP,
-        IpNumber::IFMP,
-        IpNumber::PNNI,
-        IpNumber::PIM,
-        IpNumber::ARIS,
-        IpNumber::SCPS,
-        IpNumber::QNX,
-        IpNumber::ACTIVE_NETWORKS,
-        IpNumber::IP_COMP,
-        IpNumber::SITRA_NETWORKS_PROTOCOL,
-        IpNumber::COMPAQ_PEER,
-        IpNumber::IPX_IN_IP,
-        IpNumber::VRRP,
-        IpNumber::PGM,
-        IpNumber::ANY_ZERO_HOP_PROTOCOL,
-        IpNumber::LAYER2_TUNNELING_PROTOCOL,
-        IpNumber::DDX,
-        IpNumber::IATP,
-        IpNumber::STP,
-        IpNumber::SRP,
-        IpNumber::UTI,
-        IpNumber::SIMPLE_MESSAGE_PROTOCOL,
-        IpNumber::SM,
-        IpNumber::PTP,
-        IpNumber::ISIS_OVER_IPV4,
-        IpNumber::FIRE,
-        IpNumber::CRTP,
-        IpNumber::CRUDP,
-        IpNumber::SSCOPMCE,
-        IpNumber::IPLT,
-        IpNumber::SPS,
-        IpNumber::PIPE,
-        IpNumber::SCTP,
-        IpNumber::FC,
-        IpNumber::RSVP_E2E_IGNORE,
-        IpNumber::MOBILITY_HEADER,
-        IpNumber::UDP_LITE,
-        IpNumber::MPLS_IN_IP,
-        IpNumber::MANET,
-        IpNumber::HIP,
-        IpNumber::SHIM6,
-        IpNumber::WESP,
-        IpNumber::ROHC,
-    ];
-    for (place, number) in from_100.iter().enumerate() {
-        assert!(rt; usize::from(number.0) == 100 + place);
-    }
-    let testing = (
-        IpNumber::EXPERIMENTAL_AND_TESTING_0.0,
-        IpNumber::EXPERIMENTAL_AND_TESTING_1.0,
-    );
-    assert!(rt; testing == (253, 254));
+    are_numbered(&rt, &testing, 253);
 }
 
 // All numbers against the registry's list of IPv6 extension header types.
+const EXT_HEADERS: &[u8] = &[0, 43, 44, 50, 51, 60, 135, 139, 140, 253, 254];
+
 #[test]
 fn ext_header_numbers(rt: HostRuntime) {
-    let registered = [0, 43, 44, 50, 51, 60, 135, 139, 140, 253, 254];
     for number in 0..=255u8 {
         let found = IpNumber(number).is_ipv6_ext_header_value();
-        assert!(rt; found == registered.contains(&number), "{number}");
+        let wanted = EXT_HEADERS.contains(&number);
+        equal(&rt, "number", &(number, found), &(number, wanted));
     }
+    let mobility = IpNumber::MOBILITY_HEADER.is_ipv6_ext_header_value();
+    let icmp = IpNumber::IPV6_ICMP.is_ipv6_ext_header_value();
+    equal(&rt, "mobility, ICMP", &[mobility, icmp], &[true, false]);
 }
 
 #[test]
-fn ip_number_calls(rt: HostRuntime) -> Result<(), Fail> {
-    let answers = (
-        IpNumber::MOBILITY_HEADER.is_ipv6_ext_header_value(),
-        IpNumber::IPV6_ICMP.is_ipv6_ext_header_value(),
+fn ip_number_calls(rt: HostRuntime) {
+    let found = (
         IpNumber::from(17),
         u8::from(ip_number::AUTH),
-        IpTrafficClass::default(),
-        IpNumber::ICMP < IpNumber::TCP,
+        ip_number::UDP,
     );
-    assert!(rt; answers == (true, false, ip_number::UDP, 51, IpNumber(0), true));
-    assert!(rt; format!(in rt.alloc(); "{}", IpNumber::UDP)?.as_str() == "17");
-    Ok(())
+    shows(
+        &rt,
+        "conversions",
+        &found,
+        "(IpNumber(17), 51, IpNumber(17))",
+    );
+    equal(&rt, "default", &IpTrafficClass::default(), &IpNumber(0));
+    equal(&rt, "order", &(IpNumber::ICMP < IpNumber::TCP), &true);
+    reads(&rt, &IpNumber::UDP, "17");
 }

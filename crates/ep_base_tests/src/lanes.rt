@@ -1,5 +1,6 @@
 //! Sums of texts that are long enough for lanes, and of shorter ones.
 
+use crate::checks::equal;
 use ep_base::checksum::{Sum16BitWords, sum_pieces, u32_16bit_word, u64_16bit_word};
 use std::alloc::Global;
 use std::process::Abort;
@@ -9,11 +10,16 @@ fn checksum(rt: &impl Abort, text: &[u8]) -> u16 {
     let sum = Sum16BitWords::new().add_slice(text).ones_complement();
     let narrow = u32_16bit_word::add_slice(0, text);
     let wide = u64_16bit_word::add_slice(0, text);
-    let found = (
+    let found = [
         u32_16bit_word::ones_complement(narrow),
         u64_16bit_word::ones_complement(wide),
+    ];
+    equal(
+        rt,
+        "both widths",
+        &(text.len(), found),
+        &(text.len(), [sum, sum]),
     );
-    assert!(rt; found == (sum, sum));
     sum.swap_bytes()
 }
 
@@ -35,27 +41,48 @@ fn plain_checksum(text: &[u8]) -> u16 {
 // of them and 0100 to 9190.
 #[test]
 fn sums_of_one_byte_repeated(rt: HostRuntime) {
-    let ones = [0xff; 256];
-    for len in [64usize, 256] {
-        let sum = Sum16BitWords::new().add_slice(&ones[..len]);
-        let found = (sum.ones_complement(), sum.to_ones_complement_with_no_zero());
-        assert!(rt; found == (0, 0xffff));
+    for len in &[64usize, 256] {
+        let ones = [0xff; 256];
+        let (front, _) = ones.split_at((*len).min(256));
+        let sum = Sum16BitWords::new().add_slice(front);
+        equal(&rt, "sum", &(*len, sum.ones_complement()), &(*len, 0));
+        let no_zero = sum.to_ones_complement_with_no_zero();
+        equal(&rt, "no zero", &(*len, no_zero), &(*len, 0xffff));
     }
-    assert!(rt; Sum16BitWords::new().add_slice(&[1; 33]).ones_complement() == 0xefee);
+    let sum = Sum16BitWords::new().add_slice(&[1; 33]).ones_complement();
+    equal(&rt, "33", &sum, &0xefee);
 }
 
 #[test]
 fn checksums_of_one_byte_repeated(rt: HostRuntime) {
-    let found = (
-        checksum(&rt, &[0; 64]),
-        checksum(&rt, &[0; 256]),
-        checksum(&rt, &[1; 33]),
-        checksum(&rt, &[1; 289]),
-    );
-    assert!(rt; found == (0xffff, 0xffff, 0xeeef, 0x6e6f));
+    equal(&rt, "64 of 0", &checksum(&rt, &[0; 64]), &0xffff);
+    equal(&rt, "256 of 0", &checksum(&rt, &[0; 256]), &0xffff);
+    equal(&rt, "33 of 1", &checksum(&rt, &[1; 33]), &0xeeef);
+    equal(&rt, "289 of 1", &checksum(&rt, &[1; 289]), &0x6e6f);
 }
 
-// Texts of 1, 2, 3, .., with 0 behind 255, whole and cut at every even place.
+// A text whole, and cut at every even place.
+fn is_summed(rt: &impl Abort, text: &[u8]) {
+    let wanted = plain_checksum(text);
+    equal(
+        rt,
+        "whole",
+        &(text.len(), checksum(rt, text)),
+        &(text.len(), wanted),
+    );
+    for words in 0..=text.len() / 2 {
+        let (front, back) = text.split_at(2 * words);
+        let sum = sum_pieces(&[front, back]).swap_bytes();
+        equal(
+            rt,
+            "cut",
+            &(text.len(), words, sum),
+            &(text.len(), words, wanted),
+        );
+    }
+}
+
+// Texts of 1, 2, 3, .., with 0 behind 255.
 #[test]
 fn sums_of_every_length(rt: HostRuntime) {
     let mut bytes = [0u8; 300];
@@ -65,13 +92,7 @@ fn sums_of_every_length(rt: HostRuntime) {
         *byte = next;
     }
     for len in 0..=300usize {
-        let text = &bytes[..len];
-        let wanted = plain_checksum(text);
-        assert!(rt; checksum(&rt, text) == wanted);
-        for words in 0..=len / 2 {
-            let (front, back) = text.split_at(2 * words);
-            assert!(rt; sum_pieces(&[front, back]).swap_bytes() == wanted);
-        }
+        is_summed(&rt, &bytes[..len]);
     }
 }
 
@@ -87,11 +108,28 @@ fn repeated(rt: &impl Abort, alloc: Global, byte: u8, len: usize) -> u16 {
 // of 32 bits would wrap in the last text.
 #[test]
 fn sums_of_long_texts(rt: HostRuntime) {
-    let found = (
-        repeated(&rt, rt.alloc(), 0xff, 65535),
-        repeated(&rt, rt.alloc(), 0xff, 131105),
-        repeated(&rt, rt.alloc(), 1, 131105),
-        repeated(&rt, rt.alloc(), 0xff, 2097281),
+    equal(
+        &rt,
+        "65535",
+        &repeated(&rt, rt.alloc(), 0xff, 65535),
+        &0x00ff,
     );
-    assert!(rt; found == (0x00ff, 0x00ff, 0xedee, 0x00ff));
+    equal(
+        &rt,
+        "131105",
+        &repeated(&rt, rt.alloc(), 0xff, 131105),
+        &0x00ff,
+    );
+    equal(
+        &rt,
+        "131105",
+        &repeated(&rt, rt.alloc(), 1, 131105),
+        &0xedee,
+    );
+    equal(
+        &rt,
+        "2097281",
+        &repeated(&rt, rt.alloc(), 0xff, 2097281),
+        &0x00ff,
+    );
 }

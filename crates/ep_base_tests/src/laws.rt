@@ -1,4 +1,5 @@
 //! Laws are called once each.
+use crate::checks::equal;
 use ep_base::laws::{
     checksum_sums_to_all_ones, constants, ecn_round_trip, examples, fold_of_pieces,
     known_round_trip, one_changed_byte, traits,
@@ -12,9 +13,14 @@ fn laws_are_called(rt: HostRuntime) {
     one_changed_byte();
     ecn_round_trip(IpEcn::Ect0);
     known_round_trip();
-    assert!(rt; constants::dscp_constants().len() == 25);
-    assert!(rt; constants::frag_offset_constants().len() == 1);
-    assert!(rt; constants::flow_label_constants().len() == 1);
+    equal(&rt, "code points", &constants::dscp_constants().len(), &25);
+    equal(
+        &rt,
+        "offsets",
+        &constants::frag_offset_constants().len(),
+        &1,
+    );
+    equal(&rt, "labels", &constants::flow_label_constants().len(), &1);
     constants::ecn_constants();
     constants::ip_number_constants();
     constants::ip_number_module();
