@@ -127,28 +127,6 @@ impl Write for FaultWriter {
     }
 }
 
-/// Whether a call that appends put exactly these bytes behind a byte, and left that byte alone
-/// where it found no memory: then it is called once more. It has no contract: tests alone call it,
-/// and are run.
-pub fn is_appended<E: Drop, F: Fn(&mut Vec<u8>) -> Result<(), E> + Drop>(
-    alloc: Global,
-    append: F,
-    bytes: &[u8],
-) -> bool
-    requires { F.IsAlwaysCallable append }
-{
-    let mut buffer = Vec::new(alloc);
-    if buffer.push(0xaa).is_err() && buffer.push(0xaa).is_err() {
-        return false;
-    }
-    if append(&mut buffer).is_err() && (buffer.len() != 1 || append(&mut buffer).is_err()) {
-        return false;
-    }
-    buffer.first() == Some(&0xaa)
-        && buffer.as_slice().ends_with(bytes)
-        && buffer.len() - 1 == bytes.len()
-}
-
 /// At how many places a call can fail so, and at how many of them a test let it.
 /// `tools/faults_tried` reads what it prints.
 #[derive(Drop)]
