@@ -1,15 +1,15 @@
 //! A message that is on its way.
 
-ghost use Rattle.std.specs.Prelude.{◌≡◌, ◌++◌, ◌∷◌, ◌+◌, ◌-◌, ◌≤◌, ℕ, [], List, None, false, OnOk};
-ghost use Rattle.std.specs.Prelude.{OnErr, IfErr, IfOk, IfSome, if◌then◌else◌, length, option_map, vec_len};
+ghost use Rattle.std.specs.Prelude.{◌≡◌, ◌++◌, ◌∷◌, ◌+◌, ◌≤◌, ℕ, [], List, None, false, OnOk};
+ghost use Rattle.std.specs.Prelude.{IfErr, IfOk, IfSome, if◌then◌else◌, length, option_map, vec_len};
 ghost use Rattle.indexmap.specs.IndexMap.{get, index_map_len};
 ghost use Rattle.ep_defrag.specs.Counts.{held_after, spare_after};
-ghost use Rattle.ep_fragments.specs.Fragments.{Fragment, refusal_of, refusal_at, end_of};
-ghost use Rattle.ep_fragments.specs.IpDefragBuf.{AnswersAdd, Shows, rule_of};
+ghost use Rattle.ep_fragments.specs.Fragments.{Fragment, refusal_of};
+ghost use Rattle.ep_fragments.specs.IpDefragBuf.{Shows, rule_of};
 ghost use Rattle.ep_fragments.specs.IpDefragError.{is_overlap};
 ghost use Rattle.ep_fragments.specs.Outcome.{outcome};
 ghost use Rattle.ep_fragments.specs.declared.defrag.overlap_rule.OverlapRule.{OverlapRule};
-ghost use Rattle.ep_defrag.specs.SpareBuffers.{HasPlaces, SameCounts};
+ghost use Rattle.ep_defrag.specs.SpareBuffers.{HasPlaces};
 ghost use Rattle.ep_defrag.specs.Streams.{Becomes, IsErrorOf, IsStreamOf, ShowsStream};
 ghost use Rattle.ep_defrag.specs.Streams.{fragment_of};
 ghost use Rattle.ep_defrag.specs.Refused.{error_in, refused_by};
