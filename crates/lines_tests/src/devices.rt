@@ -1,14 +1,18 @@
 //! A reader and a writer as one device: each of its calls is one call of theirs and tells what
 //! that one tells, whatever the size of the buffer; and writes of all of some bytes. `Read` and
 //! `Write` give a failing call no meaning, so no clause says it.
+use crate::checks::equal;
 use fault_devices::{Fault, FaultReader, FaultWriter, Tally};
 use runs::{Device, ReaderWriter, write_whole};
 use std::io::{self, ErrorKind};
+use std::process::Abort;
 use std::test::Fail;
+
+const FAILS: Fault = Fault::Fails(ErrorKind::Other);
 
 // The sizes of buffers that runs read and write by, and their neighbours; those up to 200 are
 // tried, too.
-const SIZES: [usize; 6] = [4096, 65_535, 65_536, 65_537, 262_144, 265_568];
+const SIZES: &[usize] = &[4096, 65_535, 65_536, 65_537, 262_144, 265_568];
 
 const GREATEST: usize = 265_568;
 
@@ -17,26 +21,42 @@ fn given(reader: &mut FaultReader<'_>, writer: &mut FaultWriter, room: &mut [u8]
     ReaderWriter { reader, writer }.read_some(room).ok()
 }
 
+// One call reads by a buffer of this size, and gives so many bytes, if it doesn't fail.
+fn reads(
+    rt: &(impl Abort + AllocGlobal),
+    mut reader: FaultReader<'_>,
+    size: usize,
+    wanted: Option<usize>,
+) {
+    let mut room = b"\0".repeat(rt.alloc(), size).expect(rt, "no memory");
+    let mut writer = FaultWriter::new(rt.alloc(), 0);
+    let count = given(&mut reader, &mut writer, room.as_mut_slice());
+    let told = (count, reader.calls, reader.room, writer.calls);
+    equal(rt, &told, &(wanted, 1, size, 0));
+}
+
+fn reads_of(rt: &(impl Abort + AllocGlobal), tally: &mut Tally, bytes: &[u8], size: usize) {
+    reads(rt, FaultReader::new(bytes, GREATEST), size, Some(size));
+    tally.count(1);
+    reads(
+        rt,
+        FaultReader::failing(bytes, GREATEST, 0, FAILS),
+        size,
+        None,
+    );
+    tally.tries();
+}
+
 #[test]
 fn reads_of_each_size(rt: HostRuntime) -> Result<(), Fail> {
     let mut tally = Tally::new("ReaderWriter::read_some", "a read fails");
     let bytes = vec![in rt.alloc(); 7u8; GREATEST]?;
-    let mut buffer = vec![in rt.alloc(); 0u8; GREATEST]?;
-    let mut writer = FaultWriter::new(rt.alloc(), 0);
-    for size in (0..=200usize).chain(SIZES) {
-        let len = size.min(buffer.len());
-        let room = &mut buffer.as_mut_slice()[..len];
-        let mut reader = FaultReader::new(bytes.as_slice(), GREATEST);
-        let count = given(&mut reader, &mut writer, room);
-        assert!(rt; (count, reader.calls, reader.room) == (Some(size), 1, size));
-        tally.count(1);
-        let fault = Fault::Fails(ErrorKind::Other);
-        let mut reader = FaultReader::failing(bytes.as_slice(), GREATEST, 0, fault);
-        let count = given(&mut reader, &mut writer, room);
-        assert!(rt; (count, reader.calls, reader.room) == (None, 1, size));
-        tally.tries();
+    for size in 0..=200 {
+        reads_of(&rt, &mut tally, bytes.as_slice(), size);
     }
-    assert!(rt; writer.calls == 0);
+    for size in SIZES.iter() {
+        reads_of(&rt, &mut tally, bytes.as_slice(), *size);
+    }
     println!(rt; "{tally}")?;
     Ok(())
 }
@@ -46,95 +66,134 @@ fn taken(reader: &mut FaultReader<'_>, writer: &mut FaultWriter, bytes: &[u8]) -
     ReaderWriter { reader, writer }.write_some(bytes).ok()
 }
 
+// One call writes bytes of this size, and takes so many, if it doesn't fail.
+fn writes(
+    rt: &(impl Abort + AllocGlobal),
+    mut writer: FaultWriter,
+    bytes: &[u8],
+    wanted: Option<usize>,
+) {
+    let mut reader = FaultReader::new(b"", 0);
+    let count = taken(&mut reader, &mut writer, bytes);
+    let told = (count, writer.calls, writer.taken.len(), reader.calls);
+    equal(rt, &told, &(wanted, 1, wanted.unwrap_or(0), 0));
+}
+
+fn writes_of(rt: &(impl Abort + AllocGlobal), tally: &mut Tally, bytes: &[u8], size: usize) {
+    let bytes = bytes.get(..size).expect(rt, "no such size");
+    writes(
+        rt,
+        FaultWriter::new(rt.alloc(), GREATEST),
+        bytes,
+        Some(size),
+    );
+    tally.count(1);
+    let failing = FaultWriter::failing(rt.alloc(), GREATEST, 0, FAILS);
+    writes(rt, failing, bytes, None);
+    tally.tries();
+}
+
 #[test]
 fn writes_of_each_size(rt: HostRuntime) -> Result<(), Fail> {
     let mut tally = Tally::new("ReaderWriter::write_some", "a write fails");
     let bytes = vec![in rt.alloc(); 7u8; GREATEST]?;
-    let mut reader = FaultReader::new(b"", 0);
-    for size in (0..=200usize).chain(SIZES) {
-        let len = size.min(bytes.len());
-        let bytes = &bytes.as_slice()[..len];
-        let mut writer = FaultWriter::new(rt.alloc(), GREATEST);
-        let count = taken(&mut reader, &mut writer, bytes);
-        assert!(rt; (count, writer.calls, writer.taken.len()) == (Some(size), 1, size));
-        tally.count(1);
-        let fault = Fault::Fails(ErrorKind::Other);
-        let mut writer = FaultWriter::failing(rt.alloc(), GREATEST, 0, fault);
-        let count = taken(&mut reader, &mut writer, bytes);
-        assert!(rt; (count, writer.calls, writer.taken.len()) == (None, 1, 0));
-        tally.tries();
+    for size in 0..=200 {
+        writes_of(&rt, &mut tally, bytes.as_slice(), size);
     }
-    assert!(rt; reader.calls == 0);
+    for size in SIZES.iter() {
+        writes_of(&rt, &mut tally, bytes.as_slice(), *size);
+    }
     println!(rt; "{tally}")?;
     Ok(())
 }
 
-const FAULTS: [Fault; 3] = [
-    Fault::Fails(ErrorKind::Interrupted),
-    Fault::Fails(ErrorKind::Other),
-    Fault::MovesNone,
+// What a read can do in place of giving a byte, and how many it gives then, if it doesn't fail.
+const READS: &[(Fault, Option<usize>)] = &[
+    (Fault::Fails(ErrorKind::Interrupted), None),
+    (FAILS, None),
+    (Fault::MovesNone, Some(0)),
 ];
+
+// Three calls, of which this one is a fault.
+fn reads_with(rt: &(impl Abort + AllocGlobal), fault: Fault, failing: usize, odd: Option<usize>) {
+    let mut reader = FaultReader::failing(b"abc", 1, failing, fault);
+    let mut writer = FaultWriter::new(rt.alloc(), 0);
+    let mut read = Vec::new(rt.alloc());
+    for call in 0..3usize {
+        let mut room = [0u8; 200];
+        let count = given(&mut reader, &mut writer, &mut room);
+        let wanted = if call == failing { odd } else { Some(1) };
+        equal(
+            rt,
+            &(fault, failing, call, count),
+            &(fault, failing, call, wanted),
+        );
+        let front = &room[..count.unwrap_or(0).min(200)];
+        assert!(rt; read.extend_from_slice(front).is_ok());
+    }
+    let told = (reader.calls, read.as_slice(), writer.calls);
+    equal(rt, &told, &(3, b"ab".as_slice(), 0));
+}
 
 // Nothing is tried again, and no fault is made up.
 #[test]
-fn each_read_is_one_read(rt: HostRuntime) -> Result<(), Fail> {
-    for fault in FAULTS {
-        for failing in 0..3usize {
-            let mut reader = FaultReader::failing(b"abc", 1, failing, fault);
-            let mut writer = FaultWriter::new(rt.alloc(), 0);
-            let mut read = Vec::new(rt.alloc());
-            for call in 0..3usize {
-                let mut room = [0u8; 200];
-                match given(&mut reader, &mut writer, &mut room) {
-                    Some(1) => read.push(room[0])?,
-                    Some(n) => assert!(rt; n == 0 && call == failing && fault == Fault::MovesNone),
-                    None => assert!(rt; call == failing && fault != Fault::MovesNone),
-                }
-            }
-            assert!(rt; reader.calls == 3);
-            assert!(rt; read.as_slice() == b"ab".as_slice());
-            assert!(rt; writer.calls == 0);
+fn each_read_is_one_read(rt: HostRuntime) {
+    for (fault, odd) in READS.iter() {
+        for failing in 0..3 {
+            reads_with(&rt, *fault, failing, *odd);
         }
     }
-    Ok(())
+}
+
+// What a write can do in place of taking two bytes, and what is told of it.
+const WRITES: &[(Fault, runs::Fault)] = &[
+    (
+        Fault::Fails(ErrorKind::Interrupted),
+        runs::Fault::WriteFailed,
+    ),
+    (FAILS, runs::Fault::WriteFailed),
+    (Fault::MovesNone, runs::Fault::NothingTaken),
+];
+
+// A whole write of five bytes, of which this write is a fault.
+fn writes_with(
+    rt: &(impl Abort + AllocGlobal),
+    fault: Fault,
+    failing: usize,
+    wanted: Result<(), runs::Fault>,
+    taken: &[u8],
+) {
+    let mut reader = io::empty();
+    let mut writer = FaultWriter::failing(rt.alloc(), 2, failing, fault);
+    let mut device = ReaderWriter {
+        reader: &mut reader,
+        writer: &mut writer,
+    };
+    let result = write_whole(&mut device, b"abcde".as_slice());
+    let told = (fault, result, writer.calls, writer.taken.as_slice());
+    let calls = 3.min(failing.saturating_add(1));
+    equal(rt, &told, &(fault, wanted, calls, taken));
 }
 
 // The same of writes, which end where one of them is a fault.
 #[test]
-fn writes_end_at_a_fault(rt: HostRuntime) -> Result<(), Fail> {
-    for fault in FAULTS {
-        let told = match fault {
-            Fault::MovesNone => runs::Fault::NothingTaken,
-            _ => runs::Fault::WriteFailed,
-        };
-        for (failing, wanted, taken) in [
-            (0, Err(told), b"".as_slice()),
-            (1, Err(told), b"ab".as_slice()),
-            (2, Err(told), b"abcd".as_slice()),
-            (3, Ok(()), b"abcde".as_slice()),
-        ] {
-            let mut reader = io::empty();
-            let mut writer = FaultWriter::failing(rt.alloc(), 2, failing, fault);
-            let mut device = ReaderWriter {
-                reader: &mut reader,
-                writer: &mut writer,
-            };
-            assert!(rt; write_whole(&mut device, b"abcde".as_slice()) == wanted);
-            assert!(rt; writer.calls == 3.min(failing.saturating_add(1)));
-            assert!(rt; writer.taken.as_slice() == taken);
-        }
+fn writes_end_at_a_fault(rt: HostRuntime) {
+    for (fault, told) in WRITES.iter() {
+        writes_with(&rt, *fault, 0, Err(*told), b"");
+        writes_with(&rt, *fault, 1, Err(*told), b"ab");
+        writes_with(&rt, *fault, 2, Err(*told), b"abcd");
+        writes_with(&rt, *fault, 3, Ok(()), b"abcde");
     }
-    Ok(())
 }
 
 #[test]
 fn writes_of_no_bytes(rt: HostRuntime) {
     let mut reader = io::empty();
-    let mut writer = FaultWriter::failing(rt.alloc(), 2, 0, Fault::Fails(ErrorKind::Other));
+    let mut writer = FaultWriter::failing(rt.alloc(), 2, 0, FAILS);
     let mut device = ReaderWriter {
         reader: &mut reader,
         writer: &mut writer,
     };
-    assert!(rt; write_whole(&mut device, b"".as_slice()) == Ok(()));
-    assert!(rt; writer.calls == 0);
+    let result = write_whole(&mut device, b"".as_slice());
+    equal(&rt, &(result, writer.calls), &(Ok(()), 0));
 }

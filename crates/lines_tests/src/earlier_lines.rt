@@ -3,11 +3,14 @@ ghost use Rattle.std.specs.Prelude.{◌≡◌, ◌≤◌, ◌%◌, ◌==◌, cod
 ghost use Rattle.std.specs.Prelude.{if◌then◌else◌};
 ghost use Rattle.std.specs.List.{list_any};
 ghost use Rattle.lines.specs.Replies.{number_after};
+ghost use Rattle.sessions.specs.Sessions.{IsWrittenOut};
 
+use crate::checks::equal;
 use lines::{Answerer, RunError, answers_by, run_with};
 use runs::ReaderWriter;
 use sessions::Session;
 use std::alloc::AllocError;
+use std::process::Abort;
 use std::test::Fail;
 
 // Tells of each line whether its number is even, and of an empty one whether it is the first. Each
@@ -113,25 +116,39 @@ fn answers_by_earlier_lines(rt: HostRuntime) -> Result<(), Fail> {
 }
 
 #[test]
-fn answers_a_text_in_memory(rt: HostRuntime) -> Result<(), Fail> {
-    let replies = answers_by(rt.alloc(), unmarked(2), LINES)?;
-    assert!(rt; replies.as_slice() == b"odd\neven\nfirst\neven\nagain\neven\n".as_slice());
-    Ok(())
+fn answers_a_text_in_memory(rt: HostRuntime) {
+    let replies = answers_by(rt.alloc(), unmarked(2), LINES).expect(&rt, "no memory");
+    let wanted = b"odd\neven\nfirst\neven\nagain\neven\n".as_slice();
+    equal(&rt, &replies.as_slice(), &wanted);
+}
+
+// A session with so much room for its replies hands them out, or tells how many bytes they are.
+fn hands_out(
+    rt: &(impl Abort + AllocGlobal),
+    session: &mut Session<Marker>,
+    room: usize,
+    wanted: (bool, usize),
+    text: &str,
+)
+    ensures going { session.new.has_ended ≡ session.old.has_ended }
+    ensures written { IsWrittenOut session.old → IsWrittenOut session.new }
+{
+    let mut output = b"\0".repeat(rt.alloc(), room).expect(rt, "no memory");
+    let mut written = 0;
+    let has_room = session.hand_out(output.as_mut_slice(), &mut written);
+    equal(rt, &(has_room, written), &wanted);
+    output.truncate(if has_room { written } else { 0 });
+    equal(rt, &output.as_slice(), &text.as_bytes());
 }
 
 #[test]
-fn answers_a_text_in_pieces(rt: HostRuntime) -> Result<(), Fail> {
-    let mut session = Session::new(rt.alloc(), unmarked(2))?;
-    let mut room = [0u8; 16];
-    let mut written = 0;
-    session.take(b"a")?;
-    session.take(b"\nb\n\nc")?;
-    assert!(rt; !session.hand_out(&mut room[..8], &mut written));
-    assert!(rt; written == 15);
-    assert!(rt; session.hand_out(&mut room, &mut written));
-    assert!(rt; room[..written] == b"odd\neven\nfirst\n"[..]);
-    session.finish()?;
-    assert!(rt; session.has_ended() && session.hand_out(&mut room, &mut written));
-    assert!(rt; room[..written] == b"even\n"[..]);
-    Ok(())
+fn answers_a_text_in_pieces(rt: HostRuntime) {
+    let mut session = Session::new(rt.alloc(), unmarked(2)).expect(&rt, "no memory");
+    session.take(b"a").expect(&rt, "no memory");
+    session.take(b"\nb\n\nc").expect(&rt, "no memory");
+    hands_out(&rt, &mut session, 8, (false, 15), "");
+    hands_out(&rt, &mut session, 16, (true, 15), "odd\neven\nfirst\n");
+    session.finish().expect(&rt, "no memory");
+    equal(&rt, &session.has_ended(), &true);
+    hands_out(&rt, &mut session, 16, (true, 5), "even\n");
 }

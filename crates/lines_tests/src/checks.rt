@@ -1,0 +1,7 @@
+//! What tests compare: both values are told where they differ.
+use std::fmt::Debug;
+use std::process::Abort;
+
+pub fn equal<T: PartialEq + Debug>(rt: &impl Abort, told: &T, wanted: &T) {
+    assert_eq!(rt; told, wanted);
+}
