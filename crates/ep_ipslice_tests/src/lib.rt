@@ -3,18 +3,12 @@
 #![tactic(auto)]
 
 #[cfg(test)]
-mod checks;
-#[cfg(test)]
 mod errors;
-#[cfg(test)]
-mod extensions;
-#[cfg(test)]
-mod faults;
 #[cfg(test)]
 mod header_and_body;
 #[cfg(test)]
 mod packets;
 #[cfg(test)]
-mod payloads;
-#[cfg(test)]
 mod refusals;
+#[cfg(test)]
+mod views;

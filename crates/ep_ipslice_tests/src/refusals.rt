@@ -1,185 +1,167 @@
 //! Why bytes begin with no IP packet. The bytes are those of `packets`, cut or changed.
 
-use crate::checks::shows;
-use crate::faults::{Want, ip_fault, ipv4_fault, ipv6_fault, of_len, want};
-use crate::packets::{IPV4, IPV6, front, ipv4_with, ipv6_with};
-use ep_base::LenSource;
+use crate::packets::{IPV4, IPV6, ip_fault, ipv4_fault, ipv6_fault, want};
 use ep_base::err::{Layer, LenError};
-use ep_ipslice::err::ip;
-use std::process::Abort;
-use std::test::*;
+use ep_base::{IpNumber, LenSource};
+use ep_ext::err::{ip_auth, ipv6_exts};
+use ep_ipslice::err::{ip, ipv4, ipv6};
+use ep_ipslice::{Ipv4ExtensionsSlice, Ipv6ExtensionsSlice};
 
-// What is cut off: the front of a packet of so many bytes, a payload length of so many, and a slice
-// that ends so many bytes behind a header which gives no length.
-#[derive(Clone, Copy)]
-enum Cut {
-    Ipv4,
-    Ipv6,
-    PayloadLength,
-    Slice,
-}
+// Where the extension headers of `IPV6` begin behind its header, how long each is, and the layer in
+// which a want of it is told.
+const HEADERS: [(u8, u8, Layer); 5] = [
+    (0, 8, Layer::Ipv6ExtHeader),
+    (8, 8, Layer::Ipv6ExtHeader),
+    (16, 8, Layer::Ipv6FragHeader),
+    (24, 12, Layer::IpAuthHeader),
+    (36, 8, Layer::Ipv6ExtHeader),
+];
 
-fn is_cut(rt: &(impl Abort + AllocGlobal), cut: Cut, len: usize, wanted: &str) {
-    match cut {
-        Cut::Ipv4 => shows(rt, len, &of_len(ipv4_fault(front(&IPV4, len)), len), wanted),
-        Cut::Ipv6 => shows(rt, len, &of_len(ipv6_fault(front(&IPV6, len)), len), wanted),
-        Cut::PayloadLength => {
-            let len_byte = u8::try_from(len).unwrap_or(255);
-            let bytes = ipv6_with(&[(5, len_byte)]);
-            shows(rt, len, &of_len(ipv6_fault(&bytes), len), wanted);
-        }
-        Cut::Slice => {
-            let bytes = ipv6_with(&[(5, 0)]);
-            let fault = ipv6_fault(front(&bytes, len.saturating_add(40)));
-            shows(rt, len, &of_len(fault, len), wanted);
-        }
+// What a header of this length, so far behind the base header, wants where it ends too early.
+fn want_of_header(start: u8, end: u8, len: u8, layer: Layer, len_source: LenSource) -> LenError {
+    LenError {
+        required_len: usize::from(len),
+        len: usize::from(end.saturating_sub(start)),
+        len_source,
+        layer,
+        layer_start_offset: 40 + usize::from(start),
     }
 }
 
-// Each of these lengths.
-fn are_cut(rt: &(impl Abort + AllocGlobal), cut: Cut, first: usize, behind: usize, wanted: &str) {
-    for len in first..behind {
-        is_cut(rt, cut, len, wanted);
-    }
-}
-
-#[test]
-fn every_front_of_an_ipv4_packet(rt: HostRuntime) {
-    let wanted = "Some(Ok((20, 0, Slice, Ipv4Header, 0)))";
-    are_cut(&rt, Cut::Ipv4, 0, 20, wanted);
-    let wanted = "Some(Ok((34, 0, Slice, Ipv4Packet, 0)))";
-    are_cut(&rt, Cut::Ipv4, 20, 34, wanted);
-    are_cut(&rt, Cut::Ipv4, 34, 36, "None");
-}
-
-#[test]
-fn every_front_of_an_ipv6_packet(rt: HostRuntime) {
-    let wanted = "Some(Ok((40, 0, Slice, Ipv6Header, 0)))";
-    are_cut(&rt, Cut::Ipv6, 0, 40, wanted);
-    let wanted = "Some(Ok((86, 0, Slice, Ipv6Packet, 0)))";
-    are_cut(&rt, Cut::Ipv6, 40, 86, wanted);
-    are_cut(&rt, Cut::Ipv6, 86, 88, "None");
-}
-
-// A want inside an extension header names the packet's own length, and the place in the whole
-// slice.
 #[test]
 fn extension_headers_cut_by_the_payload_length(rt: HostRuntime) {
-    let first = "Some(Ok((8, 0, Ipv6HeaderPayloadLen, Ipv6ExtHeader, 40)))";
-    are_cut(&rt, Cut::PayloadLength, 1, 8, first);
-    let routing = "Some(Ok((8, 8, Ipv6HeaderPayloadLen, Ipv6ExtHeader, 48)))";
-    are_cut(&rt, Cut::PayloadLength, 8, 16, routing);
-    let fragment = "Some(Ok((8, 16, Ipv6HeaderPayloadLen, Ipv6FragHeader, 56)))";
-    are_cut(&rt, Cut::PayloadLength, 16, 24, fragment);
-    let auth = "Some(Ok((12, 24, Ipv6HeaderPayloadLen, IpAuthHeader, 64)))";
-    are_cut(&rt, Cut::PayloadLength, 24, 36, auth);
-    let last = "Some(Ok((8, 36, Ipv6HeaderPayloadLen, Ipv6ExtHeader, 76)))";
-    are_cut(&rt, Cut::PayloadLength, 36, 44, last);
+    for (start, len, layer) in HEADERS {
+        for end in start.max(1)..start.saturating_add(len) {
+            let mut bytes = IPV6;
+            bytes[5] = end;
+            let source = LenSource::Ipv6HeaderPayloadLen;
+            let want = want_of_header(start, end, len, layer, source);
+            assert!(rt; ipv6_fault(&bytes) == Some(ipv6::SliceError::Len(want)));
+        }
+    }
 }
 
 // Where the packet's own length isn't given, the slice bounds its headers.
 #[test]
 fn extension_headers_cut_by_the_slice(rt: HostRuntime) {
-    let wanted = "Some(Ok((8, 0, Slice, Ipv6ExtHeader, 40)))";
-    are_cut(&rt, Cut::Slice, 1, 8, wanted);
-    let wanted = "Some(Ok((8, 8, Slice, Ipv6ExtHeader, 48)))";
-    are_cut(&rt, Cut::Slice, 8, 16, wanted);
-    let wanted = "Some(Ok((8, 16, Slice, Ipv6FragHeader, 56)))";
-    are_cut(&rt, Cut::Slice, 16, 24, wanted);
-    let wanted = "Some(Ok((12, 24, Slice, IpAuthHeader, 64)))";
-    are_cut(&rt, Cut::Slice, 24, 36, wanted);
-    let wanted = "Some(Ok((8, 36, Slice, Ipv6ExtHeader, 76)))";
-    are_cut(&rt, Cut::Slice, 36, 44, wanted);
+    let mut bytes = IPV6;
+    bytes[5] = 0;
+    for (start, len, layer) in HEADERS {
+        for end in start.max(1)..start.saturating_add(len) {
+            let (front, _) = bytes.split_at(usize::from(end).min(46) + 40);
+            let source = LenSource::Slice;
+            let want = want_of_header(start, end, len, layer, source);
+            assert!(rt; ipv6_fault(front) == Some(ipv6::SliceError::Len(want)));
+        }
+    }
 }
 
 // A routing header of 16 bytes, of which 15 are there.
 #[test]
 fn an_extension_header_longer_than_the_least(rt: HostRuntime) {
-    let wanted = "Some(Ok((16, 15, Ipv6HeaderPayloadLen, Ipv6ExtHeader, 48)))";
-    shows(
-        &rt,
-        23,
-        &ipv6_fault(&ipv6_with(&[(5, 23), (49, 1)])),
-        wanted,
-    );
-}
-
-#[test]
-fn total_lengths_that_cut_headers(rt: HostRuntime) {
-    let auth = "Some(Ok((12, 5, Ipv4HeaderTotalLen, IpAuthHeader, 20)))";
-    shows(&rt, 25, &ipv4_fault(&ipv4_with(&[(3, 25)])), auth);
-    let header = "Some(Ok((20, 19, Ipv4HeaderTotalLen, Ipv4Packet, 0)))";
-    shows(&rt, 19, &ipv4_fault(&ipv4_with(&[(3, 19)])), header);
+    let mut bytes = IPV6;
+    bytes[5] = 23;
+    bytes[49] = 1;
+    let source = LenSource::Ipv6HeaderPayloadLen;
+    let want = want_of_header(8, 23, 16, Layer::Ipv6ExtHeader, source);
+    assert!(rt; ipv6_fault(&bytes) == Some(ipv6::SliceError::Len(want)));
 }
 
 #[test]
 fn packets_of_the_other_version(rt: HostRuntime) {
-    let of_v6 = "Some(Err(Header(UnexpectedVersion { version_number: 6 })))";
-    shows(&rt, 6, &ipv4_fault(&IPV6), of_v6);
-    let of_v4 = "Some(Err(Header(UnexpectedVersion { version_number: 4 })))";
-    shows(&rt, 4, &ipv6_fault(&ipv6_with(&[(0, 0x45)])), of_v4);
+    let mut bytes = IPV6;
+    let of_v6 = ep_ip::err::ipv4::HeaderError::UnexpectedVersion { version_number: 6 };
+    assert!(rt; ipv4_fault(&bytes) == Some(ipv4::SliceError::Header(of_v6)));
+    bytes[0] = 0x45;
+    let of_v4 = ep_ip::err::ipv6::HeaderError::UnexpectedVersion { version_number: 4 };
+    assert!(rt; ipv6_fault(&bytes) == Some(ipv6::SliceError::Header(of_v4)));
 }
 
 // What a packet of its version and one of either version says of it.
 #[test]
 fn an_authentication_header_that_breaks_its_format(rt: HostRuntime) {
-    let v4 = ipv4_with(&[(21, 0)]);
-    let zero = "Some(Err(Exts(ZeroPayloadLen)))";
-    shows(&rt, 4, &ipv4_fault(&v4), zero);
-    let zero = "Some(Err(IpHeaders(Ipv4Ext(ZeroPayloadLen))))";
-    shows(&rt, 4, &ip_fault(&v4), zero);
-    let zero = "Some(Err(Exts(IpAuth(ZeroPayloadLen))))";
-    shows(&rt, 6, &ipv6_fault(&ipv6_with(&[(65, 0)])), zero);
+    let content = ip_auth::HeaderError::ZeroPayloadLen;
+    let mut v4 = IPV4;
+    v4[21] = 0;
+    let mut v6 = IPV6;
+    v6[65] = 0;
+    let found = (ipv4_fault(&v4), ip_fault(&v4), ipv6_fault(&v6));
+    let faults = (
+        Some(ipv4::SliceError::Exts(content)),
+        Some(ip::SliceError::IpHeaders(ip::HeadersError::Ipv4Ext(content))),
+        Some(ipv6::SliceError::Exts(ipv6_exts::HeaderError::IpAuth(content))),
+    );
+    assert!(rt; found == faults);
 }
 
 #[test]
 fn hop_by_hop_options_behind_a_routing_header(rt: HostRuntime) {
-    let bytes = ipv6_with(&[(48, 0)]);
-    let misplaced = "Some(Err(Exts(HopByHopNotAtStart)))";
-    shows(&rt, 6, &ipv6_fault(&bytes), misplaced);
-    let misplaced = "Some(Err(IpHeaders(Ipv6Ext(HopByHopNotAtStart))))";
-    shows(&rt, 6, &ip_fault(&bytes), misplaced);
+    let mut bytes = IPV6;
+    bytes[48] = 0;
+    let content = ipv6_exts::HeaderError::HopByHopNotAtStart;
+    let faults = (
+        Some(ipv6::SliceError::Exts(content)),
+        Some(ip::SliceError::IpHeaders(ip::HeadersError::Ipv6Ext(content))),
+    );
+    assert!(rt; (ipv6_fault(&bytes), ip_fault(&bytes)) == faults);
 }
 
 // A packet of either version refuses as one of its version.
 #[test]
 fn a_want_of_either_version(rt: HostRuntime) {
-    let v4 = "Some(Ok((20, 3, Slice, Ipv4Header, 0)))";
-    shows(&rt, 4, &ip_fault(&[0x45, 0, 0]), v4);
-    let v6 = "Some(Ok((40, 3, Slice, Ipv6Header, 0)))";
-    shows(&rt, 6, &ip_fault(&[0x60, 0, 0]), v6);
+    let found = (ip_fault(&[0x45, 0, 0]), ip_fault(&[0x60, 0, 0]));
+    let wants = (
+        Some(ip::SliceError::Len(want(20, 3, Layer::Ipv4Header))),
+        Some(ip::SliceError::Len(want(40, 3, Layer::Ipv6Header))),
+    );
+    assert!(rt; found == wants);
+}
+
+// Up to the fault: all was handed in is left, or the headers in front of it are there.
+#[test]
+fn a_fault_behind_which_nothing_is_read(rt: HostRuntime) {
+    let bytes = [17, 1, 0, 0, 1];
+    let first = IpNumber::AUTHENTICATION_HEADER;
+    let (extensions, number, rest, fault) = Ipv4ExtensionsSlice::from_slice_lax(first, &bytes);
+    let error = ip_auth::HeaderSliceError::Len(want(12, 5, Layer::IpAuthHeader));
+    let found = (extensions.is_empty(), number, rest, fault);
+    assert!(rt; found == (true, first, bytes.as_slice(), Some(error)));
 }
 
 #[test]
-fn no_bytes_and_another_version(rt: HostRuntime) {
-    let none = "Some(Ok((1, 0, Slice, IpHeader, 0)))";
-    shows(&rt, 0, &ip_fault(&[]), none);
-    let version = "Some(Err(IpHeaders(Ip(UnsupportedIpVersion { version_number: 5 }))))";
-    shows(&rt, 5, &ip_fault(&[0x50]), version);
-    let length = "Some(Err(IpHeaders(Ip(Ipv4HeaderLengthSmallerThanHeader { ihl: 4 }))))";
-    shows(&rt, 4, &ip_fault(&[0x44; 20]), length);
+fn a_fault_behind_a_routing_header(rt: HostRuntime) {
+    let bytes = [44, 0, 0, 0, 0, 0, 0, 0, 17, 0, 0];
+    let (extensions, number, rest, fault) = Ipv6ExtensionsSlice::from_slice_lax(
+        IpNumber(43),
+        &bytes,
+    );
+    let error = ipv6_exts::HeaderSliceError::Len(LenError {
+        layer_start_offset: 8,
+        ..want(8, 3, Layer::Ipv6FragHeader)
+    });
+    let found = (extensions.slice(), number, rest, fault);
+    let behind = Some((error, Layer::Ipv6FragHeader));
+    assert!(rt; found == (&bytes[..8], IpNumber(44), &bytes[8..], behind));
 }
 
-// A want that is seen from 14 bytes further in front.
-fn moved() -> Option<Want> {
-    let error = LenError {
+#[test]
+fn a_want_further_on(rt: HostRuntime) {
+    let len = LenError {
         required_len: 12,
         len: 3,
         len_source: LenSource::Slice,
         layer: Layer::IpAuthHeader,
         layer_start_offset: 20,
     };
-    match ip::HeadersSliceError::Len(error).add_slice_offset(14) {
-        ip::HeadersSliceError::Len(error) => Some(want(error)),
-        ip::HeadersSliceError::Content(_) => None,
-    }
-}
-
-#[test]
-fn faults_further_on(rt: HostRuntime) {
-    shows(&rt, 14, &moved(), "Some((12, 3, Slice, IpAuthHeader, 34))");
+    let moved = LenError {
+        layer_start_offset: 34,
+        ..len
+    };
     let version = ip::HeaderError::UnsupportedIpVersion { version_number: 5 };
     let content = ip::HeadersSliceError::Content(ip::HeadersError::Ip(version));
-    let wanted = "Content(Ip(UnsupportedIpVersion { version_number: 5 }))";
-    shows(&rt, 14, &content.add_slice_offset(14), wanted);
+    let found = [
+        ip::HeadersSliceError::Len(len).add_slice_offset(14),
+        content.add_slice_offset(14),
+    ];
+    assert!(rt; found == [ip::HeadersSliceError::Len(moved), content]);
 }
