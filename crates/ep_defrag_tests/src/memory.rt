@@ -69,8 +69,10 @@ const BYTES: &[u8] = &[1, 2, 3, 4, 5, 6, 7, 8];
 // Hands a fragment in twice. Where the first call finds no memory for this end, another one does.
 // It has no contract, as tests alone call it.
 fn comes_twice(rt: &impl Abort, buf: &mut IpDefragBuf, offset: IpFragOffset, len: usize) {
+    let count = buf.sections().len();
     if let Err(error) = buf.add(offset, true, BYTES) {
         equal(rt, &error, &IpDefragError::AllocationFailure { len });
+        equal(rt, &buf.sections().len(), &count);
         holds(rt, buf.add(offset, true, BYTES).is_ok());
     }
     holds(rt, buf.add(offset, true, BYTES).is_ok());
@@ -83,4 +85,14 @@ fn a_repeat_wants_no_memory(rt: HostRuntime) {
     comes_twice(&rt, &mut buf, offset(&rt, 2), 24);
     comes_twice(&rt, &mut buf, IpFragOffset::ZERO, 8);
     equal(&rt, &buf.sections().len(), &2);
+}
+
+/// Of the accepted fragments the fifth takes memory beside its bytes and its section.
+#[test]
+fn a_fifth_fragment_wants_memory(rt: HostRuntime) {
+    let mut buf = refusing(rt.alloc());
+    for (units, end) in [(0, 8), (2, 24), (4, 40), (6, 56), (8, 72)] {
+        comes_twice(&rt, &mut buf, offset(&rt, units), end);
+    }
+    equal(&rt, &buf.sections().len(), &5);
 }
