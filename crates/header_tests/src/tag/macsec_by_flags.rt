@@ -1,6 +1,6 @@
 //! MACsec headers and payloads under every flag and short length (IEEE 802.1AE, clause 9).
+use super::macsec::{header_refusal, header_slice_refusal, refusal, want};
 use crate::checks::equal;
-use crate::macsec::{header_refusal, header_slice_refusal, refusal, want};
 use ep_base::err::Layer;
 use ep_base::{EtherType, LenSource};
 use ep_tag::err::macsec::{HeaderError, HeaderSliceError};

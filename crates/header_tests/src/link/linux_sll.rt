@@ -31,10 +31,10 @@ fn a_header_both_ways(rt: HostRuntime) {
     let Ok((header, rest)) = LinuxSllHeader::from_slice(&BYTES) else {
         panic!(rt; "no header");
     };
-    shows(&rt, &BYTES, &header, FIELDS);
-    equal(&rt, &BYTES, &rest, &[21, 22].as_slice());
-    equal(&rt, &BYTES, &header.to_bytes().as_slice(), &&BYTES[..16]);
-    equal(&rt, &BYTES, &header.header_len(), &16);
+    shows(&rt, "bytes", &header, FIELDS);
+    equal(&rt, "bytes", &rest, &[21, 22].as_slice());
+    equal(&rt, "bytes", &header.to_bytes().as_slice(), &&BYTES[..16]);
+    equal(&rt, "bytes", &header.header_len(), &16);
 }
 
 fn numbers_of_view(slice: &LinuxSllHeaderSlice<'_>) -> Numbers {
@@ -51,10 +51,10 @@ fn fields_of_a_view(rt: HostRuntime) {
     let Ok(slice) = LinuxSllHeaderSlice::from_slice(&BYTES) else {
         panic!(rt; "no header");
     };
-    equal(&rt, &BYTES, &slice.slice(), &&BYTES[..16]);
-    shows(&rt, &BYTES, &numbers_of_view(&slice), NUMBERS);
-    shows(&rt, &BYTES, &slice.protocol_type(), PROTOCOL);
-    shows(&rt, &BYTES, &slice.to_header(), FIELDS);
+    equal(&rt, "bytes", &slice.slice(), &&BYTES[..16]);
+    shows(&rt, "bytes", &numbers_of_view(&slice), NUMBERS);
+    shows(&rt, "bytes", &slice.protocol_type(), PROTOCOL);
+    shows(&rt, "bytes", &slice.to_header(), FIELDS);
 }
 
 fn numbers(slice: &LinuxSllSlice<'_>) -> Numbers {
@@ -71,9 +71,9 @@ fn fields_of_a_packet(rt: HostRuntime) {
     let Ok(slice) = LinuxSllSlice::from_slice(&BYTES) else {
         panic!(rt; "no packet");
     };
-    shows(&rt, &BYTES, &numbers(&slice), NUMBERS);
-    shows(&rt, &BYTES, &slice.protocol_type(), PROTOCOL);
-    shows(&rt, &BYTES, &slice.to_header(), FIELDS);
+    shows(&rt, "bytes", &numbers(&slice), NUMBERS);
+    shows(&rt, "bytes", &slice.protocol_type(), PROTOCOL);
+    shows(&rt, "bytes", &slice.to_header(), FIELDS);
 }
 
 // All bytes and those behind the header, and the header's length.
@@ -86,10 +86,10 @@ fn parts_of_a_packet(rt: HostRuntime) {
     let Ok(slice) = LinuxSllSlice::from_slice(&BYTES) else {
         panic!(rt; "no packet");
     };
-    equal(&rt, &BYTES, &parts(&slice), &([&BYTES, &[21, 22]], 16));
+    equal(&rt, "bytes", &parts(&slice), &([&BYTES, &[21, 22]], 16));
     let payload =
         "LinuxSllPayloadSlice { protocol_type: EtherType(EtherType(2048)), payload: [21, 22] }";
-    shows(&rt, &BYTES, &slice.payload(), payload);
+    shows(&rt, "bytes", &slice.payload(), payload);
 }
 
 // A payload as one that an ether type names, as a text, and that one back.
@@ -99,12 +99,12 @@ fn is_named(rt: &(impl Abort + AllocGlobal), payload: LinuxSllPayloadSlice<'_>) 
     };
     let named =
         "EtherPayloadSlice { ether_type: EtherType(2048), len_source: Slice, payload: [21, 22] }";
-    shows(rt, &"named", &ether_payload, named);
+    shows(rt, "named", &ether_payload, named);
     let again =
         "LinuxSllPayloadSlice { protocol_type: EtherType(EtherType(2048)), payload: [21, 22] }";
     shows(
         rt,
-        &"again",
+        "again",
         &LinuxSllPayloadSlice::from(ether_payload),
         again,
     );
@@ -133,7 +133,8 @@ fn payloads_behind_no_ether_type(rt: HostRuntime) {
             payload: &BYTES,
         };
         let is_refused = EtherPayloadSlice::try_from(payload).is_err();
-        equal(&rt, protocol_type, &is_refused, &true);
+        let found = (*protocol_type, is_refused);
+        equal(&rt, "payload", &found, &(*protocol_type, true));
     }
 }
 
@@ -160,9 +161,9 @@ fn refusal(bytes: &[u8]) -> Option<HeaderSliceError> {
 }
 
 fn is_refused(rt: &impl Abort, bytes: &[u8], error: HeaderSliceError) {
-    equal(rt, &bytes, &header_refusal(bytes), &Some(error));
-    equal(rt, &bytes, &header_slice_refusal(bytes), &Some(error));
-    equal(rt, &bytes, &refusal(bytes), &Some(error));
+    equal(rt, "header", &header_refusal(bytes), &Some(error));
+    equal(rt, "view", &header_slice_refusal(bytes), &Some(error));
+    equal(rt, "packet", &refusal(bytes), &Some(error));
 }
 
 fn too_short(len: usize) -> HeaderSliceError {
@@ -180,7 +181,7 @@ fn every_front_of_a_header(rt: HostRuntime) {
     for len in 0..16usize {
         is_refused(&rt, &BYTES[..len], too_short(len));
     }
-    equal(&rt, &"whole", &refusal(&BYTES[..16]), &None);
+    equal(&rt, "whole", &refusal(&BYTES[..16]), &None);
 }
 
 #[test]
@@ -201,30 +202,30 @@ fn packet_type(number: u16) -> Option<u16> {
 #[test]
 fn packet_types(rt: HostRuntime) {
     for number in 0..5u16 {
-        equal(&rt, &number, &packet_type(number), &Some(number));
+        equal(&rt, "packet type", &packet_type(number), &Some(number));
     }
     let unsupported = "Err(UnsupportedPacketTypeField { packet_type: 5 })";
-    shows(&rt, &5, &LinuxSllPacketType::try_from(5), unsupported);
+    shows(&rt, "5", &LinuxSllPacketType::try_from(5), unsupported);
     shows(
         &rt,
-        &"default",
+        "default",
         &LinuxSllPacketType::default(),
         "LinuxSllPacketType(0)",
     );
-    equal(&rt, &"outgoing", &LinuxSllPacketType::OUTGOING.value(), &4);
+    equal(&rt, "outgoing", &LinuxSllPacketType::OUTGOING.value(), &4);
 }
 
 #[test]
 fn errors_further_on(rt: HostRuntime) {
     let unsupported = HeaderError::UnsupportedPacketTypeField { packet_type: 5 };
     let content = HeaderSliceError::from(unsupported);
-    equal(&rt, &"content", &content.add_slice_offset(3), &content);
+    equal(&rt, "content", &content.add_slice_offset(3), &content);
     let want = LenError::too_few_bytes(Layer::LinuxSllHeader, 16, 7).add_offset(4);
     let further = "Len(LenError { required_len: 16, len: 7, len_source: Slice, \
         layer: LinuxSllHeader, layer_start_offset: 7 })";
     shows(
         &rt,
-        &"want",
+        "want",
         &HeaderSliceError::Len(want).add_slice_offset(3),
         further,
     );
@@ -261,13 +262,13 @@ const PROTOCOLS: &[(u16, u16, LinuxSllProtocolType)] = &[
 fn protocols_by_hardware_type(rt: HostRuntime) {
     for (hardware_type, number, protocol) in PROTOCOLS.iter() {
         let read = LinuxSllProtocolType::from((ArpHardwareId(*hardware_type), *number));
-        equal(&rt, hardware_type, &read, protocol);
-        equal(&rt, hardware_type, &u16::from(*protocol), number);
+        equal(&rt, "protocol", &read, protocol);
+        equal(&rt, "number", &u16::from(*protocol), number);
     }
 }
 
 // A protocol, its new number, and what it is then.
-const CHANGED: &[(LinuxSllProtocolType, u16, LinuxSllProtocolType)] = &[
+const CHANGED_PROTOCOLS: &[(LinuxSllProtocolType, u16, LinuxSllProtocolType)] = &[
     (
         LinuxSllProtocolType::Ignored(1),
         9,
@@ -297,10 +298,10 @@ const CHANGED: &[(LinuxSllProtocolType, u16, LinuxSllProtocolType)] = &[
 
 #[test]
 fn numbers_set_anew(rt: HostRuntime) {
-    for (before, number, wanted) in CHANGED.iter() {
+    for (before, number, wanted) in CHANGED_PROTOCOLS.iter() {
         let mut protocol = *before;
         protocol.change_value(*number);
-        equal(&rt, before, &protocol, wanted);
+        equal(&rt, "changed", &protocol, wanted);
     }
 }
 
@@ -324,11 +325,11 @@ fn laws(rt: HostRuntime) {
     let is_read_again = header_is_read_again(&header, &BYTES).is_ok();
     equal(
         &rt,
-        &"lengths",
+        "lengths",
         &(header_lengths(), is_read_again),
         &([16], true),
     );
-    equal(&rt, &"constants", &packet_type_constants().len(), &5);
+    equal(&rt, "constants", &packet_type_constants().len(), &5);
     headers_are_their_bytes(&header);
     number_stays();
     protocols_by_hand();

@@ -1,0 +1,16 @@
+//! Tests of `ep_base`, `ep_ip`, `ep_icmp`, `ep_tag` and `ep_link` over their public calls. They stand in a
+//! crate of their own, so that they are proved beside these and not with each of their functions once more.
+#![tactic(auto)]
+
+#[cfg(test)]
+mod base;
+#[cfg(test)]
+mod checks;
+#[cfg(test)]
+mod icmp;
+#[cfg(test)]
+mod ip;
+#[cfg(test)]
+mod link;
+#[cfg(test)]
+mod tag;

@@ -1,0 +1,7 @@
+//! VLAN tags and MACsec headers.
+
+mod link_ext;
+mod macsec;
+mod macsec_by_flags;
+mod numbers;
+mod vlan;
