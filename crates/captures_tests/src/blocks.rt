@@ -1,7 +1,8 @@
 //! Pcapng files. The first was written by scapy 2.5.0, the second by hand from the format's
 //! description.
-use crate::changes::{Field, Fronts, Refusal, ignores, refuses, tells_fronts};
-use crate::lines::{LINES, tells};
+ghost use Rattle.std.specs.Prelude.{◌+◌, ◌≤◌, length};
+
+use crate::lines::{LINES, refused, tells};
 use captures::CaptureError;
 
 const SCAPY: &[u8; 208] = b"\
@@ -46,186 +47,158 @@ pub(super) const TWO_SECTIONS_LINES: &[u8; 64] = b"frame 1 0102030405\n\
 
 #[test]
 fn file_of_scapy(rt: HostRuntime) {
-    tells(&rt, "scapy", SCAPY, Ok(()), LINES);
+    tells(&rt, SCAPY, Ok(()), LINES);
 }
 
 const SECTION: u32 = 0x0a0d_0d0a;
 
-// The blocks, and the whole file.
-const FRONTS: &[Fronts] = &[
-    (0, 28, 1, Some(SECTION), 0),
-    (28, 48, 1, Some(1), 0),
-    (48, 68, 1, Some(1), 0),
-    (68, 88, 1, Some(5), 0),
-    (88, 132, 1, Some(6), 0),
-    (132, 152, 2, Some(3), 19),
-    (152, 192, 3, Some(SECTION), 34),
-    (192, 212, 3, Some(1), 34),
-    (212, 232, 3, Some(1), 34),
-    (232, 252, 3, Some(3), 34),
-    (252, 288, 4, Some(6), 51),
-    (288, 320, 5, Some(6), 64),
-    (320, 321, 5, None, 64),
-];
+// Where a front of the two sections ends: the packet, the block's offset and its type.
+fn block_at(n: usize) -> (u64, usize, u32) {
+    match n {
+        0..=27 => (1, 0, SECTION),
+        28..=47 => (1, 28, 1),
+        48..=67 => (1, 48, 1),
+        68..=87 => (1, 68, 5),
+        88..=131 => (1, 88, 6),
+        132..=151 => (2, 132, 3),
+        152..=191 => (3, 152, SECTION),
+        192..=211 => (3, 192, 1),
+        212..=231 => (3, 212, 1),
+        232..=251 => (3, 232, 3),
+        252..=287 => (4, 252, 6),
+        _ => (5, 288, 6),
+    }
+}
+
+// The lines that a front of the two sections gives.
+fn lines_before(n: usize) -> &'static [u8] {
+    match n {
+        0..=131 => b"",
+        132..=151 => &TWO_SECTIONS_LINES[..19],
+        152..=251 => &TWO_SECTIONS_LINES[..34],
+        252..=287 => &TWO_SECTIONS_LINES[..51],
+        _ => TWO_SECTIONS_LINES,
+    }
+}
 
 #[test]
 fn each_front_of_two_sections(rt: HostRuntime) {
-    for row in FRONTS.iter() {
-        tells_fronts(&rt, TWO_SECTIONS, TWO_SECTIONS_LINES, row);
+    for n in 0..=320 {
+        let (packet, offset, kind) = block_at(n);
+        // Four bytes of a block tell its type.
+        let block = if n.saturating_sub(offset) < 4 {
+            None
+        } else {
+            Some(kind)
+        };
+        let wanted = match n {
+            0..=23 => refused(CaptureError::NotCapture, packet, offset as u64, block),
+            28 | 48 | 68 | 88 | 132 | 152 | 192 | 212 | 232 | 252 | 288 | 320 => Ok(()),
+            _ => refused(CaptureError::CutOff, packet, offset as u64, block),
+        };
+        tells(&rt, &TWO_SECTIONS[..n], wanted, lines_before(n));
     }
 }
 
-const REFUSALS: &[Refusal] = &[
-    (
-        "no kind of a section header",
-        0,
-        b"\x0b",
-        CaptureError::NotCapture,
-        (1, 0, None),
-        0,
-    ),
-    (
-        "no byte order magic",
-        8,
-        b"\x4e",
-        CaptureError::NotCapture,
-        (1, 0, Some(SECTION)),
-        0,
-    ),
-    (
-        "version 2",
-        12,
-        b"\x02",
-        CaptureError::BadBlock,
-        (1, 0, Some(SECTION)),
-        0,
-    ),
-    (
-        "another length at the end",
-        24,
-        b"\x20",
-        CaptureError::BadBlock,
-        (1, 0, Some(SECTION)),
-        0,
-    ),
-    (
-        "less than a block has",
-        4,
-        b"\x08",
-        CaptureError::BadBlock,
-        (1, 0, Some(SECTION)),
-        0,
-    ),
-    (
-        "no whole words",
-        32,
-        b"\x15",
-        CaptureError::BadBlock,
-        (1, 28, Some(1)),
-        0,
-    ),
-    (
-        "link type of PPP",
-        36,
-        b"\x09",
-        CaptureError::LinkType(9),
-        (1, 28, Some(1)),
-        0,
-    ),
-    (
-        "4 bytes above the limit",
-        32,
-        b"\x04\x00\x04",
-        CaptureError::BlockTooLong(262_148),
-        (1, 28, Some(1)),
-        0,
-    ),
-    (
-        "interface not described",
-        96,
-        b"\x02",
-        CaptureError::BadBlock,
-        (1, 88, Some(6)),
-        0,
-    ),
-    (
-        "more bytes than the block has",
-        108,
-        b"\x0d",
-        CaptureError::BadBlock,
-        (1, 88, Some(6)),
-        0,
-    ),
-    (
-        "a second section without byte order magic",
-        160,
-        b"\x1b",
-        CaptureError::BadBlock,
-        (3, 152, Some(SECTION)),
-        34,
-    ),
-    (
-        "a simple packet of 4 bytes, and other blocks in place of the interfaces before it",
-        192,
-        b"\x00\x00\x00\x05\x00\x00\x00\x14\x00\x01\x00\x00\x00\x00\x00\x04\
-        \x00\x00\x00\x14\x00\x00\x00\x05\x00\x00\x00\x14\x00\x01\x00\x00\
-        \x00\x00\x00\x09\x00\x00\x00\x14\x00\x00\x00\x03\x00\x00\x00\x14\
-        \x00\x00\x00\x04",
-        CaptureError::BadBlock,
-        (3, 232, Some(3)),
-        34,
-    ),
-    (
-        "a packet of the third interface of the file, in a section of two",
-        260,
-        b"\x00\x00\x00\x02",
-        CaptureError::BadBlock,
-        (4, 252, Some(6)),
-        51,
-    ),
-];
+// The two sections with other bytes at a place.
+fn with_bytes(at: usize, bytes: &[u8]) -> [u8; 320]
+    requires { at + length bytes.now ≤ 320 }
+{
+    let mut file = *TWO_SECTIONS;
+    file[at..at + bytes.len()].copy_from_slice(bytes);
+    file
+}
 
 #[test]
 fn each_refusal(rt: HostRuntime) {
-    for row in REFUSALS.iter() {
-        refuses(&rt, TWO_SECTIONS, TWO_SECTIONS_LINES, row);
+    let bad = CaptureError::BadBlock;
+    let none = b"".as_slice();
+    let two = lines_before(152);
+    let three = lines_before(252);
+    for (at, bytes, error, lines, (packet, offset, block)) in [
+        // no kind of a section header
+        (
+            0,
+            b"\x0b".as_slice(),
+            CaptureError::NotCapture,
+            none,
+            (1, 0, None),
+        ),
+        // no byte order magic
+        (
+            8,
+            b"\x4e",
+            CaptureError::NotCapture,
+            none,
+            (1, 0, Some(SECTION)),
+        ),
+        // version 2
+        (12, b"\x02", bad, none, (1, 0, Some(SECTION))),
+        // another length at the end
+        (24, b"\x20", bad, none, (1, 0, Some(SECTION))),
+        // less than a block has
+        (4, b"\x08", bad, none, (1, 0, Some(SECTION))),
+        // no whole words
+        (32, b"\x15", bad, none, (1, 28, Some(1))),
+        // link type of PPP
+        (
+            36,
+            b"\x09",
+            CaptureError::LinkType(9),
+            none,
+            (1, 28, Some(1)),
+        ),
+        // 4 bytes above the limit
+        (
+            32,
+            b"\x04\x00\x04",
+            CaptureError::BlockTooLong(262_148),
+            none,
+            (1, 28, Some(1)),
+        ),
+        // an interface that is not described
+        (96, b"\x02", bad, none, (1, 88, Some(6))),
+        // more bytes than the block has
+        (108, b"\x0d", bad, none, (1, 88, Some(6))),
+        // a second section without byte order magic
+        (160, b"\x1b", bad, two, (3, 152, Some(SECTION))),
+        // a simple packet of 4 bytes, and other blocks in place of the interfaces before it
+        (
+            192,
+            b"\x00\x00\x00\x05\x00\x00\x00\x14\x00\x01\x00\x00\x00\x00\x00\x04\
+            \x00\x00\x00\x14\x00\x00\x00\x05\x00\x00\x00\x14\x00\x01\x00\x00\
+            \x00\x00\x00\x09\x00\x00\x00\x14\x00\x00\x00\x03\x00\x00\x00\x14\
+            \x00\x00\x00\x04",
+            bad,
+            two,
+            (3, 232, Some(3)),
+        ),
+        // a packet of the third interface of the file, in a section of two
+        (260, b"\x00\x00\x00\x02", bad, three, (4, 252, Some(6))),
+    ] {
+        let wanted = refused(error, packet, offset, block);
+        tells(&rt, &with_bytes(at, bytes), wanted, lines);
     }
 }
 
-const IGNORED: &[Field] = &[
-    ("minor version 2, which is to be read as 0", 14, b"\x02"),
-    (
-        "the length of the first section",
-        16,
-        b"\x7c\x00\x00\x00\x00\x00\x00\x00",
-    ),
-    (
-        "the reserved half of an interface description, low byte first",
-        38,
-        b"\xff\xff",
-    ),
-    (
-        "the reserved half of an interface description, high byte first",
-        202,
-        b"\xff\xff",
-    ),
-    (
-        "what a block of another kind holds",
-        76,
-        b"\xff\xff\xff\xff\xff\xff\xff\xff",
-    ),
-    (
-        "the time of a packet",
-        100,
-        b"\xff\xff\xff\xff\xff\xff\xff\xff",
-    ),
-    ("the padding of a packet", 121, b"\xff\xff\xff"),
-    ("the padding of a simple packet", 147, b"\xff"),
-];
-
 #[test]
 fn fields_that_are_ignored(rt: HostRuntime) {
-    for row in IGNORED.iter() {
-        ignores(&rt, TWO_SECTIONS, TWO_SECTIONS_LINES, row);
+    for (at, bytes) in [
+        // minor version 2, which is to be read as 0
+        (14, b"\x02".as_slice()),
+        // the length of the first section
+        (16, b"\x7c\x00\x00\x00\x00\x00\x00\x00"),
+        // the reserved half of an interface description, in either byte order
+        (38, b"\xff\xff"),
+        (202, b"\xff\xff"),
+        // what a block of another kind holds
+        (76, b"\xff\xff\xff\xff\xff\xff\xff\xff"),
+        // the time of a packet
+        (100, b"\xff\xff\xff\xff\xff\xff\xff\xff"),
+        // the padding of a packet
+        (121, b"\xff\xff\xff"),
+        (147, b"\xff"),
+    ] {
+        tells(&rt, &with_bytes(at, bytes), Ok(()), TWO_SECTIONS_LINES);
     }
 }

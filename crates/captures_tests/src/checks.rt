@@ -7,11 +7,6 @@ pub fn equal<T: PartialEq + Debug>(rt: &impl Abort, told: &T, wanted: &T) {
     assert_eq!(rt; told, wanted);
 }
 
-/// The same of a row of a table, which a test that fails names.
-pub fn equal_in<T: PartialEq + Debug>(rt: &impl Abort, row: &str, told: &T, wanted: &T) {
-    assert_eq!(rt; told, wanted, "{row}");
-}
-
 pub fn holds(rt: &impl Abort, is_so: bool) {
     assert!(rt; is_so);
 }
@@ -33,9 +28,4 @@ pub fn joined(rt: &(impl Abort + AllocGlobal), parts: &[&[u8]]) -> Vec<u8> {
 /// These bytes, so often.
 pub fn repeated(rt: &(impl Abort + AllocGlobal), bytes: &[u8], count: usize) -> Vec<u8> {
     bytes.repeat(rt.alloc(), count).expect(rt, "no memory")
-}
-
-/// The front of this length.
-pub fn front<'a>(rt: &impl Abort, bytes: &'a [u8], len: usize) -> &'a [u8] {
-    bytes.get(..len).expect(rt, "no such front")
 }

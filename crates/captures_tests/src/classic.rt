@@ -1,7 +1,8 @@
 //! Classic captures. The files were written by scapy 2.5.0.
-use crate::changes::{Field, Fronts, Refusal, ignores, refuses, tells_fronts};
+ghost use Rattle.std.specs.Prelude.{◌+◌, ◌≤◌, length};
+
 use crate::checks::joined;
-use crate::lines::{LINES, tells};
+use crate::lines::{LINES, refused, tells};
 use captures::CaptureError;
 
 pub(super) const LITTLE_MICROSECONDS: &[u8; 148] = b"\
@@ -48,119 +49,90 @@ pub(super) const BIG_NANOSECONDS: &[u8; 148] = b"\
     \x00\x00\x00\x00\x0a\x00\x00\x02\
 ";
 
-/// The four files, and what they differ in.
-pub(super) const FILES: &[(&str, &[u8])] = &[
-    ("low byte first, microseconds", LITTLE_MICROSECONDS),
-    ("high byte first, microseconds", BIG_MICROSECONDS),
-    ("low byte first, nanoseconds", LITTLE_NANOSECONDS),
-    ("high byte first, nanoseconds", BIG_NANOSECONDS),
-];
-
 #[test]
 fn each_byte_order_and_time_unit(rt: HostRuntime) {
-    for (name, file) in FILES.iter() {
-        tells(&rt, name, file, Ok(()), LINES);
+    for file in [
+        LITTLE_MICROSECONDS,
+        BIG_MICROSECONDS,
+        LITTLE_NANOSECONDS,
+        BIG_NANOSECONDS,
+    ] {
+        tells(&rt, file, Ok(()), LINES);
     }
 }
 
 // The file header has 24 bytes, the packet records 16 + 50 and 16 + 42; the lines 109 and 93.
-const FRONTS: &[Fronts] = &[
-    (0, 24, 1, None, 0),
-    (24, 90, 1, None, 0),
-    (90, 148, 2, None, 109),
-    (148, 149, 3, None, 202),
-];
-
 #[test]
 fn each_front(rt: HostRuntime) {
-    for row in FRONTS.iter() {
-        tells_fronts(&rt, BIG_MICROSECONDS, LINES, row);
+    for n in 0..=148 {
+        let (wanted, lines) = match n {
+            0..=23 => (
+                refused(CaptureError::NotCapture, 1, 0, None),
+                b"".as_slice(),
+            ),
+            24 => (Ok(()), b"".as_slice()),
+            25..=89 => (refused(CaptureError::CutOff, 1, 24, None), b"".as_slice()),
+            90 => (Ok(()), &LINES[..109]),
+            91..=147 => (refused(CaptureError::CutOff, 2, 90, None), &LINES[..109]),
+            _ => (Ok(()), LINES.as_slice()),
+        };
+        tells(&rt, &BIG_MICROSECONDS[..n], wanted, lines);
     }
 }
 
-const REFUSALS: &[Refusal] = &[
-    (
-        "another magic number",
-        3,
-        b"\xd5",
-        CaptureError::NotCapture,
-        (1, 0, None),
-        0,
-    ),
-    (
-        "version 2.3",
-        7,
-        b"\x03",
-        CaptureError::NotCapture,
-        (1, 0, None),
-        0,
-    ),
-    (
-        "version 1.4",
-        5,
-        b"\x01",
-        CaptureError::NotCapture,
-        (1, 0, None),
-        0,
-    ),
-    (
-        "the link type of PPP",
-        23,
-        b"\x09",
-        CaptureError::LinkType(9),
-        (1, 0, None),
-        0,
-    ),
-    (
-        "99,992 bytes of the second packet",
-        98,
-        b"\x00\x01\x86\x98",
-        CaptureError::FrameTooLong(99_992),
-        (2, 90, None),
-        109,
-    ),
-    (
-        "99,991 bytes, which aren't there",
-        98,
-        b"\x00\x01\x86\x97",
-        CaptureError::CutOff,
-        (2, 90, None),
-        109,
-    ),
-];
+// The file with other bytes at a place.
+fn with_bytes(at: usize, bytes: &[u8]) -> [u8; 148]
+    requires { at + length bytes.now ≤ 148 }
+{
+    let mut file = *BIG_MICROSECONDS;
+    file[at..at + bytes.len()].copy_from_slice(bytes);
+    file
+}
 
 #[test]
 fn each_refusal(rt: HostRuntime) {
-    for row in REFUSALS.iter() {
-        refuses(&rt, BIG_MICROSECONDS, LINES, row);
+    let none = b"".as_slice();
+    let first = &LINES[..109];
+    for &(at, bytes, error, lines, packet, offset) in &[
+        // Another magic number.
+        (3, b"\xd5".as_slice(), CaptureError::NotCapture, none, 1, 0),
+        // Version 2.3.
+        (7, b"\x03", CaptureError::NotCapture, none, 1, 0),
+        // Version 1.4.
+        (5, b"\x01", CaptureError::NotCapture, none, 1, 0),
+        // The link type of PPP.
+        (23, b"\x09", CaptureError::LinkType(9), none, 1, 0),
+        // 99,992 bytes of the second packet.
+        (
+            98,
+            b"\x00\x01\x86\x98",
+            CaptureError::FrameTooLong(99_992),
+            first,
+            2,
+            90,
+        ),
+        // 99,991 bytes, which aren't there.
+        (98, b"\x00\x01\x86\x97", CaptureError::CutOff, first, 2, 90),
+    ] {
+        let wanted = refused(error, packet, offset, None);
+        tells(&rt, &with_bytes(at, bytes), wanted, lines);
     }
 }
 
-const IGNORED: &[Field] = &[
-    (
-        "the two reserved numbers of the file header",
-        8,
-        b"\xff\xff\xff\xff\xff\xff\xff\xff",
-    ),
-    (
-        "the upper half of its last number, which may tell of checksums",
-        20,
-        b"\x24\x00",
-    ),
-    (
-        "the time of the first packet",
-        24,
-        b"\xff\xff\xff\xff\xff\xff\xff\xff",
-    ),
-    // 50 bytes follow whatever it is.
-    ("its length on the wire, 1500", 36, b"\x00\x00\x05\xdc"),
-    ("its length on the wire, 1", 36, b"\x00\x00\x00\x01"),
-];
-
 #[test]
 fn fields_that_are_ignored(rt: HostRuntime) {
-    for row in IGNORED.iter() {
-        ignores(&rt, BIG_MICROSECONDS, LINES, row);
+    for (at, bytes) in [
+        // The two reserved numbers of the file header.
+        (8, b"\xff\xff\xff\xff\xff\xff\xff\xff".as_slice()),
+        // The upper half of its last number, which may tell of frame check sequences.
+        (20, b"\x24\x00"),
+        // The time of the first packet.
+        (24, b"\xff\xff\xff\xff\xff\xff\xff\xff"),
+        // Its length on the wire: 50 bytes follow whatever it is.
+        (36, b"\x00\x00\x05\xdc"),
+        (36, b"\x00\x00\x00\x01"),
+    ] {
+        tells(&rt, &with_bytes(at, bytes), Ok(()), LINES);
     }
 }
 
@@ -169,5 +141,5 @@ fn fields_that_are_ignored(rt: HostRuntime) {
 fn packet_of_no_bytes(rt: HostRuntime) {
     let record = b"\0\0\0\0\0\0\0\0\0\0\0\0\x3c\0\0\0";
     let file = joined(&rt, &[&LITTLE_MICROSECONDS[..24], record]);
-    tells(&rt, "no bytes", file.as_slice(), Ok(()), b"");
+    tells(&rt, file.as_slice(), Ok(()), b"");
 }

@@ -12,87 +12,84 @@ fn capture_at(rt: &(impl Abort + AllocGlobal), times: &[(u32, u32)]) -> Vec<u8> 
         &[b"\xa1\xb2\xc3\xd4\x00\x02\x00\x04\0\0\0\0\0\0\0\0\x00\x04\x00\x00\0\0\0\x01"],
     );
     for (seconds, microseconds) in times {
-        let (seconds, microseconds) = (seconds.to_be_bytes(), microseconds.to_be_bytes());
         append(
             rt,
             &mut file,
-            &[&seconds, &microseconds, b"\0\0\0\x01\0\0\0\x01\x01"],
+            &[
+                &seconds.to_be_bytes(),
+                &microseconds.to_be_bytes(),
+                b"\0\0\0\x01\0\0\0\x01\x01",
+            ],
         );
     }
     file
 }
 
-// A span in seconds, the times of packets, and lines.
-type Row = (&'static str, u32, &'static [(u32, u32)], &'static str);
-
-const SPANS: &[Row] = &[
-    ("no packet", 10, &[], ""),
-    ("one packet", 10, &[(100, 0)], "frame 0 01\n"),
-    (
-        "to the microsecond: the second span begins with line 2, the third with line 5",
-        10,
-        &[(100, 5), (110, 4), (110, 5), (120, 4), (120, 5)],
-        "frame 0 01\nframe 0 01\nforget 1\nframe 0 01\nframe 0 01\nforget 3\nframe 0 01\n",
-    ),
-    (
-        "a long silence is one span",
-        10,
-        &[(100, 0), (1000, 0), (1010, 0)],
-        "frame 0 01\nforget 1\nframe 0 01\nforget 2\nframe 0 01\n",
-    ),
-    (
-        "times that run backwards end no span and begin none",
-        10,
-        &[
-            (100, 0),
-            (0, 0),
-            (109, 0),
-            (110, 0),
-            (101, 0),
-            (119, 0),
-            (120, 0),
-        ],
-        "frame 0 01\nframe 0 01\nframe 0 01\nforget 1\nframe 0 01\nframe 0 01\nframe 0 01\n\
-        forget 4\nframe 0 01\n",
-    ),
-    (
-        "the longest span there is",
-        4_294_967_295,
-        &[(0, 0), (4_294_967_294, 999_999), (4_294_967_295, 0)],
-        "frame 0 01\nframe 0 01\nforget 1\nframe 0 01\n",
-    ),
-];
-
-fn spans(rt: &(impl Abort + AllocGlobal), row: &Row) {
-    let (what, seconds, times, lines) = *row;
-    let file = capture_at(rt, times);
-    let extra = Extra::Forget(seconds);
-    tells_all(rt, what, extra, file.as_slice(), lines.as_bytes());
-}
-
 #[test]
 fn spans_that_pass(rt: HostRuntime) {
-    for row in SPANS.iter() {
-        spans(&rt, row);
+    for (seconds, times, wanted) in [
+        (10, [].as_slice(), ""),
+        (10, &[(100, 0)], "frame 0 01\n"),
+        // To the microsecond. The second span begins with line 2, the third with line 5.
+        (
+            10,
+            &[(100, 5), (110, 4), (110, 5), (120, 4), (120, 5)],
+            "frame 0 01\nframe 0 01\nforget 1\nframe 0 01\nframe 0 01\nforget 3\nframe 0 01\n",
+        ),
+        // A long silence is one span.
+        (
+            10,
+            &[(100, 0), (1000, 0), (1010, 0)],
+            "frame 0 01\nforget 1\nframe 0 01\nforget 2\nframe 0 01\n",
+        ),
+        // Times that run backwards end no span and begin none.
+        (
+            10,
+            &[
+                (100, 0),
+                (0, 0),
+                (109, 0),
+                (110, 0),
+                (101, 0),
+                (119, 0),
+                (120, 0),
+            ],
+            "frame 0 01\nframe 0 01\nframe 0 01\nforget 1\nframe 0 01\nframe 0 01\nframe 0 01\n\
+            forget 4\nframe 0 01\n",
+        ),
+        // The longest span there is.
+        (
+            4_294_967_295,
+            &[(0, 0), (4_294_967_294, 999_999), (4_294_967_295, 0)],
+            "frame 0 01\nframe 0 01\nforget 1\nframe 0 01\n",
+        ),
+    ] {
+        let file = capture_at(&rt, times);
+        tells_all(
+            &rt,
+            Extra::Forget(seconds),
+            file.as_slice(),
+            wanted.as_bytes(),
+        );
     }
 }
-
-// At 100 seconds IPv4, at 110 nothing, at 120 no version of IP, at 130 and 135 IPv4.
-const RAW_IP: &[u8] = b"\
-    \xa1\xb2\xc3\xd4\x00\x02\x00\x04\0\0\0\0\0\0\0\0\x00\x04\x00\x00\0\0\0\x65\
-    \0\0\0\x64\0\0\0\0\0\0\0\x01\0\0\0\x01\x45\
-    \0\0\0\x6e\0\0\0\0\0\0\0\x00\0\0\0\x01\
-    \0\0\0\x78\0\0\0\0\0\0\0\x01\0\0\0\x01\x55\
-    \0\0\0\x82\0\0\0\0\0\0\0\x01\0\0\0\x01\x45\
-    \0\0\0\x87\0\0\0\0\0\0\0\x01\0\0\0\x01\x45";
-
-const RAW_IP_LINES: &[u8] = b"frame 0 000000000000000000000000080045\nforget 1\n\
-    frame 0 000000000000000000000000080045\nframe 0 000000000000000000000000080045\n";
 
 // Spans go on over reads, and over what has no line: no byte was captured, or it is passed over.
 #[test]
 fn spans_over_reads(rt: HostRuntime) {
-    let mut reader = FaultReader::new(RAW_IP, 1);
+    // At 100 seconds IPv4, at 110 nothing, at 120 no version of IP, at 130 and 135 IPv4.
+    let file = joined(
+        &rt,
+        &[
+            b"\xa1\xb2\xc3\xd4\x00\x02\x00\x04\0\0\0\0\0\0\0\0\x00\x04\x00\x00\0\0\0\x65",
+            b"\0\0\0\x64\0\0\0\0\0\0\0\x01\0\0\0\x01\x45",
+            b"\0\0\0\x6e\0\0\0\0\0\0\0\x00\0\0\0\x01",
+            b"\0\0\0\x78\0\0\0\0\0\0\0\x01\0\0\0\x01\x55",
+            b"\0\0\0\x82\0\0\0\0\0\0\0\x01\0\0\0\x01\x45",
+            b"\0\0\0\x87\0\0\0\0\0\0\0\x01\0\0\0\x01\x45",
+        ],
+    );
+    let mut reader = FaultReader::new(file.as_slice(), 1);
     let mut lines = Vec::new(rt.alloc());
     let mut skipped = Skipped::NONE;
     let result = run(
@@ -103,6 +100,9 @@ fn spans_over_reads(rt: HostRuntime) {
         &mut lines,
         &mut skipped,
     );
-    let told = (result, lines.as_slice(), skipped.without_frame);
-    equal(&rt, &told, &(Ok(()), RAW_IP_LINES, 1));
+    equal(&rt, &result, &Ok(()));
+    equal(&rt, &skipped.without_frame, &1);
+    let wanted = b"frame 0 000000000000000000000000080045\nforget 1\n\
+        frame 0 000000000000000000000000080045\nframe 0 000000000000000000000000080045\n";
+    equal(&rt, &lines.as_slice(), &wanted.as_slice());
 }

@@ -6,8 +6,6 @@
 #[cfg(test)]
 mod blocks;
 #[cfg(test)]
-mod changes;
-#[cfg(test)]
 mod checks;
 #[cfg(test)]
 mod classic;
@@ -27,8 +25,6 @@ mod pieces;
 mod readers;
 #[cfg(test)]
 mod reads;
-#[cfg(test)]
-mod sections;
 #[cfg(test)]
 mod skipping;
 #[cfg(test)]

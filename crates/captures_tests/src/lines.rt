@@ -1,5 +1,5 @@
 //! The lines that the captures of these tests hold, and what a run gives.
-use crate::checks::equal_in;
+use crate::checks::equal;
 use captures::{CaptureError, Extra, Place, RunError, Skipped, Unfit, run};
 use std::alloc::Global;
 use std::io::{Read, Write};
@@ -47,7 +47,6 @@ pub fn lines_to<R: Read, W: Write>(
 /// The lines of a run that tells this beside frames and ends so.
 pub fn lines_of<R: Read>(
     rt: &(impl Abort + AllocGlobal),
-    row: &str,
     extra: Extra,
     reader: &mut R,
     wanted: Result<(), RunError>,
@@ -62,62 +61,52 @@ pub fn lines_of<R: Read>(
         &mut lines,
         &mut skipped,
     );
-    equal_in(rt, row, &result, &wanted);
+    equal(rt, &result, &wanted);
     lines
 }
 
 /// A run over what is read ends so, and these are its lines.
 pub fn tells_read<R: Read>(
     rt: &(impl Abort + AllocGlobal),
-    row: &str,
     reader: &mut R,
     wanted: Result<(), RunError>,
     lines: &[u8],
 ) {
-    let told = lines_of(rt, row, Extra::Nothing, reader, wanted);
-    equal_in(rt, row, &told.as_slice(), &lines);
+    let told = lines_of(rt, Extra::Nothing, reader, wanted);
+    equal(rt, &told.as_slice(), &lines);
 }
 
 /// The same of a capture.
 pub fn tells(
     rt: &(impl Abort + AllocGlobal),
-    row: &str,
     capture: &[u8],
     wanted: Result<(), RunError>,
     lines: &[u8],
 ) {
-    tells_read(rt, row, &mut &*capture, wanted, lines);
+    tells_read(rt, &mut &*capture, wanted, lines);
 }
 
 /// The same where only the number of the lines' bytes is told.
 pub fn tells_bytes(
     rt: &(impl Abort + AllocGlobal),
-    row: &str,
     capture: &[u8],
     wanted: Result<(), RunError>,
     count: usize,
 ) {
-    let told = lines_of(rt, row, Extra::Nothing, &mut &*capture, wanted);
-    equal_in(rt, row, &told.len(), &count);
+    let told = lines_of(rt, Extra::Nothing, &mut &*capture, wanted);
+    equal(rt, &told.len(), &count);
 }
 
 /// A run that tells this beside frames tells the whole capture by these lines.
-pub fn tells_all(
-    rt: &(impl Abort + AllocGlobal),
-    row: &str,
-    extra: Extra,
-    capture: &[u8],
-    lines: &[u8],
-) {
-    let told = lines_of(rt, row, extra, &mut &*capture, Ok(()));
-    equal_in(rt, row, &told.as_slice(), &lines);
+pub fn tells_all(rt: &(impl Abort + AllocGlobal), extra: Extra, capture: &[u8], lines: &[u8]) {
+    let told = lines_of(rt, extra, &mut &*capture, Ok(()));
+    equal(rt, &told.as_slice(), &lines);
 }
 
 /// A run that passes over packets that can't be told ends so, after these lines, and has passed
 /// over so many. It doesn't add to what stood there.
 pub fn tells_skipping(
     rt: &(impl Abort + AllocGlobal),
-    row: &str,
     capture: &[u8],
     wanted: Result<(), RunError>,
     lines: &[u8],
@@ -137,6 +126,7 @@ pub fn tells_skipping(
         &mut told,
         &mut skipped,
     );
-    let told = (result, told.as_slice(), skipped);
-    equal_in(rt, row, &told, &(wanted, lines, passed));
+    equal(rt, &result, &wanted);
+    equal(rt, &told.as_slice(), &lines);
+    equal(rt, &skipped, &passed);
 }

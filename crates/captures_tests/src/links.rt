@@ -1,8 +1,7 @@
 //! Packets of other links than Ethernet, laid out as tcpdump.org/linktypes.html says.
-use crate::checks::{equal, joined, repeated};
-use crate::lines::{lines_to, refused, tells, tells_bytes};
-use crate::sections::{HEADER, section};
-use captures::{CaptureError, RunError};
+use crate::checks::{append, joined, repeated};
+use crate::lines::{refused, tells, tells_bytes};
+use captures::CaptureError;
 use std::process::Abort;
 
 // A classic capture of one packet.
@@ -22,121 +21,89 @@ pub fn capture(rt: &(impl Abort + AllocGlobal), link_type: u8, packet: &[u8]) ->
     )
 }
 
-// A link type, a packet, and its line, if it has a frame.
-type Row = (u8, &'static [u8], Option<&'static str>);
-
-const IPV4: Option<&str> = Some("frame 0 000000000000000000000000080045\n");
-
-const IPV6: Option<&str> = Some("frame 0 00000000000000000000000086dd60\n");
-
-const IPV4_FROM: Option<&str> = Some("frame 0 000000000000020000000001080045\n");
-
-const PACKETS: &[Row] = &[
-    // Raw IP: the version is in the first four bits.
-    (12, b"\x45", IPV4),
-    (14, b"\x60", IPV6),
-    (101, b"\x45", IPV4),
-    (228, b"\x45", IPV4),
-    (229, b"\x60", IPV6),
-    (101, b"\x55", None),
-    // An address family in either byte order.
-    (0, b"\x02\0\0\0\x45", IPV4),
-    (0, b"\0\0\0\x02\x45", IPV4),
-    (0, b"\x18\0\0\0\x60", IPV6),
-    (0, b"\x1c\0\0\0\x60", IPV6),
-    (0, b"\0\0\0\x1e\x60", IPV6),
-    (0, b"\x0a\0\0\0\x60", IPV6),
-    (0, b"\x07\0\0\0\x60", None),
-    (0, b"\x02\0\0", None),
-    (108, b"\0\0\0\x02\x45", IPV4),
-    (108, b"\0\0\0\x18\x60", IPV6),
-    (108, b"\x02\0\0\0\x45", None),
-    (108, b"\0\0\x02", None),
-    // Cooked captures: of an Ethernet card, of a tunnel without addresses, and of 802.2.
-    (
-        113,
-        b"\0\x04\0\x01\0\x06\x02\0\0\0\0\x01\0\0\x08\0\x45",
-        IPV4_FROM,
-    ),
-    (113, b"\0\0\xff\xfe\0\0\0\0\0\0\0\0\0\0\x86\xdd\x60", IPV6),
-    (
-        113,
-        b"\0\0\0\x01\0\x08\x01\x02\x03\x04\x05\x06\x07\x08\x08\0\x45",
-        IPV4,
-    ),
-    (
-        113,
-        b"\0\x01\0\x01\0\x06\x02\0\0\0\0\x01\0\0\0\x04\x42",
-        None,
-    ),
-    (113, b"\0\0\x03\x38\0\0\0\0\0\0\0\0\0\0\x08\0\x45", None),
-    (113, b"\0\x04\0\x01\0\x06\x02\0\0\0\0\x01\0\0\x08", None),
-    (
-        20,
-        b"\x08\0\0\0\0\0\0\x02\0\x01\x04\x06\x02\0\0\0\0\x01\0\0\x45",
-        IPV4_FROM,
-    ),
-    (
-        20,
-        b"\x86\xdd\0\0\0\0\0\x07\xff\xfe\x04\0\0\0\0\0\0\0\0\0\x60",
-        IPV6,
-    ),
-    (
-        20,
-        b"\0\x04\0\0\0\0\0\x02\0\x01\x01\x06\x02\0\0\0\0\x01\0\0\x42",
-        None,
-    ),
-    (
-        20,
-        b"\x08\0\0\0\0\0\0\x02\x03\x23\0\0\0\0\0\0\0\0\0\0\x45",
-        None,
-    ),
-    (
-        20,
-        b"\x08\0\0\0\0\0\0\x02\0\x01\x04\x06\x02\0\0\0\0\x01\0",
-        None,
-    ),
-    // Nothing was captured.
-    (113, b"", Some("")),
-];
-
-// How a run over a packet ends that has this line, if it has one.
-fn end_of(line: Option<&str>) -> Result<(), RunError> {
-    match line {
-        Some(_) => Ok(()),
-        None => refused(CaptureError::NoFrame, 1, 24, None),
-    }
-}
-
-fn tells_packet(rt: &(impl Abort + AllocGlobal), row: &Row) {
-    let (link_type, packet, line) = *row;
-    let file = capture(rt, link_type, packet);
-    let mut told = Vec::new(rt.alloc());
-    let result = lines_to(rt.alloc(), &mut file.as_slice(), &mut told);
-    let told = (link_type, packet, result, told.as_slice());
-    let lines = line.unwrap_or("").as_bytes();
-    equal(rt, &told, &(link_type, packet, end_of(line), lines));
-}
+const NO_FRAME: Option<&str> = None;
 
 #[test]
 fn frame_of_each_link(rt: HostRuntime) {
-    for row in PACKETS.iter() {
-        tells_packet(&rt, row);
+    let ipv4 = Some("frame 0 000000000000000000000000080045\n");
+    let ipv6 = Some("frame 0 00000000000000000000000086dd60\n");
+    let ipv4_from = Some("frame 0 000000000000020000000001080045\n");
+    for (link_type, packet, line) in [
+        // Raw IP: the version is in the first four bits.
+        (12, b"\x45".as_slice(), ipv4),
+        (14, b"\x60", ipv6),
+        (101, b"\x45", ipv4),
+        (228, b"\x45", ipv4),
+        (229, b"\x60", ipv6),
+        (101, b"\x55", NO_FRAME),
+        // An address family in either byte order.
+        (0, b"\x02\0\0\0\x45", ipv4),
+        (0, b"\0\0\0\x02\x45", ipv4),
+        (0, b"\x18\0\0\0\x60", ipv6),
+        (0, b"\x1c\0\0\0\x60", ipv6),
+        (0, b"\0\0\0\x1e\x60", ipv6),
+        (0, b"\x0a\0\0\0\x60", ipv6),
+        (0, b"\x07\0\0\0\x60", NO_FRAME),
+        (0, b"\x02\0\0", NO_FRAME),
+        (108, b"\0\0\0\x02\x45", ipv4),
+        (108, b"\0\0\0\x18\x60", ipv6),
+        (108, b"\x02\0\0\0\x45", NO_FRAME),
+        (108, b"\0\0\x02", NO_FRAME),
+        // Cooked captures: of an Ethernet card, of a tunnel without addresses, and of 802.2.
+        (
+            113,
+            b"\0\x04\0\x01\0\x06\x02\0\0\0\0\x01\0\0\x08\0\x45",
+            ipv4_from,
+        ),
+        (113, b"\0\0\xff\xfe\0\0\0\0\0\0\0\0\0\0\x86\xdd\x60", ipv6),
+        (
+            113,
+            b"\0\0\0\x01\0\x08\x01\x02\x03\x04\x05\x06\x07\x08\x08\0\x45",
+            ipv4,
+        ),
+        (
+            113,
+            b"\0\x01\0\x01\0\x06\x02\0\0\0\0\x01\0\0\0\x04\x42",
+            NO_FRAME,
+        ),
+        (113, b"\0\0\x03\x38\0\0\0\0\0\0\0\0\0\0\x08\0\x45", NO_FRAME),
+        (113, b"\0\x04\0\x01\0\x06\x02\0\0\0\0\x01\0\0\x08", NO_FRAME),
+        (
+            20,
+            b"\x08\0\0\0\0\0\0\x02\0\x01\x04\x06\x02\0\0\0\0\x01\0\0\x45",
+            ipv4_from,
+        ),
+        (
+            20,
+            b"\x86\xdd\0\0\0\0\0\x07\xff\xfe\x04\0\0\0\0\0\0\0\0\0\x60",
+            ipv6,
+        ),
+        (
+            20,
+            b"\0\x04\0\0\0\0\0\x02\0\x01\x01\x06\x02\0\0\0\0\x01\0\0\x42",
+            NO_FRAME,
+        ),
+        (
+            20,
+            b"\x08\0\0\0\0\0\0\x02\x03\x23\0\0\0\0\0\0\0\0\0\0\x45",
+            NO_FRAME,
+        ),
+        (
+            20,
+            b"\x08\0\0\0\0\0\0\x02\0\x01\x04\x06\x02\0\0\0\0\x01\0",
+            NO_FRAME,
+        ),
+        // Nothing was captured.
+        (113, b"", Some("")),
+    ] {
+        let (wanted, line) = match line {
+            Some(line) => (Ok(()), line),
+            None => (refused(CaptureError::NoFrame, 1, 24, None), ""),
+        };
+        let file = capture(&rt, link_type, packet);
+        tells(&rt, file.as_slice(), wanted, line.as_bytes());
     }
 }
-
-// A link type, the front of a packet that else is 0, its length, the length that is refused, and
-// the bytes of lines.
-type Length = (u8, &'static [u8], usize, Option<u32>, usize);
-
-const COOKED: &[u8] = b"\0\x04\0\x01\0\x06\x02\0\0\0\0\x01\0\0\x08\0";
-
-const LENGTHS: &[Length] = &[
-    (101, b"\x45", 99_977, None, 199_991),
-    (101, b"\x45", 99_978, Some(99_978), 0),
-    (113, COOKED, 99_993, None, 199_991),
-    (113, COOKED, 99_994, Some(99_994), 0),
-];
 
 // A packet of this length that begins so, and else is 0.
 fn filled(rt: &(impl Abort + AllocGlobal), front: &[u8], len: usize) -> Vec<u8> {
@@ -144,76 +111,87 @@ fn filled(rt: &(impl Abort + AllocGlobal), front: &[u8], len: usize) -> Vec<u8> 
     joined(rt, &[front, zeros.as_slice()])
 }
 
-// How a run ends that refuses a packet for its length, or refuses none.
-fn end_by_length(too_long: Option<u32>) -> Result<(), RunError> {
-    match too_long {
-        Some(count) => refused(CaptureError::FrameTooLong(count), 1, 24, None),
-        None => Ok(()),
-    }
-}
-
-fn tells_length(rt: &(impl Abort + AllocGlobal), row: &Length) {
-    let (link_type, front, len, too_long, count) = *row;
-    let packet = filled(rt, front, len);
-    let file = capture(rt, link_type, packet.as_slice());
-    let row = if link_type == 101 { "raw IP" } else { "cooked" };
-    tells_bytes(rt, row, file.as_slice(), end_by_length(too_long), count);
-}
-
 // As many bytes as a line holds, behind a header of 14 in place of none and of 16.
 #[test]
 fn longest_packets(rt: HostRuntime) {
-    for row in LENGTHS.iter() {
-        tells_length(&rt, row);
+    let ip = b"\x45".as_slice();
+    let cooked = b"\0\x04\0\x01\0\x06\x02\0\0\0\0\x01\0\0\x08\0".as_slice();
+    let too_long = |count| refused(CaptureError::FrameTooLong(count), 1, 24, None);
+    for (link_type, front, len, wanted, line_len) in [
+        (101, ip, 99_977, Ok(()), 199_991),
+        (101, ip, 99_978, too_long(99_978), 0),
+        (113, cooked, 99_993, Ok(()), 199_991),
+        (113, cooked, 99_994, too_long(99_994), 0),
+    ] {
+        let packet = filled(&rt, front, len);
+        let file = capture(&rt, link_type, packet.as_slice());
+        tells_bytes(&rt, file.as_slice(), wanted, line_len);
     }
 }
 
-// Interfaces of link types 101, 108 and 1, and a packet of each: the last one's is the first's
-// again, in a simple packet.
-const THREE_LINKS: &[u8] = b"\
-    \x01\0\0\0\x14\0\0\0\x65\0\0\0\0\0\0\0\x14\0\0\0\
-    \x01\0\0\0\x14\0\0\0\x6c\0\0\0\0\0\0\0\x14\0\0\0\
-    \x01\0\0\0\x14\0\0\0\x01\0\0\0\0\0\0\0\x14\0\0\0\
-    \x06\0\0\0\x28\0\0\0\x02\0\0\0\0\0\0\0\0\0\0\0\
-    \x03\0\0\0\x03\0\0\0\x01\x02\x03\0\0\0\0\0\x28\0\0\0\
-    \x06\0\0\0\x28\0\0\0\0\0\0\0\0\0\0\0\0\0\0\0\
-    \x01\0\0\0\x01\0\0\0\x45\0\0\0\0\0\0\0\x28\0\0\0\
-    \x06\0\0\0\x28\0\0\0\x01\0\0\0\0\0\0\0\0\0\0\0\
-    \x05\0\0\0\x05\0\0\0\0\0\0\x02\x45\0\0\0\x28\0\0\0\
-    \x03\0\0\0\x14\0\0\0\x01\0\0\0\x60\0\0\0\x14\0\0\0";
+pub const SECTION: &[u8; 28] = b"\
+    \x0a\x0d\x0d\x0a\x1c\x00\x00\x00\x4d\x3c\x2b\x1a\x01\x00\x00\x00\xff\xff\xff\xff\
+    \xff\xff\xff\xff\x1c\x00\x00\x00";
 
+// The description of an interface of this link.
+pub fn interface_of(link_type: u8) -> [u8; 20] {
+    let mut block = *b"\x01\0\0\0\x14\0\0\0\0\0\0\0\0\0\0\0\x14\0\0\0";
+    block[8] = link_type;
+    block
+}
+
+// A packet of one byte, 45, of this interface.
+pub fn packet_of(interface: u8) -> [u8; 36] {
+    let mut block = *b"\x06\0\0\0\x24\0\0\0\0\0\0\0\0\0\0\0\0\0\0\0\
+        \x01\0\0\0\x01\0\0\0\x45\0\0\0\x24\0\0\0";
+    block[8] = interface;
+    block
+}
+
+// Interfaces of three links, and a packet of each: the last one's is the first's again, in a
+// simple packet.
 #[test]
 fn links_of_a_section(rt: HostRuntime) {
-    let file = joined(&rt, &[HEADER, THREE_LINKS]);
+    let file = joined(
+        &rt,
+        &[
+            SECTION,
+            &interface_of(101),
+            &interface_of(108),
+            &interface_of(1),
+            b"\x06\0\0\0\x28\0\0\0\x02\0\0\0\0\0\0\0\0\0\0\0",
+            b"\x03\0\0\0\x03\0\0\0\x01\x02\x03\0\0\0\0\0\x28\0\0\0",
+            b"\x06\0\0\0\x28\0\0\0\0\0\0\0\0\0\0\0\0\0\0\0",
+            b"\x01\0\0\0\x01\0\0\0\x45\0\0\0\0\0\0\0\x28\0\0\0",
+            b"\x06\0\0\0\x28\0\0\0\x01\0\0\0\0\0\0\0\0\0\0\0",
+            b"\x05\0\0\0\x05\0\0\0\0\0\0\x02\x45\0\0\0\x28\0\0\0",
+            b"\x03\0\0\0\x14\0\0\0\x01\0\0\0\x60\0\0\0\x14\0\0\0",
+        ],
+    );
     let lines = b"frame 2 010203\n\
         frame 0 000000000000000000000000080045\n\
         frame 1 000000000000000000000000080045\n\
         frame 0 00000000000000000000000086dd60\n";
-    tells(&rt, "three links", file.as_slice(), Ok(()), lines);
-}
-
-// A run over a section of 31 interfaces of link type 1 and two of these, with a packet of the 33rd
-// and one of the 32nd.
-fn tells_last(
-    rt: &(impl Abort + AllocGlobal),
-    row: &str,
-    last: [u8; 2],
-    wanted: Result<(), RunError>,
-    lines: &[u8],
-) {
-    let others = repeated(rt, b"\x01", 31);
-    let link_types = joined(rt, &[others.as_slice(), &last]);
-    let file = section(rt, link_types.as_slice(), &[32, 31]);
-    tells(rt, row, file.as_slice(), wanted, lines);
+    tells(&rt, file.as_slice(), Ok(()), lines);
 }
 
 // The 32nd interface of a section may have any link that is read, the 33rd has to be Ethernet.
 #[test]
 fn link_of_the_33rd_interface(rt: HostRuntime) {
-    let told = b"frame 32 45\nframe 31 000000000000000000000000080045\n";
-    tells_last(&rt, "Ethernet", [101, 1], Ok(()), told);
-    let raw_ip = refused(CaptureError::LinkType(101), 1, 668, Some(1));
-    tells_last(&rt, "raw IP", [101, 101], raw_ip, b"");
-    let ppp = refused(CaptureError::LinkType(9), 1, 668, Some(1));
-    tells_last(&rt, "PPP", [101, 9], ppp, b"");
+    let link_error = |number| refused(CaptureError::LinkType(number), 1, 668, Some(1));
+    let told = b"frame 32 45\nframe 31 000000000000000000000000080045\n".as_slice();
+    for (last, next, wanted, lines) in [
+        (101, 1, Ok(()), told),
+        (101, 101, link_error(101), b""),
+        (101, 9, link_error(9), b""),
+    ] {
+        let mut file = joined(&rt, &[SECTION]);
+        for _ in 0..31 {
+            append(&rt, &mut file, &[&interface_of(1)]);
+        }
+        append(&rt, &mut file, &[&interface_of(last), &interface_of(next)]);
+        // A packet of the 33rd, and one of the 32nd.
+        append(&rt, &mut file, &[&packet_of(32), &packet_of(31)]);
+        tells(&rt, file.as_slice(), wanted, lines);
+    }
 }

@@ -7,22 +7,22 @@ use crate::text::capture_of;
 use captures::{CaptureError, Place, RunError, TimeUnit, write_capture};
 use fault_devices::{Fault, FaultReader, FaultWriter};
 use std::io::ErrorKind;
-use std::process::Abort;
 
 // What a call ends by that fails.
 const FAILS: Fault = Fault::Fails(ErrorKind::Other);
 
-fn tells_by_bytes(rt: &(impl Abort + AllocGlobal), file: &[u8], lines: &[u8]) {
-    let mut reader = FaultReader::new(file, 1);
-    let mut writer = FaultWriter::new(rt.alloc(), 1);
-    let result = lines_to(rt.alloc(), &mut reader, &mut writer);
-    equal(rt, &(result, writer.taken.as_slice()), &(Ok(()), lines));
-}
-
 #[test]
 fn one_byte_a_call(rt: HostRuntime) {
-    tells_by_bytes(&rt, LITTLE_NANOSECONDS, LINES);
-    tells_by_bytes(&rt, TWO_SECTIONS, TWO_SECTIONS_LINES);
+    for (file, lines) in [
+        (LITTLE_NANOSECONDS.as_slice(), LINES.as_slice()),
+        (TWO_SECTIONS, TWO_SECTIONS_LINES),
+    ] {
+        let mut reader = FaultReader::new(file, 1);
+        let mut writer = FaultWriter::new(rt.alloc(), 1);
+        let result = lines_to(rt.alloc(), &mut reader, &mut writer);
+        equal(&rt, &result, &Ok(()));
+        equal(&rt, &writer.taken.as_slice(), &lines);
+    }
 }
 
 #[test]
@@ -33,26 +33,22 @@ fn reads_that_fail(rt: HostRuntime) {
     let capture = capture_of(&rt, TimeUnit::Microseconds, &mut reader, failed);
     equal(&rt, &capture.len(), &90);
     let mut reader = FaultReader::failing(capture.as_slice(), 1, 90, FAILS);
-    tells_read(&rt, "a capture", &mut reader, failed, &LINES[..109]);
+    tells_read(&rt, &mut reader, failed, &LINES[..109]);
 }
 
-// A run over lines whose writes take a byte each, and fail behind so many.
-fn fails_behind(rt: &(impl Abort + AllocGlobal), room: usize) {
-    let mut writer = FaultWriter::failing(rt.alloc(), 1, room, FAILS);
-    let mut lines = LINES.as_slice();
-    let result = write_capture(rt.alloc(), TimeUnit::Microseconds, &mut lines, &mut writer);
-    equal(
-        rt,
-        &(result, writer.taken.len()),
-        &(Err(RunError::Write), room),
-    );
-}
-
-// Within the header, and within the second packet's head.
 #[test]
 fn writes_that_fail(rt: HostRuntime) {
+    // Within the header, and within the second packet's head.
     for room in [0, 23, 100] {
-        fails_behind(&rt, room);
+        let mut writer = FaultWriter::failing(rt.alloc(), 1, room, FAILS);
+        let result = write_capture(
+            rt.alloc(),
+            TimeUnit::Microseconds,
+            &mut LINES.as_slice(),
+            &mut writer,
+        );
+        equal(&rt, &result, &Err(RunError::Write));
+        equal(&rt, &writer.taken.len(), &room);
     }
 }
 
@@ -61,48 +57,36 @@ fn writer_without_room(rt: HostRuntime) {
     let mut room = [0u8; 111];
     let mut reader = LITTLE_NANOSECONDS.as_slice();
     let result = lines_to(rt.alloc(), &mut reader, &mut room.as_mut_slice());
-    let wanted = (Err(RunError::WriteZero), &LINES[..111]);
-    equal(&rt, &(result, room.as_slice()), &wanted);
-}
-
-// An error, the type of the block, and the text.
-const ERRORS: &[(CaptureError, Option<u32>, &str)] = &[
-    (
-        CaptureError::LinkType(9),
-        None,
-        "packet 1, byte 48: link type 9 is not read",
-    ),
-    (
-        CaptureError::BlockTooLong(262_148),
-        Some(6),
-        "packet 1, byte 48, block type 0x6 (enhanced packet): a block of 262148 bytes is too long",
-    ),
-    (
-        CaptureError::BadBlock,
-        Some(7),
-        "packet 1, byte 48, block type 0x7: a block is not well made",
-    ),
-];
-
-fn is_told_as(
-    rt: &(impl Abort + AllocGlobal),
-    error: CaptureError,
-    block: Option<u32>,
-    text: &str,
-) {
-    let place = Place {
-        packet: 1,
-        offset: 48,
-        block,
-    };
-    let told = format!(in rt.alloc(); "{}", RunError::Capture(error, place));
-    let told = told.expect(rt, "no memory");
-    equal(rt, &told.as_str(), &text);
+    equal(&rt, &result, &Err(RunError::WriteZero));
+    equal(&rt, &room.as_slice(), &&LINES[..111]);
 }
 
 #[test]
 fn texts_of_errors(rt: HostRuntime) {
-    for (error, block, text) in ERRORS.iter() {
-        is_told_as(&rt, *error, *block, text);
+    for (error, block, text) in [
+        (
+            CaptureError::LinkType(9),
+            None,
+            "packet 1, byte 48: link type 9 is not read",
+        ),
+        (
+            CaptureError::BlockTooLong(262_148),
+            Some(6),
+            "packet 1, byte 48, block type 0x6 (enhanced packet): a block of 262148 bytes is too long",
+        ),
+        (
+            CaptureError::BadBlock,
+            Some(7),
+            "packet 1, byte 48, block type 0x7: a block is not well made",
+        ),
+    ] {
+        let place = Place {
+            packet: 1,
+            offset: 48,
+            block,
+        };
+        let told = format!(in rt.alloc(); "{}", RunError::Capture(error, place));
+        let told = told.expect(&rt, "no memory");
+        equal(&rt, &told.as_str(), &text);
     }
 }

@@ -1,15 +1,15 @@
 //! Runs of which one read fails or gives nothing, before and after the last byte of each header and
 //! packet, and runs of few reads. Each other read gives a byte.
-use crate::checks::{equal, front};
-use crate::lines::{lines_to, refused};
+use crate::checks::equal;
+use crate::lines::{refused, tells_read};
+use crate::text::capture_of;
 use captures::device::ReaderWriter;
 use captures::{
-    CaptureError, Extra, RunError, Skipped, TimeUnit, Unfit, run_over, write_capture,
-    write_capture_over,
+    CaptureError, Extra, RunError, Skipped, TimeUnit, Unfit, run_over, write_capture_over,
 };
 use fault_devices::{Fault, FaultReader};
+use std::alloc::Global;
 use std::io::ErrorKind;
-use std::process::Abort;
 
 // A header of 24 bytes, and packets of one byte and of two.
 const CAPTURE: &[u8; 59] = b"\
@@ -26,77 +26,78 @@ const INTERRUPTED: Fault = Fault::Fails(ErrorKind::Interrupted);
 
 const FAILS: Fault = Fault::Fails(ErrorKind::Other);
 
-// A run of which the read behind so many bytes is a fault.
-fn tells_before(
-    rt: &(impl Abort + AllocGlobal),
-    fault: Fault,
-    before: usize,
-    wanted: Result<(), RunError>,
-    count: usize,
-) {
-    let mut reader = FaultReader::failing(CAPTURE, 1, before, fault);
-    let mut told = Vec::new(rt.alloc());
-    let result = lines_to(rt.alloc(), &mut reader, &mut told);
-    let told = (fault, before, result, told.as_slice(), reader.calls);
-    let lines = front(rt, LINES, count);
-    let calls = before.saturating_add(1);
-    equal(rt, &told, &(fault, before, wanted, lines, calls));
+// The lines that a front of the capture gives.
+fn lines_of(n: usize) -> &'static [u8] {
+    match n {
+        0..=40 => b"",
+        41..=58 => b"frame 0 01\n",
+        _ => LINES,
+    }
 }
 
-// A front of the capture, whether it is refused, and how; and the bytes of its lines.
-const FRONTS: &[(usize, Option<(CaptureError, u64, u64)>, usize)] = &[
-    (0, Some((CaptureError::NotCapture, 1, 0)), 0),
-    (23, Some((CaptureError::NotCapture, 1, 0)), 0),
-    (24, None, 0),
-    (40, Some((CaptureError::CutOff, 1, 24)), 0),
-    (41, None, 11),
-    (58, Some((CaptureError::CutOff, 2, 41)), 11),
-    (59, None, 24),
-];
-
 // What a run answers to a front of the capture.
-fn end_of_front(refusal: Option<(CaptureError, u64, u64)>) -> Result<(), RunError> {
-    match refusal {
-        Some((error, packet, offset)) => refused(error, packet, offset, None),
-        None => Ok(()),
+fn end_of_capture(n: usize) -> Result<(), RunError> {
+    match n {
+        0..=23 => refused(CaptureError::NotCapture, 1, 0, None),
+        24 | 41 | 59 => Ok(()),
+        25..=40 => refused(CaptureError::CutOff, 1, 24, None),
+        _ => refused(CaptureError::CutOff, 2, 41, None),
     }
 }
 
 #[test]
 fn each_read_of_a_run(rt: HostRuntime) {
-    for (before, refusal, count) in FRONTS.iter() {
-        let failed = Err(RunError::Read);
-        tells_before(&rt, INTERRUPTED, *before, failed, *count);
-        tells_before(&rt, FAILS, *before, failed, *count);
-        let wanted = end_of_front(*refusal);
-        tells_before(&rt, Fault::MovesNone, *before, wanted, *count);
+    for fault in [INTERRUPTED, FAILS, Fault::MovesNone] {
+        for before in [0usize, 23, 24, 40, 41, 58, 59] {
+            let wanted = match fault {
+                Fault::MovesNone => end_of_capture(before),
+                _ => Err(RunError::Read),
+            };
+            let mut reader = FaultReader::failing(CAPTURE, 1, before, fault);
+            tells_read(&rt, &mut reader, wanted, lines_of(before));
+            equal(&rt, &reader.calls, &before.saturating_add(1));
+        }
     }
 }
 
-// A run over lines of which the read behind so many bytes fails.
-fn writes_before(rt: &(impl Abort + AllocGlobal), fault: Fault, before: usize, count: usize) {
-    let mut reader = FaultReader::failing(TIMED_LINES, 1, before, fault);
-    let mut file = Vec::new(rt.alloc());
-    let result = write_capture(rt.alloc(), TimeUnit::Microseconds, &mut reader, &mut file);
-    let told = (fault, before, result, file.as_slice(), reader.calls);
-    let capture = front(rt, CAPTURE, count);
-    let calls = before.saturating_add(1);
-    equal(
-        rt,
-        &told,
-        &(fault, before, Err(RunError::Read), capture, calls),
-    );
+// The front of the capture that a front of the lines gives, where more may come.
+fn front_of(n: usize) -> &'static [u8] {
+    match n {
+        0..=14 => &CAPTURE[..24],
+        15..=31 => &CAPTURE[..41],
+        _ => CAPTURE,
+    }
 }
-
-// A front of the lines, and the bytes of the capture that it gives, where more may come.
-const FRONTS_OF_LINES: &[(usize, usize)] = &[(0, 24), (14, 24), (15, 41), (31, 41), (32, 59)];
 
 #[test]
 fn each_read_of_lines(rt: HostRuntime) {
-    for (before, count) in FRONTS_OF_LINES.iter() {
-        writes_before(&rt, INTERRUPTED, *before, *count);
-        writes_before(&rt, FAILS, *before, *count);
+    for fault in [INTERRUPTED, FAILS] {
+        for before in [0usize, 14, 15, 31, 32] {
+            let mut reader = FaultReader::failing(TIMED_LINES, 1, before, fault);
+            let wanted = Err(RunError::Read);
+            let capture = capture_of(&rt, TimeUnit::Microseconds, &mut reader, wanted);
+            equal(&rt, &reader.calls, &before.saturating_add(1));
+            equal(&rt, &capture.as_slice(), &front_of(before));
+        }
     }
+}
+
+fn run_of(
+    alloc: Global,
+    reader: &mut FaultReader<'_>,
+    writer: &mut Vec<u8>,
+    reads: u8,
+) -> Result<(), RunError> {
+    let mut device = ReaderWriter { reader, writer };
+    let mut skipped = Skipped::NONE;
+    run_over(
+        alloc,
+        Extra::Nothing,
+        Unfit::Refuse,
+        &mut device,
+        u64::from(reads),
+        &mut skipped,
+    )
 }
 
 // What a run answers that may make so many reads, where it needs this many, and how many it makes.
@@ -108,58 +109,35 @@ fn end_of_reads(reads: u8, needed: u8) -> (Result<(), RunError>, usize) {
     }
 }
 
-fn tells_in_reads(rt: &(impl Abort + AllocGlobal), reads: u8, count: usize) {
-    let mut reader = FaultReader::new(CAPTURE, 1);
-    let mut lines = Vec::new(rt.alloc());
-    let mut skipped = Skipped::NONE;
-    let mut device = ReaderWriter {
-        reader: &mut reader,
-        writer: &mut lines,
-    };
-    let result = run_over(
-        rt.alloc(),
-        Extra::Nothing,
-        Unfit::Refuse,
-        &mut device,
-        u64::from(reads),
-        &mut skipped,
-    );
-    let told = (reads, (result, reader.calls), lines.as_slice());
-    let wanted = (reads, end_of_reads(reads, 60), front(rt, LINES, count));
-    equal(rt, &told, &wanted);
-}
-
-// So many reads, and the bytes of lines that they give. The read that gives nothing counts: so a
-// run of 59 bytes makes 60 reads.
-const READS: &[(u8, usize)] = &[(0, 0), (1, 0), (41, 11), (59, 24), (60, 24), (61, 24)];
-
+// The read that gives nothing counts: so a run of 59 bytes makes 60 reads.
 #[test]
 fn runs_of_few_reads(rt: HostRuntime) {
-    for (reads, count) in READS.iter() {
-        tells_in_reads(&rt, *reads, *count);
+    for reads in [0u8, 1, 41, 59, 60, 61] {
+        let mut reader = FaultReader::new(CAPTURE, 1);
+        let mut lines = Vec::new(rt.alloc());
+        let result = run_of(rt.alloc(), &mut reader, &mut lines, reads);
+        equal(&rt, &(result, reader.calls), &end_of_reads(reads, 60));
+        equal(&rt, &lines.as_slice(), &lines_of(usize::from(reads)));
     }
 }
 
-fn writes_in_reads(rt: &(impl Abort + AllocGlobal), reads: u8, count: usize) {
-    let mut reader = FaultReader::new(TIMED_LINES, 1);
-    let mut file = Vec::new(rt.alloc());
-    let mut device = ReaderWriter {
-        reader: &mut reader,
-        writer: &mut file,
-    };
-    let time_unit = TimeUnit::Microseconds;
-    let result = write_capture_over(rt.alloc(), time_unit, &mut device, u64::from(reads));
-    let told = (reads, (result, reader.calls), file.as_slice());
-    let wanted = (reads, end_of_reads(reads, 33), front(rt, CAPTURE, count));
-    equal(rt, &told, &wanted);
+fn run_of_lines(
+    alloc: Global,
+    reader: &mut FaultReader<'_>,
+    writer: &mut Vec<u8>,
+    reads: u8,
+) -> Result<(), RunError> {
+    let mut device = ReaderWriter { reader, writer };
+    write_capture_over(alloc, TimeUnit::Microseconds, &mut device, u64::from(reads))
 }
-
-// So many reads of lines, and the bytes of the capture that they give.
-const READS_OF_LINES: &[(u8, usize)] = &[(0, 24), (1, 24), (15, 41), (32, 59), (33, 59), (34, 59)];
 
 #[test]
 fn runs_of_few_reads_of_lines(rt: HostRuntime) {
-    for (reads, count) in READS_OF_LINES.iter() {
-        writes_in_reads(&rt, *reads, *count);
+    for reads in [0u8, 1, 15, 32, 33, 34] {
+        let mut reader = FaultReader::new(TIMED_LINES, 1);
+        let mut capture = Vec::new(rt.alloc());
+        let result = run_of_lines(rt.alloc(), &mut reader, &mut capture, reads);
+        equal(&rt, &(result, reader.calls), &end_of_reads(reads, 33));
+        equal(&rt, &capture.as_slice(), &front_of(usize::from(reads)));
     }
 }
