@@ -69,13 +69,16 @@ def cut_off():
     return Worked("cut_off", 1, frames.MIXED[:2], told, end=24 + 16 + 54 + 2)
 
 
+# What is passed over is told in the report, and on standard error.
+PASSED_OVER = "passed over: 0 of other links, 1 too long, 0 without a frame"
+
 CAPTURES = (
     # What is passed over is an IPv4 packet of 100,000 bytes.
     Worked(
         "talkers",
         101,
         [*frames.TALKERS, "45" + 99_999 * "00"],
-        [(["summary", "--skip"], TALKERS.splitlines())],
+        [(["summary", "--skip"], [*TALKERS.splitlines(), PASSED_OVER])],
     ),
     Worked(
         "open_messages",

@@ -1,5 +1,5 @@
 //! Tests of `packets` and `packets_commands` over their public calls. What is told of whole
-//! captures are rows of `packets_rows`.
+//! captures are rows of `tools/packets_rows`.
 #![tactic(auto)]
 
 #[cfg(test)]
