@@ -5,6 +5,7 @@
 mod frames;
 pub mod laws;
 mod messages;
+mod program;
 
 pub use etherparse::defrag::IpFragVersionSpecId;
 pub use etherparse::{Addresses, Message, VlanId, read_message};
@@ -20,5 +21,6 @@ pub use messages::post_error::PostError;
 pub use messages::post_message::post;
 pub use messages::seal_error::SealError;
 pub use messages::sealed_message::seal_message;
+pub use program::{answer_input, exit_code, fault_name};
 pub use runs::device;
 pub use verdicts::{Verdict, judge};

@@ -22,6 +22,8 @@ mod post;
 #[cfg(test)]
 mod post_refusals;
 #[cfg(test)]
+mod program;
+#[cfg(test)]
 mod reuse;
 #[cfg(test)]
 mod rows;

@@ -1,6 +1,6 @@
 //! The flush, the status and what is told of an error.
-use crate::{answer_input, exit_code, fault_name};
-use netlines::RunError;
+use crate::checks::equal;
+use netlines::{RunError, answer_input, exit_code, fault_name};
 use std::io::{self, ErrorKind, Write};
 use std::process::ExitCode;
 use std::test::Fail;
@@ -26,7 +26,7 @@ impl Write for UnflushableWriter {
 fn answers_what_is_read(rt: HostRuntime) -> Result<(), Fail> {
     let mut output = Vec::new(rt.alloc());
     answer_input(rt.alloc(), &mut b"\n".as_slice(), &mut output)?;
-    assert_eq!(rt; output.as_slice(), b"bad line\n".as_slice());
+    equal(&rt, &output.as_slice(), &b"bad line\n".as_slice());
     Ok(())
 }
 
@@ -36,8 +36,8 @@ fn a_flush_that_fails_is_a_failed_write(rt: HostRuntime) {
         taken: Vec::new(rt.alloc()),
     };
     let done = answer_input(rt.alloc(), &mut b"\n".as_slice(), &mut writer);
-    assert_eq!(rt; done, Err(RunError::Write));
-    assert_eq!(rt; writer.taken.as_slice(), b"bad line\n".as_slice());
+    equal(&rt, &done, &Err(RunError::Write));
+    equal(&rt, &writer.taken.as_slice(), &b"bad line\n".as_slice());
 }
 
 #[test]
@@ -50,10 +50,10 @@ fn errors_have_names(rt: HostRuntime) {
         (RunError::TooManyReads, "reads"),
     ];
     for (error, name) in rows {
-        assert_eq!(rt; fault_name(error), name);
-        assert_eq!(rt; exit_code(&rt, Err(error)), ExitCode::FAILURE);
+        equal(&rt, &fault_name(error), &name);
+        equal(&rt, &exit_code(&rt, Err(error)), &ExitCode::FAILURE);
     }
-    assert_eq!(rt; exit_code(&rt, Ok(())), ExitCode::SUCCESS);
+    equal(&rt, &exit_code(&rt, Ok(())), &ExitCode::SUCCESS);
 }
 
 #[test]
