@@ -1,9 +1,5 @@
-pub mod Counts
 pub mod IpDefragPool
 pub mod IpFragId
 pub mod OpenMessages
 pub mod PoolCalls
 pub mod Processed
-pub mod Refused
-pub mod SpareBuffers
-pub mod Streams

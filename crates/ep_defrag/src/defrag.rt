@@ -6,14 +6,10 @@ mod ip_frag_id;
 mod ip_frag_version_spec_id;
 mod part;
 mod pool_calls;
-mod retain_streams;
-mod spare_buffers;
-mod stream;
-mod streams;
 
 pub use ep_fragments::defrag::{
     IpDefragBuf, IpDefragError, IpFragRange, MAX_IP_DEFRAG_LEN, MAX_IP_DEFRAG_LEN_U16, OverlapRule,
-    checked_end,
+    Piece, Stream, Streams, checked_end,
 };
 pub use ip_defrag_payload_vec::IpDefragPayloadVec;
 pub use ip_defrag_pool::IpDefragPool;

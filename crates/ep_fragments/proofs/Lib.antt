@@ -4,7 +4,9 @@ pub mod Complete
 pub mod Disjoint
 pub mod Found
 pub mod Members
+pub mod OutcomeLemmas
 pub mod Push
+pub mod Retaining
 mod Accepted
 mod AcceptedLists
 mod Added
@@ -15,6 +17,7 @@ mod Kept
 mod Lengths
 mod MemberOrder
 mod Ordered
+mod Places
 mod SameBuffers
 mod Sharing
 mod Written

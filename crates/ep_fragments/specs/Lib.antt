@@ -1,3 +1,4 @@
+pub mod Counts
 pub mod Fragments
 pub mod IpDefragBuf
 pub mod IpDefragError
@@ -6,3 +7,6 @@ pub mod Joined
 pub mod Member
 pub mod Outcome
 pub mod Picture
+pub mod Refused
+pub mod SpareBuffers
+pub mod Streams

@@ -6,5 +6,5 @@ pub use Rattle.ep_fragments.proofs.Complete
 pub use Rattle.ep_fragments.proofs.Disjoint
 pub use Rattle.ep_fragments.proofs.Found
 pub use Rattle.ep_fragments.proofs.Members
-pub use Rattle.ep_defrag.proofs.OutcomeLemmas
+pub use Rattle.ep_fragments.proofs.OutcomeLemmas
 pub use Rattle.ep_fragments.proofs.Push

@@ -8,7 +8,7 @@ use Rattle.etherparse.specs.defrag.PoolCalls.{FrameAnswered, HasMemory, Lists, S
 use Rattle.etherparse.specs.defrag.PoolCalls.{answer_to_frame, lists_with_frame, told_outcome}
 use Rattle.etherparse.specs.defrag.PoolCalls.Told.{Refused}
 use Rattle.etherparse.specs.defrag.Processed.{PacketsAreAnswered, WantsAreTold}
-use Rattle.etherparse.specs.defrag.Streams.{OthersStay, Pool, Stays}
+use Rattle.etherparse.specs.fragments.Streams.{OthersStay, Pool, Stays}
 use Rattle.etherparse.specs.fragments.declared.defrag.ip_defrag_error.IpDefragError.{IpDefragError}
 use Rattle.etherparse.specs.fragments.declared.defrag.ip_defrag_error.IpDefragError.TheVariants.{UnalignedFragmentPayloadLen}
 use Rattle.etherparse.specs.fragments.declared.defrag.ip_defrag_error.IpDefragError.TheVariants.{SegmentTooBig}

@@ -8,7 +8,7 @@ use Rattle.etherparse.specs.defrag.PoolCalls.{answer_to_frame}
 use Rattle.etherparse.specs.defrag.PoolCalls.{lists_with_frame}
 use Rattle.etherparse.specs.defrag.PoolCalls.Told.{Delivered, NoMemory, NotSliced, Nothing}
 use Rattle.etherparse.specs.defrag.PoolCalls.Told.{Refused as PartRefused, Retained}
-use Rattle.etherparse.specs.defrag.Streams.{Pool}
+use Rattle.etherparse.specs.fragments.Streams.{Pool}
 use Rattle.etherparse.specs.fragments.declared.defrag.ip_defrag_error.IpDefragError.{IpDefragError}
 use Rattle.etherparse.specs.fragments.declared.defrag.ip_defrag_error.IpDefragError.TheVariants.{UnalignedFragmentPayloadLen}
 use Rattle.etherparse.specs.fragments.declared.defrag.ip_defrag_error.IpDefragError.TheVariants.{SegmentTooBig}

@@ -7,16 +7,15 @@ ghost use Rattle.std.specs.List.{IsDistinct};
 ghost use Rattle.std.specs.Map.{keys_of};
 ghost use Rattle.ep_packet.specs.Class.{IdentificationFits, as_class, packet_told};
 ghost use Rattle.ep_packet.specs.declared.class.Class.TheVariants as told;
-ghost use Rattle.ep_defrag.specs.Counts.{Bounded, Counts, open_in};
+ghost use Rattle.ep_fragments.specs.Counts.{Bounded, Counts, open_in};
 ghost use Rattle.ep_defrag.specs.IpDefragPool.{Accepts, AcceptsBy, Refuses, same_id};
 ghost use Rattle.ep_defrag.specs.IpFragId.{fragment_in, id_named};
-ghost use Rattle.ep_defrag.specs.Streams.{MayAsk, OthersStay, RefusesBy, Retained, Stays};
-ghost use Rattle.ep_defrag.specs.Streams.{fragment_of, stream_at};
+ghost use Rattle.ep_fragments.specs.Streams.{MayAsk, OthersStay, RefusesBy, Retained, Stays};
+ghost use Rattle.ep_fragments.specs.Streams.{fragment_of, stream_at};
 
 use super::part::spec_id;
-use super::streams::Streams;
-use super::{IpDefragError, IpDefragPayloadVec, IpFragId, OverlapRule};
-use ep_packet::{Class, CutMessage, Part, SlicedPacket};
+use super::{IpDefragError, IpDefragPayloadVec, IpFragId, OverlapRule, Piece, Streams};
+use ep_packet::{Class, CutMessage, SlicedPacket};
 use std::alloc::{AllocError, Global};
 use std::hash::{BuildHasher, BuildHasherDefault, FoldHasher, Hash};
 use std::marker::Model;
@@ -39,7 +38,7 @@ pub struct IpDefragPool<
 impl<Timestamp, CustomChannelId: Eq + Hash, S: BuildHasher> Model
     for IpDefragPool<Timestamp, CustomChannelId, S> {
     ghost use Rattle.ep_defrag.specs.declared.defrag.ip_frag_id.IpFragId.{IpFragId};
-    ghost use Rattle.ep_defrag.specs.Streams.{Pool};
+    ghost use Rattle.ep_fragments.specs.Streams.{Pool};
 
     ghost Value = { Pool (IpFragId CustomChannelId) Timestamp };
 
@@ -169,21 +168,26 @@ impl<Timestamp: Drop, CustomChannelId: Eq + Hash + Drop, S: BuildHasher> IpDefra
             payload_ip_number: part.ip_number,
             channel_id,
         };
-        self.add_part(id, rule, &part, timestamp)
+        let piece = Piece {
+            offset: part.offset,
+            more_fragments: part.more_fragments,
+            bytes: part.bytes,
+        };
+        self.add_piece(id, rule, &piece, timestamp)
     }
 
-    // Takes a part of the message with this name, whose parts overlap by this rule.
-    fn add_part(
+    // Takes a piece of the message with this name, whose pieces overlap by this rule.
+    fn add_piece(
         &mut self,
         id: IpFragId<CustomChannelId>,
         rule: OverlapRule,
-        part: &Part<'_>,
+        piece: &Piece<'_>,
         timestamp: Timestamp,
     ) -> Result<Option<IpDefragPayloadVec>, IpDefragError>
         ensures accepted { AcceptsBy rule ⟦<IpFragId<CustomChannelId> as PartialEq>⟧.eq
-            self.old self.new id (fragment_of part.now) timestamp result }
+            self.old self.new id (fragment_of piece.now) timestamp result }
         ensures refused { RefusesBy rule ⟦<IpFragId<CustomChannelId> as PartialEq>⟧.eq self.old id
-            (fragment_of part.now) result }
+            (fragment_of piece.now) result }
         ensures others { OthersStay ⟦<IpFragId<CustomChannelId> as PartialEq>⟧.eq
             id self.old self.new }
         ensures err { IfErr result
@@ -194,7 +198,7 @@ impl<Timestamp: Drop, CustomChannelId: Eq + Hash + Drop, S: BuildHasher> IpDefra
     {
         let ip_number = id.payload_ip_number;
         let len_source = id.ip.len_source();
-        match self.streams.add(id, rule, part, timestamp) {
+        match self.streams.add(id, rule, piece, timestamp) {
             Ok(Some(payload)) => Ok(Some(IpDefragPayloadVec {
                 ip_number,
                 len_source,

@@ -5,17 +5,16 @@ ghost use Rattle.std.specs.Prelude.{length, option_map};
 ghost use Rattle.std.specs.Fn.{FnReturnsAt};
 ghost use Rattle.std.specs.List.{IsDistinct};
 ghost use Rattle.std.specs.Map.{keys_of};
-ghost use Rattle.ep_defrag.specs.Counts.{Counts, open_in};
+ghost use Rattle.ep_fragments.specs.Counts.{Counts, open_in};
 ghost use Rattle.ep_fragments.specs.Fragments.{Fragment};
 ghost use Rattle.ep_fragments.specs.Outcome.{outcome};
-ghost use Rattle.ep_defrag.specs.Streams.{Becomes, MayAsk, OthersStay, RefusesBy, Retained};
-ghost use Rattle.ep_defrag.specs.Streams.{ShowsStream, Stays, fragment_of, stream_at};
+ghost use Rattle.ep_fragments.specs.Streams.{Becomes, MayAsk, OthersStay, RefusesBy, Retained};
+ghost use Rattle.ep_fragments.specs.Streams.{ShowsStream, Stays, fragment_of, stream_at};
 
 use super::retain_streams::retain_streams;
 use super::spare_buffers::SpareBuffers;
-use super::stream::{Stream, add_part};
-use super::{IpDefragError, OverlapRule};
-use ep_packet::Part;
+use super::stream::{Stream, add_piece};
+use super::{IpDefragError, OverlapRule, Piece};
 use indexmap::IndexMap;
 use std::alloc::Global;
 use std::hash::{BuildHasher, Hash};
@@ -23,7 +22,7 @@ use std::marker::Model;
 
 /// The messages that are on their way, each under its name.
 #[derive(Drop)]
-pub(crate) struct Streams<K: Eq + Hash, T, S: BuildHasher> {
+pub struct Streams<K: Eq + Hash, T, S: BuildHasher> {
     alloc: Global,
     active: IndexMap<K, Stream<T>, S>,
     // There are places for the buffers of all that are on their way, so that none is lost.
@@ -33,8 +32,8 @@ pub(crate) struct Streams<K: Eq + Hash, T, S: BuildHasher> {
 impl<K: Eq + Hash, T, S: BuildHasher> Model for Streams<K, T, S> {
     ghost use Rattle.std.specs.Prelude.{vec_len};
     ghost use Rattle.indexmap.specs.IndexMap.{index_map_len};
-    ghost use Rattle.ep_defrag.specs.SpareBuffers.{HasPlaces};
-    ghost use Rattle.ep_defrag.specs.Streams.{Pool};
+    ghost use Rattle.ep_fragments.specs.SpareBuffers.{HasPlaces};
+    ghost use Rattle.ep_fragments.specs.Streams.{Pool};
 
     ghost Value = { Pool K T };
 
@@ -48,7 +47,7 @@ impl<K: Eq + Hash, T, S: BuildHasher> Model for Streams<K, T, S> {
 
 impl<K: Eq + Hash + Drop, T: Drop, S: BuildHasher> Streams<K, T, S> {
     /// No streams. It takes no memory.
-    pub(crate) fn with_hasher(alloc: Global, state: S) -> Self
+    pub fn with_hasher(alloc: Global, state: S) -> Self
         ensures streams { result.streams ≡ [] }
         ensures spare { result.spare ≡ 0 }
     {
@@ -60,7 +59,7 @@ impl<K: Eq + Hash + Drop, T: Drop, S: BuildHasher> Streams<K, T, S> {
     }
 
     /// How many messages are on their way.
-    pub(crate) fn len(&self) -> usize
+    pub fn len(&self) -> usize
         ensures len { result ≡ open_in self.now }
         ensures names { IsDistinct K.eq (keys_of self.now.streams) }
     {
@@ -68,14 +67,14 @@ impl<K: Eq + Hash + Drop, T: Drop, S: BuildHasher> Streams<K, T, S> {
     }
 
     /// How many buffers of bytes are spare.
-    pub(crate) fn spare_len(&self) -> usize
+    pub fn spare_len(&self) -> usize
         ensures { result ≡ self.now.spare }
     {
         self.spare.bytes.len()
     }
 
     /// Takes the memory of a message, or hands it back where no place is found for it.
-    pub(crate) fn give(&mut self, bytes: Vec<u8>) -> Result<(), Vec<u8>>
+    pub fn give(&mut self, bytes: Vec<u8>) -> Result<(), Vec<u8>>
         ensures streams { self.new.streams ≡ self.old.streams }
         ensures ok { OnOk result (self.new.spare ≡ self.old.spare + 1) }
         ensures err { IfErr result (λ given. given ≡ bytes) }
@@ -88,40 +87,40 @@ impl<K: Eq + Hash + Drop, T: Drop, S: BuildHasher> Streams<K, T, S> {
         Ok(())
     }
 
-    /// Takes a part of the message with this name, whose parts overlap by this rule. One that
+    /// Takes a piece of the message with this name, whose pieces overlap by this rule. One that
     /// completes it hands its bytes out, and ends the stream. So does one that overlaps where that
     /// is refused, and hands nothing out.
-    pub(crate) fn add(
+    pub fn add(
         &mut self,
         name: K,
         rule: OverlapRule,
-        part: &Part<'_>,
+        piece: &Piece<'_>,
         timestamp: T,
     ) -> Result<Option<Vec<u8>>, IpDefragError>
         ensures accepted { (fs : List Fragment)
             → ShowsStream rule (stream_at K.eq self.old name) fs →
             IfOk result (λ told. Becomes rule (λ text. text)
-            (outcome rule fs (fragment_of part.now)) timestamp
+            (outcome rule fs (fragment_of piece.now)) timestamp
             (stream_at K.eq self.new name) (option_map (λ bytes. bytes.items) told)) }
-        ensures refused { RefusesBy rule K.eq self.old name (fragment_of part.now) result }
+        ensures refused { RefusesBy rule K.eq self.old name (fragment_of piece.now) result }
         ensures others { OthersStay K.eq name self.old self.new }
         ensures err { IfErr result (Stays K.eq name self.old self.new) }
         ensures short { IfOk result (λ text. IfSome text (λ bytes. length bytes.items ≤ 65535)) }
         ensures counts { Counts K.eq self.old self.new name result }
     {
-        add_part(
+        add_piece(
             self.alloc,
             &mut self.active,
             &mut self.spare,
             name,
             rule,
-            part,
+            piece,
             timestamp,
         )
     }
 
     /// Keeps exactly the streams to whose timestamp the test answers `true`.
-    pub(crate) fn retain<F: Fn(&T) -> bool>(&mut self, keep: &F)
+    pub fn retain<F: Fn(&T) -> bool>(&mut self, keep: &F)
         requires { (q : K) → MayAsk (F.pre keep.now) (stream_at K.eq self.old q) }
         ensures retained { (q : K) → Retained (FnReturnsAt F.Fn keep.now)
             (stream_at K.eq self.old q) (stream_at K.eq self.new q) }

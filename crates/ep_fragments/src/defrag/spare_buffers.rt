@@ -1,7 +1,7 @@
 //! The memory of messages that ended, for those that begin.
 
 ghost use Rattle.std.specs.Prelude.{◌≡◌, ◌+◌, ◌-◌, ◌<◌, ◌≤◌, ℕ, true, if◌then◌else◌, vec_len, vec_capacity};
-ghost use Rattle.ep_defrag.specs.SpareBuffers.{HasPlaces, NoFewerPlaces, SameCounts};
+ghost use Rattle.ep_fragments.specs.SpareBuffers.{HasPlaces, NoFewerPlaces, SameCounts};
 
 use super::{IpDefragBuf, IpFragRange};
 use std::alloc::Global;

@@ -1,8 +1,8 @@
 use Rattle.std.proofs.Common.{rules, arith}
-use Rattle.ep_defrag.specs.Streams.{fragment_of}
-use Rattle.ep_defrag.proofs.OutcomeLemmas.{first_waits}
-use Rattle.ep_defrag.proofs.Places.{ended_places, fewer_places, same_places}
-use Rattle.ep_defrag.proofs.defrag.stream.add_part.Goals as goal
+use Rattle.ep_fragments.specs.Streams.{fragment_of}
+use Rattle.ep_fragments.proofs.OutcomeLemmas.{first_waits}
+use Rattle.ep_fragments.proofs.Places.{ended_places, fewer_places, same_places}
+use Rattle.ep_fragments.proofs.defrag.stream.add_piece.Goals as goal
 
 pub finish-requires-in-Ok-add : goal.finish-requires-in-Ok-add
 finish-requires-in-Ok-add g c =
@@ -32,5 +32,5 @@ returns-in-Err-add-clause-places g c =
 
 pub returns-in-Ok-2-add-clause-accepted : goal.returns-in-Ok-2-add-clause-accepted
 returns-in-Ok-2-add-clause-accepted g c fs shows =
-    first_waits c.args.rule (fragment_of c.args.part.now) c.args.timestamp _ _ fs (search rules)
+    first_waits c.args.rule (fragment_of c.args.piece.now) c.args.timestamp _ _ fs (search rules)
     shows (search rules) (search rules) (search rules)

@@ -11,8 +11,8 @@ use Rattle.ep_fragments.specs.Outcome.{Outcome, error_of, memory_error, outcome,
 use Rattle.ep_fragments.specs.Outcome.{outcome_unless}
 use Rattle.ep_fragments.specs.Outcome.Outcome.{Clash, Completed, Refusal, Waiting}
 use Rattle.ep_fragments.specs.Picture.{text_of}
-use Rattle.ep_defrag.specs.declared.defrag.stream.Stream.{Stream}
-use Rattle.ep_defrag.specs.Streams.{Becomes, IsErrorOf, IsStreamOf, ShowsStream}
+use Rattle.ep_fragments.specs.declared.defrag.stream.Stream.{Stream}
+use Rattle.ep_fragments.specs.Streams.{Becomes, IsErrorOf, IsStreamOf, ShowsStream}
 
 none_or : {X : Type 0} (o n : Option X) → option_or o n ≡ None → (o ≡ None) × (n ≡ None)
 none_or (Some x) n h = cc

@@ -1,7 +1,7 @@
 use Rattle.ep_defrag.proofs.Handed.{none_told, whole_told}
-use Rattle.ep_defrag.proofs.defrag.ip_defrag_pool.IpDefragPool.add_part.Goals as goal
-use Rattle.ep_defrag.proofs.defrag.ip_defrag_pool.IpDefragPool.add_part.Goals.{in-Ok-Some, in-Ok-None}
-use Rattle.ep_defrag.proofs.defrag.ip_defrag_pool.IpDefragPool.add_part.Goals.{in-Err}
+use Rattle.ep_defrag.proofs.defrag.ip_defrag_pool.IpDefragPool.add_piece.Goals as goal
+use Rattle.ep_defrag.proofs.defrag.ip_defrag_pool.IpDefragPool.add_piece.Goals.{in-Ok-Some, in-Ok-None}
+use Rattle.ep_defrag.proofs.defrag.ip_defrag_pool.IpDefragPool.add_piece.Goals.{in-Err}
 
 pub returns-clause-accepted : goal.returns-clause-accepted
 returns-clause-accepted g c fs shows =

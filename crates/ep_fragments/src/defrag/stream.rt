@@ -3,20 +3,19 @@
 ghost use Rattle.std.specs.Prelude.{◌≡◌, ◌++◌, ◌∷◌, ◌+◌, ◌≤◌, ℕ, [], List, None, false, OnOk};
 ghost use Rattle.std.specs.Prelude.{IfErr, IfOk, IfSome, if◌then◌else◌, length, option_map, vec_len};
 ghost use Rattle.indexmap.specs.IndexMap.{get, index_map_len};
-ghost use Rattle.ep_defrag.specs.Counts.{held_after, spare_after};
+ghost use Rattle.ep_fragments.specs.Counts.{held_after, spare_after};
 ghost use Rattle.ep_fragments.specs.Fragments.{Fragment, refusal_of};
 ghost use Rattle.ep_fragments.specs.IpDefragBuf.{Shows, rule_of};
 ghost use Rattle.ep_fragments.specs.IpDefragError.{is_overlap};
 ghost use Rattle.ep_fragments.specs.Outcome.{outcome};
 ghost use Rattle.ep_fragments.specs.declared.defrag.overlap_rule.OverlapRule.{OverlapRule};
-ghost use Rattle.ep_defrag.specs.SpareBuffers.{HasPlaces};
-ghost use Rattle.ep_defrag.specs.Streams.{Becomes, IsErrorOf, IsStreamOf, ShowsStream};
-ghost use Rattle.ep_defrag.specs.Streams.{fragment_of};
-ghost use Rattle.ep_defrag.specs.Refused.{error_in, refused_by};
+ghost use Rattle.ep_fragments.specs.SpareBuffers.{HasPlaces};
+ghost use Rattle.ep_fragments.specs.Streams.{Becomes, IsErrorOf, IsStreamOf, ShowsStream};
+ghost use Rattle.ep_fragments.specs.Streams.{fragment_of};
+ghost use Rattle.ep_fragments.specs.Refused.{error_in, refused_by};
 
 use super::spare_buffers::SpareBuffers;
-use ep_fragments::defrag::{IpDefragBuf, IpDefragError, OverlapRule, checked_end};
-use ep_packet::Part;
+use super::{IpDefragBuf, IpDefragError, OverlapRule, Piece, checked_end};
 use indexmap::IndexMap;
 use indexmap::map::Entry;
 use std::alloc::Global;
@@ -24,29 +23,32 @@ use std::hash::{BuildHasher, Hash};
 
 /// A message that is on its way, and when its last fragment came.
 #[derive(Drop)]
-pub(crate) struct Stream<T> {
+pub struct Stream<T> {
     // The protocol is told by the stream's name.
     pub buf: IpDefragBuf<()>,
     pub timestamp: T,
 }
 
 impl<T: Drop> Stream<T> {
-    // Takes one more part.
-    fn add(&mut self, part: &Part<'_>, timestamp: T) -> Result<(), Refused>
-        ensures accepted { let f = fragment_of part.now in (fs : List Fragment)
+    // Takes one more piece.
+    fn add(&mut self, piece: &Piece<'_>, timestamp: T) -> Result<(), Refused>
+        ensures accepted { let f = fragment_of piece.now in (fs : List Fragment)
             → Shows self.old.buf fs →
             IfOk result (λ u. IsStreamOf (rule_of self.old.buf) (fs ++ f ∷ []) timestamp self.new) }
-        ensures unrefused { let f = fragment_of part.now in (fs : List Fragment)
+        ensures unrefused { let f = fragment_of piece.now in (fs : List Fragment)
             → Shows self.old.buf fs →
             OnOk result (refusal_of (rule_of self.old.buf) fs f ≡ None) }
-        ensures refused { let f = fragment_of part.now in (fs : List Fragment)
+        ensures refused { let f = fragment_of piece.now in (fs : List Fragment)
             → Shows self.old.buf fs →
             IfErr result (λ r. IsErrorOf f (outcome (rule_of self.old.buf) fs f) (error_in r)) }
         ensures told { IfErr result (λ r. r ≡ refused_by (error_in r)) }
         ensures stays { IfErr result (λ r. is_overlap (error_in r) ≡ false
             → self.new ≡ self.old) }
     {
-        match self.buf.add(part.offset, part.more_fragments, part.bytes) {
+        match self
+            .buf
+            .add(piece.offset, piece.more_fragments, piece.bytes)
+        {
             Ok(()) => {
                 self.timestamp = timestamp;
                 Ok(())
@@ -77,14 +79,14 @@ fn refused_by(error: IpDefragError) -> Refused
     }
 }
 
-// Why a part that would begin a message isn't taken where there is no memory for it: it is refused
+// Why a piece that would begin a message isn't taken where there is no memory for it: it is refused
 // in want of memory too.
-fn want_of_memory(part: &Part<'_>) -> IpDefragError
-    ensures error { let f = fragment_of part.now in (rule : OverlapRule)
+fn want_of_memory(piece: &Piece<'_>) -> IpDefragError
+    ensures error { let f = fragment_of piece.now in (rule : OverlapRule)
         → IsErrorOf f (outcome rule [] f) result }
     ensures stays { is_overlap result ≡ false }
 {
-    match checked_end(None, part.offset, part.more_fragments, part.bytes) {
+    match checked_end(None, piece.offset, piece.more_fragments, piece.bytes) {
         Ok(end) => IpDefragError::AllocationFailure {
             len: usize::from(end),
         },
@@ -105,24 +107,24 @@ fn finish(spare: &mut SpareBuffers, buf: IpDefragBuf<()>) -> Vec<u8>
     bytes
 }
 
-// Takes a part of the message with this name, whose parts overlap by this rule. The stream ends
-// where the message is complete, or the part overlaps where that is refused. One that is complete
-// at once isn't kept: no packet's part is a whole message, but the contract speaks of every part.
-pub(crate) fn add_part<K: Eq + Hash + Drop, T: Drop, S: BuildHasher>(
+// Takes a piece of the message with this name, whose pieces overlap by this rule. The stream ends
+// where the message is complete, or the piece overlaps where that is refused. One that is complete
+// at once isn't kept.
+pub(crate) fn add_piece<K: Eq + Hash + Drop, T: Drop, S: BuildHasher>(
     alloc: Global,
     streams: &mut IndexMap<K, Stream<T>, S>,
     spare: &mut SpareBuffers,
     name: K,
     rule: OverlapRule,
-    part: &Part<'_>,
+    piece: &Piece<'_>,
     timestamp: T,
 ) -> Result<Option<Vec<u8>>, IpDefragError>
     requires { HasPlaces spare.old (index_map_len streams.old) }
-    ensures accepted { let f = fragment_of part.now in (fs : List Fragment)
+    ensures accepted { let f = fragment_of piece.now in (fs : List Fragment)
         → ShowsStream rule (get K.eq streams.old name) fs →
         IfOk result (λ told. Becomes rule (λ text. text) (outcome rule fs f) timestamp
         (get K.eq streams.new name) (option_map (λ bytes. bytes.items) told)) }
-    ensures refused { let f = fragment_of part.now in (fs : List Fragment)
+    ensures refused { let f = fragment_of piece.now in (fs : List Fragment)
         → ShowsStream rule (get K.eq streams.old name) fs →
         IfErr result (IsErrorOf f (outcome rule fs f)) }
     ensures others { (q : K) → K.eq name q ≡ false
@@ -138,7 +140,7 @@ pub(crate) fn add_part<K: Eq + Hash + Drop, T: Drop, S: BuildHasher>(
 {
     let held = streams.len();
     match streams.entry(name) {
-        Ok(Entry::Occupied(mut entry)) => match entry.get_mut().add(part, timestamp) {
+        Ok(Entry::Occupied(mut entry)) => match entry.get_mut().add(piece, timestamp) {
             Ok(()) if entry.get().buf.is_complete() => {
                 Ok(Some(finish(spare, entry.swap_remove().buf)))
             }
@@ -152,13 +154,13 @@ pub(crate) fn add_part<K: Eq + Hash + Drop, T: Drop, S: BuildHasher>(
         Ok(Entry::Vacant(entry)) => {
             if !spare.make_places(held) {
                 entry.into_key();
-                return Err(want_of_memory(part));
+                return Err(want_of_memory(piece));
             }
             let (bytes, sections, taken) = spare.take(alloc);
             let buf = IpDefragBuf::of_rule(rule, alloc, (), bytes, sections);
             let mut begun = entry.insert_entry(Stream { buf, timestamp });
             let buf = &mut begun.get_mut().buf;
-            match buf.add(part.offset, part.more_fragments, part.bytes) {
+            match buf.add(piece.offset, piece.more_fragments, piece.bytes) {
                 Ok(()) if begun.get().buf.is_complete() => {
                     Ok(Some(finish(spare, begun.swap_remove().buf)))
                 }
@@ -169,6 +171,6 @@ pub(crate) fn add_part<K: Eq + Hash + Drop, T: Drop, S: BuildHasher>(
                 }
             }
         }
-        Err(_) => Err(want_of_memory(part)),
+        Err(_) => Err(want_of_memory(piece)),
     }
 }

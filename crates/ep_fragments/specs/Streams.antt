@@ -4,19 +4,19 @@ use denote.Ref.{Bor}
 use Rattle.std.specs.Prelude.{◌≡◌, ◌≢◌, ◌⊎◌, ℕ, Bool, true, false, if◌then◌else◌, Option, Some, None}
 use Rattle.std.specs.Prelude.{Result, List, [], IfErr, IsSomeAnd}
 use Rattle.std.specs.Map.{lookup}
-use Rattle.ep_packet.specs.declared.class.Part.{Part}
+use Rattle.ep_fragments.specs.declared.defrag.piece.Piece.{Piece}
 use Rattle.ep_fragments.specs.declared.defrag.ip_defrag_error.IpDefragError.{IpDefragError}
 use Rattle.ep_fragments.specs.declared.defrag.overlap_rule.OverlapRule.{OverlapRule}
-use Rattle.ep_defrag.specs.declared.defrag.stream.Stream.{Stream}
+use Rattle.ep_fragments.specs.declared.defrag.stream.Stream.{Stream}
 use Rattle.ep_fragments.specs.Fragments.{Fragment, fragment}
 use Rattle.ep_fragments.specs.IpDefragBuf.{Shows, rule_of}
 use Rattle.ep_fragments.specs.IpDefragError.{is_overlap}
 use Rattle.ep_fragments.specs.Outcome.{Outcome, error_of, memory_error, outcome}
 use Rattle.ep_fragments.specs.Outcome.Outcome.{Clash, Completed, Refusal, Waiting}
 
--- the fragment that a part of a message is
-abbrev pub fragment_of : Part → Fragment
-fragment_of part = fragment part.offset part.more_fragments part.bytes.now
+-- the fragment that a piece of a message is
+abbrev pub fragment_of : Piece → Fragment
+fragment_of piece = fragment piece.offset piece.more_fragments piece.bytes.now
 
 -- what a pool holds: streams in no order that means anything, each beside its name; no name is
 -- there twice; and how many buffers of bytes are spare
