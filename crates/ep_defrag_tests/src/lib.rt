@@ -46,3 +46,5 @@ mod ranges;
 mod refusals;
 #[cfg(test)]
 mod rules;
+#[cfg(test)]
+mod streams;
