@@ -1,7 +1,7 @@
-//! Digits at every length, and at values from outside.
+//! Hex digits at every length, and at values from outside.
 ghost use Rattle.std.specs.Prelude.{◌*◌, ◌<◌, ◌≤◌};
 
-use crate::{decode, decode_at, decode_to_slice, encode};
+use digits::{decode, decode_at, decode_to_slice, encode};
 use hex::FromHexError;
 
 // The SHA-256 (FIPS 180-4) of no bytes.
