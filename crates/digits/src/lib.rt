@@ -8,6 +8,3 @@ pub mod laws;
 
 pub use decoding::{decode, decode_at, decode_to_slice};
 pub use encoding::encode;
-
-#[cfg(test)]
-mod tests;

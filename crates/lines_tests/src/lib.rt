@@ -1,4 +1,4 @@
-//! Tests of `lines` over its public calls, by answerers that know no frame.
+//! Tests of `lines`, over its public calls by answerers that know no frame, of `commands` and of `digits`.
 #![tactic(auto)]
 
 #[cfg(test)]
@@ -7,3 +7,7 @@ mod checks;
 mod devices;
 #[cfg(test)]
 mod earlier_lines;
+#[cfg(test)]
+mod hex_digits;
+#[cfg(test)]
+mod pieces;

@@ -1,9 +1,8 @@
-//! Checksums over payloads of each length up to 130, of which the longest are summed in lanes, and
-//! of a long one. Wanted values are worked out by hand, or go on from the last length.
+//! Checksums over payloads of each length up to 130, and of a long one. Wanted values are worked
+//! out by hand, or go on from the last length.
 
+use crate::payloads::{complement, counted, filled};
 use ep_icmp::{IcmpEchoHeader, Icmpv4Type, Icmpv6Type};
-use std::alloc::Global;
-use std::process::Abort;
 use std::test::*;
 
 const NOTHING: IcmpEchoHeader = IcmpEchoHeader { id: 0, seq: 0 };
@@ -33,39 +32,20 @@ fn payloads_of_one_byte_repeated(rt: HostRuntime) {
     );
 }
 
-// The complement of a sum that is 0 or no multiple of ffff.
-fn complement(total: u32) -> u16 {
-    (65535 - total % 65535) as u16
-}
-
-// The bytes 1, 2, 3, .., one more each time.
 #[test]
 fn payloads_of_every_length(rt: HostRuntime) {
-    let mut payload = [0u8; 131];
-    let mut byte = 0u8;
-    let mut total = 0u32;
+    let (bytes, sums) = counted();
     for len in 0..=130usize {
-        let front = &payload[..len];
-        let with_pseudo = total.wrapping_add(0x8100 + 0x3a + 8 + len as u32);
-        let sums = (complement(total), Some(complement(with_pseudo)));
-        assert!(rt; (over_v4(front), over_v6(front)) == sums);
-        byte = byte.wrapping_add(1);
-        payload[len] = byte;
-        let weight = if len % 2 == 0 { 256 } else { 1 };
-        total = total.wrapping_add(u32::from(byte) * weight);
+        let front = &bytes[..len];
+        let with_pseudo = sums[len].wrapping_add(0x8100 + 0x3a + 8 + len as u32);
+        let wanted = (complement(sums[len]), Some(complement(with_pseudo)));
+        assert!(rt; (over_v4(front), over_v6(front)) == wanted);
     }
-}
-
-fn ones(rt: &impl Abort, alloc: Global, len: usize) -> Vec<u8> {
-    let Ok(bytes) = vec![in alloc; 0xff; len] else {
-        panic!(rt; "no memory");
-    };
-    bytes
 }
 
 // Words ffff and a last ff00. Over IPv6 the length of the message is 10007.
 #[test]
 fn a_long_payload(rt: HostRuntime) {
-    let payload = ones(&rt, rt.alloc(), 65535);
+    let payload = filled(rt.alloc(), &[], 0xff, 65535);
     assert!(rt; (over_v4(&payload), over_v6(&payload)) == (0x00ff, Some(0x7fbc)));
 }

@@ -1,7 +1,7 @@
-//! Digits at every length, and at values from outside.
+//! Hex digits at every length, and at values from outside.
 ghost use Rattle.std.specs.Prelude.{◌*◌, ◌<◌, ◌≤◌};
 
-use crate::{decode, decode_at, decode_to_slice, encode};
+use digits::{decode, decode_at, decode_to_slice, encode};
 use hex::FromHexError;
 
 // The SHA-256 (FIPS 180-4) of no bytes.
@@ -14,19 +14,36 @@ const BYTES: [u8; 32] = [
     0x27, 0xae, 0x41, 0xe4, 0x64, 0x9b, 0x93, 0x4c, 0xa4, 0x95, 0x99, 0x1b, 0x78, 0x52, 0xb8, 0x55,
 ];
 
+fn are_decoded(n: usize) -> bool
+    requires { n ≤ 32 }
+{
+    let mut bytes = [0u8; 32];
+    decode(&DIGITS[..2 * n], &mut bytes[..n]) && &bytes[..n] == &BYTES[..n]
+}
+
+fn upper_ones_are_decoded(n: usize) -> bool
+    requires { n ≤ 32 }
+{
+    let mut bytes = [0u8; 32];
+    let result = decode_to_slice(&UPPER_DIGITS[..2 * n], &mut bytes[..n]);
+    result.is_ok() && &bytes[..n] == &BYTES[..n]
+}
+
+fn are_encoded(n: usize) -> bool
+    requires { n ≤ 32 }
+{
+    let mut digits = [0u8; 64];
+    encode(&BYTES[..n], &mut digits[..2 * n]);
+    &digits[..2 * n] == &DIGITS[..2 * n]
+}
+
 // Each length up to two blocks, so also those whose last block overlaps the one before it.
 #[test]
 fn each_length(rt: HostRuntime) {
     for n in 0..=32 {
-        let mut bytes = [0u8; 32];
-        assert!(rt; decode(&DIGITS[..2 * n], &mut bytes[..n]));
-        assert!(rt; &bytes[..n] == &BYTES[..n]);
-        let mut bytes = [0u8; 32];
-        assert!(rt; decode_to_slice(&UPPER_DIGITS[..2 * n], &mut bytes[..n]).is_ok());
-        assert!(rt; &bytes[..n] == &BYTES[..n]);
-        let mut digits = [0u8; 64];
-        encode(&BYTES[..n], &mut digits[..2 * n]);
-        assert!(rt; &digits[..2 * n] == &DIGITS[..2 * n]);
+        assert!(rt; are_decoded(n), "{n} bytes");
+        assert!(rt; upper_ones_are_decoded(n), "{n} bytes");
+        assert!(rt; are_encoded(n), "{n} bytes");
     }
 }
 

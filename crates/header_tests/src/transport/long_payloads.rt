@@ -1,9 +1,10 @@
-//! Checksums over payloads of each length up to 130, of which the longest are summed in lanes, and
-//! of the greatest. Wanted values are worked out by hand, or go on from the last length. Between
-//! no addresses a pseudo header of either version adds the number and the length, up to 65535.
+//! Checksums over payloads of each length up to 130, and of the greatest. Wanted values are worked
+//! out by hand, or go on from the last length. Between no addresses a pseudo header of either
+//! version adds the number and the length, up to 65535.
 
 use crate::checks::equal;
-use crate::checksums::{Checksum, filled};
+use crate::payloads::{complement, counted, filled};
+use crate::transport::checksums::Checksum;
 use ep_tcpudp::{TcpHeader, UdpHeader};
 use std::test::*;
 
@@ -37,39 +38,35 @@ fn both(payload: &[u8]) -> [[Checksum; 2]; 2] {
 #[test]
 fn payloads_of_one_byte_repeated(rt: HostRuntime) {
     let of_64 = [[Ok(0xff5e); 2], [Ok(0xafa5); 2]];
-    equal(&rt, &both(&[0xff; 64]), &of_64);
-    equal(&rt, &both(&[0; 64]), &of_64);
-    equal(&rt, &both(&[1; 33]), &[[Ok(0xee8c); 2], [Ok(0x9eb4); 2]]);
-}
-
-// The complement of a sum that is no multiple of ffff.
-fn complement(total: u32) -> [Checksum; 2] {
-    [Ok((65535 - total % 65535) as u16); 2]
+    equal(&rt, "ff", &both(&[0xff; 64]), &of_64);
+    equal(&rt, "0", &both(&[0; 64]), &of_64);
+    equal(
+        &rt,
+        "1",
+        &both(&[1; 33]),
+        &[[Ok(0xee8c); 2], [Ok(0x9eb4); 2]],
+    );
 }
 
 // Of so many bytes with this sum.
 fn wanted(len: u8, total: u32) -> [[Checksum; 2]; 2] {
-    [
-        complement(total.wrapping_add(0x11 + 2 * (8 + u32::from(len)))),
-        complement(total.wrapping_add(0x5000 + 6 + 20 + u32::from(len))),
-    ]
+    let udp = total.wrapping_add(0x11 + 2 * (8 + u32::from(len)));
+    let tcp = total.wrapping_add(0x5000 + 6 + 20 + u32::from(len));
+    [[Ok(complement(udp)); 2], [Ok(complement(tcp)); 2]]
 }
 
-// The bytes 1, 2, 3, .., one more each time.
 #[test]
 fn payloads_of_every_length(rt: HostRuntime) {
-    let mut payload = [0u8; 131];
-    let mut total = 0u32;
+    let (bytes, sums) = counted();
     for len in 0..=130u8 {
         let place = usize::from(len);
+        let found = both(&bytes[..place]);
         equal(
             &rt,
-            &(len, both(&payload[..place])),
-            &(len, wanted(len, total)),
+            "counted",
+            &(len, found),
+            &(len, wanted(len, sums[place])),
         );
-        payload[place] = len.wrapping_add(1);
-        let weight = if len % 2 == 0 { 256 } else { 1 };
-        total = total.wrapping_add(u32::from(payload[place]) * weight);
     }
 }
 
@@ -78,6 +75,6 @@ fn payloads_of_every_length(rt: HostRuntime) {
 fn greatest_payloads(rt: HostRuntime) {
     let datagram = filled(rt.alloc(), &[], 0xff, 65527);
     let segment = filled(rt.alloc(), &[], 0xff, 65515);
-    equal(&rt, &udp(&datagram), &[Ok(0x00ee); 2]);
-    equal(&rt, &tcp(&segment), &[Ok(0xb0f8); 2]);
+    equal(&rt, "UDP", &udp(&datagram), &[Ok(0x00ee); 2]);
+    equal(&rt, "TCP", &tcp(&segment), &[Ok(0xb0f8); 2]);
 }
