@@ -1,9 +1,8 @@
 //! What is made of an input, the flush, the status and what is told of an error.
-use crate::modes::Mode;
-use crate::notes::note;
-use crate::{PROGRAM, asked_for, command, exit_code, make};
+use capture_commands::{Mode, PROGRAM, asked_for, exit_code, make, note};
 use capture_inputs::{Look, Told, look_at, tell_skipped};
 use captures::{CaptureError, Extra, Place, RunError, Skipped, TimeUnit, Unfit};
+use command_lines::captures::command;
 use std::alloc::Global;
 use std::io::{self, ErrorKind, Write};
 use std::process::ExitCode;
