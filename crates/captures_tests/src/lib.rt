@@ -1,6 +1,6 @@
-//! Tests of `captures` over its public calls. They stand in a crate of their own, so that they
-//! are proved beside it and not with each of its functions once more. Functions that they share
-//! have no contracts: tests alone call them, and are run.
+//! Tests of `captures` and `capture_commands` over their public calls. They stand in a crate of
+//! their own, so that they are proved beside these and not with each of their functions once more.
+//! Functions that they share have no contracts: tests alone call them, and are run.
 #![tactic(auto)]
 
 #[cfg(test)]
@@ -9,6 +9,8 @@ mod blocks;
 mod checks;
 #[cfg(test)]
 mod classic;
+#[cfg(test)]
+mod commands;
 #[cfg(test)]
 mod forgetting;
 #[cfg(test)]

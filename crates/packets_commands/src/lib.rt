@@ -7,6 +7,7 @@ pub mod laws;
 mod outputs;
 mod words;
 
+pub use command_lines::packets::command;
 pub use ending::exit_code;
 pub use outputs::{write_flushed, write_report};
-pub use words::{AskError, Asked, Coloring, Output, asked_for, command};
+pub use words::{AskError, Asked, Coloring, Output, asked_for};

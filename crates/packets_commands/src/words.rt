@@ -1,6 +1,6 @@
-//! The words of the command line, and what they ask for.
+//! What the words of the command line ask for.
 use captures::Unfit;
-use clap::{Arg, ArgAction, ArgMatches, Command, value_parser};
+use clap::ArgMatches;
 use packets::{Condition, Filter, Rules, TimeForm, WordError};
 use std::alloc::{AllocError, Global};
 use thiserror::Error;
@@ -47,95 +47,6 @@ pub enum Coloring {
     Always,
     /// On nothing.
     Never,
-}
-
-/// The command line. It has no contract: tests compare what words ask for.
-pub fn command<'a>(alloc: Global) -> Result<Command<'a>, clap::Error> {
-    let show = with_input(alloc, show(alloc)?)?;
-    let json = with_input(alloc, json(alloc)?)?;
-    let summary = Command::new(alloc, "summary").about(
-        "Counts what is in a capture: protocols, refusals, checksums, fragments, talkers",
-    );
-    Ok(
-        Command::new(alloc, "packets_cli")
-            .about("What is in a capture file")
-            .version("0.1.0")
-            .subcommand_required(true)
-            .subcommand(show)?
-            .subcommand(json)?
-            .subcommand(with_input(alloc, summary)?)?,
-    )
-}
-
-fn show<'a>(alloc: Global) -> Result<Command<'a>, AllocError> {
-    Command::new(alloc, "show")
-        .about("Writes a line for each packet")
-        .arg(
-            Arg::new(alloc, "utc")
-                .long("utc")
-                .help("Writes the time of day in UTC, not that since the first packet")
-                .action(ArgAction::SetTrue),
-        )?
-        .arg(
-            Arg::new(alloc, "width")
-                .long("width")
-                .value_name("COLUMNS")
-                .help("Cuts lines to so many columns")
-                .value_parser(value_parser!(u32).range(1..4_294_967_296)),
-        )?
-        .arg(
-            Arg::new(alloc, "color")
-                .long("color")
-                .value_name("WHEN")
-                .help("When lines have colors: `auto` is on a terminal, if NO_COLOR is not set")
-                .value_parser(["auto", "always", "never"].as_slice())
-                .default_value("auto"),
-        )
-}
-
-fn json<'a>(alloc: Global) -> Result<Command<'a>, AllocError> {
-    Command::new(alloc, "json")
-        .about("Writes a JSON object for each packet")
-        .arg(
-            Arg::new(alloc, "payload")
-                .long("payload")
-                .help("Writes the bytes of payloads, in hex")
-                .action(ArgAction::SetTrue),
-        )
-}
-
-// What each command takes: which packets are told, and of which file.
-fn with_input<'a>(alloc: Global, command: Command<'a>) -> Result<Command<'a>, clap::Error> {
-    Ok(
-        command
-            .arg(
-                Arg::new(alloc, "only")
-                    .long("only")
-                    .value_name("WHAT")
-                    .help(
-                        "Only packets of a protocol, or `bad`, `refused`, `fragments` ..; see the manual",
-                    )
-                    .action(ArgAction::Append),
-            )?
-            .arg(
-                Arg::new(alloc, "skip")
-                    .long("skip")
-                    .help("Passes over packets of other links, without a frame or too long")
-                    .action(ArgAction::SetTrue),
-            )?
-            .arg(
-                Arg::new(alloc, "forget")
-                    .long("forget")
-                    .value_name("SECONDS")
-                    .help("Drops messages that wait for one to two spans of SECONDS of packet time")
-                    .value_parser(value_parser!(u32).range(1..4_294_967_296)),
-            )?
-            .arg(
-                Arg::new(alloc, "FILE")
-                    .help("A capture file, or - for standard input")
-                    .default_value("-"),
-            )?,
-    )
 }
 
 /// What the words ask for, if they name a command. It has no contract: tests compare what words ask

@@ -1,9 +1,9 @@
 //! What is made of an input, the flush, the status and what is told of an error.
-use crate::modes::Mode;
-use crate::notes::note;
-use crate::{PROGRAM, asked_for, command, exit_code, make};
+use crate::checks::{equal, holds, joined};
+use capture_commands::{Mode, PROGRAM, asked_for, exit_code, make, note};
 use capture_inputs::{Look, Told, look_at, tell_skipped};
 use captures::{CaptureError, Extra, Place, RunError, Skipped, TimeUnit, Unfit};
+use command_lines::captures::command;
 use std::alloc::Global;
 use std::io::{self, ErrorKind, Write};
 use std::process::ExitCode;
@@ -34,38 +34,42 @@ const HEADER: &[u8; 24] = b"\
 const PACKET: &[u8; 18] =
     b"\x00\xf1\x53\x65\x90\xd0\x03\x00\x02\x00\x00\x00\x02\x00\x00\x00\x0a\xff";
 
+// What is made of an input, if all of it is.
+fn made(
+    alloc: Global,
+    mode: Mode,
+    mut input: &[u8],
+    skipped: &mut Skipped,
+) -> Result<Vec<u8>, Fail> {
+    let mut bytes = Vec::new(alloc);
+    make(alloc, mode, &mut input, &mut bytes, skipped)?;
+    Ok(bytes)
+}
+
 #[test]
 fn lines_are_made_a_capture_and_lines_again(rt: HostRuntime) -> Result<(), Fail> {
-    let alloc = rt.alloc();
+    let text = b"frame 0 0aff 1700000000 250000\n".as_slice();
     let mut skipped = Skipped::NONE;
-    let mut capture = Vec::new(alloc);
-    let mut text = b"frame 0 0aff 1700000000 250000\n".as_slice();
-    assert_eq!(rt;
-        make(
-            alloc,
-            Mode::Capture(TimeUnit::Microseconds),
-            &mut text,
-            &mut capture,
-            &mut skipped
-        ),
-        Ok(())
-    );
-    let mut wanted = Vec::from_slice(alloc, HEADER)?;
-    wanted.extend_from_slice(PACKET)?;
-    assert_eq!(rt; capture.as_slice(), wanted.as_slice());
-    let mut lines = Vec::new(alloc);
-    assert_eq!(rt;
-        make(
-            alloc,
-            Mode::Lines(Extra::Nothing, Unfit::Refuse),
-            &mut capture.as_slice(),
-            &mut lines,
-            &mut skipped
-        ),
-        Ok(())
-    );
-    assert_eq!(rt; lines.as_slice(), b"frame 0 0aff\n".as_slice());
+    let to_capture = Mode::Capture(TimeUnit::Microseconds);
+    let capture = made(rt.alloc(), to_capture, text, &mut skipped)?;
+    let wanted = joined(&rt, &[HEADER.as_slice(), PACKET.as_slice()]);
+    equal(&rt, &capture.as_slice(), &wanted.as_slice());
+    let to_lines = Mode::Lines(Extra::Nothing, Unfit::Refuse);
+    let lines = made(rt.alloc(), to_lines, capture.as_slice(), &mut skipped)?;
+    equal(&rt, &lines.as_slice(), &b"frame 0 0aff\n".as_slice());
     Ok(())
+}
+
+// What words ask for, of standard input, if they ask for anything.
+fn mode_of(alloc: Global, words: &[&str]) -> Result<Option<Mode>, Fail> {
+    let matches = match command(alloc)?.try_get_matches_from(words) {
+        Ok(matches) => matches,
+        Err(_) => return Ok(None),
+    };
+    match asked_for(&matches) {
+        Some(asked) if asked.name == "-" => Ok(Some(asked.mode)),
+        _ => Ok(None),
+    }
 }
 
 // The frames of a file that scapy 2.5.0 wrote, and when they were captured.
@@ -88,27 +92,11 @@ const CAPTURE: &[u8; 148] = b"\
 // The stored run is one of the other mode.
 #[test]
 fn the_word_capture_makes_a_capture(rt: HostRuntime) -> Result<(), Fail> {
-    let words = ["captures_cli", "capture", "-"];
-    let Ok(matches) = command(rt.alloc())?.try_get_matches_from(&words) else {
-        panic!(rt; "refused");
-    };
-    let Some(asked) = asked_for(&matches) else {
+    let Some(mode) = mode_of(rt.alloc(), &["captures_cli", "capture", "-"])? else {
         panic!(rt; "no mode");
     };
-    assert_eq!(rt; asked.name, "-");
-    let mut capture = Vec::new(rt.alloc());
-    let mut skipped = Skipped::NONE;
-    assert_eq!(rt;
-        make(
-            rt.alloc(),
-            asked.mode,
-            &mut LINES.as_slice(),
-            &mut capture,
-            &mut skipped
-        ),
-        Ok(())
-    );
-    assert_eq!(rt; capture.as_slice(), CAPTURE.as_slice());
+    let capture = made(rt.alloc(), mode, LINES, &mut Skipped::NONE)?;
+    equal(&rt, &capture.as_slice(), &CAPTURE.as_slice());
     Ok(())
 }
 
@@ -118,68 +106,49 @@ const PPP_HEADER: &[u8; 24] = b"\
 
 #[test]
 fn the_word_skip_passes_packets_over(rt: HostRuntime) -> Result<(), Fail> {
-    let words = ["captures_cli", "lines", "--skip", "-"];
-    let Ok(matches) = command(rt.alloc())?.try_get_matches_from(&words) else {
-        panic!(rt; "refused");
-    };
-    let Some(asked) = asked_for(&matches) else {
+    let Some(mode) = mode_of(rt.alloc(), &["captures_cli", "lines", "--skip", "-"])? else {
         panic!(rt; "no mode");
     };
-    assert_eq!(rt; asked.name, "-");
-    let mut file = Vec::from_slice(rt.alloc(), PPP_HEADER)?;
-    file.extend_from_slice(PACKET)?;
-    let mut lines = Vec::new(rt.alloc());
+    let file = joined(&rt, &[PPP_HEADER.as_slice(), PACKET.as_slice()]);
     let mut skipped = Skipped::NONE;
-    assert_eq!(rt;
-        make(
-            rt.alloc(),
-            asked.mode,
-            &mut file.as_slice(),
-            &mut lines,
-            &mut skipped
-        ),
-        Ok(())
-    );
-    assert!(rt; lines.is_empty());
-    assert_eq!(rt;
-        format!(in rt.alloc(); "{skipped}")?.as_str(),
-        "1 of other links, 0 too long, 0 without a frame"
+    let lines = made(rt.alloc(), mode, file.as_slice(), &mut skipped)?;
+    holds(&rt, lines.is_empty());
+    equal(
+        &rt,
+        &format!(in rt.alloc(); "{skipped}")?.as_str(),
+        &"1 of other links, 0 too long, 0 without a frame",
     );
     Ok(())
 }
 
 // SECONDS is a whole number of 32 bits that isn't 0, and no run has times and `forget` lines.
+const OPTIONS: &[(&[&str], Option<Mode>)] = &[
+    (
+        &["captures_cli", "lines", "--times"],
+        Some(Mode::Lines(Extra::Times, Unfit::Refuse)),
+    ),
+    (
+        &["captures_cli", "lines", "--forget", "30", "--skip"],
+        Some(Mode::Lines(Extra::Forget(30), Unfit::Skip)),
+    ),
+    (
+        &["captures_cli", "lines", "--forget", "4294967295"],
+        Some(Mode::Lines(Extra::Forget(4_294_967_295), Unfit::Refuse)),
+    ),
+    (
+        &["captures_cli", "capture", "--nanoseconds"],
+        Some(Mode::Capture(TimeUnit::Nanoseconds)),
+    ),
+    (&["captures_cli", "lines", "--forget", "0"], None),
+    (&["captures_cli", "lines", "--forget", "4294967296"], None),
+    (&["captures_cli", "lines", "--forget", "1", "--times"], None),
+];
+
 #[test]
 fn words_of_options(rt: HostRuntime) -> Result<(), Fail> {
-    for (words, wanted) in [
-        (
-            ["captures_cli", "lines", "--times"].as_slice(),
-            Some(Mode::Lines(Extra::Times, Unfit::Refuse)),
-        ),
-        (
-            &["captures_cli", "lines", "--forget", "30", "--skip"],
-            Some(Mode::Lines(Extra::Forget(30), Unfit::Skip)),
-        ),
-        (
-            &["captures_cli", "lines", "--forget", "4294967295"],
-            Some(Mode::Lines(Extra::Forget(4_294_967_295), Unfit::Refuse)),
-        ),
-        (
-            &["captures_cli", "capture", "--nanoseconds"],
-            Some(Mode::Capture(TimeUnit::Nanoseconds)),
-        ),
-        (&["captures_cli", "lines", "--forget", "0"], None),
-        (&["captures_cli", "lines", "--forget", "4294967296"], None),
-        (&["captures_cli", "lines", "--forget", "1", "--times"], None),
-    ] {
-        let asked = match command(rt.alloc())?.try_get_matches_from(words) {
-            Ok(matches) => match asked_for(&matches) {
-                Some(asked) => Some(asked.mode),
-                None => None,
-            },
-            Err(_) => None,
-        };
-        assert!(rt; asked == wanted);
+    for (words, wanted) in OPTIONS.iter() {
+        let mode = mode_of(rt.alloc(), *words)?;
+        equal(&rt, &mode, wanted);
     }
     Ok(())
 }

@@ -1,5 +1,5 @@
 use Rattle.std.proofs.Common.{rules}
-use Rattle.captures_cli.proofs.make_capture.Goals as goal
+use Rattle.capture_commands.proofs.making.make_capture.Goals as goal
 
 pub returns-in-Ok : goal.returns-in-Ok
 returns-in-Ok g c =

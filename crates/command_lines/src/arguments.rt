@@ -1,0 +1,25 @@
+//! Arguments of both programs, each with a help of its own.
+use clap::{Arg, ArgAction, value_parser};
+use std::alloc::Global;
+
+/// An option without a value.
+pub fn flag<'a>(alloc: Global, name: &'a str, help: &'a str) -> Arg<'a> {
+    Arg::new(alloc, name)
+        .long(name)
+        .help(help)
+        .action(ArgAction::SetTrue)
+}
+
+/// An option whose value is a whole number of 32 bits that isn't 0.
+pub fn number<'a>(alloc: Global, name: &'a str, value: &'a str, help: &'a str) -> Arg<'a> {
+    Arg::new(alloc, name)
+        .long(name)
+        .value_name(value)
+        .help(help)
+        .value_parser(value_parser!(u32).range(1..4_294_967_296))
+}
+
+/// The file to be read.
+pub fn file<'a>(alloc: Global, help: &'a str) -> Arg<'a> {
+    Arg::new(alloc, "FILE").help(help).default_value("-")
+}
