@@ -10,27 +10,27 @@ use Rattle.std.proofs.lemmas.Map.Entries.{option_filter}
 use Rattle.std.specs.Option.{IsSomeAnd, option_map}
 use Rattle.std.specs.Prelude.{◌↔◌, IsTrue, IfOk, MatchResult, unwrap_or}
 use Rattle.indexmap.specs.IndexMap.{IsUnchanged, IsUnique, get}
-use Rattle.etherparse.specs.fragments.Fragments.{Fragment, end_conflict, end_of, fragment, is_complete}
-use Rattle.etherparse.specs.fragments.Fragments.{named_end, overlap_of, overlaps, refusal_at}
-use Rattle.etherparse.specs.fragments.IpDefragError.{is_overlap}
-use Rattle.etherparse.specs.defrag.IpDefragPool.{same_id}
-use Rattle.etherparse.specs.defrag.IpFragId.{id_named, rule_over, same_name}
-use Rattle.etherparse.specs.fragments.Outcome.{Held, Outcome, held_after, outcome_unless}
-use Rattle.etherparse.specs.fragments.Outcome.Outcome.{Completed, Waiting}
-use Rattle.etherparse.specs.fragments.Picture.{text_of}
-use Rattle.etherparse.specs.defrag.PoolCalls.{HasMemory, Lists, outcome_at, told_of, told_outcome}
-use Rattle.etherparse.specs.defrag.PoolCalls.{lists_with_frame, retained_from}
-use Rattle.etherparse.specs.defrag.PoolCalls.Told.{Nothing, Refused}
-use Rattle.etherparse.specs.fragments.declared.defrag.ip_defrag_error.IpDefragError.{IpDefragError}
-use Rattle.etherparse.specs.fragments.declared.defrag.ip_defrag_error.IpDefragError.TheVariants.{UnalignedFragmentPayloadLen}
-use Rattle.etherparse.specs.fragments.declared.defrag.ip_defrag_error.IpDefragError.TheVariants.{SegmentTooBig}
-use Rattle.etherparse.specs.fragments.declared.defrag.ip_defrag_error.IpDefragError.TheVariants.{ConflictingEnd}
-use Rattle.etherparse.specs.fragments.declared.defrag.ip_defrag_error.IpDefragError.TheVariants.{AllocationFailure}
-use Rattle.etherparse.specs.fragments.declared.defrag.ip_defrag_error.IpDefragError.TheVariants.{OverlappingFragment}
-use Rattle.etherparse.specs.defrag.declared.defrag.ip_defrag_payload_vec.IpDefragPayloadVec.{IpDefragPayloadVec}
-use Rattle.etherparse.specs.defrag.declared.defrag.ip_frag_id.IpFragId.{IpFragId}
-use Rattle.etherparse.specs.packet.Class.{FragmentName}
-use Rattle.etherparse.specs.packet.Class.Class.{Cut}
+use Rattle.ep_defrag.specs.IpDefragPool.{same_id}
+use Rattle.ep_defrag.specs.IpFragId.{id_named, rule_over, same_name}
+use Rattle.ep_defrag.specs.PoolCalls.{HasMemory, Lists, outcome_at, told_of, told_outcome}
+use Rattle.ep_defrag.specs.PoolCalls.{lists_with_frame, retained_from}
+use Rattle.ep_defrag.specs.PoolCalls.Told.{Nothing, Refused}
+use Rattle.ep_defrag.specs.declared.defrag.ip_defrag_payload_vec.IpDefragPayloadVec.{IpDefragPayloadVec}
+use Rattle.ep_defrag.specs.declared.defrag.ip_frag_id.IpFragId.{IpFragId}
+use Rattle.ep_fragments.specs.Fragments.{Fragment, end_conflict, end_of, fragment, is_complete}
+use Rattle.ep_fragments.specs.Fragments.{named_end, overlap_of, overlaps, refusal_at}
+use Rattle.ep_fragments.specs.IpDefragError.{is_overlap}
+use Rattle.ep_fragments.specs.Outcome.{Held, Outcome, held_after, outcome_unless}
+use Rattle.ep_fragments.specs.Outcome.Outcome.{Completed, Waiting}
+use Rattle.ep_fragments.specs.Picture.{text_of}
+use Rattle.ep_fragments.specs.declared.defrag.ip_defrag_error.IpDefragError.{IpDefragError}
+use Rattle.ep_fragments.specs.declared.defrag.ip_defrag_error.IpDefragError.TheVariants.{UnalignedFragmentPayloadLen}
+use Rattle.ep_fragments.specs.declared.defrag.ip_defrag_error.IpDefragError.TheVariants.{SegmentTooBig}
+use Rattle.ep_fragments.specs.declared.defrag.ip_defrag_error.IpDefragError.TheVariants.{ConflictingEnd}
+use Rattle.ep_fragments.specs.declared.defrag.ip_defrag_error.IpDefragError.TheVariants.{AllocationFailure}
+use Rattle.ep_fragments.specs.declared.defrag.ip_defrag_error.IpDefragError.TheVariants.{OverlappingFragment}
+use Rattle.ep_packet.specs.Class.{FragmentName}
+use Rattle.ep_packet.specs.Class.Class.{Cut}
 use Rattle.packets.specs.Begun.{BeganIn, Begun, ShowsBegun, TellsBegun}
 use Rattle.packets.specs.Begun.{begun_if, begun_in, begun_with, kept_after, kept_from, kept_if}
 use Rattle.packets.specs.Courses.{has_passed, lists_at}

@@ -6,9 +6,9 @@ use Rattle.std.specs.List.{AllByRecursion}
 use Rattle.std.specs.Prelude.{nat_lt, if◌then◌else◌}
 use Rattle.std.proofs.lemmas.Bool.Decides.{nat_tests}
 use Rattle.captures.specs.declared.packet.Packet.{Packet}
-use Rattle.etherparse.specs.fragments.Outcome.{Held}
-use Rattle.etherparse.specs.defrag.PoolCalls.{Lists, after_frame, retained_from}
-use Rattle.etherparse.specs.packet.Class.{FragmentName}
+use Rattle.ep_defrag.specs.PoolCalls.{Lists, after_frame, retained_from}
+use Rattle.ep_fragments.specs.Outcome.{Held}
+use Rattle.ep_packet.specs.Class.{FragmentName}
 use Rattle.packets.specs.Courses.{Course, begin_at, class_of, course_after, forgotten, has_passed}
 use Rattle.packets.specs.Courses.{lists_at, next_course}
 use Rattle.packets.specs.Forgetting.{ComeWithin, ForgetDrops, PassesBy}

@@ -2,38 +2,38 @@
 use Rattle.std.proofs.Common.{inl, inr, ◌≡◌, ◌∙◌, refl, sym, subst, ℕ, true, false, nat_eq}
 use Rattle.std.proofs.Common.{Option, None, Some, Result, Ok, Err, List, if◌then◌else◌}
 use Rattle.std.specs.Prelude.{IfErr, IfSome, IsSome, MatchResult}
-use Rattle.etherparse.specs.defrag.IpDefragPool.{Accepts, Refuses, same_id}
-use Rattle.etherparse.specs.defrag.IpFragId.{fragment_in, id_named}
-use Rattle.etherparse.specs.defrag.PoolCalls.{FrameAnswered, HasMemory, Lists, ShowsLists, Told}
-use Rattle.etherparse.specs.defrag.PoolCalls.{answer_to_frame, lists_with_frame, told_outcome}
-use Rattle.etherparse.specs.defrag.PoolCalls.Told.{Refused}
-use Rattle.etherparse.specs.defrag.Processed.{PacketsAreAnswered, WantsAreTold}
-use Rattle.etherparse.specs.fragments.Streams.{OthersStay, Pool, Stays}
-use Rattle.etherparse.specs.fragments.declared.defrag.ip_defrag_error.IpDefragError.{IpDefragError}
-use Rattle.etherparse.specs.fragments.declared.defrag.ip_defrag_error.IpDefragError.TheVariants.{UnalignedFragmentPayloadLen}
-use Rattle.etherparse.specs.fragments.declared.defrag.ip_defrag_error.IpDefragError.TheVariants.{SegmentTooBig}
-use Rattle.etherparse.specs.fragments.declared.defrag.ip_defrag_error.IpDefragError.TheVariants.{ConflictingEnd}
-use Rattle.etherparse.specs.fragments.declared.defrag.ip_defrag_error.IpDefragError.TheVariants.{AllocationFailure}
-use Rattle.etherparse.specs.fragments.declared.defrag.ip_defrag_error.IpDefragError.TheVariants.{OverlappingFragment}
-use Rattle.etherparse.specs.defrag.declared.defrag.ip_defrag_payload_vec.IpDefragPayloadVec.{IpDefragPayloadVec}
-use Rattle.etherparse.specs.defrag.declared.defrag.ip_frag_id.IpFragId.{IpFragId}
-use Rattle.etherparse.specs.ip.Ipv4.{is_fragmenting}
-use Rattle.etherparse.specs.ipslice.Ipv6Packet.{fragment_fields_in}
-use Rattle.etherparse.specs.ipslice.Packet.{FragmentFields, IpPayload, ipv4_fragment_fields}
-use Rattle.etherparse.specs.ipslice.Packet.{ipv4_payload}
-use Rattle.etherparse.specs.packet.Class.{fragment_class, ipv4_addresses, ipv6_addresses}
-use Rattle.etherparse.specs.packet.Class.{as_class, class_told, net_told, packet_told, part_class}
-use Rattle.etherparse.specs.packet.Class.{whole_told}
-use Rattle.etherparse.specs.packet.Class.Class.{Cut, Other, Refused as Faulty}
-use Rattle.etherparse.specs.packet.Tags.{vlan_ids_of}
-use Rattle.etherparse.specs.packet.declared.addresses.Addresses.{Addresses}
-use Rattle.etherparse.specs.packet.declared.class.Class.TheVariants as cut
-use Rattle.etherparse.specs.packet.declared.class.CutMessage.{CutMessage}
-use Rattle.etherparse.specs.packet.declared.err.packet.slice_error.SliceError.{SliceError}
-use Rattle.etherparse.specs.packet.declared.net.net_slice.NetSlice.{NetSlice}
-use Rattle.etherparse.specs.packet.declared.net.net_slice.NetSlice.TheVariants as net
-use Rattle.etherparse.specs.packet.declared.sliced_packet.SlicedPacket.{SlicedPacket}
-use Rattle.etherparse.specs.packet.declared.transport.transport_slice.TransportSlice.{TransportSlice}
+use Rattle.ep_defrag.specs.IpDefragPool.{Accepts, Refuses, same_id}
+use Rattle.ep_defrag.specs.IpFragId.{fragment_in, id_named}
+use Rattle.ep_defrag.specs.PoolCalls.{FrameAnswered, HasMemory, Lists, ShowsLists, Told}
+use Rattle.ep_defrag.specs.PoolCalls.{answer_to_frame, lists_with_frame, told_outcome}
+use Rattle.ep_defrag.specs.PoolCalls.Told.{Refused}
+use Rattle.ep_defrag.specs.Processed.{PacketsAreAnswered, WantsAreTold}
+use Rattle.ep_fragments.specs.Streams.{OthersStay, Pool, Stays}
+use Rattle.ep_defrag.specs.declared.defrag.ip_defrag_payload_vec.IpDefragPayloadVec.{IpDefragPayloadVec}
+use Rattle.ep_defrag.specs.declared.defrag.ip_frag_id.IpFragId.{IpFragId}
+use Rattle.ep_fragments.specs.declared.defrag.ip_defrag_error.IpDefragError.{IpDefragError}
+use Rattle.ep_fragments.specs.declared.defrag.ip_defrag_error.IpDefragError.TheVariants.{UnalignedFragmentPayloadLen}
+use Rattle.ep_fragments.specs.declared.defrag.ip_defrag_error.IpDefragError.TheVariants.{SegmentTooBig}
+use Rattle.ep_fragments.specs.declared.defrag.ip_defrag_error.IpDefragError.TheVariants.{ConflictingEnd}
+use Rattle.ep_fragments.specs.declared.defrag.ip_defrag_error.IpDefragError.TheVariants.{AllocationFailure}
+use Rattle.ep_fragments.specs.declared.defrag.ip_defrag_error.IpDefragError.TheVariants.{OverlappingFragment}
+use Rattle.ep_ip.specs.Ipv4.{is_fragmenting}
+use Rattle.ep_ipslice.specs.Ipv6Packet.{fragment_fields_in}
+use Rattle.ep_ipslice.specs.Packet.{FragmentFields, IpPayload, ipv4_fragment_fields}
+use Rattle.ep_ipslice.specs.Packet.{ipv4_payload}
+use Rattle.ep_packet.specs.Class.{fragment_class, ipv4_addresses, ipv6_addresses}
+use Rattle.ep_packet.specs.Class.{as_class, class_told, net_told, packet_told, part_class}
+use Rattle.ep_packet.specs.Class.{whole_told}
+use Rattle.ep_packet.specs.Class.Class.{Cut, Other, Refused as Faulty}
+use Rattle.ep_packet.specs.Tags.{vlan_ids_of}
+use Rattle.ep_packet.specs.declared.addresses.Addresses.{Addresses}
+use Rattle.ep_packet.specs.declared.class.Class.TheVariants as cut
+use Rattle.ep_packet.specs.declared.class.CutMessage.{CutMessage}
+use Rattle.ep_packet.specs.declared.err.packet.slice_error.SliceError.{SliceError}
+use Rattle.ep_packet.specs.declared.net.net_slice.NetSlice.{NetSlice}
+use Rattle.ep_packet.specs.declared.net.net_slice.NetSlice.TheVariants as net
+use Rattle.ep_packet.specs.declared.sliced_packet.SlicedPacket.{SlicedPacket}
+use Rattle.ep_packet.specs.declared.transport.transport_slice.TransportSlice.{TransportSlice}
 use Rattle.packets.specs.Dissected.{IsFound, found_told, is_want, told_if_found}
 use Rattle.packets.specs.declared.messages.Finding.{Finding}
 

@@ -19,17 +19,17 @@ use Rattle.captures.specs.declared.translation.run_error.RunError.TheVariants.{T
 use Rattle.captures.specs.declared.translation.run_error.RunError.TheVariants.{Capture, BadLine}
 use Rattle.captures.specs.declared.translation.state.State.{State}
 use Rattle.captures.specs.declared.unfit.Unfit.{Unfit}
+use Rattle.ep_packet.specs.declared.addresses.Addresses.{Addresses}
+use Rattle.header_texts.specs.declared.reason.Reason.{Reason}
 use Rattle.packets.specs.Conditions.{lets_through}
 use Rattle.packets.specs.Courses.{AreDissected, Course, IsDissected, course_after, forgotten}
 use Rattle.packets.specs.Courses.{next_course, shown}
 use Rattle.packets.specs.Runs.{AreFirst, EndsBy, Unbroken}
 use Rattle.packets.specs.Counts.{Counts}
 use Rattle.packets.specs.Outlines.{outline_of}
-use Rattle.etherparse.specs.packet.declared.addresses.Addresses.{Addresses}
 use Rattle.packets.specs.declared.dissection.Dissection.{Dissection}
 use Rattle.packets.specs.declared.filter.Filter.{Filter}
 use Rattle.packets.specs.declared.outline.Outline.{Outline}
-use Rattle.packets.specs.declared.reason.Reason.{Reason}
 use Rattle.packets.specs.declared.summary.summary.Summary.{Summary}
 
 -- the run's error of a reader's

@@ -2,16 +2,16 @@
 use Rattle.std.specs.Prelude.{◌≡◌, ℕ, ◌==◌, ◌&&◌, nat_eq, nat_lt, if◌then◌else◌, List, [], ◌∷◌, Option}
 use Rattle.std.specs.Prelude.{Some, None, IsSomeAnd, unwrap_or, Result, Ok, Err, MatchResult}
 use Rattle.indexmap.specs.IndexMap.{IsUnique, get}
-use Rattle.etherparse.specs.fragments.Fragments.{Fragment}
-use Rattle.etherparse.specs.fragments.IpDefragError.{is_overlap}
-use Rattle.etherparse.specs.defrag.IpDefragPool.{same_id}
-use Rattle.etherparse.specs.defrag.IpFragId.{fragment_in, id_named, same_name}
-use Rattle.etherparse.specs.defrag.PoolCalls.{Lists, ShowsLists, lists_with_frame}
-use Rattle.etherparse.specs.fragments.declared.defrag.ip_defrag_error.IpDefragError.{IpDefragError}
-use Rattle.etherparse.specs.defrag.declared.defrag.ip_defrag_payload_vec.IpDefragPayloadVec.{IpDefragPayloadVec}
-use Rattle.etherparse.specs.packet.Class.{Class, FragmentName}
-use Rattle.etherparse.specs.packet.Class.Class.{Cut, Other, Refused as Faulty, Whole}
-use Rattle.etherparse.specs.packet.declared.class.CutMessage.{CutMessage}
+use Rattle.ep_defrag.specs.IpDefragPool.{same_id}
+use Rattle.ep_defrag.specs.IpFragId.{fragment_in, id_named, same_name}
+use Rattle.ep_defrag.specs.PoolCalls.{Lists, ShowsLists, lists_with_frame}
+use Rattle.ep_defrag.specs.declared.defrag.ip_defrag_payload_vec.IpDefragPayloadVec.{IpDefragPayloadVec}
+use Rattle.ep_fragments.specs.Fragments.{Fragment}
+use Rattle.ep_fragments.specs.IpDefragError.{is_overlap}
+use Rattle.ep_fragments.specs.declared.defrag.ip_defrag_error.IpDefragError.{IpDefragError}
+use Rattle.ep_packet.specs.Class.{Class, FragmentName}
+use Rattle.ep_packet.specs.Class.Class.{Cut, Other, Refused as Faulty, Whole}
+use Rattle.ep_packet.specs.declared.class.CutMessage.{CutMessage}
 use Rattle.packets.specs.declared.beginnings.Beginning.{Beginning}
 use Rattle.packets.specs.declared.beginnings.Beginnings.{Beginnings}
 use Rattle.packets.specs.declared.dissection.Fragment.{Fragment as Part}

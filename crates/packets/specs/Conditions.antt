@@ -6,19 +6,19 @@ use Rattle.std.specs.Net.Addr.{ipv4_octets, ipv6_octets}
 use Rattle.std.specs.Str.{bytes_eq}
 use Rattle.std.specs.declared.net.ip_addr.IpAddr.{IpAddr}
 use Rattle.std.specs.declared.net.ip_addr.IpAddr.TheVariants.{V4, V6}
-use Rattle.etherparse.specs.ip.Ipv4 as ipv4
-use Rattle.etherparse.specs.ip.Ipv6 as ipv6
-use Rattle.etherparse.specs.link.Arp.{proto_type_of, sender_proto_of, target_proto_of}
-use Rattle.etherparse.specs.packet.Readable.{ReadMessage, message_at}
-use Rattle.etherparse.specs.packet.Readable.ReadMessage.{Icmpv4, Icmpv6, Raw, Tcp, Udp}
-use Rattle.etherparse.specs.packet.declared.err.packet.slice_error.SliceError.{SliceError}
-use Rattle.etherparse.specs.packet.declared.net.net_slice.NetSlice.{NetSlice}
-use Rattle.etherparse.specs.packet.declared.net.net_slice.NetSlice.TheVariants as net
-use Rattle.etherparse.specs.packet.declared.sliced_packet.SlicedPacket.{SlicedPacket}
-use Rattle.etherparse.specs.packet.declared.transport.transport_slice.TransportSlice.{TransportSlice}
-use Rattle.etherparse.specs.packet.declared.transport.transport_slice.TransportSlice.TheVariants as transport
-use Rattle.etherparse.specs.tcpudp.Tcp as tcp
-use Rattle.etherparse.specs.tcpudp.Udp as udp
+use Rattle.ep_ip.specs.Ipv4 as ipv4
+use Rattle.ep_ip.specs.Ipv6 as ipv6
+use Rattle.ep_link.specs.Arp.{proto_type_of, sender_proto_of, target_proto_of}
+use Rattle.ep_packet.specs.Readable.{ReadMessage, message_at}
+use Rattle.ep_packet.specs.Readable.ReadMessage.{Icmpv4, Icmpv6, Raw, Tcp, Udp}
+use Rattle.ep_packet.specs.declared.err.packet.slice_error.SliceError.{SliceError}
+use Rattle.ep_packet.specs.declared.net.net_slice.NetSlice.{NetSlice}
+use Rattle.ep_packet.specs.declared.net.net_slice.NetSlice.TheVariants as net
+use Rattle.ep_packet.specs.declared.sliced_packet.SlicedPacket.{SlicedPacket}
+use Rattle.ep_packet.specs.declared.transport.transport_slice.TransportSlice.{TransportSlice}
+use Rattle.ep_packet.specs.declared.transport.transport_slice.TransportSlice.TheVariants as transport
+use Rattle.ep_tcpudp.specs.Tcp as tcp
+use Rattle.ep_tcpudp.specs.Udp as udp
 use Rattle.packets.specs.Counts.{is_bad}
 use Rattle.packets.specs.Headers.{has_header}
 use Rattle.packets.specs.Outlines.{headers_of, refusal_of}

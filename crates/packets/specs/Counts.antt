@@ -1,19 +1,19 @@
 -- What a summary counts.
 use Rattle.std.specs.Prelude.{◌≡◌, Bool, true, false, List, Option, Some, None, is_some}
+use Rattle.ep_packet.specs.declared.addresses.Addresses.{Addresses}
+use Rattle.header_texts.specs.declared.protocol.Protocol.{Protocol}
+use Rattle.header_texts.specs.declared.protocol.Protocol.TheVariants.{Ethernet, Vlan, Macsec, Arp, Ipv4}
+use Rattle.header_texts.specs.declared.protocol.Protocol.TheVariants.{Ipv6}
+use Rattle.header_texts.specs.declared.reason.Reason.{Reason}
 use Rattle.packets.specs.Headers.{has_header, net_addresses}
 use Rattle.packets.specs.Numbers.{CountsNumbers}
 use Rattle.packets.specs.Rate.{CountsSpans}
 use Rattle.packets.specs.Sizes.{CountsSizes}
 use Rattle.packets.specs.Table.{CountsKeys}
 use Rattle.packets.specs.Tally.{tally_of}
-use Rattle.etherparse.specs.packet.declared.addresses.Addresses.{Addresses}
 use Rattle.packets.specs.declared.outline.Outline.{Outline}
 use Rattle.packets.specs.declared.outline.PartState.{PartState}
 use Rattle.packets.specs.declared.outline.PartState.TheVariants as state
-use Rattle.packets.specs.declared.protocol.Protocol.{Protocol}
-use Rattle.packets.specs.declared.protocol.Protocol.TheVariants.{Ethernet, Vlan, Macsec, Arp, Ipv4}
-use Rattle.packets.specs.declared.protocol.Protocol.TheVariants.{Ipv6}
-use Rattle.packets.specs.declared.reason.Reason.{Reason}
 use Rattle.verdicts.specs.declared.verdict.Verdict.{Verdict}
 use Rattle.verdicts.specs.declared.verdict.Verdict.TheVariants as verdict
 use Rattle.packets.specs.declared.summary.summary.ChecksumTallies.{ChecksumTallies}

@@ -5,9 +5,9 @@ use Rattle.std.specs.Prelude.{List, [], ◌∷◌, filter, length, Option, Some,
 use Rattle.captures.specs.Framed.{frame_bytes}
 use Rattle.captures.specs.Numbers.{capped}
 use Rattle.captures.specs.declared.packet.Packet.{Packet}
-use Rattle.etherparse.specs.defrag.PoolCalls.{Lists, answer_to_frame, fault_in, lists_with_frame}
-use Rattle.etherparse.specs.defrag.PoolCalls.{ShowsLists, no_lists, retained_from}
-use Rattle.etherparse.specs.packet.Class.{Class, class_told}
+use Rattle.ep_defrag.specs.PoolCalls.{Lists, answer_to_frame, fault_in, lists_with_frame}
+use Rattle.ep_defrag.specs.PoolCalls.{ShowsLists, no_lists, retained_from}
+use Rattle.ep_packet.specs.Class.{Class, class_told}
 use Rattle.packets.specs.Begun.{Begun, ShowsBegun, TellsBegun, begun_with, none_begun}
 use Rattle.packets.specs.Conditions.{lets_through}
 use Rattle.packets.specs.Dissected.{fragment_told, told_of, verdict_on}

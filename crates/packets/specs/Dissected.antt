@@ -1,27 +1,27 @@
 -- What is told of a packet, by its headers and by the parts of its message that came before it.
 use Rattle.std.specs.Prelude.{◌≡◌, ℕ, Bool, true, false, Option, Some, None, IsSome, Result}
 use Rattle.std.specs.Prelude.{Ok, Err, MatchResult}
-use Rattle.etherparse.specs.defrag.IpDefragPool.{payload_told}
-use Rattle.etherparse.specs.defrag.IpFragId.{fragment_in}
-use Rattle.etherparse.specs.defrag.PoolCalls.{HasMemory, Lists, ShowsLists, Told}
-use Rattle.etherparse.specs.defrag.PoolCalls.{answer_to_frame}
-use Rattle.etherparse.specs.defrag.PoolCalls.{lists_with_frame}
-use Rattle.etherparse.specs.defrag.PoolCalls.Told.{Delivered, NoMemory, NotSliced, Nothing}
-use Rattle.etherparse.specs.defrag.PoolCalls.Told.{Refused as PartRefused, Retained}
-use Rattle.etherparse.specs.fragments.Streams.{Pool}
-use Rattle.etherparse.specs.fragments.declared.defrag.ip_defrag_error.IpDefragError.{IpDefragError}
-use Rattle.etherparse.specs.fragments.declared.defrag.ip_defrag_error.IpDefragError.TheVariants.{UnalignedFragmentPayloadLen}
-use Rattle.etherparse.specs.fragments.declared.defrag.ip_defrag_error.IpDefragError.TheVariants.{SegmentTooBig}
-use Rattle.etherparse.specs.fragments.declared.defrag.ip_defrag_error.IpDefragError.TheVariants.{ConflictingEnd}
-use Rattle.etherparse.specs.fragments.declared.defrag.ip_defrag_error.IpDefragError.TheVariants.{AllocationFailure}
-use Rattle.etherparse.specs.fragments.declared.defrag.ip_defrag_error.IpDefragError.TheVariants.{OverlappingFragment}
-use Rattle.etherparse.specs.defrag.declared.defrag.ip_frag_id.IpFragId.{IpFragId}
-use Rattle.etherparse.specs.packet.Class.{Class}
-use Rattle.etherparse.specs.packet.Class.Class.{Cut, Other, Refused as Faulty, Whole}
-use Rattle.etherparse.specs.packet.Readable.{ReadMessage, message_at}
-use Rattle.etherparse.specs.packet.declared.addresses.Addresses.{Addresses}
-use Rattle.etherparse.specs.packet.declared.err.packet.slice_error.SliceError.{SliceError}
-use Rattle.etherparse.specs.packet.declared.sliced_packet.SlicedPacket.{SlicedPacket}
+use Rattle.ep_defrag.specs.IpDefragPool.{payload_told}
+use Rattle.ep_defrag.specs.IpFragId.{fragment_in}
+use Rattle.ep_defrag.specs.PoolCalls.{HasMemory, Lists, ShowsLists, Told}
+use Rattle.ep_defrag.specs.PoolCalls.{answer_to_frame}
+use Rattle.ep_defrag.specs.PoolCalls.{lists_with_frame}
+use Rattle.ep_defrag.specs.PoolCalls.Told.{Delivered, NoMemory, NotSliced, Nothing}
+use Rattle.ep_defrag.specs.PoolCalls.Told.{Refused as PartRefused, Retained}
+use Rattle.ep_fragments.specs.Streams.{Pool}
+use Rattle.ep_defrag.specs.declared.defrag.ip_frag_id.IpFragId.{IpFragId}
+use Rattle.ep_fragments.specs.declared.defrag.ip_defrag_error.IpDefragError.{IpDefragError}
+use Rattle.ep_fragments.specs.declared.defrag.ip_defrag_error.IpDefragError.TheVariants.{UnalignedFragmentPayloadLen}
+use Rattle.ep_fragments.specs.declared.defrag.ip_defrag_error.IpDefragError.TheVariants.{SegmentTooBig}
+use Rattle.ep_fragments.specs.declared.defrag.ip_defrag_error.IpDefragError.TheVariants.{ConflictingEnd}
+use Rattle.ep_fragments.specs.declared.defrag.ip_defrag_error.IpDefragError.TheVariants.{AllocationFailure}
+use Rattle.ep_fragments.specs.declared.defrag.ip_defrag_error.IpDefragError.TheVariants.{OverlappingFragment}
+use Rattle.ep_packet.specs.Class.{Class}
+use Rattle.ep_packet.specs.Class.Class.{Cut, Other, Refused as Faulty, Whole}
+use Rattle.ep_packet.specs.Readable.{ReadMessage, message_at}
+use Rattle.ep_packet.specs.declared.addresses.Addresses.{Addresses}
+use Rattle.ep_packet.specs.declared.err.packet.slice_error.SliceError.{SliceError}
+use Rattle.ep_packet.specs.declared.sliced_packet.SlicedPacket.{SlicedPacket}
 use Rattle.verdicts.specs.Verdict.{verdict_of}
 use Rattle.verdicts.specs.declared.verdict.Verdict.{Verdict}
 use Rattle.packets.specs.declared.dissection.Fragment.{Fragment}

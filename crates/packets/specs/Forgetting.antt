@@ -2,9 +2,9 @@
 use Rattle.std.specs.Prelude.{◌≡◌, ℕ, ◌+◌, ◌*◌, ◌<◌, ◌≤◌, List, [], ◌∷◌, ◌++◌, Some, None}
 use Rattle.std.specs.List.{AllByRecursion}
 use Rattle.captures.specs.declared.packet.Packet.{Packet}
-use Rattle.etherparse.specs.fragments.Outcome.{Held}
-use Rattle.etherparse.specs.defrag.PoolCalls.{after_frame}
-use Rattle.etherparse.specs.packet.Class.{FragmentName}
+use Rattle.ep_defrag.specs.PoolCalls.{after_frame}
+use Rattle.ep_fragments.specs.Outcome.{Held}
+use Rattle.ep_packet.specs.Class.{FragmentName}
 use Rattle.packets.specs.Courses.{Course, class_of, course_after, next_course}
 
 -- each of these packets comes less than so many seconds after the last fragment of a message that

@@ -1,13 +1,13 @@
 -- Which headers a packet has.
 use Rattle.std.specs.Prelude.{ℕ, ◌==◌, Bool, true, false, Option, Some, None}
-use Rattle.etherparse.specs.packet.declared.addresses.Addresses.{Addresses}
-use Rattle.etherparse.specs.packet.declared.addresses.Addresses.TheVariants.{V4, V6}
-use Rattle.etherparse.specs.base.declared.net.ip_number.IpNumber.{IpNumber}
+use Rattle.ep_base.specs.declared.net.ip_number.IpNumber.{IpNumber}
+use Rattle.ep_packet.specs.declared.addresses.Addresses.{Addresses}
+use Rattle.ep_packet.specs.declared.addresses.Addresses.TheVariants.{V4, V6}
+use Rattle.header_texts.specs.declared.protocol.Protocol.{Protocol}
+use Rattle.header_texts.specs.declared.protocol.Protocol.TheVariants as protocol
 use Rattle.packets.specs.declared.outline.Headers.{Headers}
 use Rattle.packets.specs.declared.outline.Net.{Net}
 use Rattle.packets.specs.declared.outline.Net.TheVariants as net
-use Rattle.packets.specs.declared.protocol.Protocol.{Protocol}
-use Rattle.packets.specs.declared.protocol.Protocol.TheVariants as protocol
 
 abbrev pub is_arp : Option Net → Bool
 is_arp None = false

@@ -2,18 +2,18 @@
 use Rattle.std.specs.Prelude.{ℕ, ◌+◌, List, Option, Some, None, Result, Ok, Err}
 use Rattle.captures.specs.Numbers.{capped}
 use Rattle.captures.specs.declared.link.header.Header.{Header}
-use Rattle.etherparse.specs.link.Ethernet.{ethernet_len}
-use Rattle.etherparse.specs.packet.Sliced.{sliced_ether_type, sliced_ethernet}
-use Rattle.etherparse.specs.packet.declared.err.packet.slice_error.SliceError.{SliceError}
-use Rattle.etherparse.specs.packet.declared.err.packet.slice_error.SliceError.TheVariants.{Len}
-use Rattle.etherparse.specs.packet.declared.err.packet.slice_error.SliceError.TheVariants.{LinuxSll}
-use Rattle.etherparse.specs.packet.declared.err.packet.slice_error.SliceError.TheVariants.{Macsec}
-use Rattle.etherparse.specs.packet.declared.err.packet.slice_error.SliceError.TheVariants.{Ip, Ipv4}
-use Rattle.etherparse.specs.packet.declared.err.packet.slice_error.SliceError.TheVariants.{Ipv6}
-use Rattle.etherparse.specs.packet.declared.err.packet.slice_error.SliceError.TheVariants.{Ipv4Exts}
-use Rattle.etherparse.specs.packet.declared.err.packet.slice_error.SliceError.TheVariants.{Ipv6Exts}
-use Rattle.etherparse.specs.packet.declared.err.packet.slice_error.SliceError.TheVariants.{Tcp}
-use Rattle.etherparse.specs.packet.declared.sliced_packet.SlicedPacket.{SlicedPacket}
+use Rattle.ep_link.specs.Ethernet.{ethernet_len}
+use Rattle.ep_packet.specs.Sliced.{sliced_ether_type, sliced_ethernet}
+use Rattle.ep_packet.specs.declared.err.packet.slice_error.SliceError.{SliceError}
+use Rattle.ep_packet.specs.declared.err.packet.slice_error.SliceError.TheVariants.{Len}
+use Rattle.ep_packet.specs.declared.err.packet.slice_error.SliceError.TheVariants.{LinuxSll}
+use Rattle.ep_packet.specs.declared.err.packet.slice_error.SliceError.TheVariants.{Macsec}
+use Rattle.ep_packet.specs.declared.err.packet.slice_error.SliceError.TheVariants.{Ip, Ipv4}
+use Rattle.ep_packet.specs.declared.err.packet.slice_error.SliceError.TheVariants.{Ipv6}
+use Rattle.ep_packet.specs.declared.err.packet.slice_error.SliceError.TheVariants.{Ipv4Exts}
+use Rattle.ep_packet.specs.declared.err.packet.slice_error.SliceError.TheVariants.{Ipv6Exts}
+use Rattle.ep_packet.specs.declared.err.packet.slice_error.SliceError.TheVariants.{Tcp}
+use Rattle.ep_packet.specs.declared.sliced_packet.SlicedPacket.{SlicedPacket}
 
 -- a fault, seen from the front of an Ethernet II header before the bytes. An offset stops at the
 -- greatest number of 64 bits

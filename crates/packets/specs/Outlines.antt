@@ -4,16 +4,17 @@ use Rattle.std.specs.List.{list_any}
 use Rattle.captures.specs.declared.link.kind.Link.{Link}
 use Rattle.captures.specs.declared.link.kind.Link.TheVariants.{Ethernet, Ip, Null, Loop, Sll, Sll2}
 use Rattle.captures.specs.declared.link.kind.Link.TheVariants.{Other}
-use Rattle.etherparse.specs.ipslice.Packet.{ipv4_payload}
-use Rattle.etherparse.specs.packet.Class.{ipv4_addresses, ipv6_addresses}
-use Rattle.etherparse.specs.packet.Readable.{ReadMessage, message_at}
-use Rattle.etherparse.specs.packet.declared.err.packet.slice_error.SliceError.{SliceError}
-use Rattle.etherparse.specs.packet.declared.net.net_slice.NetSlice.{NetSlice}
-use Rattle.etherparse.specs.packet.declared.net.net_slice.NetSlice.TheVariants as slice
-use Rattle.etherparse.specs.packet.declared.sliced_packet.SlicedPacket.{SlicedPacket}
-use Rattle.etherparse.specs.tag.declared.link.link_ext_slice.LinkExtSlice.{LinkExtSlice}
-use Rattle.etherparse.specs.tag.declared.link.link_ext_slice.LinkExtSlice.TheVariants.{Vlan, Macsec}
-use Rattle.packets.specs.Reasons.{part_reason, reason_of}
+use Rattle.ep_ipslice.specs.Packet.{ipv4_payload}
+use Rattle.ep_packet.specs.Class.{ipv4_addresses, ipv6_addresses}
+use Rattle.ep_packet.specs.Readable.{ReadMessage, message_at}
+use Rattle.ep_packet.specs.declared.err.packet.slice_error.SliceError.{SliceError}
+use Rattle.ep_packet.specs.declared.net.net_slice.NetSlice.{NetSlice}
+use Rattle.ep_packet.specs.declared.net.net_slice.NetSlice.TheVariants as slice
+use Rattle.ep_packet.specs.declared.sliced_packet.SlicedPacket.{SlicedPacket}
+use Rattle.ep_tag.specs.declared.link.link_ext_slice.LinkExtSlice.{LinkExtSlice}
+use Rattle.ep_tag.specs.declared.link.link_ext_slice.LinkExtSlice.TheVariants.{Vlan, Macsec}
+use Rattle.header_texts.specs.Reasons.{part_reason, reason_of}
+use Rattle.header_texts.specs.declared.reason.Reason.{Reason}
 use Rattle.packets.specs.declared.dissection.Dissection.{Dissection}
 use Rattle.packets.specs.declared.dissection.Fragment.{Fragment}
 use Rattle.packets.specs.declared.dissection.Fragment.TheVariants as fragment
@@ -23,7 +24,6 @@ use Rattle.packets.specs.declared.outline.Net.TheVariants as net
 use Rattle.packets.specs.declared.outline.Outline.{Outline}
 use Rattle.packets.specs.declared.outline.PartState.{PartState}
 use Rattle.packets.specs.declared.outline.PartState.TheVariants as state
-use Rattle.packets.specs.declared.reason.Reason.{Reason}
 
 abbrev pub is_ethernet : Link → Bool
 is_ethernet Ethernet = true

@@ -1,13 +1,14 @@
 //! Where the messages that are on their way began.
 ghost use Rattle.std.specs.Prelude.{◌≡◌, ◌≤◌, if◌then◌else◌, nat_eq, nat_le, option_map, ℕ, OnOk, None};
 ghost use Rattle.indexmap.specs.IndexMap.{IsUnchanged, IsUnique, get, spare};
-ghost use Rattle.etherparse.specs.fragments.IpDefragError.{is_overlap};
-ghost use Rattle.etherparse.specs.defrag.IpDefragPool.{same_id};
-ghost use Rattle.etherparse.specs.defrag.PoolCalls.{Lists, no_lists, retained_from};
-ghost use Rattle.etherparse.specs.defrag.declared.defrag.ip_frag_id.IpFragId.{IpFragId};
+ghost use Rattle.ep_defrag.specs.IpDefragPool.{same_id};
+ghost use Rattle.ep_defrag.specs.PoolCalls.{Lists, no_lists, retained_from};
+ghost use Rattle.ep_defrag.specs.declared.defrag.ip_frag_id.IpFragId.{IpFragId};
+ghost use Rattle.ep_fragments.specs.IpDefragError.{is_overlap};
 ghost use Rattle.packets.specs.Begun.{Begun, ShowsBegun, kept_after, kept_from, none_begun};
 
-use etherparse::defrag::{IpDefragError, IpDefragPayloadVec, IpFragId};
+use ep_defrag::defrag::{IpDefragPayloadVec, IpFragId};
+use ep_fragments::defrag::IpDefragError;
 use indexmap::IndexMap;
 use std::alloc::{AllocError, Global};
 use std::hash::Hash;

@@ -1,9 +1,10 @@
 //! A packet, and what is told of it.
 
 use captures::{Header, Link};
-use etherparse::SlicedPacket;
-use etherparse::defrag::{IpDefragError, IpDefragPayloadVec};
-use etherparse::err::packet::SliceError;
+use ep_defrag::defrag::IpDefragPayloadVec;
+use ep_fragments::defrag::IpDefragError;
+use ep_packet::SlicedPacket;
+use ep_packet::err::packet::SliceError;
 use verdicts::Verdict;
 
 /// A packet, and what is told of it.

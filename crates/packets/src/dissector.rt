@@ -3,11 +3,11 @@ ghost use Rattle.std.specs.Prelude.{◌≡◌, ◌+◌, IfOk, OnErr, MatchOption
 ghost use Rattle.std.specs.Prelude.{None, Some, length, unwrap_or};
 ghost use Rattle.captures.specs.Framed.{frame_bytes};
 ghost use Rattle.captures.specs.Numbers.{capped};
-ghost use Rattle.etherparse.specs.defrag.IpFragId.{fragment_in};
-ghost use Rattle.etherparse.specs.defrag.OpenMessages.{IsOpenCount};
-ghost use Rattle.etherparse.specs.defrag.PoolCalls.{Lists, ShowsLists, answer_to_frame, fault_in};
-ghost use Rattle.etherparse.specs.defrag.PoolCalls.{lists_with_frame, no_lists, retained_from};
-ghost use Rattle.etherparse.specs.packet.Class.{class_told};
+ghost use Rattle.ep_defrag.specs.IpFragId.{fragment_in};
+ghost use Rattle.ep_defrag.specs.OpenMessages.{IsOpenCount};
+ghost use Rattle.ep_defrag.specs.PoolCalls.{Lists, ShowsLists, answer_to_frame, fault_in};
+ghost use Rattle.ep_defrag.specs.PoolCalls.{lists_with_frame, no_lists, retained_from};
+ghost use Rattle.ep_packet.specs.Class.{class_told};
 ghost use Rattle.packets.specs.Begun.{Begun, ShowsBegun, TellsBegun, begun_with, none_begun};
 ghost use Rattle.packets.specs.Courses.{first_at};
 ghost use Rattle.packets.specs.Dissected.{fragment_told, told_of, verdict_on};
@@ -16,9 +16,11 @@ ghost use Rattle.packets.specs.Layers.{behind_header, layers_of};
 use crate::messages::{Arrival, Finding, Messages};
 use crate::{Dissection, Fragment};
 use captures::{Frame, Packet};
-use etherparse::err::LenError;
-use etherparse::err::packet::SliceError;
-use etherparse::{EtherType, Ethernet2Header, SlicedPacket};
+use ep_base::EtherType;
+use ep_base::err::LenError;
+use ep_link::Ethernet2Header;
+use ep_packet::SlicedPacket;
+use ep_packet::err::packet::SliceError;
 use std::alloc::{AllocError, Global};
 
 /// Tells of one packet after the other, and puts messages together of their parts.

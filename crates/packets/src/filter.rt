@@ -1,6 +1,6 @@
 //! Which packets are told.
 ghost use Rattle.std.specs.Prelude.{◌≡◌, ◌++◌, ◌∷◌, [], OnOk, OnErr};
-ghost use Rattle.etherparse.specs.packet.Readable.{message_at};
+ghost use Rattle.ep_packet.specs.Readable.{message_at};
 ghost use Rattle.packets.specs.Conditions.{arp_has_host, datagram_has_port, has_host};
 ghost use Rattle.packets.specs.Conditions.{has_ipv4_host, has_ipv6_host, has_port};
 ghost use Rattle.packets.specs.Conditions.{message_has_port, packet_has_port, segment_has_port};
@@ -9,12 +9,12 @@ ghost use Rattle.packets.specs.Counts.{is_bad};
 
 use crate::outline::refusal_of;
 use crate::{Dissection, Fragment, Headers, Protocol};
-use etherparse::defrag::IpDefragPayloadVec;
-use etherparse::err::packet::SliceError;
-use etherparse::{
-    ArpPacketSlice, EtherType, Message, NetSlice, SlicedPacket, TcpSlice, TransportSlice, UdpSlice,
-    read_message,
-};
+use ep_base::EtherType;
+use ep_defrag::defrag::IpDefragPayloadVec;
+use ep_link::ArpPacketSlice;
+use ep_packet::err::packet::SliceError;
+use ep_packet::{Message, NetSlice, SlicedPacket, TransportSlice, read_message};
+use ep_tcpudp::{TcpSlice, UdpSlice};
 use std::alloc::{AllocError, Global};
 use std::net::IpAddr;
 use std::str::FromStr;

@@ -1,25 +1,22 @@
-//! What `Clone`, `PartialEq` and `Hash` of the types here mean, and what runs drop and count.
-ghost use Rattle.std.specs.Prelude.{◌≡◌, ◌≤◌, ◌<◌, ◌+◌, ◌-◌, ◌*◌, ◌^◌, ℕ, pos, true, not, is_some};
+//! What `Clone` and `PartialEq` of the types here mean, and what runs drop and count.
+ghost use Rattle.std.specs.Prelude.{◌≡◌, ◌≤◌, ◌<◌, ◌+◌, ◌-◌, ◌*◌, ◌^◌, ℕ, true, not, is_some};
 ghost use Rattle.std.specs.Prelude.{List, [], ◌∷◌, Some, None};
-ghost use Rattle.std.specs.Hash as fed;
 ghost use Rattle.captures.specs.declared.packet.Packet.{Packet};
-ghost use Rattle.etherparse.specs.base.Traits.{IsPlainData, VariantFeeds};
-ghost use Rattle.etherparse.specs.fragments.Fragments.{Fragment};
-ghost use Rattle.etherparse.specs.defrag.PoolCalls.{Lists};
-ghost use Rattle.etherparse.specs.packet.Class.{FragmentName};
+ghost use Rattle.ep_base.specs.Traits.{IsPlainData};
+ghost use Rattle.ep_defrag.specs.PoolCalls.{Lists};
+ghost use Rattle.ep_fragments.specs.Fragments.{Fragment};
+ghost use Rattle.ep_packet.specs.Class.{FragmentName};
 ghost use Rattle.packets.specs.Courses.{Course, course_after, lists_at, no_course};
 ghost use Rattle.packets.specs.Forgetting.{ComeWithin, ForgetDrops};
 ghost use Rattle.packets.specs.Tally.{tally_of};
 ghost use Rattle.packets.specs.declared.outline.Outline.{Outline};
-ghost use Rattle.packets.specs.declared.reason.Reason.TheVariants as reason;
 
 use crate::{
     ChecksumTallies, Condition, Ending, Headers, Net, NoProgress, Outline, PartState, PartTallies,
-    Protocol, Reason, ShowOptions, Sizes, Style, Tally, TimeForm, WordError,
+    ShowOptions, Sizes, Tally, WordError,
 };
-use etherparse::err::Layer;
-use etherparse::laws::base::traits::Value;
-use std::hash::Hash;
+use ep_base::laws::traits::Value;
+pub use header_texts::laws::reasons_hash_all_fields;
 
 /// A copy is the value and takes no memory. Equal are the values that are the same.
 pub fn types_are_plain_data()
@@ -27,12 +24,8 @@ pub fn types_are_plain_data()
     ensures word_error { IsPlainData ⟦<WordError as Value>⟧ }
     ensures net { IsPlainData ⟦<Net as Value>⟧ }
     ensures part_state { IsPlainData ⟦<PartState as Value>⟧ }
-    ensures protocol { IsPlainData ⟦<Protocol as Value>⟧ }
-    ensures reason { IsPlainData ⟦<Reason as Value>⟧ }
     ensures no_progress { IsPlainData ⟦<NoProgress as Value>⟧ }
     ensures show_options { IsPlainData ⟦<ShowOptions as Value>⟧ }
-    ensures style { IsPlainData ⟦<Style as Value>⟧ }
-    ensures time_form { IsPlainData ⟦<TimeForm as Value>⟧ }
     ensures sizes { IsPlainData ⟦<Sizes as Value>⟧ }
     ensures tally { IsPlainData ⟦<Tally as Value>⟧ }
 {}
@@ -54,17 +47,9 @@ pub fn outlines_are_plain_data()
 {
     types_are_plain_data();
     holders_are_plain_data();
+    header_texts::laws::types_are_plain_data();
     verdicts::laws::verdicts_are_plain_data();
 }
-
-/// A reason feeds a hasher its place, as it is declared, and then the layer that it names.
-pub fn reasons_hash_all_fields()
-    ensures cut_off { VariantFeeds ⟦<Reason as Hash>⟧.hash_input
-        0 reason.CutOff ⟦<Layer as Hash>⟧.hash_input }
-    ensures packet_type { ⟦<Reason as Hash>⟧.hash_input reason.CookedPacketType
-        ≡ fed.isize (pos 1) }
-    ensures memory { ⟦<Reason as Hash>⟧.hash_input reason.FragmentMemory ≡ fed.isize (pos 14) }
-{}
 
 /// While each packet comes less than so many seconds after the last fragment of a message that was
 /// accepted, the message is as if nothing were dropped.

@@ -1,15 +1,15 @@
 //! Messages, put together of their parts.
 ghost use Rattle.std.specs.Prelude.{◌≡◌, ℕ, None, Some, IsSomeAnd, Ok, IfOk, Option};
-ghost use Rattle.etherparse.specs.defrag.IpDefragPool.{payload_told};
-ghost use Rattle.etherparse.specs.defrag.IpFragId.{id_named, spec_id};
-ghost use Rattle.etherparse.specs.defrag.OpenMessages.{IsOpenCount};
-ghost use Rattle.etherparse.specs.defrag.PoolCalls.{Lists, ShowsLists, fault_in, no_lists};
-ghost use Rattle.etherparse.specs.defrag.PoolCalls.{retained_from, told_outcome};
-ghost use Rattle.etherparse.specs.defrag.PoolCalls.Told.{Delivered};
-ghost use Rattle.etherparse.specs.packet.Class.{IdentificationFits, as_class, class_told};
-ghost use Rattle.etherparse.specs.packet.Class.{packet_told};
-ghost use Rattle.etherparse.specs.packet.Readable.{message_at};
-ghost use Rattle.etherparse.specs.packet.declared.class.Class.TheVariants as class;
+ghost use Rattle.ep_defrag.specs.IpDefragPool.{payload_told};
+ghost use Rattle.ep_defrag.specs.IpFragId.{id_named, spec_id};
+ghost use Rattle.ep_defrag.specs.OpenMessages.{IsOpenCount};
+ghost use Rattle.ep_defrag.specs.PoolCalls.{Lists, ShowsLists, fault_in, no_lists};
+ghost use Rattle.ep_defrag.specs.PoolCalls.{retained_from, told_outcome};
+ghost use Rattle.ep_defrag.specs.PoolCalls.Told.{Delivered};
+ghost use Rattle.ep_packet.specs.Class.{IdentificationFits, as_class, class_told};
+ghost use Rattle.ep_packet.specs.Class.{packet_told};
+ghost use Rattle.ep_packet.specs.Readable.{message_at};
+ghost use Rattle.ep_packet.specs.declared.class.Class.TheVariants as class;
 ghost use Rattle.packets.specs.Begun.{AnswersBegun, BeganIn, Begun, ShowsBegun, name_of_part};
 ghost use Rattle.packets.specs.Begun.{none_begun};
 ghost use Rattle.packets.specs.Dissected.{Answers, IsFound, completed_verdict, found_told};
@@ -18,16 +18,15 @@ ghost use Rattle.packets.specs.Dissected.{verdict_if_read, verdict_on};
 
 use crate::Fragment;
 use crate::beginnings::Beginnings;
-use etherparse::defrag::{
-    IpDefragError, IpDefragPayloadVec, IpDefragPool, IpFragId, IpFragVersionSpecId,
-};
-use etherparse::err::packet::SliceError;
-use etherparse::laws::defrag::names::equal_names;
-use etherparse::laws::defrag::streams::{
+use ep_defrag::defrag::{IpDefragPayloadVec, IpDefragPool, IpFragId, IpFragVersionSpecId};
+use ep_defrag::laws::names::equal_names;
+use ep_defrag::laws::streams::{
     a_new_pool_shows_no_lists, open_messages_are_counted, packets_are_answered,
     spare_buffers_show_nothing, wants_are_told,
 };
-use etherparse::{Addresses, Class, CutMessage, SlicedPacket, read_message};
+use ep_fragments::defrag::IpDefragError;
+use ep_packet::err::packet::SliceError;
+use ep_packet::{Addresses, Class, CutMessage, SlicedPacket, read_message};
 use std::alloc::{AllocError, Global};
 use verdicts::{Verdict, judge};
 

@@ -1,7 +1,7 @@
 //! What filters and summaries ask of a packet.
 ghost use Rattle.std.specs.Prelude.{◌≡◌};
 ghost use Rattle.std.specs.List.{list_any};
-ghost use Rattle.etherparse.specs.packet.Readable.{message_at};
+ghost use Rattle.ep_packet.specs.Readable.{message_at};
 ghost use Rattle.packets.specs.Headers.{has_header, net_addresses, net_number};
 ghost use Rattle.packets.specs.Outlines.{headers_of, is_ethernet, is_macsec, is_vlan};
 ghost use Rattle.packets.specs.Outlines.{message_refusal, net_of, outline_of, part_of};
@@ -9,8 +9,10 @@ ghost use Rattle.packets.specs.Outlines.{part_refusal, refusal_of};
 
 use crate::{Dissection, Fragment, Protocol, Reason};
 use captures::Link;
-use etherparse::defrag::IpDefragPayloadVec;
-use etherparse::{Addresses, IpNumber, LinkExtSlice, NetSlice, SlicedPacket, read_message};
+use ep_base::IpNumber;
+use ep_defrag::defrag::IpDefragPayloadVec;
+use ep_packet::{Addresses, NetSlice, SlicedPacket, read_message};
+use ep_tag::LinkExtSlice;
 use verdicts::Verdict;
 
 /// What a summary takes of a packet.

@@ -1,10 +1,8 @@
 //! What became of a part of a message.
 
 use crate::Fragment;
-use crate::json::fields::{begin as begin_object, number};
-use crate::json::{errors, transport};
-use etherparse::defrag::IpDefragPayloadVec;
-use etherparse::read_message;
+use header_texts::json::errors;
+use header_texts::json::fields::{begin as begin_object, number};
 use serde::Serializer;
 
 /// Begins the object that tells it, up to what is told of a message that is complete.
@@ -26,20 +24,6 @@ pub(crate) fn begin<S: Serializer>(out: &mut S, part: &Fragment) -> Result<(), S
             }
             errors::part(out, error)
         }
-    }
-}
-
-/// A message that is complete: its protocol, its length, and its header or why it is refused.
-pub(crate) fn message<S: Serializer>(
-    out: &mut S,
-    message: &IpDefragPayloadVec,
-) -> Result<(), S::Error> {
-    let bytes = message.payload.as_slice();
-    number(out, "ip_number", message.ip_number.0.into())?;
-    number(out, "len", bytes.len() as u64)?;
-    match read_message(message.ip_number, bytes) {
-        Ok(message) => transport::message(out, &message),
-        Err(error) => errors::member(out, "error", &error),
     }
 }
 

@@ -1,10 +1,11 @@
 //! The object of a packet.
 
-use crate::json::fields::{Name, number, printed, text};
-use crate::json::{errors, fragment, link, net, transport};
-use crate::payload::payload_of;
+use crate::json::fragment;
 use crate::{Dissection, Fragment};
-use etherparse::SlicedPacket;
+use ep_packet::SlicedPacket;
+use header_texts::json::fields::{named, number, text};
+use header_texts::json::{completed, errors, headers};
+use header_texts::payload_of;
 use serde::{Described, Serialize, Serializer};
 use std::alloc::{AllocError, Global};
 
@@ -51,14 +52,14 @@ impl Serialize for PacketObject<'_, '_> {
         number(out, "number", packet.number)?;
         number(out, "time", packet.time)?;
         number(out, "interface", packet.interface.into())?;
-        printed(out, "link_type", &Name(packet.link))?;
+        named(out, "link_type", packet.link)?;
         number(out, "len", packet.len as u64)?;
         match &packet.layers {
             Ok(layers) => self.layers(layers, out)?,
             Err(error) => errors::member(out, "error", error)?,
         }
         if let Some(verdict) = packet.verdict {
-            printed(out, "verdict", &Name(verdict))?;
+            named(out, "verdict", verdict)?;
         }
         out.end_map()
     }
@@ -70,10 +71,7 @@ impl PacketObject<'_, '_> {
         layers: &SlicedPacket<'_>,
         out: &mut S,
     ) -> Result<(), S::Error> {
-        link::header(out, self.packet, layers)?;
-        link::tags(out, layers.link_exts.as_slice())?;
-        net::member(out, layers)?;
-        transport::member(out, layers)?;
+        headers(out, layers, self.packet.header.as_ref())?;
         let payload = payload_of(layers);
         number(out, "payload_len", payload.len() as u64)?;
         if self.lines.payload {
@@ -88,9 +86,10 @@ impl PacketObject<'_, '_> {
     fn part<S: Serializer>(&self, part: &Fragment, out: &mut S) -> Result<(), S::Error> {
         fragment::begin(out, part)?;
         if let Fragment::Completes { message, .. } = part {
-            fragment::message(out, message)?;
+            let bytes = message.payload.as_slice();
+            completed(out, message.ip_number, bytes)?;
             if self.lines.payload {
-                self.bytes("bytes", message.payload.as_slice(), out)?;
+                self.bytes("bytes", bytes, out)?;
             }
         }
         fragment::end(out)

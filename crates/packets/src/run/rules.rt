@@ -1,6 +1,6 @@
 //! What becomes of packets and messages in a run.
 ghost use Rattle.std.specs.Prelude.{◌≡◌, ◌*◌, None};
-ghost use Rattle.etherparse.specs.defrag.PoolCalls.{Lists, ShowsLists};
+ghost use Rattle.ep_defrag.specs.PoolCalls.{Lists, ShowsLists};
 ghost use Rattle.packets.specs.Begun.{Begun, ShowsBegun};
 ghost use Rattle.packets.specs.Courses.{begin_at, lists_at};
 

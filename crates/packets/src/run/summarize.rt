@@ -2,7 +2,7 @@
 ghost use Rattle.std.specs.Prelude.{◌≡◌, ◌++◌, false, List, ℕ, Option, map};
 ghost use Rattle.std.specs.Io.KnownBytes.{Consumes};
 ghost use Rattle.captures.specs.declared.packet.Packet.{Packet};
-ghost use Rattle.etherparse.specs.defrag.OpenMessages.{IsOpenCount};
+ghost use Rattle.ep_defrag.specs.OpenMessages.{IsOpenCount};
 ghost use Rattle.packets.specs.Counts.{Counts};
 ghost use Rattle.packets.specs.Courses.{AreDissected, course_after, no_course, shown};
 ghost use Rattle.packets.specs.Outlines.{outline_of};
@@ -15,7 +15,7 @@ use crate::run::rules::Rules;
 use crate::run::walk::{Visitor, walk};
 use crate::{Dissection, Dissector, Reason, Summary};
 use captures::{PacketReader, RunError, Skipped};
-use etherparse::Addresses;
+use ep_packet::Addresses;
 use std::alloc::{AllocError, Global};
 use std::hash::BuildHasher;
 use std::io::Read;

@@ -5,12 +5,12 @@ ghost use Rattle.std.specs.Io.KnownBytes.{Consumes};
 ghost use Rattle.captures.specs.Readers.{ComesTo, HasRead, skipped_by, source_of};
 ghost use Rattle.captures.specs.declared.packet.Packet.{Packet};
 ghost use Rattle.captures.specs.declared.unfit.Unfit.{Unfit};
+ghost use Rattle.ep_defrag.specs.PoolCalls.{ShowsLists, no_lists};
 ghost use Rattle.packets.specs.Begun.{ShowsBegun, none_begun};
 ghost use Rattle.packets.specs.Conditions.{lets_through};
 ghost use Rattle.packets.specs.Courses.{AreDissected, Course, HasCourse, IsDissected, course_after};
 ghost use Rattle.packets.specs.Courses.{forgotten, next_course, no_course, shown};
 ghost use Rattle.packets.specs.Runs.{BreaksBy, EndsBy, Unbroken, UnlessWanting};
-ghost use Rattle.etherparse.specs.defrag.PoolCalls.{ShowsLists, no_lists};
 ghost use Rattle.packets.specs.declared.dissection.Dissection.{Dissection};
 
 use crate::run::progress::{Progress, tell_step};

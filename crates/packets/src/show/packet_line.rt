@@ -1,11 +1,12 @@
 //! The line of a packet.
 
-use crate::show::line::Line;
-use crate::show::message::{message, ports_of, verdict};
-use crate::show::style::{ShowOptions, TimeForm, Tone};
-use crate::show::{addresses, link, names, part, refusal, time};
+use crate::show::options::ShowOptions;
+use crate::show::part;
 use crate::{Dissection, Headers};
-use etherparse::{Class, NetSlice, SlicedPacket, WholeMessage};
+use ep_packet::{Class, NetSlice, SlicedPacket};
+use header_texts::show::part::two_fragment_headers;
+use header_texts::show::time::number_and_time;
+use header_texts::show::{Line, link, message, refusal};
 use std::alloc::AllocError;
 
 impl ShowOptions {
@@ -14,26 +15,19 @@ impl ShowOptions {
     /// checksum tells. Of a part of a message it says where it stands there and what became of it,
     /// and of a packet that is refused, why. It has no contract: tests compare the texts.
     pub fn write_line(&self, packet: &Dissection<'_>, out: &mut Vec<u8>) -> Result<(), AllocError> {
-        let mut line = Line::begin(*self, out);
-        head(&mut line, self.time, packet)?;
+        let mut line = Line::begin(self.style, self.width, out);
+        number_and_time(
+            &mut line,
+            self.time,
+            packet.number,
+            packet.first_time,
+            packet.time,
+        )?;
         match &packet.layers {
             Ok(layers) => body(&mut line, packet, layers),
             Err(error) => refusal::packet(&mut line, error),
         }
     }
-}
-
-fn head(line: &mut Line<'_>, form: TimeForm, packet: &Dissection<'_>) -> Result<(), AllocError> {
-    line.begin_tone(Tone::Faint)?;
-    line.spaces(5usize.saturating_sub(time::digits(packet.number)))?;
-    line.number(packet.number)?;
-    line.text(" ")?;
-    match form {
-        TimeForm::SinceFirst => time::since(line, packet.first_time, packet.time)?,
-        TimeForm::Utc => time::utc(line, packet.time)?,
-    }
-    line.end_tone()?;
-    line.text(" ")
 }
 
 fn body(
@@ -43,7 +37,7 @@ fn body(
 ) -> Result<(), AllocError> {
     link::tags(line, layers.link_exts.as_slice())?;
     match layers.class() {
-        Class::Whole(whole) => uncut(line, packet, &whole),
+        Class::Whole(whole) => message::whole(line, &whole, packet.verdict),
         Class::Cut(cut) => part::part(
             line,
             packet.number,
@@ -56,17 +50,6 @@ fn body(
     }
 }
 
-fn uncut(
-    line: &mut Line<'_>,
-    packet: &Dissection<'_>,
-    whole: &WholeMessage<'_>,
-) -> Result<(), AllocError> {
-    addresses::endpoints(line, &whole.addresses, ports_of(&whole.message))?;
-    line.text(" ")?;
-    message(line, whole.ip_number, &whole.message)?;
-    verdict(line, packet.verdict, &whole.message)
-}
-
 fn other(
     line: &mut Line<'_>,
     packet: &Dissection<'_>,
@@ -75,21 +58,9 @@ fn other(
     match &layers.net {
         Some(NetSlice::Arp(packet)) => link::arp(line, packet),
         Some(NetSlice::Ipv4(_)) | Some(NetSlice::Ipv6(_)) => {
-            two_fragment_headers(line, &Headers::of(packet))
+            let headers = Headers::of(packet);
+            two_fragment_headers(line, headers.addresses(), headers.carried())
         }
-        None => link::other(line, packet, layers),
+        None => link::other(line, layers, packet.header.as_ref()),
     }
-}
-
-// A fragment header that tells of no part, before one that does.
-fn two_fragment_headers(line: &mut Line<'_>, headers: &Headers) -> Result<(), AllocError> {
-    if let Some(addresses) = headers.addresses() {
-        addresses::endpoints(line, &addresses, None)?;
-        line.text(" ")?;
-    }
-    if let Some(number) = headers.carried() {
-        names::protocol(line, number)?;
-        line.text(" ")?;
-    }
-    line.text("two fragment headers")
 }

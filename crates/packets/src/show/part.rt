@@ -1,12 +1,9 @@
 //! Parts of messages.
 
 use crate::Fragment;
-use crate::show::line::Line;
-use crate::show::message::{message, ports_of, verdict};
-use crate::show::style::Tone;
-use crate::show::{addresses, names, refusal};
-use etherparse::defrag::IpDefragPayloadVec;
-use etherparse::{CutMessage, Part, read_message};
+use ep_defrag::defrag::IpDefragPayloadVec;
+use ep_packet::CutMessage;
+use header_texts::show::{Line, message, part, refusal};
 use std::alloc::AllocError;
 use verdicts::Verdict;
 
@@ -18,13 +15,7 @@ pub(crate) fn part(
     fragment: Option<&Fragment>,
     checked: Option<Verdict>,
 ) -> Result<(), AllocError> {
-    addresses::endpoints(line, &cut.addresses, None)?;
-    line.text(" ")?;
-    names::protocol(line, cut.part.ip_number)?;
-    line.text(" ")?;
-    place(line, &cut.part)?;
-    line.text(" (id 0x")?;
-    identification(line, cut)?;
+    part::part(line, cut)?;
     match fragment {
         Some(Fragment::Waits { begun }) => {
             begun_before(line, number, *begun)?;
@@ -43,30 +34,6 @@ pub(crate) fn part(
         }
         None => line.text(")"),
     }
-}
-
-// Where a part stands in its message.
-fn place(line: &mut Line<'_>, part: &Part<'_>) -> Result<(), AllocError> {
-    line.begin_tone(Tone::Part)?;
-    line.counted("fragment at ", part.offset.byte_offset().into())?;
-    line.end_tone()?;
-    line.counted(" len ", part.bytes.len() as u64)?;
-    line.text(if part.more_fragments {
-        ", more follow"
-    } else {
-        ", last"
-    })
-}
-
-// Four hex digits over IPv4, and eight over IPv6.
-fn identification(line: &mut Line<'_>, cut: &CutMessage<'_>) -> Result<(), AllocError> {
-    let [a, b, c, d] = cut.identification.to_be_bytes();
-    if let etherparse::Addresses::V6 { .. } = cut.addresses {
-        line.hex(a)?;
-        line.hex(b)?;
-    }
-    line.hex(c)?;
-    line.hex(d)
 }
 
 fn begun_before(line: &mut Line<'_>, number: u64, begun: u64) -> Result<(), AllocError> {
@@ -88,16 +55,5 @@ fn completed(
     line.counted("completes a message of ", bytes.len() as u64)?;
     line.counted(" bytes begun in packet ", begun)?;
     line.text(": ")?;
-    match read_message(payload.ip_number, bytes) {
-        Ok(read) => {
-            if let Some(ports) = ports_of(&read) {
-                line.number(ports.source.into())?;
-                line.counted(" > ", ports.destination.into())?;
-                line.text(" ")?;
-            }
-            message(line, payload.ip_number, &read)?;
-            verdict(line, checked, &read)
-        }
-        Err(error) => refusal::message(line, &error),
-    }
+    message::completed(line, payload.ip_number, bytes, checked)
 }

@@ -6,7 +6,7 @@ ghost use Rattle.packets.specs.declared.outline.Outline.{Outline};
 
 use crate::Outline;
 use crate::summary::tally::Tally;
-use etherparse::IpNumber;
+use ep_base::IpNumber;
 
 /// How many IP packets there are of each protocol, by its number.
 #[derive(Drop)]

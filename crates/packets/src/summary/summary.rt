@@ -9,7 +9,7 @@ use crate::summary::sizes::Sizes;
 use crate::summary::table::Table;
 use crate::summary::tally::Tally;
 use crate::{Dissection, Outline, Protocol, Reason};
-use etherparse::Addresses;
+use ep_packet::Addresses;
 use std::alloc::{AllocError, Global};
 use std::hash::{BuildHasher, BuildHasherDefault, FoldHasher};
 use verdicts::Verdict;

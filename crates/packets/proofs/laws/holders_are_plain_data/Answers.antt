@@ -1,7 +1,7 @@
 use Rattle.std.proofs.Common.{arith}
 use Rattle.std.proofs.lemmas.Grind.{common_steps, elements}
 use Rattle.std.specs.Cmp.{booleans_Decides}
-use Rattle.etherparse.proofs.Same.{field, last_field, options_same, record_same}
+use Rattle.ep_base.proofs.Same.{field, last_field, options_same, record_same}
 use Rattle.packets.proofs.laws.holders_are_plain_data.Goals as goal
 
 pub returns-clause-headers : goal.returns-clause-headers

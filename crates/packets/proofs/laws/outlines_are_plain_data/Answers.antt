@@ -1,7 +1,7 @@
 use Rattle.std.proofs.Common.{arith}
 use Rattle.std.proofs.lemmas.Bool.Decides.{Decides-eqb}
 use Rattle.std.proofs.lemmas.Grind.{common_steps, elements}
-use Rattle.etherparse.proofs.Same.{field, last_field, options_same, record_same}
+use Rattle.ep_base.proofs.Same.{field, last_field, options_same, record_same}
 use Rattle.packets.proofs.laws.outlines_are_plain_data.Goals as goal
 
 pub returns : goal.returns
@@ -13,7 +13,7 @@ returns c = record {
       (field Decides-eqb (λ outline. outline.time)
       (field Decides-eqb (λ outline. outline.len)
       (field c.holders_are_plain_data.ensures.headers.equals (λ outline. outline.headers)
-      (field (options_same c.types_are_plain_data.ensures.reason.equals)
+      (field (options_same c.types_are_plain_data-2.ensures.reason.equals)
       (λ outline. outline.refusal)
       (field (options_same c.types_are_plain_data.ensures.part_state.equals)
       (λ outline. outline.part)

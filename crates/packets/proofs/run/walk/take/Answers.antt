@@ -1,8 +1,8 @@
 use Rattle.std.proofs.Common.{◌∙◌, sym, ap, subst, ◌+◌, ◌++◌, ◌∷◌, [], ℕ, Option, Some}
 use Rattle.std.proofs.Common.{append-nil, cond}
 use Rattle.captures.specs.Numbers.{capped}
-use Rattle.etherparse.specs.defrag.PoolCalls.{ShowsLists, lists_with_frame}
-use Rattle.etherparse.specs.packet.Class.{class_told}
+use Rattle.ep_defrag.specs.PoolCalls.{ShowsLists, lists_with_frame}
+use Rattle.ep_packet.specs.Class.{class_told}
 use Rattle.packets.specs.Begun.{ShowsBegun, begun_with}
 use Rattle.packets.specs.Conditions.{lets_through}
 use Rattle.packets.specs.Courses.{begin_at, class_of, first_at, lists_at}

@@ -1,0 +1,74 @@
+//! ICMP messages.
+
+use crate::json::fields::{Hex, begin, number, printed};
+use ep_icmp::icmpv4::{DestUnreachableHeader, ParameterProblemHeader, TimestampMessage};
+use ep_icmp::{IcmpEchoHeader, Icmpv4Slice, Icmpv4Type, Icmpv6Slice, Icmpv6Type};
+use serde::Serializer;
+use std::net::Ipv4Addr;
+
+/// The header of a message over IPv4, with the fields that its kind has.
+pub(crate) fn over_ipv4<S: Serializer>(
+    out: &mut S,
+    message: &Icmpv4Slice<'_>,
+) -> Result<(), S::Error> {
+    begin(out, "Icmpv4")?;
+    number(out, "type_u8", message.type_u8().into())?;
+    number(out, "code_u8", message.code_u8().into())?;
+    number(out, "checksum", message.checksum().into())?;
+    printed(out, "bytes5to8", &Hex(&message.bytes5to8()))?;
+    match message.icmp_type() {
+        Icmpv4Type::EchoReply(header) | Icmpv4Type::EchoRequest(header) => echo(out, &header)?,
+        Icmpv4Type::DestinationUnreachable(
+            DestUnreachableHeader::FragmentationNeeded { next_hop_mtu },
+        ) => number(out, "next_hop_mtu", next_hop_mtu.into())?,
+        Icmpv4Type::Redirect(header) => printed(
+            out,
+            "gateway_internet_address",
+            &Ipv4Addr::from(header.gateway_internet_address),
+        )?,
+        Icmpv4Type::ParameterProblem(ParameterProblemHeader::PointerIndicatesError(pointer)) => {
+            number(out, "pointer", pointer.into())?;
+        }
+        Icmpv4Type::TimestampRequest(header) | Icmpv4Type::TimestampReply(header) => {
+            timestamp(out, &header)?;
+        }
+        _ => {}
+    }
+    out.end_map()
+}
+
+/// The header of a message over IPv6, with the fields that its kind has.
+pub(crate) fn over_ipv6<S: Serializer>(
+    out: &mut S,
+    message: &Icmpv6Slice<'_>,
+) -> Result<(), S::Error> {
+    begin(out, "Icmpv6")?;
+    number(out, "type_u8", message.type_u8().into())?;
+    number(out, "code_u8", message.code_u8().into())?;
+    number(out, "checksum", message.checksum().into())?;
+    printed(out, "bytes5to8", &Hex(&message.bytes5to8()))?;
+    match message.icmp_type() {
+        Icmpv6Type::EchoReply(header) | Icmpv6Type::EchoRequest(header) => echo(out, &header)?,
+        Icmpv6Type::PacketTooBig { mtu } => number(out, "mtu", mtu.into())?,
+        Icmpv6Type::ParameterProblem(header) => number(out, "pointer", header.pointer.into())?,
+        _ => {}
+    }
+    out.end_map()
+}
+
+fn echo<S: Serializer>(out: &mut S, header: &IcmpEchoHeader) -> Result<(), S::Error> {
+    number(out, "id", header.id.into())?;
+    number(out, "seq", header.seq.into())
+}
+
+fn timestamp<S: Serializer>(out: &mut S, header: &TimestampMessage) -> Result<(), S::Error> {
+    number(out, "id", header.id.into())?;
+    number(out, "seq", header.seq.into())?;
+    number(
+        out,
+        "originate_timestamp",
+        header.originate_timestamp.into(),
+    )?;
+    number(out, "receive_timestamp", header.receive_timestamp.into())?;
+    number(out, "transmit_timestamp", header.transmit_timestamp.into())
+}

@@ -1,0 +1,82 @@
+//! Link headers and the tags behind them.
+
+use crate::json::fields::{Hardware, begin, flag, number, printed, text};
+use captures::Header;
+use ep_link::LinkSlice;
+use ep_packet::SlicedPacket;
+use ep_tag::{LinkExtSlice, MacsecPType, MacsecSlice, SingleVlanSlice};
+use serde::Serializer;
+
+/// The link header of a packet, or that which was made in its place.
+pub(crate) fn header<S: Serializer>(
+    out: &mut S,
+    layers: &SlicedPacket<'_>,
+    made: Option<&Header>,
+) -> Result<(), S::Error> {
+    begin(out, "link")?;
+    if let Some(LinkSlice::Ethernet2(frame)) = &layers.link {
+        begin(out, "Ethernet2")?;
+        printed(out, "source", &Hardware(&frame.source()))?;
+        printed(out, "destination", &Hardware(&frame.destination()))?;
+        number(out, "ether_type", frame.ether_type().0.into())?;
+        out.end_map()?;
+    }
+    if let Some(header) = made {
+        begin(out, "Made")?;
+        printed(out, "source", &Hardware(&header.source))?;
+        number(out, "ether_type", header.ether_type.into())?;
+        out.end_map()?;
+    }
+    out.end_map()
+}
+
+/// The tags, the outer one first.
+pub(crate) fn tags<S: Serializer>(out: &mut S, tags: &[LinkExtSlice<'_>]) -> Result<(), S::Error> {
+    out.key("link_exts")?;
+    out.begin_seq(None)?;
+    for tag in tags {
+        out.begin_map(None)?;
+        match tag {
+            LinkExtSlice::Vlan(tag) => vlan(out, tag)?,
+            LinkExtSlice::Macsec(tag) => macsec(out, tag)?,
+        }
+        out.end_map()?;
+    }
+    out.end_seq()
+}
+
+fn vlan<S: Serializer>(out: &mut S, tag: &SingleVlanSlice<'_>) -> Result<(), S::Error> {
+    begin(out, "Vlan")?;
+    number(out, "pcp", tag.priority_code_point().value().into())?;
+    flag(
+        out,
+        "drop_eligible_indicator",
+        tag.drop_eligible_indicator(),
+    )?;
+    number(out, "vlan_id", tag.vlan_identifier().value().into())?;
+    number(out, "ether_type", tag.ether_type().0.into())?;
+    out.end_map()
+}
+
+fn macsec<S: Serializer>(out: &mut S, tag: &MacsecSlice<'_>) -> Result<(), S::Error> {
+    begin(out, "Macsec")?;
+    let header = &tag.header;
+    match header.ptype() {
+        MacsecPType::Unmodified(ether_type) => {
+            text(out, "ptype", "Unmodified")?;
+            number(out, "ether_type", ether_type.0.into())?;
+        }
+        MacsecPType::Modified => text(out, "ptype", "Modified")?,
+        MacsecPType::Encrypted => text(out, "ptype", "Encrypted")?,
+        MacsecPType::EncryptedUnmodified => text(out, "ptype", "EncryptedUnmodified")?,
+    }
+    flag(out, "endstation_id", header.endstation_id())?;
+    flag(out, "scb", header.scb())?;
+    number(out, "an", header.an().value().into())?;
+    number(out, "short_len", header.short_len().value().into())?;
+    number(out, "packet_nr", header.packet_nr().into())?;
+    if let Some(sci) = header.sci() {
+        number(out, "sci", sci)?;
+    }
+    out.end_map()
+}

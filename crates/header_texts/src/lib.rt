@@ -1,0 +1,16 @@
+//! What the headers of a packet say: as words of a line, for people, and as members of a JSON
+//! object, for programs.
+#![tactic(auto)]
+
+mod ip_names;
+pub mod json;
+pub mod laws;
+mod payload;
+mod protocol;
+mod reason;
+pub mod show;
+
+pub use ip_names::{ip_number_name, ip_number_named};
+pub use payload::payload_of;
+pub use protocol::Protocol;
+pub use reason::Reason;

@@ -1,0 +1,99 @@
+//! A line that is being written.
+
+use crate::show::style::{Style, Tone};
+use itoa::Buffer;
+use std::alloc::AllocError;
+
+/// The sequence that ends a tone.
+const RESET: &[u8; 4] = b"\x1b[0m";
+
+/// A line of ASCII that is being written behind what stands in `out`.
+#[derive(Drop)]
+pub struct Line<'o> {
+    out: &'o mut Vec<u8>,
+    style: Style,
+    // How many columns are left.
+    left: usize,
+}
+
+impl<'o> Line<'o> {
+    /// Begins a line of this style, of so many columns at most if it is cut.
+    pub fn begin(style: Style, width: Option<usize>, out: &'o mut Vec<u8>) -> Line<'o> {
+        Line {
+            out,
+            style,
+            left: width.unwrap_or(usize::MAX),
+        }
+    }
+
+    /// Writes what fits into the columns that are left.
+    pub fn text(&mut self, text: &str) -> Result<(), AllocError> {
+        let bytes = text.as_bytes();
+        let shown = match bytes.get(..self.left) {
+            Some(front) => front,
+            None => bytes,
+        };
+        self.left = self.left.saturating_sub(shown.len());
+        self.out.extend_from_slice(shown)
+    }
+
+    pub(crate) fn number(&mut self, n: u64) -> Result<(), AllocError> {
+        self.text(Buffer::new().format(n))
+    }
+
+    /// A word and a number behind it.
+    pub fn counted(&mut self, word: &str, n: u64) -> Result<(), AllocError> {
+        self.text(word)?;
+        self.number(n)
+    }
+
+    /// A number of 16 bits in hex, as ether types and identifications stand.
+    pub(crate) fn hex16(&mut self, n: u16) -> Result<(), AllocError> {
+        self.text("0x")?;
+        for byte in n.to_be_bytes() {
+            self.hex(byte)?;
+        }
+        Ok(())
+    }
+
+    /// The two hex digits of a byte.
+    pub(crate) fn hex(&mut self, byte: u8) -> Result<(), AllocError> {
+        self.text(digit(byte / 16))?;
+        self.text(digit(byte % 16))
+    }
+
+    /// So many columns of nothing.
+    pub(crate) fn spaces(&mut self, count: usize) -> Result<(), AllocError> {
+        for _ in 0..count {
+            self.text(" ")?;
+        }
+        Ok(())
+    }
+
+    pub(crate) fn begin_tone(&mut self, tone: Tone) -> Result<(), AllocError> {
+        match self.style {
+            Style::Plain => Ok(()),
+            Style::Ansi => self.out.extend_from_slice(tone.sequence()),
+        }
+    }
+
+    pub(crate) fn end_tone(&mut self) -> Result<(), AllocError> {
+        match self.style {
+            Style::Plain => Ok(()),
+            Style::Ansi => self.out.extend_from_slice(RESET),
+        }
+    }
+
+    /// A text in a tone.
+    pub(crate) fn toned(&mut self, tone: Tone, text: &str) -> Result<(), AllocError> {
+        self.begin_tone(tone)?;
+        self.text(text)?;
+        self.end_tone()
+    }
+}
+
+fn digit(value: u8) -> &'static str {
+    const DIGITS: &str = "0123456789abcdef";
+    let at = usize::from(value % 16);
+    DIGITS.get(at..at + 1).unwrap_or("0")
+}

@@ -1,0 +1,146 @@
+//! The link, its tags, and what isn't IP.
+
+use crate::payload::payload_of;
+use crate::show::line::Line;
+use crate::show::style::Tone;
+use crate::show::{addresses, names};
+use captures::Header;
+use ep_base::EtherType;
+use ep_link::{ArpHardwareId, ArpOperation, ArpPacketSlice, LinkSlice};
+use ep_packet::SlicedPacket;
+use ep_tag::{LinkExtSlice, MacsecPayloadSlice, MacsecSlice};
+use std::alloc::AllocError;
+
+/// The tags behind a link header, the outer one first.
+pub fn tags(line: &mut Line<'_>, tags: &[LinkExtSlice<'_>]) -> Result<(), AllocError> {
+    for tag in tags {
+        match tag {
+            LinkExtSlice::Vlan(tag) => {
+                line.counted("vlan ", tag.vlan_identifier().value().into())?;
+            }
+            LinkExtSlice::Macsec(tag) => macsec(line, tag)?,
+        }
+        line.text(" ")?;
+    }
+    Ok(())
+}
+
+fn macsec(line: &mut Line<'_>, tag: &MacsecSlice<'_>) -> Result<(), AllocError> {
+    line.counted("macsec an ", tag.header.an().value().into())?;
+    line.counted(" pn ", tag.header.packet_nr().into())?;
+    match tag.header.sci() {
+        Some(sci) => {
+            line.text(" sci ")?;
+            for byte in sci.to_be_bytes() {
+                line.hex(byte)?;
+            }
+            Ok(())
+        }
+        None => Ok(()),
+    }
+}
+
+/// An ARP packet (RFC 826).
+pub fn arp(line: &mut Line<'_>, packet: &ArpPacketSlice<'_>) -> Result<(), AllocError> {
+    line.toned(Tone::Protocol, "ARP")?;
+    let sender = <[u8; 4]>::try_from(packet.sender_protocol_addr());
+    let target = <[u8; 4]>::try_from(packet.target_protocol_addr());
+    let (EtherType::IPV4, Ok(sender), Ok(target)) = (packet.proto_addr_type(), sender, target)
+    else {
+        return other_arp(line, packet);
+    };
+    match packet.operation() {
+        ArpOperation::REQUEST => {
+            line.text(" who has ")?;
+            addresses::ipv4(line, &target)?;
+            line.text("? tell ")?;
+            addresses::ipv4(line, &sender)
+        }
+        ArpOperation::REPLY => {
+            line.text(" ")?;
+            addresses::ipv4(line, &sender)?;
+            line.text(" is at ")?;
+            addresses::hardware(line, packet.sender_hw_addr())
+        }
+        _ => other_arp(line, packet),
+    }
+}
+
+fn other_arp(line: &mut Line<'_>, packet: &ArpPacketSlice<'_>) -> Result<(), AllocError> {
+    line.counted(" operation ", packet.operation().0.into())?;
+    match packet.hw_addr_type() {
+        ArpHardwareId::ETHERNET => {}
+        other => line.counted(" hardware type ", other.0.into())?,
+    }
+    arp_ends(line, packet)
+}
+
+// The sender and the target: their hardware addresses, and those of IPv4.
+fn arp_ends(line: &mut Line<'_>, packet: &ArpPacketSlice<'_>) -> Result<(), AllocError> {
+    let is_ipv4 = packet.proto_addr_type() == EtherType::IPV4;
+    line.text(" from")?;
+    arp_hardware(line, packet.sender_hw_addr())?;
+    if is_ipv4 {
+        arp_ipv4(line, packet.sender_protocol_addr())?;
+    }
+    line.text(" to")?;
+    arp_hardware(line, packet.target_hw_addr())?;
+    if is_ipv4 {
+        arp_ipv4(line, packet.target_protocol_addr())?;
+    }
+    Ok(())
+}
+
+fn arp_hardware(line: &mut Line<'_>, address: &[u8]) -> Result<(), AllocError> {
+    if address.is_empty() {
+        return Ok(());
+    }
+    line.text(" ")?;
+    addresses::hardware(line, address)
+}
+
+fn arp_ipv4(line: &mut Line<'_>, address: &[u8]) -> Result<(), AllocError> {
+    match <[u8; 4]>::try_from(address) {
+        Ok(address) => {
+            line.text(" ")?;
+            addresses::ipv4(line, &address)
+        }
+        Err(_) => Ok(()),
+    }
+}
+
+/// A packet that has nothing of the network layer that is looked into: its addresses and what it
+/// is.
+pub fn other(
+    line: &mut Line<'_>,
+    layers: &SlicedPacket<'_>,
+    made: Option<&Header>,
+) -> Result<(), AllocError> {
+    if let Some(LinkSlice::Ethernet2(frame)) = &layers.link {
+        addresses::hardware(line, &frame.source())?;
+        line.text(" > ")?;
+        addresses::hardware(line, &frame.destination())?;
+        line.text(" ")?;
+    }
+    if let Some(header) = made {
+        addresses::hardware(line, &header.source)?;
+        line.text(" ")?;
+    }
+    match layers.payload_ether_type() {
+        Some(EtherType(number)) => names::ether_type(line, EtherType(number))?,
+        None => line.text(hidden(layers))?,
+    }
+    line.counted(" len ", payload_of(layers).len() as u64)
+}
+
+// What stands behind tags that hide it.
+fn hidden(layers: &SlicedPacket<'_>) -> &'static str {
+    match layers.link_exts.as_slice().last() {
+        Some(LinkExtSlice::Macsec(tag)) => match &tag.payload {
+            MacsecPayloadSlice::Modified(_) if tag.header.encrypted() => "encrypted",
+            MacsecPayloadSlice::Modified(_) => "changed",
+            MacsecPayloadSlice::Unmodified(_) => "unknown",
+        },
+        _ => "unknown",
+    }
+}

@@ -1,0 +1,47 @@
+//! How lines look.
+
+/// Whether lines have colours.
+#[derive(Clone, Copy, Debug, PartialEq, Eq)]
+pub enum Style {
+    /// No colours: text alone.
+    Plain,
+    /// Colours of a terminal, by the sequences of ECMA-48.
+    Ansi,
+}
+
+/// Which time stands in a line.
+#[derive(Clone, Copy, Debug, PartialEq, Eq)]
+pub enum TimeForm {
+    /// That since the first packet, in seconds.
+    SinceFirst,
+    /// That of the calendar, in UTC.
+    Utc,
+}
+
+// What a part of a line is, by which its colour is chosen.
+#[derive(Clone, Copy)]
+pub(crate) enum Tone {
+    /// Less than the rest, as the number and the time.
+    Faint,
+    /// The name of a protocol.
+    Protocol,
+    /// All is well.
+    Good,
+    /// What a person looks for.
+    Bad,
+    /// A part of a message.
+    Part,
+}
+
+impl Tone {
+    /// The sequence that begins this tone on a terminal.
+    pub(crate) fn sequence(self) -> &'static [u8] {
+        match self {
+            Tone::Faint => b"\x1b[2m",
+            Tone::Protocol => b"\x1b[36m",
+            Tone::Good => b"\x1b[32m",
+            Tone::Bad => b"\x1b[1;31m",
+            Tone::Part => b"\x1b[33m",
+        }
+    }
+}
