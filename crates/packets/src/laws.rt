@@ -11,6 +11,7 @@ ghost use Rattle.packets.specs.Forgetting.{ComeWithin, ForgetDrops};
 ghost use Rattle.packets.specs.Tally.{tally_of};
 ghost use Rattle.packets.specs.declared.outline.Outline.{Outline};
 
+use crate::commands::Coloring;
 use crate::{
     ChecksumTallies, Condition, Ending, Headers, Net, NoProgress, Outline, PartState, PartTallies,
     ShowOptions, Sizes, Tally, WordError,
@@ -20,6 +21,7 @@ pub use header_texts::laws::reasons_hash_all_fields;
 
 /// A copy is the value and takes no memory. Equal are the values that are the same.
 pub fn types_are_plain_data()
+    ensures coloring { IsPlainData ⟦<Coloring as Value>⟧ }
     ensures condition { IsPlainData ⟦<Condition as Value>⟧ }
     ensures word_error { IsPlainData ⟦<WordError as Value>⟧ }
     ensures net { IsPlainData ⟦<Net as Value>⟧ }

@@ -2,6 +2,7 @@
 #![tactic(auto)]
 
 mod beginnings;
+pub mod commands;
 mod dissection;
 mod dissector;
 mod filter;

@@ -7,10 +7,10 @@ use crate::progress_line::ProgressLine;
 use anyhow::Context;
 use capture_inputs::{Look, input_look, input_of, tell_skipped};
 use captures::{RunError, Skipped};
-use packets::{JsonLines, Report, Rules, ShowOptions, Style, Summary, summarize};
-use packets_commands::{
+use packets::commands::{
     AskError, Asked, Coloring, Output, asked_for, command, exit_code, write_flushed, write_report,
 };
+use packets::{JsonLines, Report, Rules, ShowOptions, Style, Summary, summarize};
 use std::env::{self, VarError};
 use std::fs::File;
 use std::hash::RandomState;

@@ -1,4 +1,4 @@
-//! Tests of `packets` and `packets_commands` over their public calls. What is told of whole
+//! Tests of `packets` over its public calls. What is told of whole
 //! captures are rows of `tools/packets_rows`.
 #![tactic(auto)]
 

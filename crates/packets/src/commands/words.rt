@@ -1,7 +1,7 @@
 //! What the words of the command line ask for.
+use crate::{Condition, Filter, Rules, TimeForm, WordError};
 use captures::Unfit;
 use clap::ArgMatches;
-use packets::{Condition, Filter, Rules, TimeForm, WordError};
 use std::alloc::{AllocError, Global};
 use thiserror::Error;
 

@@ -1,9 +1,7 @@
 //! What `packets_cli` does but for the system that it runs on: what its words ask for, what it
 //! writes, and how it ends.
-#![tactic(auto)]
 
 mod ending;
-pub mod laws;
 mod outputs;
 mod words;
 

@@ -1,6 +1,6 @@
 //! What is written and flushed.
+use crate::{LineWriter, Report, Rules, write_lines};
 use captures::{RunError, Skipped};
-use packets::{LineWriter, Report, Rules, write_lines};
 use std::alloc::Global;
 use std::hash::BuildHasher;
 use std::io::{ErrorKind, Read, Write};
