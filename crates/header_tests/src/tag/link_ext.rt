@@ -1,5 +1,6 @@
 //! Tags of either kind.
 use crate::checks::{equal, shows};
+use ep_base::EtherType;
 use ep_tag::{LinkExtHeader, LinkExtSlice, MacsecSlice, SingleVlanHeader, SingleVlanSlice};
 use std::process::Abort;
 
@@ -11,11 +12,8 @@ const MACSEC: [u8; 10] = [0, 3, 0, 0, 0, 1, 8, 6, 7, 8];
 const CHANGED: [u8; 10] = [4, 0, 0, 0, 0, 1, 8, 6, 7, 8];
 
 // The length of the tag's header and its ether type, of its fields.
-fn length_and_type(header: &LinkExtHeader) -> (usize, Option<u16>) {
-    match header.next_ether_type() {
-        Some(ether_type) => (header.header_len(), Some(ether_type.0)),
-        None => (header.header_len(), None),
-    }
+fn length_and_type(header: &LinkExtHeader) -> (usize, Option<EtherType>) {
+    (header.header_len(), header.next_ether_type())
 }
 
 // Tries the length of the tag's header by both calls, its ether type, its bytes, and what the
@@ -24,7 +22,7 @@ fn is_tag(
     rt: &(impl Abort + AllocGlobal),
     tag: &LinkExtSlice<'_>,
     bytes: &[u8],
-    ether_type: Option<u16>,
+    ether_type: Option<EtherType>,
     payload: &str,
 ) {
     let header = tag.to_header();
@@ -53,7 +51,7 @@ fn a_vlan_tag(rt: HostRuntime) {
         &rt,
         &LinkExtSlice::Vlan(tag),
         &VLAN[..4],
-        Some(0x8100),
+        Some(EtherType(0x8100)),
         payload,
     );
 }
@@ -70,7 +68,7 @@ fn a_macsec_header(rt: HostRuntime) {
         &rt,
         &LinkExtSlice::Macsec(tag),
         &MACSEC[..8],
-        Some(0x0806),
+        Some(EtherType(0x0806)),
         payload,
     );
 }

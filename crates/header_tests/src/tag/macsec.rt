@@ -155,17 +155,20 @@ const FLAGS: &[(&str, u8, [bool; 7], u8)] = &[
     ),
 ];
 
+fn flags_in(bytes: &[u8]) -> Option<([bool; 7], u8)> {
+    match MacsecHeaderSlice::from_slice(bytes) {
+        Ok(header) => Some((flags(&header), header.an().value())),
+        Err(_) => None,
+    }
+}
+
 #[test]
 fn flags_of_a_header(rt: HostRuntime) {
     for (name, first, wanted, association) in FLAGS.iter() {
         let mut bytes = BYTES;
         bytes[0] = *first;
         bytes[1] = 0;
-        let Ok(header) = MacsecHeaderSlice::from_slice(&bytes) else {
-            panic!(rt; "no header");
-        };
-        equal(&rt, name, &flags(&header), wanted);
-        equal(&rt, name, &header.an().value(), association);
+        equal(&rt, name, &flags_in(&bytes), &Some((*wanted, *association)));
     }
 }
 
@@ -282,12 +285,16 @@ const REFUSED: &[(&str, &[u8], &str)] = &[
     ),
 ];
 
+fn is_refused(rt: &(impl Abort + AllocGlobal), name: &str, bytes: &[u8], wanted: &str) {
+    shows(rt, name, &header_refusal(bytes), wanted);
+    shows(rt, name, &header_slice_refusal(bytes), wanted);
+    shows(rt, name, &refusal(bytes), wanted);
+}
+
 #[test]
 fn the_order_of_refusals(rt: HostRuntime) {
     for (name, bytes, wanted) in REFUSED.iter() {
-        shows(&rt, name, &header_refusal(bytes), wanted);
-        shows(&rt, name, &header_slice_refusal(bytes), wanted);
-        shows(&rt, name, &refusal(bytes), wanted);
+        is_refused(&rt, name, bytes, wanted);
     }
 }
 
