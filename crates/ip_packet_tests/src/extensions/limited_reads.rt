@@ -1,11 +1,11 @@
 //! Headers of each kind from readers with a limit.
 
+use super::headers::front;
+use super::kinds::Kind;
+use super::readers::{FRAGMENT, RAW, bytes_of, failure, header_of, limited};
+use super::reads::{Limited, Read, Refusal, read_limited};
+use super::rows::{Call, rows};
 use crate::checks::shows;
-use crate::headers::front;
-use crate::kinds::Kind;
-use crate::readers::{FRAGMENT, RAW, bytes_of, failure, header_of, limited};
-use crate::reads::{Limited, Read, Refusal, read_limited};
-use crate::rows::{Call, rows};
 use ep_base::LenSource;
 use ep_base::err::Layer;
 use ep_ext::io::LimitedReader;

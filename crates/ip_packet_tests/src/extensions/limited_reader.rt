@@ -1,8 +1,7 @@
 //! The reader with a limit, and the words of errors.
 
-use crate::checks::{read_alike, read_as, reads_as, shows};
-use crate::headers::want_in_slice;
-use crate::reads::{Limited, Refusal, unread_limited};
+use super::reads::{Limited, Refusal, unread_limited};
+use crate::checks::{read_alike, read_as, reads_as, shows, want_in_slice};
 use ep_base::LenSource;
 use ep_base::err::Layer;
 use ep_ext::err::io::LimitedReadError;

@@ -1,10 +1,8 @@
 //! Single extension headers in slices.
 
-ghost use Rattle.std.specs.Prelude.{◌≡◌};
-
+use super::kinds::{Kind, is_appended, is_copy};
+use super::rows::{Call, rows};
 use crate::checks::{holds, shows};
-use crate::kinds::{Kind, is_appended, is_copy};
-use crate::rows::{Call, rows};
 use ep_base::err::{Layer, LenError, SliceError};
 use ep_base::{IpFragOffset, IpNumber, LenSource};
 use ep_ext::err::ipv6_exts::ExtPayloadLenError;
@@ -22,19 +20,6 @@ const FRAGMENT: [u8; 10] = [58, 0xff, 0xab, 0xcd, 0x12, 0x34, 0x56, 0x78, 0xaa, 
 /// A want of bytes: how many are wanted, and how many are there; what tells that, the layer and its
 /// offset.
 pub type Want = (usize, usize, LenSource, Layer, usize);
-
-/// A want of bytes in a slice, at its front.
-pub fn want_in_slice(required_len: usize, len: usize, layer: Layer) -> LenError
-    ensures { result.layer_start_offset ≡ 0 }
-{
-    LenError {
-        required_len,
-        len,
-        len_source: LenSource::Slice,
-        layer,
-        layer_start_offset: 0,
-    }
-}
 
 /// The want that an error tells.
 pub fn want(error: LenError) -> Want {

@@ -1,12 +1,12 @@
 //! Headers of each kind from readers.
 
+use super::headers::front;
+use super::ipv4_extensions;
+use super::ipv6_extensions::CHAIN;
+use super::kinds::Kind;
+use super::reads::{Limited, Read, read, read_limited};
+use super::rows::{Call, rows};
 use crate::checks::shows;
-use crate::headers::front;
-use crate::ipv4_extensions;
-use crate::ipv6_extensions::CHAIN;
-use crate::kinds::Kind;
-use crate::reads::{Limited, Read, read, read_limited};
-use crate::rows::{Call, rows};
 use ep_base::LenSource;
 use ep_base::err::Layer;
 use ep_ext::io::LimitedReader;

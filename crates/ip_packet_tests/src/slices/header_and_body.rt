@@ -1,5 +1,5 @@
 //! The header of an IPv6 packet and what its payload length gives it, by the packet of `packets`.
-use crate::packets::IPV6;
+use super::packets::IPV6;
 use ep_base::LenSource;
 use ep_base::err::{Layer, LenError};
 use ep_ext::err::ipv6_exts;

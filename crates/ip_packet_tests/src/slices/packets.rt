@@ -1,5 +1,6 @@
 //! IP packets in slices. The bytes are made by the RFCs' tables.
 
+use crate::checks::want_in_slice;
 use ep_base::err::{Layer, LenError};
 use ep_base::{IpNumber, LenSource};
 use ep_ext::err::{ip_auth, ipv6_exts};
@@ -235,25 +236,14 @@ pub(super) fn ip_fault(bytes: &[u8]) -> Option<ip::SliceError> {
     }
 }
 
-// A want of bytes that isn't told by the packet's own length.
-pub(super) fn want(required_len: usize, len: usize, layer: Layer) -> LenError {
-    LenError {
-        required_len,
-        len,
-        len_source: LenSource::Slice,
-        layer,
-        layer_start_offset: 0,
-    }
-}
-
 #[test]
 fn every_front_of_an_ipv4_packet(rt: HostRuntime) {
     let bytes = IPV4;
     for end in 0..34usize {
         let required = if end < 20 {
-            want(20, end, Layer::Ipv4Header)
+            want_in_slice(20, end, Layer::Ipv4Header)
         } else {
-            want(34, end, Layer::Ipv4Packet)
+            want_in_slice(34, end, Layer::Ipv4Packet)
         };
         assert!(rt; ipv4_fault(&bytes[..end]) == Some(ipv4::SliceError::Len(required)));
     }
@@ -265,9 +255,9 @@ fn every_front_of_an_ipv6_packet(rt: HostRuntime) {
     let bytes = IPV6;
     for end in 0..86usize {
         let required = if end < 40 {
-            want(40, end, Layer::Ipv6Header)
+            want_in_slice(40, end, Layer::Ipv6Header)
         } else {
-            want(86, end, Layer::Ipv6Packet)
+            want_in_slice(86, end, Layer::Ipv6Packet)
         };
         assert!(rt; ipv6_fault(&bytes[..end]) == Some(ipv6::SliceError::Len(required)));
     }
@@ -381,7 +371,7 @@ fn no_bytes_and_another_version(rt: HostRuntime) {
     let version = ip::HeaderError::UnsupportedIpVersion { version_number: 5 };
     let length = ip::HeaderError::Ipv4HeaderLengthSmallerThanHeader { ihl: 4 };
     let faults = (
-        Some(ip::SliceError::Len(want(1, 0, Layer::IpHeader))),
+        Some(ip::SliceError::Len(want_in_slice(1, 0, Layer::IpHeader))),
         Some(ip::SliceError::IpHeaders(ip::HeadersError::Ip(version))),
         Some(ip::SliceError::IpHeaders(ip::HeadersError::Ip(length))),
     );

@@ -1,6 +1,6 @@
 //! What views tell of packets. The bytes are those of `packets`, or made by the RFCs' tables.
 
-use crate::packets::{IPV4, IPV6};
+use super::packets::{IPV4, IPV6};
 use ep_base::{IpNumber, LenSource};
 use ep_ipslice::{
     IpPayloadSlice, IpSlice, Ipv4ExtensionsSlice, Ipv4Slice, Ipv6ExtensionSliceIter,

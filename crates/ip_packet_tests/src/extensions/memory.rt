@@ -1,10 +1,10 @@
 //! Want of memory. To be run with each allocation failing in turn, too: then one of the calls wants
 //! memory and leaves its buffer empty, and the others write.
 
+use super::ipv4_extensions::AUTH;
+use super::ipv6_extensions::CHAIN;
+use super::kinds::{Kind, is_all_or_nothing};
 use crate::checks::holds;
-use crate::ipv4_extensions::AUTH;
-use crate::ipv6_extensions::CHAIN;
-use crate::kinds::{Kind, is_all_or_nothing};
 use std::process::Abort;
 use std::test::*;
 

@@ -1,6 +1,10 @@
 //! Assertions as functions: each is proved once, and a call of it costs the proof of a test little.
 //! They have no contracts: tests alone call them, and are run.
 
+ghost use Rattle.std.specs.Prelude.{◌≡◌};
+
+use ep_base::LenSource;
+use ep_base::err::{Layer, LenError};
 use std::alloc::AllocError;
 use std::fmt::{Debug, Display};
 use std::process::Abort;
@@ -59,5 +63,18 @@ pub fn read_alike<E: Display, F: Display, G: Display, H: Display>(
     match format!(in rt.alloc(); "{last}") {
         Ok(text) => read_as(rt, errors, text.as_str()),
         Err(_) => panic!(rt; "no memory for a text"),
+    }
+}
+
+/// The want of bytes in a slice that tests expect, at its front.
+pub fn want_in_slice(required_len: usize, len: usize, layer: Layer) -> LenError
+    ensures { result.layer_start_offset ≡ 0 }
+{
+    LenError {
+        required_len,
+        len,
+        len_source: LenSource::Slice,
+        layer,
+        layer_start_offset: 0,
     }
 }

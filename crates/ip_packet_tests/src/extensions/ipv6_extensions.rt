@@ -1,8 +1,8 @@
 //! IPv6 extension headers in a row, from slices.
 
-use crate::checks::shows;
-use crate::headers::{Want, fault_of, front, want_in_slice};
-use crate::rows::{Call, rows};
+use super::headers::{Want, fault_of, front};
+use super::rows::{Call, rows};
+use crate::checks::{shows, want_in_slice};
 use ep_base::IpNumber;
 use ep_base::err::{Layer, LenError};
 use ep_ext::err::ipv6_exts::{HeaderError, HeaderSliceError};

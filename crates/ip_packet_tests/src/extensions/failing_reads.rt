@@ -1,11 +1,11 @@
 //! Each read of each header fails, over every length that a header can have: which calls are made,
 //! what is told, and how much was read.
 
+use super::kinds::Kind;
+use super::readers::limited;
+use super::reads::{Read, Refusal, read, read_limited};
+use super::rows::range;
 use crate::checks::shows;
-use crate::kinds::Kind;
-use crate::readers::limited;
-use crate::reads::{Read, Refusal, read, read_limited};
-use crate::rows::range;
 use fault_devices::{Fault, FaultReader, Tally};
 use std::io::ErrorKind;
 use std::process::Abort;

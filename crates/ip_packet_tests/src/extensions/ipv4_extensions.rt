@@ -1,9 +1,9 @@
 //! The extension headers of IPv4.
 
+use super::headers::{Want, fault_of, front};
+use super::kinds::{Kind, is_appended};
+use super::rows::{Call, rows};
 use crate::checks::{holds, shows};
-use crate::headers::{Want, fault_of, front};
-use crate::kinds::{Kind, is_appended};
-use crate::rows::{Call, rows};
 use ep_base::IpNumber;
 use ep_ext::err::ip_auth::HeaderError;
 use ep_ext::err::ipv4_exts::HeaderWriteError;

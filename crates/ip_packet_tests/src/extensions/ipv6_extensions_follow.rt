@@ -1,7 +1,7 @@
 //! The headers that a value holds: followed, written, linked.
 
+use super::ipv6_extensions::{CHAIN, all_headers};
 use crate::checks::{holds, shows};
-use crate::ipv6_extensions::{CHAIN, all_headers};
 use ep_base::{IpFragOffset, IpNumber};
 use ep_ext::err::ipv6_exts::{ExtsWalkError, HeaderWriteError};
 use ep_ext::{IpAuthHeader, Ipv6Extensions, Ipv6FragmentHeader, Ipv6RawExtHeader, laws};

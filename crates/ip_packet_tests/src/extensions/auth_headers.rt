@@ -1,9 +1,9 @@
 //! Authentication headers in slices.
 
-use crate::checks::{holds, shows};
-use crate::headers::{Want, fault_of, front, want_in_slice};
-use crate::kinds::{Kind, is_appended, is_copy};
-use crate::rows::{Call, rows};
+use super::headers::{Want, fault_of, front};
+use super::kinds::{Kind, is_appended, is_copy};
+use super::rows::{Call, rows};
+use crate::checks::{holds, shows, want_in_slice};
 use ep_base::IpNumber;
 use ep_base::err::Layer;
 use ep_ext::err::ip_auth::{HeaderError, HeaderSliceError, IcvLenError};

@@ -1,9 +1,9 @@
 //! Tables in text: each row has a number and how the answer to it is shown. The calls have no
 //! contracts: tests alone make them, and are run.
 
+use super::kinds::Kind;
+use super::{auth_headers, headers, ipv4_extensions, ipv6_extensions, limited_reads, readers};
 use crate::checks::shows;
-use crate::kinds::Kind;
-use crate::{auth_headers, headers, ipv4_extensions, ipv6_extensions, limited_reads, readers};
 use std::process::Abort;
 use std::test::*;
 

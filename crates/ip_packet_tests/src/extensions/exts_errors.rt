@@ -1,7 +1,6 @@
 //! The texts of errors of extension headers in a row.
 
-use crate::checks::{read_alike, read_as, reads_as};
-use crate::headers::want_in_slice;
+use crate::checks::{read_alike, read_as, reads_as, want_in_slice};
 use ep_base::IpNumber;
 use ep_base::err::Layer;
 use ep_ext::err::{ip_auth, ip_exts, ipv4_exts, ipv6_exts};

@@ -1,6 +1,7 @@
 //! Why bytes begin with no IP packet. The bytes are those of `packets`, cut or changed.
 
-use crate::packets::{IPV4, IPV6, ip_fault, ipv4_fault, ipv6_fault, want};
+use super::packets::{IPV4, IPV6, ip_fault, ipv4_fault, ipv6_fault};
+use crate::checks::want_in_slice;
 use ep_base::err::{Layer, LenError};
 use ep_base::{IpNumber, LenSource};
 use ep_ext::err::{ip_auth, ipv6_exts};
@@ -111,8 +112,8 @@ fn hop_by_hop_options_behind_a_routing_header(rt: HostRuntime) {
 fn a_want_of_either_version(rt: HostRuntime) {
     let found = (ip_fault(&[0x45, 0, 0]), ip_fault(&[0x60, 0, 0]));
     let wants = (
-        Some(ip::SliceError::Len(want(20, 3, Layer::Ipv4Header))),
-        Some(ip::SliceError::Len(want(40, 3, Layer::Ipv6Header))),
+        Some(ip::SliceError::Len(want_in_slice(20, 3, Layer::Ipv4Header))),
+        Some(ip::SliceError::Len(want_in_slice(40, 3, Layer::Ipv6Header))),
     );
     assert!(rt; found == wants);
 }
@@ -123,7 +124,7 @@ fn a_fault_behind_which_nothing_is_read(rt: HostRuntime) {
     let bytes = [17, 1, 0, 0, 1];
     let first = IpNumber::AUTHENTICATION_HEADER;
     let (extensions, number, rest, fault) = Ipv4ExtensionsSlice::from_slice_lax(first, &bytes);
-    let error = ip_auth::HeaderSliceError::Len(want(12, 5, Layer::IpAuthHeader));
+    let error = ip_auth::HeaderSliceError::Len(want_in_slice(12, 5, Layer::IpAuthHeader));
     let found = (extensions.is_empty(), number, rest, fault);
     assert!(rt; found == (true, first, bytes.as_slice(), Some(error)));
 }
@@ -137,7 +138,7 @@ fn a_fault_behind_a_routing_header(rt: HostRuntime) {
     );
     let error = ipv6_exts::HeaderSliceError::Len(LenError {
         layer_start_offset: 8,
-        ..want(8, 3, Layer::Ipv6FragHeader)
+        ..want_in_slice(8, 3, Layer::Ipv6FragHeader)
     });
     let found = (extensions.slice(), number, rest, fault);
     let behind = Some((error, Layer::Ipv6FragHeader));

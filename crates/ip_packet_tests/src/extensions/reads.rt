@@ -1,8 +1,8 @@
 //! Headers of each kind from readers, with a limit and without. The calls have no contracts: tests
 //! alone make them, and are run.
 
-use crate::headers::{Want, want};
-use crate::kinds::Kind;
+use super::headers::{Want, want};
+use super::kinds::Kind;
 use ep_base::IpNumber;
 use ep_ext::err::io::LimitedReadError;
 use ep_ext::err::ip_auth;
