@@ -1,7 +1,8 @@
 //! Each step of TCP, once. The segments were made by a program of its own after RFC 9293.
 
-use crate::checks::{equal, message};
-use crate::parts::{ipv4, ipv6};
+use super::parts::{ipv4, ipv6};
+use super::written::message;
+use crate::checks::equal;
 use ep_build::PacketBuilderStep;
 use ep_tcpudp::{TcpHeader, TcpOptionElement, TcpOptionWriteError, TcpOptions};
 use std::alloc::Global;

@@ -1,6 +1,6 @@
 //! Headers of IP packets. The bytes were worked out by hand after RFC 791, 4302 and 8200; the IPv4
 //! checksum is that of a worked frame.
-use crate::checks::equal;
+use crate::checks::{equal, held};
 use ep_base::err::{ValueTooBigError, ValueType};
 use ep_base::{EtherType, IpFragOffset, IpNumber};
 use ep_ext::err::{ip_exts, ipv6_exts};
@@ -8,8 +8,6 @@ use ep_ext::{IpAuthHeader, Ipv4Extensions, Ipv6Extensions, Ipv6FragmentHeader};
 use ep_ip::{Ipv4Header, Ipv6Header};
 use ep_packet::IpHeaders;
 use ep_packet::err::ip::HeadersWriteError;
-use std::alloc::Global;
-use std::process::Abort;
 use std::test::*;
 
 // The functions below have no contracts, as tests alone call them.
@@ -177,13 +175,6 @@ fn headers_of_a_packet(rt: HostRuntime) {
     let wanted = Some(([20, 16], IpNumber(17), [false, false]));
     equal(&rt, &headers_of_ipv4(&PACKET), &wanted);
     equal(&rt, &headers_of_ipv4(&PACKET[..35]), &None);
-}
-
-// A buffer with one byte.
-fn held(rt: &impl Abort, alloc: Global) -> Vec<u8> {
-    let mut buffer = Vec::new(alloc);
-    equal(rt, &buffer.push(0xaa).is_ok(), &true);
-    buffer
 }
 
 #[test]

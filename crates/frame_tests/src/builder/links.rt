@@ -1,12 +1,12 @@
 //! Every header in front of the network layer with every header of it. The bytes were worked out
-//! after IEEE
-//! 802.3 and 802.1Q, libpcap's page on Linux cooked captures and RFC 791, 826 and 8200.
+//! after IEEE 802.3 and 802.1Q, libpcap's page on Linux cooked captures and RFC 791, 826 and 8200.
 
-use crate::checks::{are_joined, equal, packet};
-use crate::parts::{
+use super::parts::{
     IPV4_DESTINATION, IPV4_SOURCE, IPV6_DESTINATION, IPV6_SOURCE, PAYLOAD, arp, ethernet2, id,
     ipv4, ipv6, linux_sll,
 };
+use super::written::packet;
+use crate::checks::{are_joined, equal};
 use ep_base::{EtherType, IpNumber};
 use ep_build::{LinkStep, PacketBuilder, PacketBuilderStep, laws};
 use ep_ext::{Ipv4Extensions, Ipv6Extensions};

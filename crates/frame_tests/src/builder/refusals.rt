@@ -1,7 +1,7 @@
 //! Every refusal, with a buffer that held a byte, which stays as it was; their order; their texts.
 
-use crate::checks::equal;
-use crate::parts::{ethernet2, ipv4, ipv6};
+use super::parts::{ethernet2, ipv4, ipv6};
+use crate::checks::{equal, have_one_text, held};
 use ep_base::IpNumber;
 use ep_base::err::{ValueTooBigError, ValueType};
 use ep_build::err::packet::BuildWriteError;
@@ -13,17 +13,6 @@ use std::process::Abort;
 use std::test::*;
 
 // The functions below have no contracts, as tests alone call them.
-
-// Where the byte wants memory, the next try gets it.
-pub(super) fn held(rt: &impl Abort, alloc: Global) -> Vec<u8> {
-    let mut buffer = Vec::new(alloc);
-    equal(
-        rt,
-        &(buffer.push(0xaa).is_ok() || buffer.push(0xaa).is_ok()),
-        &true,
-    );
-    buffer
-}
 
 fn zeros(alloc: Global, len: usize) -> Vec<u8> {
     match vec![in alloc; 0u8; len] {
@@ -183,21 +172,10 @@ fn what_errors_with_fields_tell(rt: HostRuntime) {
     equal(&rt, &told, &([false, false], None, None, Some(v6)));
 }
 
-fn shows(rt: &impl Abort, alloc: Global, error: BuildWriteError, wanted: &str) {
-    match format!(in alloc; "{error}") {
-        Ok(text) => equal(rt, &text.as_str(), &wanted),
-        Err(_) => panic!(rt; "no memory"),
-    }
-}
-
 #[test]
 fn texts(rt: HostRuntime) {
-    shows(
-        &rt,
-        rt.alloc(),
-        BuildWriteError::Memory,
-        "no memory left for the packet",
-    );
+    let wanted = "no memory left for the packet";
+    have_one_text(&rt, rt.alloc(), &BuildWriteError::Memory, &wanted);
     let wanted = "an ICMPv6 message over IPv4, which has no checksum";
-    shows(&rt, rt.alloc(), BuildWriteError::Icmpv6InIpv4, wanted);
+    have_one_text(&rt, rt.alloc(), &BuildWriteError::Icmpv6InIpv4, &wanted);
 }

@@ -1,8 +1,9 @@
 //! Each step that adds a transport header, once. The messages were made by a program of its own
 //! after RFC 768, 792, 4443 and 9293.
 
-use crate::checks::{equal, message};
-use crate::parts::{IPV4_DESTINATION, IPV4_SOURCE, ipv4, ipv6};
+use super::parts::{IPV4_DESTINATION, IPV4_SOURCE, ipv4, ipv6};
+use super::written::message;
+use crate::checks::equal;
 use ep_build::{PacketBuilder, PacketBuilderStep, TransportStep};
 use ep_icmp::icmpv4::{RedirectCode, RedirectHeader};
 use ep_icmp::{Icmpv4Type, Icmpv6Type};

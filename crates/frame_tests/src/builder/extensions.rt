@@ -1,8 +1,9 @@
 //! Extension headers behind IP headers, whose numbers and lengths were others before. The bytes
 //! were worked out after RFC 791, 4302 and 8200.
 
-use crate::checks::{equal, message, packet};
-use crate::parts::{IPV4_DESTINATION, IPV4_SOURCE, IPV6_DESTINATION, IPV6_SOURCE, PAYLOAD};
+use super::parts::{IPV4_DESTINATION, IPV4_SOURCE, IPV6_DESTINATION, IPV6_SOURCE, PAYLOAD};
+use super::written::{message, packet};
+use crate::checks::equal;
 use ep_base::{IpFragOffset, IpNumber};
 use ep_build::PacketBuilder;
 use ep_ext::{

@@ -2,9 +2,8 @@
 //! for each of its growths, which is refused then: the step tells of it and of nothing else, the
 //! buffer holds its byte as before, and the same step writes the packet after it.
 
-use crate::checks::equal;
-use crate::parts::{PAYLOAD, arp, ethernet2, id, ipv4, ipv6, linux_sll};
-use crate::refusals::held;
+use super::parts::{PAYLOAD, arp, ethernet2, id, ipv4, ipv6, linux_sll};
+use crate::checks::{equal, held};
 use ep_base::IpNumber;
 use ep_build::err::packet::BuildWriteError;
 use ep_build::{PacketBuilderStep, TransportStep};

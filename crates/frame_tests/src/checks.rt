@@ -21,3 +21,20 @@ pub fn have_one_text(rt: &impl Abort, alloc: Global, error: &impl Display, inner
         _ => panic!(rt; "no memory"),
     }
 }
+
+/// A buffer with one byte. Where the byte wants memory, the next try gets it.
+pub fn held(rt: &impl Abort, alloc: Global) -> Vec<u8> {
+    let mut buffer = Vec::new(alloc);
+    equal(
+        rt,
+        &(buffer.push(0xaa).is_ok() || buffer.push(0xaa).is_ok()),
+        &true,
+    );
+    buffer
+}
+
+/// Fails where the bytes aren't these two parts.
+pub fn are_joined(rt: &impl Abort, bytes: &[u8], front: &[u8], rest: &[u8]) {
+    equal(rt, &bytes.get(..front.len()), &Some(front));
+    equal(rt, &bytes.get(front.len()..), &Some(rest));
+}

@@ -1,10 +1,10 @@
 //! Rows of frames. The bytes are from outside: they were worked out after RFC 768, 791 and 8200 and
-//! IEEE
-//! 802.1Q.
+//! IEEE 802.1Q.
 
-use crate::checks::{equal, message, packet};
-use crate::parts::{IPV6_DESTINATION, IPV6_SOURCE, id, ipv4};
-use crate::refusals::is_refused;
+use super::parts::{IPV6_DESTINATION, IPV6_SOURCE, id, ipv4};
+use super::refusals::is_refused;
+use super::written::{message, packet};
+use crate::checks::equal;
 use ep_base::IpNumber;
 use ep_base::err::{ValueTooBigError, ValueType};
 use ep_build::err::packet::BuildWriteError;

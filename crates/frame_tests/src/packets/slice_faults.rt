@@ -91,7 +91,7 @@ fn tags(rt: HostRuntime) {
 }
 
 // An IPv4 header with this many words, total length and protocol, in front of 20 bytes.
-fn ipv4(words: u8, total_len: u8, protocol: u8) -> [u8; 40] {
+fn ipv4_packet(words: u8, total_len: u8, protocol: u8) -> [u8; 40] {
     let mut bytes = [0; 40];
     bytes[0] = 0x40 | words;
     bytes[3] = total_len;
@@ -114,13 +114,13 @@ fn ipv4_packets(rt: HostRuntime) {
     );
     refuses_ipv4(
         &rt,
-        ipv4(6, 40, 17),
+        ipv4_packet(6, 40, 17),
         20,
         (Layer::Ipv4Header, [24, 20], LenSource::Slice, 0),
     );
     refuses_ipv4(
         &rt,
-        ipv4(5, 28, 17),
+        ipv4_packet(5, 28, 17),
         27,
         (Layer::Ipv4Packet, [28, 27], LenSource::Slice, 0),
     );
@@ -130,21 +130,21 @@ fn ipv4_packets(rt: HostRuntime) {
         LenSource::Ipv4HeaderTotalLen,
         20,
     );
-    refuses_ipv4(&rt, ipv4(5, 25, 51), 25, wanted);
+    refuses_ipv4(&rt, ipv4_packet(5, 25, 51), 25, wanted);
 }
 
 #[test]
 fn messages(rt: HostRuntime) {
     let wanted = (Layer::UdpHeader, [8, 7], LenSource::Ipv4HeaderTotalLen, 20);
-    refuses_ipv4(&rt, ipv4(5, 27, 17), 27, wanted);
+    refuses_ipv4(&rt, ipv4_packet(5, 27, 17), 27, wanted);
     let wanted = (
         Layer::TcpHeader,
         [20, 19],
         LenSource::Ipv4HeaderTotalLen,
         20,
     );
-    refuses_ipv4(&rt, ipv4(5, 39, 6), 39, wanted);
-    let mut options = ipv4(5, 40, 6);
+    refuses_ipv4(&rt, ipv4_packet(5, 39, 6), 39, wanted);
+    let mut options = ipv4_packet(5, 40, 6);
     options[32] = 0x60;
     let wanted = (
         Layer::TcpHeader,
@@ -154,13 +154,13 @@ fn messages(rt: HostRuntime) {
     );
     refuses_ipv4(&rt, options, 40, wanted);
     let wanted = (Layer::Icmpv4, [8, 7], LenSource::Ipv4HeaderTotalLen, 20);
-    refuses_ipv4(&rt, ipv4(5, 27, 1), 27, wanted);
+    refuses_ipv4(&rt, ipv4_packet(5, 27, 1), 27, wanted);
 }
 
 // A UDP message of eight bytes says that it has nine, and that it has seven.
 #[test]
 fn udp_lengths(rt: HostRuntime) {
-    let mut packet = ipv4(5, 28, 17);
+    let mut packet = ipv4_packet(5, 28, 17);
     packet[25] = 9;
     let wanted = (Layer::UdpPayload, [9, 8], LenSource::Ipv4HeaderTotalLen, 20);
     refuses_ipv4(&rt, packet, 28, wanted);
