@@ -1,0 +1,7 @@
+//! IP packets in slices.
+
+mod errors;
+mod header_and_body;
+mod packets;
+mod refusals;
+mod views;
