@@ -2,53 +2,8 @@
 //! goes out as a struct of numbers.
 #![tactic(auto)]
 
-mod added;
 mod build;
 mod checksum;
-mod frame_pool;
-mod held;
-mod link;
-mod message;
-mod net;
-mod packet;
-mod part;
-mod part_refusal;
-mod plan;
-mod planned;
 mod pool;
-mod refusal;
 mod slice;
-mod transport;
 mod verdict;
-
-pub use added::EpAdded;
-pub use build::EpBuilt;
-pub use held::Held;
-pub use link::{EpLink, EpTag};
-pub use message::EpMessage;
-pub use net::{EpArp, EpIpv4, EpIpv6};
-pub use packet::EpPacket;
-pub use part::EpPart;
-pub use part_refusal::EpPartRefusal;
-pub use plan::EpPlan;
-pub use pool::EpPool;
-pub use refusal::EpRefusal;
-pub use transport::{EpIcmp, EpTcp, EpUdp};
-
-/// It is done.
-pub const DONE: u32 = 0;
-
-/// The output has no room.
-pub const NO_ROOM: u32 = 1;
-
-/// Out of memory.
-pub const NO_MEMORY: u32 = 2;
-
-/// A field is refused.
-pub const REFUSED: u32 = 3;
-
-/// It isn't open, or is open already, or keeps a message.
-pub const WRONG_STATE: u32 = 4;
-
-/// A message is complete.
-pub const COMPLETED: u32 = 5;

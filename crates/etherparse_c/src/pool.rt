@@ -1,34 +1,15 @@
 //! Messages that come in parts.
-ghost use Rattle.std.specs.Prelude.{◌≡◌, ◌≤◌, ◌<◌, true, false, Option, Some, None, IfOk, IsSome};
-ghost use Rattle.std.specs.Prelude.{length};
+ghost use Rattle.std.specs.Prelude.{◌≡◌, ◌≤◌, ◌<◌, true, false, Option, Some, None, length};
 ghost use Rattle.etherparse.specs.defrag.OpenMessages.{IsOpenCount};
-ghost use Rattle.etherparse.specs.defrag.PoolCalls.{Lists, ShowsLists, fault_in, no_lists};
-ghost use Rattle.etherparse.specs.defrag.PoolCalls.{retained_from};
+ghost use Rattle.etherparse.specs.defrag.PoolCalls.{Lists, fault_in, no_lists, retained_from};
 ghost use Rattle.etherparse.specs.packet.Class.{class_of};
 ghost use Rattle.etherparse.specs.packet.Sliced.{sliced_ethernet};
-ghost use Rattle.etherparse_c.specs.FramePool.{IsAnswered, Kept, added, completed, kept_of};
-ghost use Rattle.etherparse_c.specs.FramePool.{written};
-ghost use Rattle.etherparse_c.specs.Pool.{IsPool, Keeps};
+ghost use Rattle.etherparse_structs.specs.FramePool.{IsAnswered, Kept, added, completed, kept_of};
+ghost use Rattle.etherparse_structs.specs.FramePool.{written};
+ghost use Rattle.etherparse_structs.specs.Pool.{IsPool, Keeps};
 
-use crate::frame_pool::FramePool;
-use crate::held::Held;
-use crate::{DONE, EpAdded, NO_MEMORY, WRONG_STATE};
-use etherparse::defrag::IpDefragPool;
-use etherparse::laws::defrag::streams::a_new_pool_shows_no_lists;
-use handles::Loose;
-use std::alloc::{AllocError, Global};
-use std::mem::replace;
-
-/// The messages that are on their way in parts. It begins as zeros, and is changed by these calls
-/// alone.
-#[repr(C)]
-#[derive(Drop)]
-pub struct EpPool {
-    /// Whether it was opened and not freed.
-    pub is_open: bool,
-    /// For these calls alone.
-    pub held: Held,
-}
+use etherparse_structs::{EpAdded, EpPool};
+use std::alloc::Global;
 
 /// Opens a pool with no message.
 ///
@@ -43,14 +24,7 @@ pub extern "C" fn ep_pool_new(alloc: Global, pool: &mut EpPool) -> u32
     ensures wrong_state { pool.old.is_open ≡ true → result ≡ 4 }
     ensures codes { pool.old.is_open ≡ false → result ≤ 2 }
 {
-    if pool.is_open {
-        return WRONG_STATE;
-    }
-    let Ok(frames) = new_frames(alloc) else {
-        return NO_MEMORY;
-    };
-    put(pool, frames);
-    DONE
+    pool.begin(alloc)
 }
 
 /// Takes an Ethernet II frame, which came at this time on this channel. Messages of other channels
@@ -81,13 +55,7 @@ pub extern "C" fn ep_pool_add(
     ensures closed { pool.old.is_open ≡ false
         → (pool.new ≡ pool.old) × (result ≡ added 4) × (output.new ≡ output.old) }
 {
-    if !pool.is_open {
-        return EpAdded::of(WRONG_STATE);
-    }
-    let mut frames = taken(alloc, pool);
-    let added = frames.take_frame(frame, time, channel, output);
-    put(pool, frames);
-    added
+    pool.add(alloc, frame, time, channel, output)
 }
 
 /// Hands out the message that a pool keeps.
@@ -107,13 +75,7 @@ pub extern "C" fn ep_pool_take(alloc: Global, pool: &mut EpPool, output: &mut [u
     ensures closed { pool.old.is_open ≡ false
         → (pool.new ≡ pool.old) × (result ≡ added 4) × (output.new ≡ output.old) }
 {
-    if !pool.is_open {
-        return EpAdded::of(WRONG_STATE);
-    }
-    let mut frames = taken(alloc, pool);
-    let told = frames.take_kept(output);
-    put(pool, frames);
-    told
+    pool.take(alloc, output)
 }
 
 /// Drops the messages whose last part came before this time. The result is 0, or 4 where the pool
@@ -127,13 +89,7 @@ pub extern "C" fn ep_pool_forget_before(alloc: Global, pool: &mut EpPool, time: 
     ensures result { (pool.old.is_open ≡ true → result ≡ 0)
         × (pool.old.is_open ≡ false → (result ≡ 4) × (pool.new ≡ pool.old)) }
 {
-    if !pool.is_open {
-        return WRONG_STATE;
-    }
-    let mut frames = taken(alloc, pool);
-    frames.forget_before(time);
-    put(pool, frames);
-    DONE
+    pool.forget_before(alloc, time)
 }
 
 /// How many messages are on their way, 0 where the pool isn't open. One that is complete isn't
@@ -146,13 +102,7 @@ pub extern "C" fn ep_pool_open(alloc: Global, pool: &mut EpPool) -> usize
         → Keeps pool.new lists kept × IsOpenCount lists result }
     ensures closed { pool.old.is_open ≡ false → (result ≡ 0) × (pool.new ≡ pool.old) }
 {
-    if !pool.is_open {
-        return 0;
-    }
-    let frames = taken(alloc, pool);
-    let count = frames.open_len();
-    put(pool, frames);
-    count
+    pool.open_len(alloc)
 }
 
 /// Frees a pool and all that it holds. One that isn't open stays as it is.
@@ -161,42 +111,5 @@ pub extern "C" fn ep_pool_free(alloc: Global, pool: &mut EpPool)
     requires { IsPool pool.old }
     ensures closed { pool.new.is_open ≡ false }
 {
-    if pool.is_open {
-        drop(taken(alloc, pool));
-    }
-}
-
-fn new_frames(alloc: Global) -> Result<Box<FramePool>, AllocError>
-    ensures lists { IfOk result (λ frames. ShowsLists frames.value.pool no_lists) }
-    ensures kept { IfOk result (λ frames. frames.value.kept ≡ None) }
-{
-    a_new_pool_shows_no_lists();
-    let frames = FramePool {
-        pool: IpDefragPool::new(alloc),
-        kept: None,
-    };
-    match Box::new(alloc, frames) {
-        Ok(frames) => Ok(frames),
-        Err(_) => Err(AllocError),
-    }
-}
-
-// The frames of an open pool, which is closed then.
-fn taken(alloc: Global, pool: &mut EpPool) -> Box<FramePool>
-    requires { IsSome pool.old.held.value }
-    ensures frames { pool.old.held.value ≡ Some result.value }
-    ensures closed { pool.new.is_open ≡ false }
-{
-    pool.is_open = false;
-    replace(&mut pool.held, Held::none())
-        .into_loose(alloc)
-        .into_box()
-}
-
-fn put(pool: &mut EpPool, frames: Box<FramePool>)
-    ensures held { pool.new.held.value ≡ Some frames.value }
-    ensures opened { pool.new.is_open ≡ true }
-{
-    pool.held = Held::of(Loose::of(frames));
-    pool.is_open = true;
+    pool.free(alloc);
 }

@@ -4,11 +4,10 @@ ghost use Rattle.etherparse.specs.link.Ethernet.{ethernet_len};
 ghost use Rattle.etherparse.specs.link.Sll.{sll_len};
 ghost use Rattle.etherparse.specs.packet.Parts.{ArePartsOf};
 ghost use Rattle.etherparse.specs.packet.Sliced.{sliced_ethernet, sliced_ip, sliced_linux_sll};
-ghost use Rattle.etherparse_c.specs.Packet.{told};
+ghost use Rattle.etherparse_structs.specs.Packet.{told};
 
-use crate::EpPacket;
-use crate::packet::told;
 use etherparse::SlicedPacket;
+use etherparse_structs::{EpPacket, told};
 
 /// Tells the parts of an Ethernet II frame, or why it is refused.
 #[unsafe(no_mangle)]

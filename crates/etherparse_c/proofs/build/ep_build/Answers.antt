@@ -1,9 +1,0 @@
-use Rattle.std.proofs.Common.{length}
-use Rattle.etherparse_c.specs.Plan.{wrong_in}
-use Rattle.etherparse_c.proofs.PlanLemmas.{at_fault_is}
-use Rattle.etherparse_c.proofs.build.ep_build.Goals as goal
-
-pub returns-clause-refused : goal.returns-clause-refused
-returns-clause-refused c =
-    at_fault_is (wrong_in c.args.plan.now (length c.args.payload.now)) c.append.result
-    c.in-Err-Field.field c.not_built-in-Err-Field.result c.append.ensures.refused (cc) (cc)

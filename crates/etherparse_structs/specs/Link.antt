@@ -1,0 +1,119 @@
+-- A link header and the tags behind it, as fields and numbers.
+use Rattle.std.specs.Prelude.{ℕ, ◌+◌, false, List, [], ◌∷◌, replicate, Option}
+use Rattle.std.specs.Prelude.{Some, None, unwrap_or}
+use Rattle.std.specs.List.{slice_get}
+use Rattle.std.specs.Option.{option_map}
+use Rattle.etherparse.specs.base.Bytes.{num}
+use Rattle.etherparse.specs.link.Ethernet as ethernet
+use Rattle.etherparse.specs.link.Sll as sll
+use Rattle.etherparse.specs.link.declared.link.link_slice.LinkSlice.{LinkSlice}
+use Rattle.etherparse.specs.link.declared.link.link_slice.LinkSlice.TheVariants as link
+use Rattle.etherparse.specs.tag.LinkExt.{tag_len}
+use Rattle.etherparse.specs.tag.Macsec as macsec
+use Rattle.etherparse.specs.tag.Vlan as vlan
+use Rattle.etherparse.specs.tag.declared.link.link_ext_slice.LinkExtSlice.{LinkExtSlice}
+use Rattle.etherparse.specs.tag.declared.link.link_ext_slice.LinkExtSlice.TheVariants as tag
+use Rattle.etherparse_structs.specs.Part.{no_part, part_at}
+use Rattle.etherparse_structs.specs.declared.link.EpLink.{EpLink}
+use Rattle.etherparse_structs.specs.declared.link.EpTag.{EpTag}
+
+abbrev pub no_link : EpLink
+no_link = record {
+  kind = 0;
+  protocol = 0;
+  destination = replicate 6 0;
+  source = replicate 6 0;
+  packet_type = 0;
+  hardware_type = 0;
+  address_len = 0;
+  address = replicate 8 0;
+}
+
+abbrev pub ethernet_told : List ℕ → EpLink
+ethernet_told frame = record no_link {
+  kind = 1;
+  protocol = (ethernet.next_type_of frame).0;
+  destination = ethernet.destination_of frame;
+  source = ethernet.source_of frame;
+}
+
+abbrev pub sll_told : List ℕ → EpLink
+sll_told bytes = record no_link {
+  kind = 2;
+  protocol = sll.number_of (sll.protocol_of (sll.hardware_type_of bytes) (num bytes 14 2));
+  packet_type = sll.packet_type_of bytes;
+  hardware_type = (sll.hardware_type_of bytes).0;
+  address_len = sll.address_len_of bytes;
+  address = sll.address_of bytes;
+}
+
+-- Ethernet II, a Linux cooked capture, or no link header
+abbrev pub link_told : Option LinkSlice → EpLink
+link_told None = no_link
+link_told (Some (link.Ethernet2 frame)) = ethernet_told frame
+link_told (Some (link.LinuxSll bytes)) = sll_told bytes
+link_told (Some (link.EtherPayload p)) = no_link
+link_told (Some (link.LinuxSllPayload p)) = no_link
+
+abbrev pub no_tag : EpTag
+no_tag = record {
+  header = no_part;
+  kind = 0;
+  ether_type = 0;
+  vlan_id = 0;
+  priority = 0;
+  drop_eligible = false;
+  end_station = false;
+  single_copy_broadcast = false;
+  encrypted = false;
+  changed = false;
+  has_channel = false;
+  association = 0;
+  short_len = 0;
+  packet_number = 0;
+  channel = 0;
+}
+
+abbrev pub vlan_told : ℕ → List ℕ → EpTag
+vlan_told place bytes = record no_tag {
+  header = record { offset = place; len = vlan.vlan_len };
+  kind = 1;
+  ether_type = (vlan.next_type_of bytes).0;
+  vlan_id = vlan.vlan_id_of bytes;
+  priority = vlan.pcp_of bytes;
+  drop_eligible = vlan.drop_eligible_of bytes;
+}
+
+abbrev pub macsec_told : ℕ → List ℕ → EpTag
+macsec_told place header = record no_tag {
+  header = part_at place header;
+  kind = 2;
+  ether_type = unwrap_or (option_map (λ t. t.0) (macsec.next_type_of header)) 0;
+  end_station = macsec.endstation_id_of header;
+  single_copy_broadcast = macsec.scb_of header;
+  encrypted = macsec.is_encrypted header;
+  changed = macsec.is_changed header;
+  has_channel = macsec.has_sci header;
+  association = macsec.an_of header;
+  short_len = macsec.short_len_of header;
+  packet_number = macsec.packet_nr_of header;
+  channel = unwrap_or (macsec.sci_of header) 0;
+}
+
+-- a tag at this place, if there is one
+abbrev pub tag_told : ℕ → Option LinkExtSlice → EpTag
+tag_told place None = no_tag
+tag_told place (Some (tag.Vlan bytes)) = vlan_told place bytes
+tag_told place (Some (tag.Macsec m)) = macsec_told place m.header
+
+abbrev pub len_of : Option LinkExtSlice → ℕ
+len_of None = 0
+len_of (Some t) = tag_len t
+
+-- the first three tags, one behind the other, from a place on
+abbrev pub tags_told : ℕ → List LinkExtSlice → List EpTag
+tags_told place tags =
+    tag_told place (slice_get tags 0)
+    ∷ tag_told (place + len_of (slice_get tags 0)) (slice_get tags 1)
+    ∷ tag_told (place + len_of (slice_get tags 0) + len_of (slice_get tags 1)) (slice_get tags 2)
+    ∷ []

@@ -1,0 +1,211 @@
+//! A pool of messages that are on their way, and one that is complete.
+ghost use Rattle.std.specs.Prelude.{◌≡◌, Option, Some, None, IsSome, length};
+ghost use Rattle.etherparse.specs.defrag.IpDefragPool.{payload_told};
+ghost use Rattle.etherparse.specs.defrag.PoolCalls.{FrameAnswered, Lists, ShowsLists, fault_in};
+ghost use Rattle.etherparse.specs.defrag.OpenMessages.{IsOpenCount};
+ghost use Rattle.etherparse.specs.defrag.PoolCalls.{retained_from, told_outcome};
+ghost use Rattle.etherparse.specs.packet.Class.{IdentificationFits, as_class, class_of};
+ghost use Rattle.etherparse.specs.packet.Class.{packet_told};
+ghost use Rattle.etherparse.specs.packet.Class.Class.{Refused as Faulty};
+ghost use Rattle.etherparse.specs.packet.Sliced.{sliced_ethernet};
+ghost use Rattle.etherparse.specs.packet.declared.class.Class.TheVariants as class;
+ghost use Rattle.etherparse.specs.packet.declared.err.packet.slice_error.SliceError.{SliceError as Fault};
+ghost use Rattle.etherparse_structs.specs.FramePool.{HasAddresses, IsAnswered, Kept, added};
+ghost use Rattle.etherparse_structs.specs.FramePool.{added_told, addresses_in, completed, kept_of};
+ghost use Rattle.etherparse_structs.specs.FramePool.{kept_told, written};
+
+use crate::message::message_of;
+use crate::{COMPLETED, DONE, EpAdded, NO_ROOM, WRONG_STATE};
+use etherparse::defrag::{IpDefragError, IpDefragPayloadVec, IpDefragPool};
+use etherparse::err::packet::SliceError;
+use etherparse::laws::defrag::streams::{
+    open_messages_are_counted, packets_are_answered, spare_buffers_show_nothing,
+};
+use etherparse::{Addresses, Class, CutMessage, SlicedPacket};
+
+/// The messages that are on their way, and one that is complete and wasn't handed out.
+#[derive(Drop)]
+pub struct FramePool {
+    pub pool: IpDefragPool<u64, u32>,
+    pub kept: Option<Completed>,
+}
+
+/// A message that is complete.
+#[derive(Drop)]
+pub struct Completed {
+    pub addresses: Addresses,
+    pub payload: IpDefragPayloadVec,
+}
+
+/// What became of a frame.
+#[derive(Drop)]
+pub enum Added {
+    /// It is no part of a message, or its message waits for others.
+    Nothing,
+    /// It is the last part of this message that was missing.
+    Completed(Completed),
+    /// It is a part that is refused.
+    Refused(IpDefragError),
+    /// It is refused.
+    NotSliced(SliceError),
+}
+
+impl FramePool {
+    /// Takes an Ethernet II frame, which came at this time on this channel, and writes the message
+    /// that is complete with it, if there is room. While one is kept, no frame is taken.
+    pub(crate) fn take_frame(
+        &mut self,
+        frame: &[u8],
+        time: u64,
+        channel: u32,
+        output: &mut [u8],
+    ) -> EpAdded
+        ensures answered { self.old.kept ≡ None → (lists : Lists) → ShowsLists self.old.pool lists
+            → IsAnswered
+            (λ next kept. ShowsLists self.new.pool next × (kept_told self.new.kept ≡ kept)) lists
+            (class_of frame.now) time channel (fault_in (sliced_ethernet frame.now))
+            output.old output.new result }
+        ensures keeps { IsSome self.old.kept
+            → (self.new ≡ self.old) × (result ≡ added 4) × (output.new ≡ output.old) }
+    {
+        if self.kept.is_some() {
+            return EpAdded::of(WRONG_STATE);
+        }
+        match add(&mut self.pool, frame, time, channel) {
+            Added::Nothing => EpAdded::of(DONE),
+            Added::Completed(message) => self.hand_out(message, output),
+            Added::Refused(error) => EpAdded::part_refused(&error),
+            Added::NotSliced(error) => EpAdded::frame_refused(error),
+        }
+    }
+
+    /// Writes the message that is kept, if there is room.
+    pub(crate) fn take_kept(&mut self, output: &mut [u8]) -> EpAdded
+        ensures taken { (kept : Kept) → kept_told self.old.kept ≡ Some kept
+            → (kept_told self.new.kept ≡ kept_of (length output.old) (Some kept.0) kept.1)
+            × (result ≡ completed (length output.old) kept.0 kept.1)
+            × (output.new ≡ written output.old kept.1) }
+        ensures none { self.old.kept ≡ None
+            → (self.new.kept ≡ None) × (result ≡ added 4) × (output.new ≡ output.old) }
+        ensures lists { (lists : Lists) → ShowsLists self.old.pool lists
+            → ShowsLists self.new.pool lists }
+    {
+        match self.kept.take() {
+            Some(message) => self.hand_out(message, output),
+            None => EpAdded::of(WRONG_STATE),
+        }
+    }
+
+    /// Drops the messages whose last part came before this time.
+    pub(crate) fn forget_before(&mut self, time: u64)
+        ensures lists { (lists : Lists) → ShowsLists self.old.pool lists
+            → ShowsLists self.new.pool (λ name channel. retained_from time (lists name channel)) }
+        ensures kept { self.new.kept ≡ self.old.kept }
+    {
+        // To drop messages takes no memory.
+        let _ = self.pool.retain(|last: &u64| *last >= time);
+    }
+
+    /// How many messages are on their way.
+    pub(crate) fn open_len(&self) -> usize
+        ensures { (lists : Lists) → ShowsLists self.now.pool lists → IsOpenCount lists result }
+    {
+        open_messages_are_counted();
+        self.pool.open_len()
+    }
+
+    // Writes a message that is complete, if there is room, and else keeps it.
+    fn hand_out(&mut self, message: Completed, output: &mut [u8]) -> EpAdded
+        requires { self.old.kept ≡ None }
+        ensures told { result ≡ completed (length output.old) message.addresses
+            (payload_told message.payload) }
+        ensures kept { kept_told self.new.kept ≡ kept_of (length output.old)
+            (Some message.addresses) (payload_told message.payload) }
+        ensures output { output.new ≡ written output.old (payload_told message.payload) }
+        ensures lists { (lists : Lists) → ShowsLists self.old.pool lists
+            → ShowsLists self.new.pool lists }
+    {
+        spare_buffers_show_nothing();
+        let told = message_of(&message.addresses, &message.payload);
+        let len = message.payload.payload.len();
+        if output.len() < len {
+            self.kept = Some(message);
+            return EpAdded {
+                message: told,
+                ..EpAdded::of(NO_ROOM)
+            };
+        }
+        output[..len].copy_from_slice(message.payload.payload.as_slice());
+        // A buffer for which no place is found is dropped.
+        drop(self.pool.return_buf(message.payload));
+        EpAdded {
+            message: told,
+            ..EpAdded::of(COMPLETED)
+        }
+    }
+}
+
+// Takes an Ethernet II frame, which came at this time on this channel.
+fn add(pool: &mut IpDefragPool<u64, u32>, frame: &[u8], time: u64, channel: u32) -> Added
+    ensures told { (lists : Lists) → ShowsLists pool.old lists
+        → FrameAnswered (ShowsLists pool.new) lists (class_of frame.now) time channel
+        (fault_in (sliced_ethernet frame.now)) (added_told result) }
+    ensures addresses { HasAddresses (addresses_in (class_of frame.now)) result }
+{
+    match SlicedPacket::from_ethernet(frame) {
+        Ok(packet) => add_packet(pool, &packet, time, channel),
+        Err(error) => Added::NotSliced(error),
+    }
+}
+
+fn add_packet(
+    pool: &mut IpDefragPool<u64, u32>,
+    packet: &SlicedPacket<'_>,
+    time: u64,
+    channel: u32,
+) -> Added
+    requires { packet_told packet.now ≡ Faulty → ⊥ }
+    ensures told { (fault : Option Fault) (lists : Lists) → ShowsLists pool.old lists
+        → FrameAnswered (ShowsLists pool.new) lists (packet_told packet.now) time channel fault
+        (added_told result) }
+    ensures addresses { HasAddresses (addresses_in (packet_told packet.now)) result }
+{
+    match packet.class() {
+        Class::Cut(message) => add_part(pool, message, time, channel),
+        Class::Whole(_) => Added::Nothing,
+        Class::Other => Added::Nothing,
+        Class::Refused => Added::Nothing,
+    }
+}
+
+fn add_part(
+    pool: &mut IpDefragPool<u64, u32>,
+    message: CutMessage<'_>,
+    time: u64,
+    channel: u32,
+) -> Added
+    requires { IdentificationFits message.addresses message.identification }
+    ensures told { (fault : Option Fault) (lists : Lists) → ShowsLists pool.old lists
+        → FrameAnswered (ShowsLists pool.new) lists (as_class (class.Cut message.entry)) time
+        channel fault (added_told result) }
+    ensures addresses { HasAddresses (Some message.entry.addresses) result }
+{
+    packets_are_answered();
+    let addresses = message.addresses;
+    outcome_of(addresses, pool.process_cut_message(message, time, channel))
+}
+
+// What became of a part of a message between these addresses.
+fn outcome_of(
+    addresses: Addresses,
+    outcome: Result<Option<IpDefragPayloadVec>, IpDefragError>,
+) -> Added
+    ensures told { added_told result ≡ told_outcome outcome }
+    ensures addresses { HasAddresses (Some addresses) result }
+{
+    match outcome {
+        Ok(Some(payload)) => Added::Completed(Completed { addresses, payload }),
+        Ok(None) => Added::Nothing,
+        Err(error) => Added::Refused(error),
+    }
+}

@@ -1,0 +1,31 @@
+//! Where bytes stand.
+ghost use Rattle.std.specs.Prelude.{◌≡◌, length};
+ghost use Rattle.etherparse_structs.specs.Part.{no_part, part_at};
+
+/// Where bytes stand in those that were handed in.
+#[repr(C)]
+#[derive(Drop)]
+pub struct EpPart {
+    /// The offset of the first byte.
+    pub offset: usize,
+    /// How many bytes.
+    pub len: usize,
+}
+
+impl EpPart {
+    /// These bytes, of which the first has this offset.
+    pub(crate) fn of(offset: usize, bytes: &[u8]) -> EpPart
+        ensures { result ≡ part_at offset bytes.now }
+    {
+        EpPart {
+            offset,
+            len: bytes.len(),
+        }
+    }
+
+    pub(crate) fn none() -> EpPart
+        ensures { result ≡ no_part }
+    {
+        EpPart { offset: 0, len: 0 }
+    }
+}
