@@ -3,12 +3,13 @@ use crate::checks::equal;
 use ep_base::IpFragOffset;
 use ep_fragments::defrag::{OverlapRule, Piece, Streams};
 use std::hash::{BuildHasherDefault, FoldHasher};
+use std::process::Abort;
 
 type Numbered = Streams<u32, u64, BuildHasherDefault<FoldHasher>>;
 
 // Takes eight bytes of a message, and gives all bytes of it, if it is complete.
 fn take(
-    rt: &HostRuntime,
+    rt: &(impl Abort + AllocGlobal),
     streams: &mut Numbered,
     name: u32,
     piece: &Piece<'_>,
