@@ -30,6 +30,9 @@ pub fn make<R: Read, W: Write>(
         → OnOk result (IfSome (R.remaining reader.old) (λ input. (frames : List TimedFrame)
         × IsText input frames
         × Appends (W.contents writer.old) (W.contents writer.new) (capture_of time_unit frames))) }
+    // Of lines nothing is passed over.
+    ensures same { (time_unit : TimeUnit) → mode ≡ Mode.Capture time_unit
+        → skipped.new ≡ skipped.old }
 {
     match mode {
         Mode::Lines(extra, unfit) => make_lines(alloc, extra, unfit, reader, writer, skipped),
