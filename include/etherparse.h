@@ -18,7 +18,7 @@
 extern "C" {
 #endif
 
-/* It is done. */
+/* It is done, or there was nothing to do. */
 #define EP_DONE 0
 /* The output has no room. */
 #define EP_NO_ROOM 1
@@ -92,8 +92,8 @@ typedef struct {
 
 /* Why a part of a message is refused. All fields are 0 where it isn't. */
 typedef struct {
-    /* 0 not refused, 1 others follow it and its length is no multiple of 8, 2 it ends behind byte
-       65535, 3 it ends elsewhere than the message, 4 over IPv6 it overlaps another part: then the
+    /* 0 not refused, 1 others follow it and its length is no multiple of 8, 2 it ends beyond 65535
+       bytes, 3 it ends elsewhere than the message, 4 over IPv6 it overlaps another part: then the
        message is dropped with all of its parts. */
     uint32_t kind;
     /* Of kinds 1, 2 and 4: its offset in the message, in units of 8 bytes. */
@@ -114,13 +114,13 @@ typedef struct {
     uint32_t ip_version;
     /* The number of its protocol. */
     uint8_t number;
-    /* Of IPv4. */
+    /* The source address, where `ip_version` is 4, else 0. */
     uint8_t ipv4_source[4];
-    /* Of IPv4. */
+    /* The destination address, where `ip_version` is 4, else 0. */
     uint8_t ipv4_destination[4];
-    /* Of IPv6. */
+    /* The source address, where `ip_version` is 6, else 0. */
     uint8_t ipv6_source[16];
-    /* Of IPv6. */
+    /* The destination address, where `ip_version` is 6, else 0. */
     uint8_t ipv6_destination[16];
 } ep_message;
 
@@ -139,7 +139,8 @@ typedef struct {
 
 /* What became of a packet that was to be built. */
 typedef struct {
-    /* 0 where it is built, else why it isn't. */
+    /* 0 where it is built, 1 where the output has no room for its length, 2 where there is no
+       memory, 3 where a field of the plan, or the payload, is refused. */
     uint32_t status;
     /* The first field of the plan at fault, where it is refused, else 0. */
     uint32_t field;
@@ -412,9 +413,9 @@ typedef struct {
 typedef struct {
     /* The link header: 0 none, 1 Ethernet II, 2 a Linux cooked capture of an Ethernet device. */
     uint32_t link;
-    /* Of Ethernet II. */
+    /* Of Ethernet II: the destination address. */
     uint8_t destination[6];
-    /* Of Ethernet II. */
+    /* Of Ethernet II: the source address. */
     uint8_t source[6];
     /* Of a cooked capture: 0 to us, 1 broadcast, 2 multicast, 3 to others, 4 from us. */
     uint16_t packet_type;
@@ -430,13 +431,13 @@ typedef struct {
     uint16_t inner_vlan_id;
     /* The IP version: 4 or 6. */
     uint32_t ip_version;
-    /* Of IPv4. */
+    /* Of IPv4: the source address. */
     uint8_t ipv4_source[4];
-    /* Of IPv4. */
+    /* Of IPv4: the destination address. */
     uint8_t ipv4_destination[4];
-    /* Of IPv6. */
+    /* Of IPv6: the source address. */
     uint8_t ipv6_source[16];
-    /* Of IPv6. */
+    /* Of IPv6: the destination address. */
     uint8_t ipv6_destination[16];
     /* How many hops it may take. */
     uint8_t hops;
@@ -444,9 +445,9 @@ typedef struct {
     uint8_t payload_number;
     /* The transport header: 0 none, or its number: 1 ICMPv4, 6 TCP, 17 UDP, 58 ICMPv6. */
     uint32_t transport;
-    /* Of UDP and TCP. */
+    /* Of UDP and TCP: the source port. */
     uint16_t source_port;
-    /* Of UDP and TCP. */
+    /* Of UDP and TCP: the destination port. */
     uint16_t destination_port;
     /* Of ICMP: whether it is the reply to an echo request, and not the request. */
     bool is_reply;
@@ -549,10 +550,10 @@ ep_packet ep_slice_ip(const uint8_t *bytes, size_t bytes_len);
    one, 3 no uncut message that can be read. */
 uint32_t ep_verdict_ethernet(const uint8_t *bytes, size_t bytes_len);
 
-/* That in a packet of a Linux cooked capture. */
+/* That in a packet of a Linux cooked capture, numbered as by `ep_verdict_ethernet`. */
 uint32_t ep_verdict_linux_sll(const uint8_t *bytes, size_t bytes_len);
 
-/* That in an IP packet of either version. */
+/* That in an IP packet of either version, numbered as by `ep_verdict_ethernet`. */
 uint32_t ep_verdict_ip(const uint8_t *bytes, size_t bytes_len);
 
 #ifdef __cplusplus

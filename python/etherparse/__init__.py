@@ -56,6 +56,8 @@ _KINDS = {
     11: "hop-by-hop options not at the start",
     12: "TCP data offset",
 }
+# What is refused there is no value of a field but 0, or where a header stands.
+_KINDS_WITHOUT_VALUE = (10, 11)
 
 
 class Refused(ValueError):
@@ -75,6 +77,8 @@ class Refused(ValueError):
         self.value: int = refusal.value
         if self.kind == 1:
             text = f"layer {self.layer} at byte {self.place} needs {self.needed} bytes, and {self.there} are there"
+        elif self.kind in _KINDS_WITHOUT_VALUE:
+            text = _KINDS[self.kind]
         else:
             text = f"{_KINDS[self.kind]}: {self.value}"
         super().__init__(text)

@@ -2,7 +2,7 @@
 
 import ctypes as c
 
-# It is done.
+# It is done, or there was nothing to do.
 DONE = 0
 # The output has no room.
 NO_ROOM = 1

@@ -89,6 +89,10 @@ class Packets(unittest.TestCase):
     def test_refusal_text(self):
         with self.assertRaisesRegex(ep.Refused, "layer 2 at byte 0 needs 14 bytes, and 13 are there"):
             ep.slice_ethernet(bytes(13))
+        # Destination options, and behind them hop-by-hop options (RFC 8200, section 4.1).
+        packet = bytes.fromhex("60000000 0010 3c 40") + bytes(32) + bytes([0] + [0] * 7) + bytes([59] + [0] * 7)
+        with self.assertRaisesRegex(ep.Refused, "^hop-by-hop options not at the start$"):
+            ep.slice_ip(packet)
 
     def test_checksum(self):
         # RFC 1071, section 3

@@ -1,7 +1,7 @@
 //! The exports and their structs. Written by `tools/bindings`.
 #![allow(dead_code)]
 
-/// It is done.
+/// It is done, or there was nothing to do.
 pub const DONE: u32 = 0;
 /// The output has no room.
 pub const NO_ROOM: u32 = 1;
@@ -87,9 +87,9 @@ pub struct EpRefusal {
 #[repr(C)]
 #[derive(Clone, Copy, Debug, PartialEq, Eq)]
 pub struct EpPartRefusal {
-    /// 0 not refused, 1 others follow it and its length is no multiple of 8, 2 it ends behind byte
-    /// 65535, 3 it ends elsewhere than the message, 4 over IPv6 it overlaps another part: then the
-    /// message is dropped with all of its parts.
+    /// 0 not refused, 1 others follow it and its length is no multiple of 8, 2 it ends beyond
+    /// 65535 bytes, 3 it ends elsewhere than the message, 4 over IPv6 it overlaps another part: then
+    /// the message is dropped with all of its parts.
     pub kind: u32,
     /// Of kinds 1, 2 and 4: its offset in the message, in units of 8 bytes.
     pub offset: u16,
@@ -111,13 +111,13 @@ pub struct EpMessage {
     pub ip_version: u32,
     /// The number of its protocol.
     pub number: u8,
-    /// Of IPv4.
+    /// The source address, where `ip_version` is 4, else 0.
     pub ipv4_source: [u8; 4],
-    /// Of IPv4.
+    /// The destination address, where `ip_version` is 4, else 0.
     pub ipv4_destination: [u8; 4],
-    /// Of IPv6.
+    /// The source address, where `ip_version` is 6, else 0.
     pub ipv6_source: [u8; 16],
-    /// Of IPv6.
+    /// The destination address, where `ip_version` is 6, else 0.
     pub ipv6_destination: [u8; 16],
 }
 
@@ -140,7 +140,8 @@ pub struct EpAdded {
 #[repr(C)]
 #[derive(Clone, Copy, Debug, PartialEq, Eq)]
 pub struct EpBuilt {
-    /// 0 where it is built, else why it isn't.
+    /// 0 where it is built, 1 where the output has no room for its length, 2 where there is no memory,
+    /// 3 where a field of the plan, or the payload, is refused.
     pub status: u32,
     /// The first field of the plan at fault, where it is refused, else 0.
     pub field: u32,
@@ -434,9 +435,9 @@ pub struct EpPacket {
 pub struct EpPlan {
     /// The link header: 0 none, 1 Ethernet II, 2 a Linux cooked capture of an Ethernet device.
     pub link: u32,
-    /// Of Ethernet II.
+    /// Of Ethernet II: the destination address.
     pub destination: [u8; 6],
-    /// Of Ethernet II.
+    /// Of Ethernet II: the source address.
     pub source: [u8; 6],
     /// Of a cooked capture: 0 to us, 1 broadcast, 2 multicast, 3 to others, 4 from us.
     pub packet_type: u16,
@@ -452,13 +453,13 @@ pub struct EpPlan {
     pub inner_vlan_id: u16,
     /// The IP version: 4 or 6.
     pub ip_version: u32,
-    /// Of IPv4.
+    /// Of IPv4: the source address.
     pub ipv4_source: [u8; 4],
-    /// Of IPv4.
+    /// Of IPv4: the destination address.
     pub ipv4_destination: [u8; 4],
-    /// Of IPv6.
+    /// Of IPv6: the source address.
     pub ipv6_source: [u8; 16],
-    /// Of IPv6.
+    /// Of IPv6: the destination address.
     pub ipv6_destination: [u8; 16],
     /// How many hops it may take.
     pub hops: u8,
@@ -466,9 +467,9 @@ pub struct EpPlan {
     pub payload_number: u8,
     /// The transport header: 0 none, or its number: 1 ICMPv4, 6 TCP, 17 UDP, 58 ICMPv6.
     pub transport: u32,
-    /// Of UDP and TCP.
+    /// Of UDP and TCP: the source port.
     pub source_port: u16,
-    /// Of UDP and TCP.
+    /// Of UDP and TCP: the destination port.
     pub destination_port: u16,
     /// Of ICMP: whether it is the reply to an echo request, and not the request.
     pub is_reply: bool,

@@ -11,7 +11,8 @@ use std::process::ExitCode;
 /// What standard error begins with.
 pub const PROGRAM: &str = "captures_cli";
 
-/// Tells an error on standard error, with a note behind it.
+/// Tells an error on standard error, with a note behind it. The status is 0, 3 where the input is
+/// refused, 4 where a read or a write failed, and 5 out of memory or after too many reads.
 pub fn exit_code<P: Eprint>(rt: &P, made: Result<(), RunError>, look: Look) -> ExitCode
     ensures { MatchResult made (λ _. exit_status result ≡ 0)
         (λ error. exit_status result ≡ status_of error) }

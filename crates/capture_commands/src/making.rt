@@ -1,20 +1,27 @@
 //! What is made of an input: lines of a capture, or a capture of lines.
-ghost use Rattle.std.specs.Prelude.{◌≡◌, List, ℕ, OnOk, IfSome};
+ghost use Rattle.std.specs.Prelude.{◌≡◌, List, ℕ, OnOk, IfSome, Result};
 ghost use Rattle.std.specs.Io.KnownBytes.{Appends};
+ghost use Rattle.runs.specs.Endings.{EndsFlushed};
+ghost use Rattle.runs.specs.Known.{Transfers};
+ghost use Rattle.captures.specs.Endings.{ending_of};
 ghost use Rattle.captures.specs.Lines.{Packet, lines_of};
-ghost use Rattle.captures.specs.Runs.{IsCapture};
+ghost use Rattle.captures.specs.Runs.{IsCapture, capture_to_lines};
 ghost use Rattle.captures.specs.Spelling.{TimedFrame, capture_of};
-ghost use Rattle.captures.specs.Texts.{IsText};
+ghost use Rattle.captures.specs.Texts.{IsText, lines_to_capture};
 ghost use Rattle.captures.specs.declared.extra.Extra.{Extra};
 ghost use Rattle.captures.specs.declared.time.time_unit.TimeUnit.{TimeUnit};
+ghost use Rattle.captures.specs.declared.translation.run_error.RunError.{RunError};
 ghost use Rattle.captures.specs.declared.unfit.Unfit.{Unfit};
 
 use crate::Mode;
 use captures::{Extra, RunError, Skipped, TimeUnit, Unfit};
+use runs::flush_behind;
 use std::alloc::Global;
 use std::io::{Read, Write};
 
-/// Makes lines of a capture or a capture of lines, and says how many packets were passed over.
+/// Makes lines of a capture or a capture of lines, and says how many packets were passed over. What
+/// is written is flushed, where the input is refused too. A flush that fails behind a whole input is
+/// a failed write.
 pub fn make<R: Read, W: Write>(
     alloc: Global,
     mode: Mode,
@@ -30,6 +37,16 @@ pub fn make<R: Read, W: Write>(
         → OnOk result (IfSome (R.remaining reader.old) (λ input. (frames : List TimedFrame)
         × IsText input frames
         × Appends (W.contents writer.old) (W.contents writer.new) (capture_of time_unit frames))) }
+    // However it ends, what is written is that for the bytes read.
+    ensures bytes { (extra : Extra) (unfit : Unfit) → mode ≡ Mode.Lines extra unfit
+        → (done : Result Unit RunError) × EndsFlushed RunError.Write done result
+        × Transfers (capture_to_lines extra unfit skipped.new)
+        (R.remaining reader.old) (R.remaining reader.new)
+        (W.contents writer.old) (W.contents writer.new) (ending_of done) }
+    ensures capture_bytes { (time_unit : TimeUnit) → mode ≡ Mode.Capture time_unit
+        → (done : Result Unit RunError) × EndsFlushed RunError.Write done result
+        × Transfers (lines_to_capture time_unit) (R.remaining reader.old) (R.remaining reader.new)
+        (W.contents writer.old) (W.contents writer.new) (ending_of done) }
     // Of lines nothing is passed over.
     ensures same { (time_unit : TimeUnit) → mode ≡ Mode.Capture time_unit
         → skipped.new ≡ skipped.old }
@@ -40,7 +57,6 @@ pub fn make<R: Read, W: Write>(
     }
 }
 
-// What is written is flushed, where the input is refused too.
 fn make_lines<R: Read, W: Write>(
     alloc: Global,
     extra: Extra,
@@ -49,17 +65,16 @@ fn make_lines<R: Read, W: Write>(
     writer: &mut W,
     skipped: &mut Skipped,
 ) -> Result<(), RunError>
-    ensures { OnOk result (IfSome (R.remaining reader.old) (λ input. (packets : List Packet)
+    ensures ok { OnOk result (IfSome (R.remaining reader.old) (λ input. (packets : List Packet)
         × IsCapture unfit input packets skipped.new
         × Appends (W.contents writer.old) (W.contents writer.new) (lines_of extra packets))) }
+    ensures bytes { (done : Result Unit RunError) × EndsFlushed RunError.Write done result
+        × Transfers (capture_to_lines extra unfit skipped.new)
+        (R.remaining reader.old) (R.remaining reader.new)
+        (W.contents writer.old) (W.contents writer.new) (ending_of done) }
 {
     let made = captures::run(alloc, extra, unfit, reader, writer, skipped);
-    let flushed = writer.flush();
-    made?;
-    match flushed {
-        Ok(()) => Ok(()),
-        Err(_) => Err(RunError::Write),
-    }
+    flush_behind(writer, made, RunError::Write)
 }
 
 fn make_capture<R: Read, W: Write>(
@@ -68,15 +83,13 @@ fn make_capture<R: Read, W: Write>(
     reader: &mut R,
     writer: &mut W,
 ) -> Result<(), RunError>
-    ensures { OnOk result (IfSome (R.remaining reader.old) (λ input. (frames : List TimedFrame)
+    ensures ok { OnOk result (IfSome (R.remaining reader.old) (λ input. (frames : List TimedFrame)
         × IsText input frames
         × Appends (W.contents writer.old) (W.contents writer.new) (capture_of time_unit frames))) }
+    ensures bytes { (done : Result Unit RunError) × EndsFlushed RunError.Write done result
+        × Transfers (lines_to_capture time_unit) (R.remaining reader.old) (R.remaining reader.new)
+        (W.contents writer.old) (W.contents writer.new) (ending_of done) }
 {
     let made = captures::write_capture(alloc, time_unit, reader, writer);
-    let flushed = writer.flush();
-    made?;
-    match flushed {
-        Ok(()) => Ok(()),
-        Err(_) => Err(RunError::Write),
-    }
+    flush_behind(writer, made, RunError::Write)
 }

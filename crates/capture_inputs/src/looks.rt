@@ -6,15 +6,23 @@ ghost use Rattle.capture_inputs.specs.Looks.{begins_capture, is_text, look_of};
 /// What an input looks like.
 #[derive(Clone, Copy, Debug, PartialEq, Eq)]
 pub enum Look {
+    /// It has no byte.
     Empty,
+    /// A file of gzip (RFC 1952).
     Gzip,
+    /// A file of Zstandard (RFC 8878).
     Zstd,
+    /// A file of xz.
     Xz,
+    /// A file of bzip2.
     Bzip2,
     /// A capture, pcap or pcapng.
     Capture,
+    /// All of it is text.
     Text,
+    /// It can't be read, as it is a directory.
     Directory,
+    /// Something else, or its first read failed.
     Other,
 }
 

@@ -6,11 +6,13 @@ use std::fmt;
 /// What is told of an error, and what is told behind it.
 #[derive(Debug, Drop)]
 pub struct Told {
+    /// The error.
     pub error: RunError,
     /// Nothing, or a colon and a remark.
     pub note: &'static str,
 }
 
+/// It has no contract: tests compare the texts.
 impl fmt::Display for Told {
     fn fmt<W: fmt::Write>(&self, f: &mut fmt::Formatter<W>) -> fmt::Result {
         let (error, note) = (self.error, self.note);

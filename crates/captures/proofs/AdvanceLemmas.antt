@@ -6,8 +6,9 @@ use Rattle.std.specs.Prelude.{Bool, true, None}
 use Rattle.captures.specs.Dropped.{IsDropped}
 use Rattle.captures.specs.Numbers.{capped}
 use Rattle.captures.specs.Readers.{AreGiven, ComesTo, EndsBy, FindsFront, HasRead, HeldTo}
-use Rattle.captures.specs.Readers.{IsRefusedWith}
+use Rattle.captures.specs.Readers.{IsRefusedWith, skipped_by}
 use Rattle.captures.specs.Runs.{fault_at_end}
+use Rattle.captures.specs.Units.{skipped_in}
 use Rattle.captures.specs.declared.capture_error.CaptureError.{CaptureError}
 use Rattle.captures.specs.declared.limits.TheConstants.{READ_COUNT_LIMIT}
 use Rattle.captures.specs.declared.packet.Packet.{Packet}
@@ -29,9 +30,13 @@ same_refused {R} old new error result w =
 
 -- nor does a stop
 pub same_stopped : {R : Type 0} (old new : PacketReader R) (ended : Option (Result Unit ReadError))
-    → new ≡ record old { ended = ended } → (new.reader ≡ old.reader) × (new.ended ≡ ended)
-same_stopped {R} old new ended is =
-    (ap (λ (n : PacketReader R). n.reader) is, ap (λ (n : PacketReader R). n.ended) is)
+    → new ≡ record old { ended = ended }
+    → (new.reader ≡ old.reader) × (new.ended ≡ ended) × (new.state ≡ old.state)
+same_stopped {R} old new ended is = (
+  ap (λ (n : PacketReader R). n.reader) is,
+  ap (λ (n : PacketReader R). n.ended) is,
+  ap (λ (n : PacketReader R). n.state) is,
+)
 
 -- it has read and given the same where it stands at no packet
 pub has_read_without : {R : Type 0} (unfit : Unfit) (reader : PacketReader R) (read : List ℕ)
@@ -70,29 +75,33 @@ module _ {R : Type 0} (unfit : Unfit) (front new : PacketReader R) (read : List 
       (subst (λ (n : PacketReader R). ComesTo unfit n left read given (Err (Capture error w.0)))
       (sym w.2) (refl, refused_front unfit front read given f.0 w.0 w.3 w.4 w.5 error left f.1))
 
-  given_all : FindsFront unfit front read given (Ok false) → AreGiven unfit read given
-  given_all f = record {
+  given_all : FindsFront unfit front read given (Ok false) → new.state ≡ front.state
+      → AreGiven unfit (skipped_by new) read given
+  given_all f state = record {
     state = front.state;
     rest = f.0.dropped ++ front.window.held;
     gives = f.0.gives;
     begun = f.1;
+    counts = ap skipped_in (sym state);
   }
 
   -- too many reads were made
   pub comes_too_many : FindsFront unfit front read given (Ok false)
       → READ_COUNT_LIMIT ≤ front.reads → result ≡ Err TooManyReads
-      → new.ended ≡ Some (Err TooManyReads) → ComesTo unfit new left read given result
-  comes_too_many f many is ended =
+      → new.ended ≡ Some (Err TooManyReads) → new.state ≡ front.state
+      → ComesTo unfit new left read given result
+  comes_too_many f many is ended state =
       let few = f.0.reads in
       subst (λ (r : Result Bool ReadError). ComesTo unfit new left read given r) (sym is)
-      (ended, given_all f, omega arith)
+      (ended, given_all f state, omega arith)
 
   -- a read failed
   pub comes_failed : FindsFront unfit front read given (Ok false) → result ≡ Err Read
-      → new.ended ≡ Some (Err Read) → ComesTo unfit new left read given result
-  comes_failed f is ended =
+      → new.ended ≡ Some (Err Read) → new.state ≡ front.state
+      → ComesTo unfit new left read given result
+  comes_failed f is ended state =
       subst (λ (r : Result Bool ReadError). ComesTo unfit new left read given r) (sym is)
-      (ended, given_all f)
+      (ended, given_all f state)
 
   module _ (f : FindsFront unfit front read given (Ok false)) (ends : IsAtEnd left)
       (mid : PacketReader R) (state : mid.state ≡ front.state) (begun : mid.begun ≡ front.begun)

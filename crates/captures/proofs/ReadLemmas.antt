@@ -9,7 +9,7 @@ use Rattle.captures.specs.Dropped.{DropsMore, IsDropped, last_of}
 use Rattle.captures.specs.Fronts.{Gives, HasNone, IsFirst, taken_of}
 use Rattle.captures.specs.Numbers.{capped}
 use Rattle.captures.specs.Places.{IsPlace, block_type}
-use Rattle.captures.specs.Readers.{AreGiven, FindsFront, HasRead, IsRefusedAt}
+use Rattle.captures.specs.Readers.{FindsFront, HasRead, IsRefusedAt}
 use Rattle.captures.specs.Runs.{IsCapture, fault_at_end}
 use Rattle.captures.specs.Units.{HasUnit, IsBegun, Passes, Refuses, in_a_row, skipped_in}
 use Rattle.captures.specs.declared.capture_error.CaptureError.{CaptureError}
@@ -201,16 +201,6 @@ module _ {R : Type 0} (unfit : Unfit) (old new : PacketReader R) (read : List �
         reads = rw (reads, same) h.reads;
         going = ended ∙ h.going;
       }
-
-  -- all whole packets were given
-  pub all_given : new.window.held ≡ old.window.held
-      → IsBegun old.state (h.dropped ++ old.window.held) → AreGiven unfit read given
-  all_given held left = record {
-    state = old.state;
-    rest = h.dropped ++ old.window.held;
-    gives = h.gives;
-    begun = left;
-  }
 
 module _ {R : Type 0} (unfit : Unfit) (reader : PacketReader R) (read : List ℕ)
     (given : List Packet) (h : HasRead unfit reader read given) (place : Place)

@@ -92,12 +92,14 @@ pub record IsBeside {R : Type 0} (old new : PacketReader R) : Type 0 where
   pub reads : new.reads ≡ old.reads
   pub ended : new.ended ≡ old.ended
 
--- all whole packets of these bytes were given
-pub record AreGiven (unfit : Unfit) (read : List ℕ) (given : List Packet) : Type 0 where
+-- all whole packets of these bytes were given, and so many passed over
+pub record AreGiven (unfit : Unfit) (skipped : Skipped) (read : List ℕ) (given : List Packet)
+    : Type 0 where
   pub state : State
   pub rest : List ℕ
   pub gives : Gives (Start unfit) read given state rest
   pub begun : IsBegun state rest
+  pub counts : skipped_in state ≡ skipped
 
 -- behind these packets a capture can't go on, or ends within one, at this place
 pub record IsRefusedAt (unfit : Unfit) (skipped : Skipped) (error : CaptureError) (place : Place)
@@ -135,9 +137,9 @@ ComesTo unfit new left read given (Ok true) = (packet : Packet) × (packet_at ne
 ComesTo unfit new left read given (Ok false) = (ending_of new ≡ Some (Ok tt))
     × IsCapture unfit read (map taken_of given) (skipped_by new) × IsAtEnd left
 ComesTo unfit new left read given (Err Read) = (ending_of new ≡ Some (Err Read))
-    × AreGiven unfit read given
+    × AreGiven unfit (skipped_by new) read given
 ComesTo unfit new left read given (Err TooManyReads) = (ending_of new ≡ Some (Err TooManyReads))
-    × AreGiven unfit read given × (READ_COUNT_LIMIT ≤ length read)
+    × AreGiven unfit (skipped_by new) read given × (READ_COUNT_LIMIT ≤ length read)
 ComesTo unfit new left read given (Err (Capture error place)) =
     (ending_of new ≡ Some (Err (Capture error place)))
     × IsRefusedAt unfit (skipped_by new) error place left read given

@@ -1,30 +1,14 @@
 //! What is made of an input, the flush, the status and what is told of an error.
 use crate::checks::{equal, holds, joined};
 use capture_commands::{Mode, PROGRAM, asked_for, exit_code, make, note};
-use capture_inputs::{Look, Told, look_at, tell_skipped};
+use capture_inputs::{Look, Told, input_look, input_of, look_at, tell_skipped};
 use captures::{CaptureError, Extra, Place, RunError, Skipped, TimeUnit, Unfit};
 use command_lines::captures::command;
+use fault_devices::{Fault, FaultReader, UnflushableWriter};
 use std::alloc::Global;
-use std::io::{self, ErrorKind, Write};
-use std::process::ExitCode;
+use std::io::{ErrorKind, Read};
+use std::process::{Abort, ExitCode};
 use std::test::Fail;
-
-// Takes all bytes, and fails at the flush.
-#[derive(Drop)]
-struct UnflushableWriter {
-    taken: Vec<u8>,
-}
-
-impl Write for UnflushableWriter {
-    fn write(&mut self, buf: &[u8]) -> io::Result<usize> {
-        self.taken.extend_from_slice(buf)?;
-        Ok(buf.len())
-    }
-
-    fn flush(&mut self) -> io::Result<()> {
-        Err(ErrorKind::Other.into())
-    }
-}
 
 // A file header of low byte first, in microseconds, of Ethernet frames, with snap length 262,144.
 const HEADER: &[u8; 24] = b"\
@@ -175,16 +159,15 @@ fn a_flush_that_fails_is_a_failed_write(rt: HostRuntime) {
         Mode::Lines(Extra::Nothing, Unfit::Refuse),
         Mode::Capture(TimeUnit::Microseconds),
     ] {
-        let mut writer = UnflushableWriter {
-            taken: Vec::new(rt.alloc()),
-        };
-        let input = match mode {
-            Mode::Lines(_, _) => HEADER.as_slice(),
-            Mode::Capture(_) => b"".as_slice(),
+        let mut writer = UnflushableWriter::new(rt.alloc(), usize::MAX);
+        let (input, wanted) = match mode {
+            Mode::Lines(_, _) => (HEADER.as_slice(), b"".as_slice()),
+            Mode::Capture(_) => (b"".as_slice(), HEADER.as_slice()),
         };
         let mut skipped = Skipped::NONE;
         let made = make(rt.alloc(), mode, &mut &*input, &mut writer, &mut skipped);
         assert_eq!(rt; made, Err(RunError::Write));
+        equal(&rt, &writer.taken.as_slice(), &wanted);
     }
 }
 
@@ -301,6 +284,28 @@ fn what_inputs_look_like(rt: HostRuntime) -> Result<(), Fail> {
         assert_eq!(rt; message(rt.alloc(), error, seen)?.as_str(), text);
     }
     Ok(())
+}
+
+// What a reader looks like whose first read is this one.
+fn look_of<R: Read + Drop>(rt: &(impl Abort + AllocGlobal), reader: R, wanted: Look) {
+    let Ok(mut input) = input_of(rt.alloc(), reader) else {
+        panic!(rt; "no memory for a buffer");
+    };
+    equal(rt, &input_look(&mut input), &wanted);
+}
+
+#[test]
+fn what_first_reads_look_like(rt: HostRuntime) {
+    let text = b"frame 0 0aff\n".as_slice();
+    look_of(&rt, text, Look::Text);
+    look_of(&rt, b"".as_slice(), Look::Empty);
+    for (kind, wanted) in [
+        (ErrorKind::IsADirectory, Look::Directory),
+        (ErrorKind::Other, Look::Other),
+    ] {
+        let reader = FaultReader::failing(text, 64, 0, Fault::Fails(kind));
+        look_of(&rt, reader, wanted);
+    }
 }
 
 // The first line of what is no text of lines.

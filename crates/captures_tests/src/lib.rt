@@ -1,6 +1,7 @@
-//! Tests of `captures` and `capture_commands` over their public calls. They stand in a crate of
-//! their own, so that they are proved beside these and not with each of their functions once more.
-//! Functions that they share have no contracts: tests alone call them, and are run.
+//! Tests of `captures`, `capture_inputs`, `capture_commands` and `command_lines` over their public
+//! calls. They stand in a crate of their own, so that they are proved beside these and not with
+//! each of their functions once more. Functions that they share have no contracts: tests alone call
+//! them, and are run.
 #![tactic(auto)]
 
 #[cfg(test)]

@@ -2,7 +2,7 @@
 use clap::{Arg, ArgAction, value_parser};
 use std::alloc::Global;
 
-/// An option without a value.
+/// An option without a value. It has no contract: tests compare what words ask for.
 pub fn flag<'a>(alloc: Global, name: &'a str, help: &'a str) -> Arg<'a> {
     Arg::new(alloc, name)
         .long(name)
@@ -10,7 +10,8 @@ pub fn flag<'a>(alloc: Global, name: &'a str, help: &'a str) -> Arg<'a> {
         .action(ArgAction::SetTrue)
 }
 
-/// An option whose value is a whole number of 32 bits that isn't 0.
+/// An option whose value is a whole number of 32 bits that isn't 0. It has no contract: tests
+/// compare what words ask for.
 pub fn number<'a>(alloc: Global, name: &'a str, value: &'a str, help: &'a str) -> Arg<'a> {
     Arg::new(alloc, name)
         .long(name)
@@ -19,7 +20,7 @@ pub fn number<'a>(alloc: Global, name: &'a str, value: &'a str, help: &'a str) -
         .value_parser(value_parser!(u32).range(1..4_294_967_296))
 }
 
-/// The file to be read.
+/// The file to be read. It has no contract: tests compare what words ask for.
 pub fn file<'a>(alloc: Global, help: &'a str) -> Arg<'a> {
     Arg::new(alloc, "FILE").help(help).default_value("-")
 }

@@ -1,5 +1,6 @@
 -- The lines that hand in a frame, and those that have messages dropped, are those of the grammar.
-use Rattle.std.proofs.Common.{◌≡◌, ◌∙◌, sym, ap, refl, ℕ, zero, suc, ◌+◌, ◌<◌, ◌≤◌, ◌&&◌, Bool}
+use Rattle.std.proofs.Common.{◌≡◌, ◌∙◌, sym, ap, refl, ℕ, zero, suc, ◌+◌, ◌*◌, ◌<◌, ◌≤◌, ◌&&◌}
+use Rattle.std.proofs.Common.{Bool}
 use Rattle.std.proofs.Common.{true, false, List, [], ◌∷◌, ◌++◌, length, take, drop, get_or, Result}
 use Rattle.std.proofs.Common.{Ok, Err, nat_eq, arith, inl, inr, length-append, append_assoc}
 use Rattle.std.specs.Prelude.{if◌then◌else◌, nat_le, codes}
@@ -13,6 +14,7 @@ use Rattle.std.proofs.lemmas.Slice.Eq.{starts_is}
 use Rattle.std.proofs.lemmas.Bool.Decides.{Decides-eqb}
 use Rattle.std.proofs.Math.Seq.{get_or-append_seam}
 use Rattle.hex.specs.Hex.{decode_of}
+use Rattle.hex.proofs.HexLemmas.{decode_of-ok}
 use Rattle.hex.specs.declared.error.FromHexError.{FromHexError}
 use Rattle.lines.specs.declared.limits.TheConstants.{LINE_LIMIT}
 use Rattle.commands.specs.Commands.{Command, command_of, forget_command_of, frame_command_of, frame_on}
@@ -233,6 +235,29 @@ is_frame line channel bytes f =
 pub frame_lines_are_the_grammar : FrameLinesAreTheGrammar
 frame_lines_are_the_grammar line channel bytes =
     (has_parts line channel bytes, is_frame line channel bytes)
+
+-- a frame's line by its channel and its digits
+pub frame_has_line : (channel digits frame : List ℕ) → is_channel channel ≡ true
+    → decode_of digits ≡ Ok frame → 1 ≤ length frame
+    → 7 + length channel + 2 * length frame ≤ LINE_LIMIT
+    → command_of (codes "frame " ++ channel ++ codes " " ++ digits)
+    ≡ Frame (digits_value 10 channel) frame
+frame_has_line channel digits frame fits decoded some short =
+    let line = codes "frame " ++ channel ++ codes " " ++ digits in
+    let parts : line ≡ codes "frame " ++ (channel ++ 32 ∷ digits) =
+    append_assoc (codes "frame " ++ channel) (32 ∷ []) digits
+    ∙ append_assoc (codes "frame ") channel (32 ∷ digits) in
+    let twice : length digits ≡ 2 * length frame = (decode_of-ok digits frame decoded).2 in
+    let size : length line ≤ LINE_LIMIT =
+    omega (
+      arith,
+      ap length parts,
+      length-append (codes "frame ") (channel ++ 32 ∷ digits),
+      length-append channel (32 ∷ digits),
+    ) in
+    frame_text line channel digits size parts fits
+    ∙ ap (frame_on (digits_value 10 channel)) decoded
+    ∙ on_bytes (digits_value 10 channel) frame some
 
 -- ---- the lines that have messages dropped
 

@@ -90,20 +90,3 @@ pub record IsForgetLine (line : List ℕ) (number : ℕ) : Type 0 where
 abbrev pub ForgetLinesAreTheGrammar : Type 0
 ForgetLinesAreTheGrammar = (line : List ℕ) (number : ℕ) → (command_of line ≡ Forget number)
     ↔ IsForgetLine line number
-
--- a line that hands in a frame: a channel, and the frame's bytes as hex digits of either case
-pub record HandsIn (line frame : List ℕ) : Type 0 where
-  pub channel : List ℕ
-  pub digits : List ℕ
-  pub parts : line ≡ codes "frame " ++ channel ++ codes " " ++ digits
-  pub fits : IsTrue (is_channel channel)
-  pub decoded : decode_of digits ≡ Ok frame
-
--- lines that hand in these frames, one each and in their order, all of them on this channel
-abbrev pub AreHandedIn : (channel : ℕ) → (lines frames : List (List ℕ)) → Type 0
-AreHandedIn channel [] [] = Unit {0}
-AreHandedIn channel [] (frame ∷ frames) = ⊥
-AreHandedIn channel (line ∷ lines) [] = ⊥
-AreHandedIn channel (line ∷ lines) (frame ∷ frames) =
-    ((hands : HandsIn line frame) × (digits_value 10 hands.channel ≡ channel))
-    × AreHandedIn channel lines frames

@@ -3,7 +3,9 @@
 /// A frame that a line hands in.
 #[derive(Drop)]
 pub struct HandedIn<'l> {
+    /// On which channel it came.
     pub channel: u32,
+    /// Its bytes.
     pub bytes: &'l [u8],
 }
 

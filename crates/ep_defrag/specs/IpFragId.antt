@@ -1,5 +1,5 @@
--- The names of fragmented messages (RFC 791, section 3.2; RFC 8200, section 4.5), and which part of
--- one a packet is.
+-- The names of fragmented messages (RFC 791, section 3.2; over IPv6 RFC 8200, section 4.5, leaves the
+-- number out), and which part of one a packet is.
 use Rattle.std.specs.Prelude.{ℕ, Bool, false, ◌&&◌, ◌==◌, ◌∷◌, nat_eq, Option, Some, None}
 use Rattle.std.specs.Cmp.Lexicographic.{pointwise}
 use Rattle.std.specs.Hash as fed

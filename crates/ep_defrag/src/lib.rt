@@ -1,5 +1,5 @@
-//! Reassembly: the fragments of one message, put together as they come, and the messages that are
-//! on their way.
+//! Reassembly of fragmented IP packets: messages that are on their way, by the names that packets
+//! give them, and lists of calls.
 #![tactic(auto)]
 
 pub mod defrag;

@@ -1,5 +1,5 @@
-//! Tests of `ep_defrag` over its public calls. They stand in a crate of their own, so that they are
-//! proved beside it and not with each of its functions once more.
+//! Tests of `ep_fragments` and `ep_defrag` over their public calls. They stand in a crate of their
+//! own, so that they are proved beside these and not with each of their functions once more.
 #![tactic(auto)]
 
 #[cfg(test)]

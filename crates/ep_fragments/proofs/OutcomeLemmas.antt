@@ -108,14 +108,16 @@ module _ (rule : OverlapRule) (fs : List Fragment) (f : Fragment) where
       ∙ ap Some (sym h.1))
 
 -- the first fragment of a message, which waits for others
-pub first_waits : {T : Type 0} (rule : OverlapRule) (f : Fragment) (time : T)
-    (old new : Option (Stream T)) (fs : List Fragment) → old ≡ None → ShowsStream rule old fs
-    → refusal_of rule [] f ≡ None → is_complete (f ∷ []) ≡ false
+pub first_waits : {T : Type 0} (kept rule : OverlapRule) (f : Fragment) (time : T)
+    (old new : Option (Stream T)) (fs : List Fragment) → old ≡ None → ShowsStream kept old fs
+    → (fs ≡ [] → kept ≡ rule) → refusal_of rule [] f ≡ None → is_complete (f ∷ []) ≡ false
     → IsSomeAnd new (IsStreamOf rule (f ∷ []) time)
-    → Becomes {X = List ℕ} rule (λ text. text) (outcome rule fs f) time new None
-first_waits {T} rule f time old new fs none shows taken open_end stream =
-    let empty : fs ≡ [] = subst (λ (o : Option (Stream T)). ShowsStream rule o fs) none shows in
-    subst (λ (gs : List Fragment).
+    → Becomes {X = List ℕ} kept (λ text. text) (outcome kept fs f) time new None
+first_waits {T} kept rule f time old new fs none shows begins taken open_end stream =
+    let empty : fs ≡ [] = subst (λ (o : Option (Stream T)). ShowsStream kept o fs) none shows in
+    subst (λ (r : OverlapRule).
+    Becomes {X = List ℕ} r (λ text. text) (outcome r fs f) time new None) (sym (begins empty))
+    (subst (λ (gs : List Fragment).
     Becomes {X = List ℕ} rule (λ text. text) (outcome rule gs f) time new None) (sym empty)
     (subst (λ (o : Outcome). Becomes {X = List ℕ} rule (λ text. text) o time new None)
-    (sym (is_waiting rule [] f taken open_end)) (refl, stream))
+    (sym (is_waiting rule [] f taken open_end)) (refl, stream)))

@@ -25,11 +25,22 @@ spare_after (Err error) stream n = n
 spare_after (Ok told) None n = n - 1
 spare_after (Ok told) (Some s) n = n
 
--- both counts after a fragment of this name
+-- of so many spare buffers of sections, those that are spare after it: one fewer, if there is one,
+-- where it begins a message, and one more where it completes one, whose bytes alone are handed out
+abbrev pub sections_after : {X E S : Type 0} → Result (Option X) E → Option S → ℕ → ℕ
+sections_after (Err error) stream n = n
+sections_after (Ok None) None n = n - 1
+sections_after (Ok None) (Some s) n = n
+sections_after (Ok (Some whole)) None n = n - 1 + 1
+sections_after (Ok (Some whole)) (Some s) n = n + 1
+
+-- the counts after a fragment of this name
 pub record Counts {K T X : Type 0} (same : K → K → Bool) (old new : Pool K T) (name : K)
     (result : Result (Option X) IpDefragError) : Type 0 where
   pub open_len : open_in new ≡ held_after result (stream_at same old name) (open_in old)
   pub spare_len : new.spare ≡ spare_after result (stream_at same old name) old.spare
+  pub sections : new.spare_sections
+      ≡ sections_after result (stream_at same old name) old.spare_sections
 
 -- the messages that are on their way and the spare buffers are no more than before, or no buffer is
 -- spare: there are as many as messages

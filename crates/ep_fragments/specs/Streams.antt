@@ -19,10 +19,11 @@ abbrev pub fragment_of : Piece → Fragment
 fragment_of piece = fragment piece.offset piece.more_fragments piece.bytes.now
 
 -- what a pool holds: streams in no order that means anything, each beside its name; no name is
--- there twice; and how many buffers of bytes are spare
+-- there twice; and how many buffers of bytes are spare, and how many of sections
 pub record Pool (K T : Type 0) : Type 0 where
   pub streams : List (K × Stream T)
   pub spare : ℕ
+  pub spare_sections : ℕ
 
 -- the stream of a name, if one is on its way
 abbrev pub stream_at : {K T : Type 0} → (K → K → Bool) → Pool K T → K → Option (Stream T)

@@ -43,7 +43,8 @@ pub struct WholeMessage<'a> {
 }
 
 /// A part of a message. Parts of one message share VLAN tags, addresses, identification and number,
-/// and with no part of another (RFC 791, section 3.2; RFC 8200, section 4.5).
+/// and with no part of another (RFC 791, section 3.2). Over IPv6 they do so here, too: RFC 8200,
+/// section 4.5, leaves the number out and takes that of the first part.
 #[derive(Drop)]
 pub struct CutMessage<'a> {
     /// The identifiers of the VLAN tags, the outer one first.

@@ -1,5 +1,5 @@
 //! Messages that come in parts.
-ghost use Rattle.std.specs.Prelude.{◌≡◌, ◌≤◌, ◌<◌, true, false, Option, Some, None, length};
+ghost use Rattle.std.specs.Prelude.{◌≡◌, ◌<◌, ◌⊎◌, true, false, Option, Some, None, length};
 ghost use Rattle.etherparse.specs.defrag.OpenMessages.{IsOpenCount};
 ghost use Rattle.etherparse.specs.defrag.PoolCalls.{Lists, fault_in, no_lists, retained_from};
 ghost use Rattle.etherparse.specs.packet.Class.{class_of};
@@ -22,7 +22,7 @@ pub extern "C" fn ep_pool_new(alloc: Global, pool: &mut EpPool) -> u32
     ensures opened { result ≡ 0 → Keeps pool.new no_lists None }
     ensures unchanged { 0 < result → pool.new ≡ pool.old }
     ensures wrong_state { pool.old.is_open ≡ true → result ≡ 4 }
-    ensures codes { pool.old.is_open ≡ false → result ≤ 2 }
+    ensures codes { pool.old.is_open ≡ false → (result ≡ 0) ⊎ (result ≡ 2) }
 {
     pool.begin(alloc)
 }
@@ -110,6 +110,7 @@ pub extern "C" fn ep_pool_open(alloc: Global, pool: &mut EpPool) -> usize
 pub extern "C" fn ep_pool_free(alloc: Global, pool: &mut EpPool)
     requires { IsPool pool.old }
     ensures closed { pool.new.is_open ≡ false }
+    ensures unchanged { pool.old.is_open ≡ false → pool.new ≡ pool.old }
 {
     pool.free(alloc);
 }

@@ -16,7 +16,7 @@ pub extern "C" fn ep_verdict_ethernet(bytes: &[u8]) -> u32
     verdict_on(SlicedPacket::from_ethernet(bytes))
 }
 
-/// That in a packet of a Linux cooked capture.
+/// That in a packet of a Linux cooked capture, numbered as by `ep_verdict_ethernet`.
 #[unsafe(no_mangle)]
 pub extern "C" fn ep_verdict_linux_sll(bytes: &[u8]) -> u32
     ensures { result ≡ verdict_in (class_told (sliced_linux_sll bytes.now)) }
@@ -24,7 +24,7 @@ pub extern "C" fn ep_verdict_linux_sll(bytes: &[u8]) -> u32
     verdict_on(SlicedPacket::from_linux_sll(bytes))
 }
 
-/// That in an IP packet of either version.
+/// That in an IP packet of either version, numbered as by `ep_verdict_ethernet`.
 #[unsafe(no_mangle)]
 pub extern "C" fn ep_verdict_ip(bytes: &[u8]) -> u32
     ensures { result ≡ verdict_in (class_told (sliced_ip bytes.now)) }

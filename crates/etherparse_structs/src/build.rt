@@ -19,7 +19,8 @@ use std::alloc::Global;
 #[repr(C)]
 #[derive(Drop)]
 pub struct EpBuilt {
-    /// 0 where it is built, else why it isn't.
+    /// 0 where it is built, 1 where the output has no room for its length, 2 where there is no memory,
+    /// 3 where a field of the plan, or the payload, is refused.
     pub status: u32,
     /// The first field of the plan at fault, where it is refused, else 0.
     pub field: u32,
@@ -33,7 +34,8 @@ pub(crate) enum BuildError {
     Field(PlanField),
 }
 
-/// Builds the packet of a plan with this payload, at the front of the output.
+/// Builds the packet of a plan with this payload, at the front of the output. Where the status isn't
+/// 0 the output is as it was.
 pub fn build_packet(alloc: Global, plan: &EpPlan, payload: &[u8], output: &mut [u8]) -> EpBuilt
     ensures refused { IfSome (wrong_in plan.now (length payload.now))
         (λ field. result ≡ refused field) }

@@ -26,14 +26,18 @@ use etherparse::{Addresses, Class, CutMessage, SlicedPacket};
 /// The messages that are on their way, and one that is complete and wasn't handed out.
 #[derive(Drop)]
 pub struct FramePool {
+    /// The messages that are on their way.
     pub pool: IpDefragPool<u64, u32>,
+    /// The one that is complete.
     pub kept: Option<Completed>,
 }
 
 /// A message that is complete.
 #[derive(Drop)]
 pub struct Completed {
+    /// Where it came from and went to.
     pub addresses: Addresses,
+    /// Its number and its bytes.
     pub payload: IpDefragPayloadVec,
 }
 

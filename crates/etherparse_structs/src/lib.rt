@@ -34,7 +34,7 @@ pub use refusal::EpRefusal;
 pub use transport::{EpIcmp, EpTcp, EpUdp};
 pub use verdict::verdict_on;
 
-/// It is done.
+/// It is done, or there was nothing to do.
 pub const DONE: u32 = 0;
 
 /// The output has no room.

@@ -16,13 +16,13 @@ pub struct EpMessage {
     pub ip_version: u32,
     /// The number of its protocol.
     pub number: u8,
-    /// Of IPv4.
+    /// The source address, where `ip_version` is 4, else 0.
     pub ipv4_source: [u8; 4],
-    /// Of IPv4.
+    /// The destination address, where `ip_version` is 4, else 0.
     pub ipv4_destination: [u8; 4],
-    /// Of IPv6.
+    /// The source address, where `ip_version` is 6, else 0.
     pub ipv6_source: [u8; 16],
-    /// Of IPv6.
+    /// The destination address, where `ip_version` is 6, else 0.
     pub ipv6_destination: [u8; 16],
 }
 

@@ -8,9 +8,9 @@ use etherparse::defrag::IpDefragError;
 #[repr(C)]
 #[derive(Drop)]
 pub struct EpPartRefusal {
-    /// 0 not refused, 1 others follow it and its length is no multiple of 8, 2 it ends behind byte
-    /// 65535, 3 it ends elsewhere than the message, 4 over IPv6 it overlaps another part: then the
-    /// message is dropped with all of its parts.
+    /// 0 not refused, 1 others follow it and its length is no multiple of 8, 2 it ends beyond
+    /// 65535 bytes, 3 it ends elsewhere than the message, 4 over IPv6 it overlaps another part: then
+    /// the message is dropped with all of its parts.
     pub kind: u32,
     /// Of kinds 1, 2 and 4: its offset in the message, in units of 8 bytes.
     pub offset: u16,

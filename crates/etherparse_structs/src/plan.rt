@@ -9,9 +9,9 @@ ghost use Rattle.etherparse_structs.specs.Plan.{field_number};
 pub struct EpPlan {
     /// The link header: 0 none, 1 Ethernet II, 2 a Linux cooked capture of an Ethernet device.
     pub link: u32,
-    /// Of Ethernet II.
+    /// Of Ethernet II: the destination address.
     pub destination: [u8; 6],
-    /// Of Ethernet II.
+    /// Of Ethernet II: the source address.
     pub source: [u8; 6],
     /// Of a cooked capture: 0 to us, 1 broadcast, 2 multicast, 3 to others, 4 from us.
     pub packet_type: u16,
@@ -27,13 +27,13 @@ pub struct EpPlan {
     pub inner_vlan_id: u16,
     /// The IP version: 4 or 6.
     pub ip_version: u32,
-    /// Of IPv4.
+    /// Of IPv4: the source address.
     pub ipv4_source: [u8; 4],
-    /// Of IPv4.
+    /// Of IPv4: the destination address.
     pub ipv4_destination: [u8; 4],
-    /// Of IPv6.
+    /// Of IPv6: the source address.
     pub ipv6_source: [u8; 16],
-    /// Of IPv6.
+    /// Of IPv6: the destination address.
     pub ipv6_destination: [u8; 16],
     /// How many hops it may take.
     pub hops: u8,
@@ -41,9 +41,9 @@ pub struct EpPlan {
     pub payload_number: u8,
     /// The transport header: 0 none, or its number: 1 ICMPv4, 6 TCP, 17 UDP, 58 ICMPv6.
     pub transport: u32,
-    /// Of UDP and TCP.
+    /// Of UDP and TCP: the source port.
     pub source_port: u16,
-    /// Of UDP and TCP.
+    /// Of UDP and TCP: the destination port.
     pub destination_port: u16,
     /// Of ICMP: whether it is the reply to an echo request, and not the request.
     pub is_reply: bool,

@@ -1,5 +1,5 @@
 //! Messages that come in parts.
-ghost use Rattle.std.specs.Prelude.{◌≡◌, ◌≤◌, ◌<◌, true, false, Option, Some, None, IfOk, IsSome};
+ghost use Rattle.std.specs.Prelude.{◌≡◌, ◌<◌, ◌⊎◌, true, false, Option, Some, None, IfOk, IsSome};
 ghost use Rattle.std.specs.Prelude.{length};
 ghost use Rattle.etherparse.specs.defrag.OpenMessages.{IsOpenCount};
 ghost use Rattle.etherparse.specs.defrag.PoolCalls.{Lists, ShowsLists, fault_in, no_lists};
@@ -31,14 +31,15 @@ pub struct EpPool {
 }
 
 impl EpPool {
-    /// Opens it with no message.
+    /// Opens it with no message. The result is 0 where it is open, 2 where there is no memory, and 4
+    /// where it was open before. Where it isn't 0 nothing is changed.
     pub fn begin(&mut self, alloc: Global) -> u32
         requires { IsPool self.old }
         ensures pool { IsPool self.new }
         ensures opened { result ≡ 0 → Keeps self.new no_lists None }
         ensures unchanged { 0 < result → self.new ≡ self.old }
         ensures wrong_state { self.old.is_open ≡ true → result ≡ 4 }
-        ensures codes { self.old.is_open ≡ false → result ≤ 2 }
+        ensures codes { self.old.is_open ≡ false → (result ≡ 0) ⊎ (result ≡ 2) }
     {
         if self.is_open {
             return WRONG_STATE;
@@ -52,6 +53,10 @@ impl EpPool {
 
     /// Takes an Ethernet II frame, which came at this time on this channel, and writes the message
     /// that is complete with it, if there is room. While one is kept, no frame is taken.
+    ///
+    /// The status is 5 where a message is complete and written, 1 where it has no room and is kept, 0
+    /// where none is complete, 2 where there is no memory for the part, 3 where the frame or the part
+    /// is refused, and 4 where the pool isn't open or keeps a message.
     pub fn add(
         &mut self,
         alloc: Global,
@@ -79,7 +84,8 @@ impl EpPool {
         added
     }
 
-    /// Writes the message that is kept, if there is room.
+    /// Writes the message that is kept, if there is room. The status is 5 where it is written, 1 where
+    /// it has no room, and 4 where the pool isn't open or keeps none.
     pub fn take(&mut self, alloc: Global, output: &mut [u8]) -> EpAdded
         requires { IsPool self.old }
         ensures pool { IsPool self.new }
@@ -101,7 +107,8 @@ impl EpPool {
         told
     }
 
-    /// Drops the messages whose last part came before this time.
+    /// Drops the messages whose last part came before this time. The result is 0, or 4 where the pool
+    /// isn't open.
     pub fn forget_before(&mut self, alloc: Global, time: u64) -> u32
         requires { IsPool self.old }
         ensures pool { IsPool self.new }
@@ -140,6 +147,7 @@ impl EpPool {
     pub fn free(&mut self, alloc: Global)
         requires { IsPool self.old }
         ensures closed { self.new.is_open ≡ false }
+        ensures unchanged { self.old.is_open ≡ false → self.new ≡ self.old }
     {
         if self.is_open {
             drop(taken(alloc, self));

@@ -127,6 +127,37 @@ impl Write for FaultWriter {
     }
 }
 
+/// A writer that keeps the bytes, and whose flush fails.
+#[derive(Drop)]
+pub struct UnflushableWriter {
+    /// The bytes that it was given and took.
+    pub taken: Vec<u8>,
+    room: usize,
+}
+
+impl UnflushableWriter {
+    /// Takes so many bytes in all. It has no contract: tests alone call it, and are run.
+    pub fn new(alloc: Global, room: usize) -> UnflushableWriter {
+        UnflushableWriter {
+            taken: Vec::new(alloc),
+            room,
+        }
+    }
+}
+
+impl Write for UnflushableWriter {
+    fn write(&mut self, buf: &[u8]) -> io::Result<usize> {
+        let count = buf.len().min(self.room);
+        self.taken.extend_from_slice(&buf[..count])?;
+        self.room -= count;
+        Ok(count)
+    }
+
+    fn flush(&mut self) -> io::Result<()> {
+        Err(ErrorKind::Other.into())
+    }
+}
+
 /// At how many places a call can fail so, and at how many of them a test let it.
 /// `tools/faults_tried` reads what it prints.
 #[derive(Drop)]

@@ -1,5 +1,5 @@
 //! Members of the JSON object of a packet, for programs. The keys are the names of the library's
-//! fields.
+//! fields. The functions have no contracts: tests compare the texts.
 
 pub mod errors;
 mod extensions;
@@ -15,6 +15,7 @@ use serde::Serializer;
 pub use transport::completed;
 
 /// The headers of a packet, the outer one first. One may have been made in place of the link's own.
+/// It has no contract: tests compare the texts.
 pub fn headers<S: Serializer>(
     out: &mut S,
     layers: &SlicedPacket<'_>,

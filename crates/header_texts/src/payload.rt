@@ -3,7 +3,8 @@
 use ep_packet::{NetSlice, SlicedPacket, TransportSlice};
 use ep_tag::{LinkExtSlice, MacsecPayloadSlice};
 
-/// What stands behind the last header of a packet that is read.
+/// What stands behind the last header of a packet that is read. It has no contract: tests compare
+/// the texts.
 pub fn payload_of<'a>(layers: &SlicedPacket<'a>) -> &'a [u8] {
     match &layers.transport {
         Some(TransportSlice::Icmpv4(message)) => return message.payload(),

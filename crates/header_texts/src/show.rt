@@ -1,4 +1,5 @@
-//! Words of the line of a packet, for people.
+//! Words of the line of a packet, for people. The functions have no contracts: tests compare the
+//! texts.
 
 mod addresses;
 mod icmp;

@@ -75,7 +75,8 @@ impl<A: Answerer + Drop> LineAnswerer<A> {
         self.replies.push(&mut self.answerer, self.count, device)
     }
 
-    /// Goes on with a piece: answers each line that 0a ends in it, and writes all that waits.
+    /// Goes on with a piece: answers each line that 0a ends in it, and writes all that waits. The
+    /// errors are those of a write, and out of memory; nothing is told of the lines after one.
     pub fn feed<D: Device>(&mut self, piece: &[u8], device: &mut D) -> Result<(), RunError>
         requires replies { self.old.replies ≡ [] }
         requires numbers { self.old.count + length piece.now < 2 ^ 64 }
@@ -99,7 +100,7 @@ impl<A: Answerer + Drop> LineAnswerer<A> {
         self.replies.write_out(device)
     }
 
-    /// Answers a last line that no 0a ended, if there is one.
+    /// Answers a last line that no 0a ended, if there is one. The errors are those of `feed`.
     pub fn finish<D: Device>(&mut self, device: &mut D) -> Result<(), RunError>
         requires replies { self.old.replies ≡ [] }
         requires number { self.old.count + 1 < 2 ^ 64 }

@@ -18,8 +18,8 @@ pub enum RunError {
     /// A write of some bytes took none of them.
     #[error("the output takes no more bytes")]
     WriteZero,
-    /// There was no memory: for the buffers, and then nothing was read or written; or for a
-    /// fragment, and then the answers to all lines before it are written.
+    /// There was no memory: for the buffers, and then nothing was read or written; or for a line, and
+    /// then the replies to all lines before it are written.
     #[error("out of memory")]
     Memory,
     /// As many reads as a run may make gave bytes.

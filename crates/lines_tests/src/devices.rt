@@ -2,8 +2,8 @@
 //! that one tells, whatever the size of the buffer; and writes of all of some bytes. `Read` and
 //! `Write` give a failing call no meaning, so no clause says it.
 use crate::checks::equal;
-use fault_devices::{Fault, FaultReader, FaultWriter, Tally};
-use runs::{Device, ReaderWriter, write_whole};
+use fault_devices::{Fault, FaultReader, FaultWriter, Tally, UnflushableWriter};
+use runs::{Device, ReaderWriter, flush_behind, write_whole};
 use std::io::{self, ErrorKind};
 use std::process::Abort;
 use std::test::Fail;
@@ -196,4 +196,16 @@ fn writes_of_no_bytes(rt: HostRuntime) {
     };
     let result = write_whole(&mut device, b"".as_slice());
     equal(&rt, &(result, writer.calls), &(Ok(()), 0));
+}
+
+// The end of a run, and what it is with a flush behind it: of a writer that flushes, and of one
+// that doesn't. The flush fails by 1, the run by 2.
+#[test]
+fn flushes_behind_runs(rt: HostRuntime) {
+    for (done, flushed, unflushed) in [(Ok(()), Ok(()), Err(1)), (Err(2), Err(2), Err(2))] {
+        let mut writer = FaultWriter::new(rt.alloc(), 1);
+        equal(&rt, &flush_behind(&mut writer, done, 1), &flushed);
+        let mut writer = UnflushableWriter::new(rt.alloc(), 1);
+        equal(&rt, &flush_behind(&mut writer, done, 1), &unflushed);
+    }
 }

@@ -1,4 +1,5 @@
-//! Tests of `lines`, over its public calls by answerers that know no frame, of `commands` and of `digits`.
+//! Tests of `lines`, over its public calls by answerers that know no frame, of `runs`, `sessions`,
+//! `commands` and `digits`.
 #![tactic(auto)]
 
 #[cfg(test)]

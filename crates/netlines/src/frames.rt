@@ -1,4 +1,4 @@
-//! What a line asks for, and the answer to the frame that it hands in.
+//! The answers to what lines ask for, and runs by them.
 
 pub(crate) mod answer;
 pub(crate) mod frame_answerer;

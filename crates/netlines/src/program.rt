@@ -1,27 +1,52 @@
 //! What the program `netlines` does but for the system that it runs on: it answers an input, and
 //! ends with a status.
-ghost use Rattle.std.specs.Prelude.{◌≡◌, OnOk, IfSome, MatchResult};
-ghost use Rattle.std.specs.Io.KnownBytes.{Appends};
+ghost use Rattle.std.specs.Prelude.{◌≡◌, ◌≤◌, ℕ, List, Option, Result, length, OnOk, IfSome, IsErrOf};
+ghost use Rattle.std.specs.Prelude.{MatchResult};
+ghost use Rattle.std.specs.Io.KnownBytes.{Appends, IsAtEnd, Keeps};
 ghost use Rattle.std.specs.Process.{exit_status};
+ghost use Rattle.lines.specs.declared.run_error.RunError.{RunError};
+ghost use Rattle.runs.specs.Endings.{EndsFlushed};
+ghost use Rattle.runs.specs.Known.{KnownCall, known_of};
 ghost use Rattle.netlines.specs.Answers.{answers_of};
+ghost use Rattle.netlines.specs.Runs.{Runs, Transfers};
 
 use crate::frames::run_frames::run;
-use lines::RunError;
+use lines::{READ_COUNT_LIMIT, RunError};
+use runs::flush_behind;
 use std::alloc::Global;
 use std::io::{Read, Write};
 use std::process::ExitCode;
 
-/// Answers all lines, and flushes the answers. A flush that fails is a failed write.
+/// [`run`], and a flush behind it where all lines are answered. A flush that fails is a failed write.
+/// After another error what [`run`] says of it holds.
 pub fn answer_input<R: Read, W: Write>(
     alloc: Global,
     reader: &mut R,
     writer: &mut W,
 ) -> Result<(), RunError>
-    ensures { OnOk result (IfSome (R.remaining reader.old) (λ bytes.
+    // All lines are answered, and no byte is left to read.
+    ensures ok { OnOk result (IfSome (R.remaining reader.old) (λ bytes.
         Appends (W.contents writer.old) (W.contents writer.new) (answers_of bytes))) }
+    ensures end { OnOk result (IsAtEnd (R.remaining reader.new)) }
+
+    // What is written is the output of the run for the bytes read.
+    ensures bytes { (done : Result Unit RunError) × EndsFlushed RunError.Write done result
+        × Transfers (R.remaining reader.old) (R.remaining reader.new)
+        (W.contents writer.old) (W.contents writer.new) done }
+
+    // The calls of the run, one by one, as far as they show in the known bytes.
+    ensures calls { (done : Result Unit RunError) × (held : Option (List ℕ))
+        × EndsFlushed RunError.Write done result × Keeps held (W.contents writer.new)
+        × Runs KnownCall READ_COUNT_LIMIT
+        (known_of (R.remaining reader.old) (W.contents writer.old))
+        (known_of (R.remaining reader.new) held) done }
+
+    // Each of the reads gave a byte at least.
+    ensures too_many { IsErrOf result RunError.TooManyReads
+        → IfSome (R.remaining reader.old) (λ bytes. READ_COUNT_LIMIT ≤ length bytes) }
 {
     run(alloc, reader, writer)?;
-    writer.flush().map_err(|_| RunError::Write)
+    flush_behind(writer, Ok(()), RunError::Write)
 }
 
 /// Tells an error on standard error, by its [`fault_name`]. The status tells of it where that fails

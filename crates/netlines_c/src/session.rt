@@ -1,6 +1,6 @@
 //! Lines that come in pieces.
-ghost use Rattle.std.specs.Prelude.{◌≡◌, ◌≤◌, ◌<◌, ◌+◌, ◌++◌, ℕ, Bool, List, [], true, false, Some};
-ghost use Rattle.std.specs.Prelude.{length, take, IfOk, IsSome};
+ghost use Rattle.std.specs.Prelude.{◌≡◌, ◌≤◌, ◌<◌, ◌+◌, ◌++◌, ◌⊎◌, ℕ, Bool, List, [], true, false};
+ghost use Rattle.std.specs.Prelude.{Some, drop, length, take, IfOk, IsSome};
 ghost use Rattle.netlines.specs.Answers.{answers_of, ended_answers_of, frame_meaning};
 ghost use Rattle.netlines_c.specs.Streams.{IsSession, TookText, shows_lines};
 ghost use Rattle.sessions.specs.Sessions.{IsWrittenOut, Took, replies};
@@ -35,7 +35,7 @@ pub extern "C" fn netlines_open(alloc: Global, session: &mut NetlinesSession) ->
     ensures opened { result ≡ 0 → TookText session.new false [] [] }
     ensures unchanged { 0 < result → session.new ≡ session.old }
     ensures wrong_state { session.old.is_open ≡ true → result ≡ 3 }
-    ensures codes { session.old.is_open ≡ false → result ≤ 2 }
+    ensures codes { session.old.is_open ≡ false → (result ≡ 0) ⊎ (result ≡ 2) }
 {
     if session.is_open {
         return WRONG_STATE;
@@ -69,6 +69,7 @@ pub extern "C" fn netlines_feed(
         → (written.new ≤ length output.new)
         × TookText session.new false (text ++ piece.now) (told ++ take written.new output.new)
         × (told ++ take written.new output.new ≡ ended_answers_of (text ++ piece.now)) }
+    ensures rest { result ≡ 0 → drop written.new output.new ≡ drop written.new output.old }
     ensures no_room { (text told : List ℕ) → TookText session.old false text told → result ≡ 1
         → (length output.new < written.new) × (output.new ≡ output.old)
         × TookText session.new false (text ++ piece.now) told
@@ -78,6 +79,8 @@ pub extern "C" fn netlines_feed(
     ensures wrong_state { result ≡ 3 → (session.new.is_open ≡ session.old.is_open)
         × (session.new.held.value ≡ session.old.held.value)
         × (output.new ≡ output.old) × (written.new ≡ written.old) }
+    ensures closed { session.old.is_open ≡ false → result ≡ 3 }
+    ensures ended { (text told : List ℕ) → TookText session.old true text told → result ≡ 3 }
     ensures codes { (text told : List ℕ) → TookText session.old false text told → result ≤ 2 }
 {
     if !session.is_open {
@@ -111,6 +114,7 @@ pub extern "C" fn netlines_finish(
         → result ≡ 0 → (written.new ≤ length output.new)
         × TookText session.new true text (told ++ take written.new output.new)
         × (told ++ take written.new output.new ≡ answers_of text) }
+    ensures rest { result ≡ 0 → drop written.new output.new ≡ drop written.new output.old }
     ensures no_room { (ended : Bool) (text told : List ℕ) → TookText session.old ended text told
         → result ≡ 1 → (length output.new < written.new) × (output.new ≡ output.old)
         × TookText session.new true text told
@@ -119,6 +123,7 @@ pub extern "C" fn netlines_finish(
         × (output.new ≡ output.old) × (written.new ≡ written.old) }
     ensures wrong_state { result ≡ 3 → (session.old.is_open ≡ false) × (session.new ≡ session.old)
         × (output.new ≡ output.old) × (written.new ≡ written.old) }
+    ensures closed { session.old.is_open ≡ false → result ≡ 3 }
     ensures codes { result ≤ 3 }
 {
     if !session.is_open {
@@ -139,6 +144,7 @@ pub extern "C" fn netlines_finish(
 pub extern "C" fn netlines_close(alloc: Global, session: &mut NetlinesSession)
     requires { IsSession session.old }
     ensures closed { session.new.is_open ≡ false }
+    ensures unchanged { session.old.is_open ≡ false → session.new ≡ session.old }
 {
     if session.is_open {
         drop(taken(alloc, session));
@@ -194,6 +200,7 @@ fn hand_out(
         stream.value.session.has_ended text (told ++ take written.new output.new)
         × (told ++ take written.new output.new
         ≡ replies frame_meaning stream.value.session.has_ended text) }
+    ensures rest { result ≡ 0 → drop written.new output.new ≡ drop written.new output.old }
     ensures no_room { (text told : List ℕ)
         → Took frame_meaning shows_lines stream.value.session text told → result ≡ 1
         → (length output.new < written.new) × (output.new ≡ output.old)

@@ -1,26 +1,9 @@
 //! The flush, the status and what is told of an error.
 use crate::checks::equal;
+use fault_devices::UnflushableWriter;
 use netlines::{RunError, answer_input, exit_code, fault_name};
-use std::io::{self, ErrorKind, Write};
 use std::process::ExitCode;
 use std::test::Fail;
-
-// Takes all bytes, and fails at the flush.
-#[derive(Drop)]
-struct UnflushableWriter {
-    taken: Vec<u8>,
-}
-
-impl Write for UnflushableWriter {
-    fn write(&mut self, buf: &[u8]) -> io::Result<usize> {
-        self.taken.extend_from_slice(buf)?;
-        Ok(buf.len())
-    }
-
-    fn flush(&mut self) -> io::Result<()> {
-        Err(ErrorKind::Other.into())
-    }
-}
 
 #[test]
 fn answers_what_is_read(rt: HostRuntime) -> Result<(), Fail> {
@@ -32,9 +15,7 @@ fn answers_what_is_read(rt: HostRuntime) -> Result<(), Fail> {
 
 #[test]
 fn a_flush_that_fails_is_a_failed_write(rt: HostRuntime) {
-    let mut writer = UnflushableWriter {
-        taken: Vec::new(rt.alloc()),
-    };
+    let mut writer = UnflushableWriter::new(rt.alloc(), usize::MAX);
     let done = answer_input(rt.alloc(), &mut b"\n".as_slice(), &mut writer);
     equal(&rt, &done, &Err(RunError::Write));
     equal(&rt, &writer.taken.as_slice(), &b"bad line\n".as_slice());

@@ -1,6 +1,9 @@
 -- How runs end: by a write or not.
-use Rattle.std.proofs.Common.{refl, ℕ, Bool, List, [], Option, Result, Ok, Err}
-use Rattle.std.proofs.Common.{MatchResult, OnOk, OnErr, inl, inr}
+use Rattle.std.proofs.Common.{◌≡◌, sym, refl, subst, arith, ℕ, Bool, List, [], Option, Result, Ok}
+use Rattle.std.proofs.Common.{Err, MatchResult, OnOk, OnErr, append-nil, inl, inr}
+use Rattle.captures.specs.Fronts.{Gives}
+use Rattle.captures.specs.Skipping.{none_skipped}
+use Rattle.captures.specs.Units.{skipped_in}
 use Rattle.captures.specs.declared.packet.Packet.{Packet}
 use Rattle.captures.specs.declared.translation.run_error.RunError.{RunError}
 use Rattle.captures.specs.declared.translation.run_error.RunError.TheVariants.{Read, Write}
@@ -8,6 +11,7 @@ use Rattle.captures.specs.declared.translation.run_error.RunError.TheVariants.{W
 use Rattle.captures.specs.declared.translation.run_error.RunError.TheVariants.{TooManyReads}
 use Rattle.captures.specs.declared.translation.run_error.RunError.TheVariants.{Capture, BadLine}
 use Rattle.captures.specs.declared.translation.skipped.Skipped.{Skipped}
+use Rattle.captures.specs.declared.translation.state.State.{State}
 use Rattle.captures.specs.declared.translation.state.State.TheVariants.{Start}
 use Rattle.captures.specs.declared.unfit.Unfit.{Unfit}
 use Rattle.packets.specs.Runs.{AreFirst, AreTaken, BreaksBy, EndsBy, Unbroken, UnlessWanting}
@@ -66,25 +70,38 @@ pub unbroken_always : (result : Result Unit RunError) (A : Type 0) → Unbroken 
 unbroken_always result A holds =
     either_way result A ⊥ A holds (λ a here. a) (λ none here. absurd none)
 
+-- all packets that were given are told
+pub all_first : (unfit : Unfit) (skipped : Skipped) (bytes : List ℕ) (given : List Packet)
+    (state : State) (rest : List ℕ) → Gives (Start unfit) bytes given state rest
+    → skipped_in state ≡ skipped → AreFirst unfit skipped bytes given
+all_first unfit skipped bytes given state rest gives counts = (
+  [],
+  omega arith,
+  state,
+  rest,
+  subst (λ (l : List Packet). Gives (Start unfit) bytes l state rest) (sym (append-nil given)) gives,
+  counts,
+)
+
 -- it was given packets of the bytes
 pub ends_taken : (unfit : Unfit) (skipped : Skipped) (left : Option (List ℕ)) (bytes : List ℕ)
     (given : List Packet) (writes : Bool) (result : Result Unit RunError)
-    → EndsBy writes unfit skipped left bytes given result → AreTaken unfit bytes given
-ends_taken unfit skipped left bytes given writes (Ok done) ends = inr (skipped, ends.0)
+    → EndsBy writes unfit skipped left bytes given result → AreTaken unfit skipped bytes given
+ends_taken unfit skipped left bytes given writes (Ok done) ends = inr ends.0
 ends_taken unfit skipped left bytes given writes (Err Read) ends =
-    inl (ends.state, ends.rest, ends.gives)
+    inl (all_first unfit skipped bytes given ends.state ends.rest ends.gives ends.counts)
 ends_taken unfit skipped left bytes given writes (Err Write) ends = ends.1
 ends_taken unfit skipped left bytes given writes (Err WriteZero) ends = ends.1
 ends_taken unfit skipped left bytes given writes (Err Memory) ends = inl ends
 ends_taken unfit skipped left bytes given writes (Err TooManyReads) ends = inl ends.0
 ends_taken unfit skipped left bytes given writes (Err (Capture why place)) ends =
-    inl (ends.state, ends.rest, ends.gives)
+    inl (all_first unfit skipped bytes given ends.state ends.rest ends.gives ends.counts)
 ends_taken unfit skipped left bytes given writes (Err (BadLine number)) ends = absurd ends
 
 -- a write that failed is how it ends
 pub break_ends : (writes : Bool) (unfit : Unfit) (skipped : Skipped) (left : Option (List ℕ))
     (bytes : List ℕ) (given : List Packet) (error : RunError) (Breaks : Type 0)
-    → BreaksBy writes error Breaks → AreTaken unfit bytes given
+    → BreaksBy writes error Breaks → AreTaken unfit skipped bytes given
     → EndsBy writes unfit skipped left bytes given (Err error)
 break_ends writes unfit skipped left bytes given Read Breaks by taken = absurd by
 break_ends writes unfit skipped left bytes given Write Breaks by taken = (by.0, taken)
@@ -94,8 +111,9 @@ break_ends writes unfit skipped left bytes given TooManyReads Breaks by taken = 
 break_ends writes unfit skipped left bytes given (Capture why place) Breaks by taken = absurd by
 break_ends writes unfit skipped left bytes given (BadLine number) Breaks by taken = absurd by
 
-pub nothing_first : (unfit : Unfit) → AreFirst unfit [] []
-nothing_first unfit = (Start unfit, [], record { units = []; row = (refl, refl); parts = refl })
+pub nothing_first : (unfit : Unfit) → AreFirst unfit none_skipped [] []
+nothing_first unfit = all_first unfit none_skipped [] [] (Start unfit) []
+    (record { units = []; row = (refl, refl); parts = refl }) refl
 
 pub unless_wanting : (result : Result Unit RunError) (Holds : Type 0) → Holds
     → UnlessWanting result Holds

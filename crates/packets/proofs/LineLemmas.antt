@@ -2,17 +2,14 @@
 use Rattle.std.proofs.Common.{◌≡◌, ◌∙◌, sym, ap, refl, subst, ℕ, true, List, [], ◌∷◌, ◌++◌}
 use Rattle.std.proofs.Common.{append-nil, append_assoc, Option, Result, Ok, Err, MatchResult}
 use Rattle.std.proofs.Common.{if◌then◌else◌, is_ok}
-use Rattle.std.specs.Io.KnownBytes.{Appends, Consumes}
-use Rattle.std.proofs.KnownBytes.{Appends-trans}
-use Rattle.captures.specs.declared.packet.Packet.{Packet}
+use Rattle.std.specs.Io.KnownBytes.{Appends, Keeps}
+use Rattle.std.proofs.KnownBytes.{Appends-kept, Appends-trans}
 use Rattle.captures.specs.declared.translation.run_error.RunError.{RunError}
 use Rattle.captures.specs.declared.translation.skipped.Skipped.{Skipped}
-use Rattle.captures.specs.declared.unfit.Unfit.{Unfit}
-use Rattle.packets.specs.Courses.{AreDissected, no_course, shown}
-use Rattle.packets.specs.Runs.{BreaksBy, EndsBy, IsWritten, Unbroken}
-use Rattle.packets.specs.Written.{AreLines, one_line}
+use Rattle.packets.specs.Runs.{BreaksBy, IsWritten, Unbroken}
+use Rattle.packets.specs.Written.{AreLines, WritesLines, one_line}
 use Rattle.packets.specs.declared.dissection.Dissection.{Dissection}
-use Rattle.packets.specs.declared.filter.Filter.{Filter}
+use Rattle.packets.specs.declared.run.rules.Rules.{Rules}
 use Rattle.packets.proofs.EndLemmas.{broken, either_way, weaker_break, weaker_match}
 
 -- what a call appends where it succeeds
@@ -148,12 +145,21 @@ module _ (tells : Dissection → List ℕ → Type 0) where
         ),
       ))
 
-  -- what a run tells by lines, whose writer held the first bytes before and these now
-  abbrev pub RunTold : Unfit → Option ℕ → Filter → Skipped → (source first now : Option (List ℕ))
-      → Result Unit RunError → Type 0
-  RunTold unfit forget conditions skipped source first now result = (read : List ℕ)
-      × (left : Option (List ℕ)) × (given : List Packet) × (told : List Dissection)
-      × Consumes source left read × EndsBy true unfit skipped left read given result
-      × AreDissected forget no_course given told × (text : List ℕ)
-      × AreLines tells (shown conditions told) text × (written : List ℕ)
-      × Appends first now written × IsWritten result text written
+  -- the same behind a flush
+  pub lines_flushed : (rules : Rules) (skipped : Skipped) (source first mid now : Option (List ℕ))
+      (result : Result Unit RunError) → WritesLines tells rules skipped source first mid result
+      → Keeps mid now → WritesLines tells rules skipped source first now result
+  lines_flushed rules skipped source first mid now result lines keeps = (
+    lines.0,
+    lines.1,
+    lines.2,
+    lines.3,
+    lines.4,
+    lines.5,
+    lines.6,
+    lines.7,
+    lines.8,
+    lines.9,
+    Appends-kept first mid now lines.9 lines.10 keeps,
+    lines.11,
+  )

@@ -1,12 +1,11 @@
 -- Walks over the packets of a capture: one packet more, and how they end.
 use Rattle.std.proofs.Common.{◌≡◌, ◌∙◌, sym, ap, refl, subst, ℕ, Bool, List, []}
 use Rattle.std.proofs.Common.{◌∷◌, ◌++◌, Option, Some, Err, inl}
-use Rattle.std.proofs.Common.{append_assoc, append-nil, map}
+use Rattle.std.proofs.Common.{append_assoc, append-nil, arith, map}
 use Rattle.std.specs.List.{filter}
 use Rattle.std.proofs.lemmas.List.{map-append}
 use Rattle.std.proofs.lemmas.List.Elements.{filter-append}
 use Rattle.captures.specs.Endings.{cause, read_cause}
-use Rattle.captures.specs.Fronts.{Gives}
 use Rattle.captures.specs.Readers.{ComesTo, HasRead, skipped_by}
 use Rattle.captures.specs.declared.packet.Packet.{Packet}
 use Rattle.captures.specs.declared.reading.packet_reader.PacketReader.{PacketReader}
@@ -17,7 +16,6 @@ use Rattle.captures.specs.declared.translation.run_error.RunError.TheVariants.{R
 use Rattle.captures.specs.declared.translation.run_error.RunError.TheVariants.{WriteZero, Memory}
 use Rattle.captures.specs.declared.translation.run_error.RunError.TheVariants.{TooManyReads}
 use Rattle.captures.specs.declared.translation.run_error.RunError.TheVariants.{Capture, BadLine}
-use Rattle.captures.specs.declared.translation.state.State.{State}
 use Rattle.captures.specs.declared.unfit.Unfit.{Unfit}
 use Rattle.ep_packet.specs.declared.addresses.Addresses.{Addresses}
 use Rattle.header_texts.specs.declared.reason.Reason.{Reason}
@@ -31,6 +29,7 @@ use Rattle.packets.specs.declared.dissection.Dissection.{Dissection}
 use Rattle.packets.specs.declared.filter.Filter.{Filter}
 use Rattle.packets.specs.declared.outline.Outline.{Outline}
 use Rattle.packets.specs.declared.summary.summary.Summary.{Summary}
+use Rattle.packets.proofs.EndLemmas.{all_first}
 
 -- the run's error of a reader's
 abbrev as_run_error : ReadError → RunError
@@ -64,24 +63,24 @@ same_error read.TooManyReads (BadLine number) is = cc
 
 -- what a reader has given are the first packets
 pub first_given : {R : Type 0} (unfit : Unfit) (reader : PacketReader R) (bytes : List ℕ)
-    (given : List Packet) → HasRead unfit reader bytes given → AreFirst unfit bytes given
-first_given unfit reader bytes given h = (reader.state, h.dropped ++ reader.window.held, h.gives)
-
-gives_front : (state after : State) (bytes rest : List ℕ) (given : List Packet) (packet : Packet)
-    → Gives state bytes (given ++ packet ∷ []) after rest
-    → (mid : State) × (between : List ℕ) × Gives state bytes given mid between
-gives_front state after bytes rest [] packet g =
-    (state, bytes, record { units = []; row = (refl, refl); parts = refl })
-gives_front state after bytes rest (first ∷ later) packet g =
-    let front = gives_front g.0 after g.1 rest later packet g.3 in
-    (front.0, front.1, (g.0, g.1, g.2, front.2))
+    (given : List Packet) → HasRead unfit reader bytes given
+    → AreFirst unfit (skipped_by reader) bytes given
+first_given unfit reader bytes given h =
+    all_first unfit (skipped_by reader) bytes given reader.state (h.dropped ++ reader.window.held)
+    h.gives refl
 
 -- all but the last one are too
 pub first_but_last : {R : Type 0} (unfit : Unfit) (reader : PacketReader R) (bytes : List ℕ)
     (given : List Packet) (packet : Packet) → HasRead unfit reader bytes (given ++ packet ∷ [])
-    → AreFirst unfit bytes given
-first_but_last unfit reader bytes given packet h =
-    gives_front _ reader.state bytes (h.dropped ++ reader.window.held) given packet h.gives
+    → AreFirst unfit (skipped_by reader) bytes given
+first_but_last unfit reader bytes given packet h = (
+  packet ∷ [],
+  omega arith,
+  reader.state,
+  h.dropped ++ reader.window.held,
+  h.gives,
+  refl,
+)
 
 -- an error of a reader is how a run ends
 comes_ends : {R : Type 0} (writes : Bool) (unfit : Unfit) (reader : PacketReader R)
@@ -89,8 +88,11 @@ comes_ends : {R : Type 0} (writes : Bool) (unfit : Unfit) (reader : PacketReader
     → ComesTo unfit reader left bytes given (Err from)
     → EndsBy writes unfit (skipped_by reader) left bytes given (Err (as_run_error from))
 comes_ends writes unfit reader left bytes given read.Read comes = comes.1
-comes_ends writes unfit reader left bytes given read.TooManyReads comes =
-    ((comes.1.state, comes.1.rest, comes.1.gives), inl comes.2)
+comes_ends writes unfit reader left bytes given read.TooManyReads comes = (
+  all_first unfit (skipped_by reader) bytes given comes.1.state comes.1.rest comes.1.gives
+      comes.1.counts,
+  inl comes.2,
+)
 comes_ends writes unfit reader left bytes given (read.Capture error place) comes = comes.1
 
 pub reader_ends : {R : Type 0} (writes : Bool) (unfit : Unfit) (reader : PacketReader R)

@@ -5,6 +5,7 @@ use Rattle.std.specs.Io.KnownBytes.{IsAtEnd}
 use Rattle.captures.specs.Fronts.{Gives, taken_of}
 use Rattle.captures.specs.Readers.{AreGiven, IsRefusedAt}
 use Rattle.captures.specs.Runs.{IsCapture}
+use Rattle.captures.specs.Units.{skipped_in}
 use Rattle.captures.specs.declared.limits.TheConstants.{READ_COUNT_LIMIT}
 use Rattle.captures.specs.declared.packet.Packet.{Packet}
 use Rattle.captures.specs.declared.translation.run_error.RunError.{RunError}
@@ -17,15 +18,18 @@ use Rattle.captures.specs.declared.translation.state.State.{State}
 use Rattle.captures.specs.declared.translation.state.State.TheVariants.{Start}
 use Rattle.captures.specs.declared.unfit.Unfit.{Unfit}
 
--- these are the first packets of the bytes, each once and in their order
-abbrev pub AreFirst : Unfit → List ℕ → List Packet → Type 0
-AreFirst unfit read given = (state : State) × (rest : List ℕ)
-    × Gives (Start unfit) read given state rest
+-- these are the first packets of the bytes, each once and in their order, and perhaps one more, for
+-- which memory was wanting; so many were passed over by then
+abbrev pub AreFirst : Unfit → Skipped → List ℕ → List Packet → Type 0
+AreFirst unfit skipped read given = (more : List Packet) × (length more ≤ 1)
+    × (state : State) × (rest : List ℕ) × Gives (Start unfit) read (given ++ more) state rest
+    × (skipped_in state ≡ skipped)
 
--- these are packets of the bytes, each once and in their order: the first ones, or all of a capture
-abbrev pub AreTaken : Unfit → List ℕ → List Packet → Type 0
-AreTaken unfit read given = AreFirst unfit read given
-    ⊎ ((skipped : Skipped) × IsCapture unfit read (map taken_of given) skipped)
+-- these are packets of the bytes, each once and in their order: the first ones, or all of a
+-- capture; so many were passed over
+abbrev pub AreTaken : Unfit → Skipped → List ℕ → List Packet → Type 0
+AreTaken unfit skipped read given = AreFirst unfit skipped read given
+    ⊎ IsCapture unfit read (map taken_of given) skipped
 
 -- a run with this result has read these bytes, of which it was given these packets and passed over
 -- so many: all of a whole capture; all before a refusal or a failed read; or some. Only a run that
@@ -34,13 +38,14 @@ abbrev pub EndsBy : (writes : Bool) → Unfit → Skipped → (left : Option (Li
     → (given : List Packet) → Result Unit RunError → Type 0
 EndsBy writes unfit skipped left read given (Ok done) =
     IsCapture unfit read (map taken_of given) skipped × IsAtEnd left
-EndsBy writes unfit skipped left read given (Err Read) = AreGiven unfit read given
+EndsBy writes unfit skipped left read given (Err Read) = AreGiven unfit skipped read given
 EndsBy writes unfit skipped left read given (Err Write) =
-    (writes ≡ true) × AreTaken unfit read given
+    (writes ≡ true) × AreTaken unfit skipped read given
 EndsBy writes unfit skipped left read given (Err WriteZero) =
-    (writes ≡ true) × AreTaken unfit read given
-EndsBy writes unfit skipped left read given (Err Memory) = AreFirst unfit read given
-EndsBy writes unfit skipped left read given (Err TooManyReads) = AreFirst unfit read given
+    (writes ≡ true) × AreTaken unfit skipped read given
+EndsBy writes unfit skipped left read given (Err Memory) = AreFirst unfit skipped read given
+EndsBy writes unfit skipped left read given (Err TooManyReads) =
+    AreFirst unfit skipped read given
     × ((READ_COUNT_LIMIT ≤ length read) ⊎ (2 ^ 64 - 1 ≤ length given))
 EndsBy writes unfit skipped left read given (Err (Capture error place)) =
     IsRefusedAt unfit skipped error place left read given

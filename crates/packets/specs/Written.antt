@@ -1,6 +1,13 @@
 -- The lines that are written of packets.
-use Rattle.std.specs.Prelude.{◌≡◌, ℕ, ◌==◌, not, List, [], ◌∷◌, ◌++◌, filter}
+use Rattle.std.specs.Prelude.{◌≡◌, ℕ, ◌==◌, not, true, List, [], ◌∷◌, ◌++◌, filter, Option, Result}
+use Rattle.std.specs.Io.KnownBytes.{Appends, Consumes}
+use Rattle.captures.specs.declared.packet.Packet.{Packet}
+use Rattle.captures.specs.declared.translation.run_error.RunError.{RunError}
+use Rattle.captures.specs.declared.translation.skipped.Skipped.{Skipped}
+use Rattle.packets.specs.Courses.{AreDissected, no_course, shown}
+use Rattle.packets.specs.Runs.{EndsBy, IsWritten}
 use Rattle.packets.specs.declared.dissection.Dissection.{Dissection}
+use Rattle.packets.specs.declared.run.rules.Rules.{Rules}
 
 -- a line: a text without ends of lines, and its own end
 abbrev pub one_line : List ℕ → List ℕ
@@ -11,3 +18,14 @@ abbrev pub AreLines : (Dissection → List ℕ → Type 0) → List Dissection �
 AreLines tells [] text = text ≡ []
 AreLines tells (packet ∷ packets) text = (line : List ℕ) × (later : List ℕ)
     × (text ≡ one_line line ++ later) × tells packet line × AreLines tells packets later
+
+-- a run with this result read from the source, passed over so many packets, and wrote behind the
+-- first bytes the lines of those that its rules let through
+abbrev pub WritesLines : (Dissection → List ℕ → Type 0) → Rules → Skipped
+    → (source first now : Option (List ℕ)) → Result Unit RunError → Type 0
+WritesLines tells rules skipped source first now result = (read : List ℕ)
+    × (left : Option (List ℕ)) × (given : List Packet) × (told : List Dissection)
+    × Consumes source left read × EndsBy true rules.unfit skipped left read given result
+    × AreDissected rules.forget no_course given told × (text : List ℕ)
+    × AreLines tells (shown rules.filter told) text × (written : List ℕ)
+    × Appends first now written × IsWritten result text written

@@ -1,4 +1,4 @@
-//! Tests of `packets` over its public calls. What is told of whole
+//! Tests of `packets` and `header_texts` over the public calls of `packets`. What is told of whole
 //! captures are rows of `tools/packets_rows`.
 #![tactic(auto)]
 

@@ -4,29 +4,12 @@ use crate::checks::{equal, is_text};
 use crate::outcomes::every_packet;
 use capture_inputs::Look;
 use captures::{CaptureError, Place, RunError, Skipped};
+use fault_devices::UnflushableWriter;
 use packets::commands::{exit_code, write_flushed, write_report};
 use packets::{JsonLines, Report, Summary};
 use std::alloc::Global;
-use std::io::{self, ErrorKind, Write};
+use std::io::Write;
 use std::process::{Abort, ExitCode};
-
-// Takes so many bytes, and fails at the flush.
-#[derive(Drop)]
-struct UnflushableWriter {
-    room: usize,
-}
-
-impl Write for UnflushableWriter {
-    fn write(&mut self, buf: &[u8]) -> io::Result<usize> {
-        let taken = buf.len().min(self.room);
-        self.room -= taken;
-        Ok(taken)
-    }
-
-    fn flush(&mut self) -> io::Result<()> {
-        Err(ErrorKind::Other.into())
-    }
-}
 
 // A file header of low byte first, in microseconds, of Ethernet frames, with snap length 262,144.
 const HEADER: &[u8; 24] = b"\
@@ -44,7 +27,7 @@ fn is_unflushed(rt: &impl Abort, alloc: Global, input: &[u8], wanted: RunError) 
         &every_packet(alloc),
         &JsonLines::new(alloc, false),
         input,
-        &mut UnflushableWriter { room: 0 },
+        &mut UnflushableWriter::new(alloc, 0),
         &mut Skipped::NONE,
     );
     equal(rt, &written, &Err(wanted));
@@ -71,10 +54,10 @@ fn reported<W: Write>(alloc: Global, skipped: Skipped, writer: &mut W) -> Result
 // The text has 11 bytes.
 #[test]
 fn reports_that_cannot_be_written(rt: HostRuntime) {
-    let mut full = UnflushableWriter { room: 10 };
+    let mut full = UnflushableWriter::new(rt.alloc(), 10);
     let written = reported(rt.alloc(), Skipped::NONE, &mut full);
     equal(&rt, &written, &Err(RunError::WriteZero));
-    let mut roomy = UnflushableWriter { room: 11 };
+    let mut roomy = UnflushableWriter::new(rt.alloc(), 11);
     let written = reported(rt.alloc(), Skipped::NONE, &mut roomy);
     equal(&rt, &written, &Err(RunError::Write));
 }

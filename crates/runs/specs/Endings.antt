@@ -1,5 +1,5 @@
 -- How a run ends, and with which calls.
-use Rattle.std.specs.Prelude.{◌≡◌, ℕ, true, false, List, [], ◌∷◌, Result, Ok, Err}
+use Rattle.std.specs.Prelude.{◌≡◌, ◌⊎◌, ℕ, true, false, List, [], ◌∷◌, Result, Ok, Err}
 use Rattle.runs.specs.declared.fault.Fault.{Fault}
 use Rattle.runs.specs.Calls.{Call, bytes_read, read_count, is_end_told, faults_of}
 
@@ -16,6 +16,11 @@ pub data Ending (R : Type 0) : Type 0 where
 abbrev pub ending_by : {E R : Type 0} → (E → Ending R) → Result Unit E → Ending R
 ending_by cause (Ok done) = Done
 ending_by cause (Err e) = cause e
+
+-- what a run gives with a flush behind it: its own end, or this error where it was done
+abbrev pub EndsFlushed : {E : Type 0} → E → Result Unit E → Result Unit E → Type 0
+EndsFlushed failed (Ok done) result = (result ≡ Ok done) ⊎ (result ≡ Err failed)
+EndsFlushed failed (Err error) result = result ≡ Err error
 
 -- the calls of a run of at most so many reads that ends so: at the end of the input without a
 -- fault; by its one fault; where memory is wanting without a fault, and with no call where nothing

@@ -4,8 +4,10 @@
 
 pub mod device;
 mod fault;
+mod flushes;
 mod writes;
 
 pub use device::{Device, ReaderWriter};
 pub use fault::Fault;
+pub use flushes::flush_behind;
 pub use writes::write_whole;

@@ -1,6 +1,6 @@
 //! Lines that come in pieces.
 ghost use Rattle.std.specs.Prelude.{◌≡◌, ◌≤◌, ◌<◌, ◌+◌, ◌++◌, ℕ, List, [], true, false, length};
-ghost use Rattle.std.specs.Prelude.{take, IfOk, OnOk};
+ghost use Rattle.std.specs.Prelude.{drop, take, IfOk, OnOk};
 ghost use Rattle.sessions.specs.Sessions.{IsWrittenOut, Took, Waits, replies};
 
 use lines::laws::text_goes_on;
@@ -100,12 +100,14 @@ impl<A: Answerer + Drop> Session<A> {
         }
     }
 
-    /// Hands out all replies that wait, where they have room, and tells how many bytes they are.
+    /// Hands out all replies that wait, where they have room, and tells how many bytes they are. What
+    /// stands behind them stays.
     pub fn hand_out(&mut self, output: &mut [u8], written: &mut usize) -> bool
         ensures room { result ≡ true → (written.new ≤ length output.new)
             × ((text told : List ℕ) → Took A.meaning A.shows self.old text told
             → Took A.meaning A.shows self.new text (told ++ take written.new output.new)
             × (told ++ take written.new output.new ≡ replies A.meaning self.new.has_ended text)) }
+        ensures rest { result ≡ true → drop written.new output.new ≡ drop written.new output.old }
         ensures none { result ≡ false → (length output.new < written.new)
             × (output.new ≡ output.old)
             × ((text told : List ℕ) → Took A.meaning A.shows self.old text told

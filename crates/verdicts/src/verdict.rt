@@ -17,8 +17,9 @@ pub enum Verdict {
     Good,
     /// They don't.
     Bad,
-    /// There is no checksum: none was sent (a UDP checksum of 0), or the protocol is none that is
-    /// read, or it is the ICMP of the other IP version.
+    /// There is no checksum: none was sent (a UDP checksum of 0, over IPv6 too, where RFC 8200,
+    /// section 8.1, has receivers drop such a datagram), or the protocol is none that is read, or it
+    /// is the ICMP of the other IP version.
     None,
 }
 

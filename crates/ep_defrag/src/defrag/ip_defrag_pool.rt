@@ -56,6 +56,7 @@ impl<Timestamp: Drop, CustomChannelId: Eq + Hash + Drop> IpDefragPool<
     pub fn new(alloc: Global) -> Self
         ensures streams { result.streams ≡ [] }
         ensures spare { result.spare ≡ 0 }
+        ensures sections { result.spare_sections ≡ 0 }
     {
         IpDefragPool::with_hasher(alloc, BuildHasherDefault::new())
     }
@@ -74,6 +75,7 @@ impl<Timestamp: Drop, CustomChannelId: Eq + Hash + Drop, S: BuildHasher> IpDefra
     pub fn with_hasher(alloc: Global, state: S) -> Self
         ensures streams { result.streams ≡ [] }
         ensures spare { result.spare ≡ 0 }
+        ensures sections { result.spare_sections ≡ 0 }
     {
         IpDefragPool {
             streams: Streams::with_hasher(alloc, state),
@@ -215,6 +217,7 @@ impl<Timestamp: Drop, CustomChannelId: Eq + Hash + Drop, S: BuildHasher> IpDefra
         ensures ok { OnOk result (self.new.spare ≡ self.old.spare + 1) }
         ensures err { IfErr result (λ given. (given ≡ buf) × (self.new ≡ self.old)) }
         ensures same { self.new.streams ≡ self.old.streams }
+        ensures sections { self.new.spare_sections ≡ self.old.spare_sections }
     {
         let IpDefragPayloadVec {
             ip_number,
@@ -259,6 +262,8 @@ impl<Timestamp: Drop, CustomChannelId: Eq + Hash + Drop, S: BuildHasher> IpDefra
         ensures err { OnErr result (self.new ≡ self.old) }
         // As many buffers more are spare as messages are gone.
         ensures counts { open_in self.new + self.new.spare ≡ open_in self.old + self.old.spare }
+        ensures sections { open_in self.new + self.new.spare_sections
+            ≡ open_in self.old + self.old.spare_sections }
         ensures fewer { open_in self.new ≤ open_in self.old }
     {
         self.streams.retain(&keep);

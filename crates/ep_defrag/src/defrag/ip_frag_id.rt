@@ -12,7 +12,8 @@ pub struct IpFragId<CustomChannelId = ()> {
     pub vlan_ids: ArrayVec<VlanId, 3>,
     /// Version, addresses and identification.
     pub ip: IpFragVersionSpecId,
-    /// The number of the protocol behind the extension headers.
+    /// The number of the protocol behind the extension headers. RFC 8200, section 4.5, leaves it out
+    /// of the name, and takes that of the first fragment.
     pub payload_ip_number: IpNumber,
     /// What the caller tells messages apart by besides, as the interface that they came from.
     pub channel_id: CustomChannelId,

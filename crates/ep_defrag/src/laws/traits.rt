@@ -1,27 +1,18 @@
-//! What `Clone`, `PartialEq`, `Ord` and `Hash` of the types here mean, each clause about the
-//! relation that the type's own impl names.
+//! What `Clone`, `PartialEq` and `Hash` of the types here mean, each clause about the relation that
+//! the type's own impl names.
 ghost use Rattle.std.specs.Prelude.{◌≡◌, ◌↔◌, ◌++◌, IsTrue, ℕ, List, [], ◌∷◌};
-ghost use Rattle.std.specs.Cmp.Lexicographic.{slice_cmp};
 ghost use Rattle.std.specs.Hash as fed;
-ghost use Rattle.std.specs.Ordering.{nat_cmp};
-ghost use Rattle.ep_base.specs.Traits.{CopyIsValue, CopyNeverFails, EqualIsSame, HashIsOf};
-ghost use Rattle.ep_base.specs.Traits.{IsPlainData};
-ghost use Rattle.ep_fragments.specs.IpDefragError.{hashed_as, ordered_as};
+ghost use Rattle.ep_base.specs.Traits.{CopyIsValue, CopyNeverFails, HashIsOf, IsPlainData};
 ghost use Rattle.ep_defrag.specs.IpDefragPool.{payload_told};
 ghost use Rattle.ep_defrag.specs.PoolCalls.{as_told, call_told};
-ghost use Rattle.ep_fragments.specs.declared.defrag.ip_defrag_error.IpDefragError.{IpDefragError};
 ghost use Rattle.ep_defrag.specs.declared.defrag.ip_defrag_payload_vec.IpDefragPayloadVec.{IpDefragPayloadVec};
 ghost use Rattle.ep_defrag.specs.declared.defrag.ip_frag_id.IpFragId.{IpFragId};
-ghost use Rattle.ep_fragments.specs.declared.defrag.ip_frag_range.IpFragRange.{IpFragRange};
 ghost use Rattle.ep_defrag.specs.declared.defrag.ip_frag_version_spec_id.IpFragVersionSpecId.TheVariants.{Ipv4};
 ghost use Rattle.ep_defrag.specs.declared.defrag.ip_frag_version_spec_id.IpFragVersionSpecId.TheVariants.{Ipv6};
 ghost use Rattle.ep_defrag.specs.declared.defrag.pool_calls.PoolCall.{PoolCall};
 ghost use Rattle.ep_defrag.specs.declared.defrag.pool_calls.PoolReply.{PoolReply};
 
-use crate::defrag::{
-    IpDefragBuf, IpDefragError, IpDefragPayloadVec, IpFragId, IpFragRange, IpFragVersionSpecId,
-    OverlapRule, PoolCall, PoolReply,
-};
+use crate::defrag::{IpDefragPayloadVec, IpFragId, IpFragVersionSpecId, PoolCall, PoolReply};
 use ep_base::laws::traits::Value;
 use std::hash::Hash;
 

@@ -34,6 +34,8 @@ pub(crate) fn retain_streams<K: Eq + Hash + Drop, T: Drop, S: BuildHasher, F: Fn
     ensures places { HasPlaces spare.new (index_map_len streams.new) }
     ensures counts { index_map_len streams.new + vec_len spare.new.bytes
         ≡ index_map_len streams.old + vec_len spare.old.bytes }
+    ensures sections { index_map_len streams.new + vec_len spare.new.sections
+        ≡ index_map_len streams.old + vec_len spare.old.sections }
     ensures fewer { index_map_len streams.new ≤ index_map_len streams.old }
 {
     let mut at = 0;

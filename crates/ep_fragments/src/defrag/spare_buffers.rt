@@ -49,6 +49,7 @@ impl SpareBuffers {
     /// Buffers for a message, spare ones where there are some.
     pub(crate) fn take(&mut self, alloc: Global) -> (Vec<u8>, Vec<IpFragRange>, Taken)
         ensures fewer { vec_len self.new.bytes ≡ vec_len self.old.bytes - 1 }
+        ensures fewer_sections { vec_len self.new.sections ≡ vec_len self.old.sections - 1 }
         ensures bytes { vec_len self.old.bytes
             ≡ vec_len self.new.bytes + (if result.2.bytes then 1 else 0) }
         ensures sections { vec_len self.old.sections
@@ -99,6 +100,7 @@ impl SpareBuffers {
     }
 }
 
+// It has no contract: no clause says that the memory is used again.
 fn or_empty<X: Drop>(alloc: Global, buffer: Option<Vec<X>>) -> Vec<X> {
     match buffer {
         Some(buffer) => buffer,

@@ -3,7 +3,7 @@
 ghost use Rattle.std.specs.Prelude.{◌≡◌, ◌++◌, ◌∷◌, ◌+◌, ◌≤◌, ℕ, [], List, None, false, OnOk};
 ghost use Rattle.std.specs.Prelude.{IfErr, IfOk, IfSome, if◌then◌else◌, length, option_map, vec_len};
 ghost use Rattle.indexmap.specs.IndexMap.{get, index_map_len};
-ghost use Rattle.ep_fragments.specs.Counts.{held_after, spare_after};
+ghost use Rattle.ep_fragments.specs.Counts.{held_after, sections_after, spare_after};
 ghost use Rattle.ep_fragments.specs.Fragments.{Fragment, refusal_of};
 ghost use Rattle.ep_fragments.specs.IpDefragBuf.{Shows, rule_of};
 ghost use Rattle.ep_fragments.specs.IpDefragError.{is_overlap};
@@ -21,11 +21,13 @@ use indexmap::map::Entry;
 use std::alloc::Global;
 use std::hash::{BuildHasher, Hash};
 
-/// A message that is on its way, and when its last fragment came.
+/// A message that is on its way, and when its last fragment came. Contracts speak of it: no call
+/// hands one out.
 #[derive(Drop)]
 pub struct Stream<T> {
-    // The protocol is told by the stream's name.
+    /// Its fragments. The number of its protocol is told by its name.
     pub buf: IpDefragBuf<()>,
+    /// That of the fragment accepted last.
     pub timestamp: T,
 }
 
@@ -100,6 +102,7 @@ fn finish(spare: &mut SpareBuffers, buf: IpDefragBuf<()>) -> Vec<u8>
     ensures bytes { result.items ≡ buf.bytes }
     ensures short { length result.items ≤ 65535 }
     ensures same { vec_len spare.new.bytes ≡ vec_len spare.old.bytes }
+    ensures sections { vec_len spare.new.sections ≡ vec_len spare.old.sections + 1 }
     ensures places { (count : ℕ) → HasPlaces spare.old (count + 1) → HasPlaces spare.new count }
 {
     let (bytes, sections) = buf.take_bufs();
@@ -107,9 +110,9 @@ fn finish(spare: &mut SpareBuffers, buf: IpDefragBuf<()>) -> Vec<u8>
     bytes
 }
 
-// Takes a piece of the message with this name, whose pieces overlap by this rule. The stream ends
-// where the message is complete, or the piece overlaps where that is refused. One that is complete
-// at once isn't kept.
+// Takes a piece of the message with this name, whose pieces overlap by the rule that the first of
+// them came with. The stream ends where the message is complete, or the piece overlaps where that is
+// refused. One that is complete at once isn't kept.
 pub(crate) fn add_piece<K: Eq + Hash + Drop, T: Drop, S: BuildHasher>(
     alloc: Global,
     streams: &mut IndexMap<K, Stream<T>, S>,
@@ -120,13 +123,13 @@ pub(crate) fn add_piece<K: Eq + Hash + Drop, T: Drop, S: BuildHasher>(
     timestamp: T,
 ) -> Result<Option<Vec<u8>>, IpDefragError>
     requires { HasPlaces spare.old (index_map_len streams.old) }
-    ensures accepted { let f = fragment_of piece.now in (fs : List Fragment)
-        → ShowsStream rule (get K.eq streams.old name) fs →
-        IfOk result (λ told. Becomes rule (λ text. text) (outcome rule fs f) timestamp
+    ensures accepted { let f = fragment_of piece.now in (kept : OverlapRule) (fs : List Fragment)
+        → ShowsStream kept (get K.eq streams.old name) fs → (fs ≡ [] → kept ≡ rule) →
+        IfOk result (λ told. Becomes kept (λ text. text) (outcome kept fs f) timestamp
         (get K.eq streams.new name) (option_map (λ bytes. bytes.items) told)) }
-    ensures refused { let f = fragment_of piece.now in (fs : List Fragment)
-        → ShowsStream rule (get K.eq streams.old name) fs →
-        IfErr result (IsErrorOf f (outcome rule fs f)) }
+    ensures refused { let f = fragment_of piece.now in (kept : OverlapRule) (fs : List Fragment)
+        → ShowsStream kept (get K.eq streams.old name) fs → (fs ≡ [] → kept ≡ rule) →
+        IfErr result (IsErrorOf f (outcome kept fs f)) }
     ensures others { (q : K) → K.eq name q ≡ false
         → get K.eq streams.new q ≡ get K.eq streams.old q }
     ensures err { IfErr result (λ e. get K.eq streams.new name
@@ -135,6 +138,8 @@ pub(crate) fn add_piece<K: Eq + Hash + Drop, T: Drop, S: BuildHasher>(
     ensures places { HasPlaces spare.new (index_map_len streams.new) }
     ensures spare { vec_len spare.new.bytes
         ≡ spare_after result (get K.eq streams.old name) (vec_len spare.old.bytes) }
+    ensures sections { vec_len spare.new.sections
+        ≡ sections_after result (get K.eq streams.old name) (vec_len spare.old.sections) }
     ensures held { index_map_len streams.new
         ≡ held_after result (get K.eq streams.old name) (index_map_len streams.old) }
 {

@@ -8,8 +8,9 @@ ghost use Rattle.std.specs.Map.{keys_of};
 ghost use Rattle.ep_fragments.specs.Counts.{Counts, open_in};
 ghost use Rattle.ep_fragments.specs.Fragments.{Fragment};
 ghost use Rattle.ep_fragments.specs.Outcome.{outcome};
-ghost use Rattle.ep_fragments.specs.Streams.{Becomes, MayAsk, OthersStay, RefusesBy, Retained};
+ghost use Rattle.ep_fragments.specs.Streams.{Becomes, IsErrorOf, MayAsk, OthersStay, Retained};
 ghost use Rattle.ep_fragments.specs.Streams.{ShowsStream, Stays, fragment_of, stream_at};
+ghost use Rattle.ep_fragments.specs.declared.defrag.overlap_rule.OverlapRule.{OverlapRule};
 
 use super::retain_streams::retain_streams;
 use super::spare_buffers::SpareBuffers;
@@ -40,6 +41,7 @@ impl<K: Eq + Hash, T, S: BuildHasher> Model for Streams<K, T, S> {
     ghost view = { λ held. record {
       streams = held.active.entries;
       spare = vec_len held.spare.bytes;
+      spare_sections = vec_len held.spare.sections;
     } };
 
     ghost invariant = { λ held. HasPlaces held.spare (index_map_len held.active) };
@@ -50,6 +52,7 @@ impl<K: Eq + Hash + Drop, T: Drop, S: BuildHasher> Streams<K, T, S> {
     pub fn with_hasher(alloc: Global, state: S) -> Self
         ensures streams { result.streams ≡ [] }
         ensures spare { result.spare ≡ 0 }
+        ensures sections { result.spare_sections ≡ 0 }
     {
         Streams {
             alloc,
@@ -79,6 +82,7 @@ impl<K: Eq + Hash + Drop, T: Drop, S: BuildHasher> Streams<K, T, S> {
         ensures ok { OnOk result (self.new.spare ≡ self.old.spare + 1) }
         ensures err { IfErr result (λ given. given ≡ bytes) }
         ensures kept { OnErr result (self.new.spare ≡ self.old.spare) }
+        ensures sections { self.new.spare_sections ≡ self.old.spare_sections }
     {
         if !self.spare.make_places(self.active.len()) {
             return Err(bytes);
@@ -87,9 +91,13 @@ impl<K: Eq + Hash + Drop, T: Drop, S: BuildHasher> Streams<K, T, S> {
         Ok(())
     }
 
-    /// Takes a piece of the message with this name, whose pieces overlap by this rule. One that
-    /// completes it hands its bytes out, and ends the stream. So does one that overlaps where that
-    /// is refused, and hands nothing out.
+    /// Takes a piece of the message with this name. Its pieces overlap by the rule that the first of
+    /// them came with. One that completes it hands its bytes out, and ends the stream. So does one
+    /// that overlaps where that is refused, and hands nothing out.
+    ///
+    /// It is refused as by [`IpDefragBuf::add`](super::IpDefragBuf::add): then the stream has the
+    /// pieces and the timestamp that it had. A piece that begins a message wants memory for its name
+    /// and for the places of spare buffers, too.
     pub fn add(
         &mut self,
         name: K,
@@ -97,12 +105,15 @@ impl<K: Eq + Hash + Drop, T: Drop, S: BuildHasher> Streams<K, T, S> {
         piece: &Piece<'_>,
         timestamp: T,
     ) -> Result<Option<Vec<u8>>, IpDefragError>
-        ensures accepted { (fs : List Fragment)
-            → ShowsStream rule (stream_at K.eq self.old name) fs →
-            IfOk result (λ told. Becomes rule (λ text. text)
-            (outcome rule fs (fragment_of piece.now)) timestamp
+        ensures accepted { (kept : OverlapRule) (fs : List Fragment)
+            → ShowsStream kept (stream_at K.eq self.old name) fs → (fs ≡ [] → kept ≡ rule) →
+            IfOk result (λ told. Becomes kept (λ text. text)
+            (outcome kept fs (fragment_of piece.now)) timestamp
             (stream_at K.eq self.new name) (option_map (λ bytes. bytes.items) told)) }
-        ensures refused { RefusesBy rule K.eq self.old name (fragment_of piece.now) result }
+        ensures refused { (kept : OverlapRule) (fs : List Fragment)
+            → ShowsStream kept (stream_at K.eq self.old name) fs → (fs ≡ [] → kept ≡ rule) →
+            IfErr result (IsErrorOf (fragment_of piece.now)
+            (outcome kept fs (fragment_of piece.now))) }
         ensures others { OthersStay K.eq name self.old self.new }
         ensures err { IfErr result (Stays K.eq name self.old self.new) }
         ensures short { IfOk result (λ text. IfSome text (λ bytes. length bytes.items ≤ 65535)) }
@@ -119,12 +130,15 @@ impl<K: Eq + Hash + Drop, T: Drop, S: BuildHasher> Streams<K, T, S> {
         )
     }
 
-    /// Keeps exactly the streams to whose timestamp the test answers `true`.
+    /// Keeps exactly the streams to whose timestamp the test answers `true`. It asks once for each.
+    /// The buffers of those that go are spare then; that takes no memory.
     pub fn retain<F: Fn(&T) -> bool>(&mut self, keep: &F)
         requires { (q : K) → MayAsk (F.pre keep.now) (stream_at K.eq self.old q) }
         ensures retained { (q : K) → Retained (FnReturnsAt F.Fn keep.now)
             (stream_at K.eq self.old q) (stream_at K.eq self.new q) }
         ensures counts { open_in self.new + self.new.spare ≡ open_in self.old + self.old.spare }
+        ensures sections { open_in self.new + self.new.spare_sections
+            ≡ open_in self.old + self.old.spare_sections }
         ensures fewer { open_in self.new ≤ open_in self.old }
     {
         retain_streams(&mut self.active, &mut self.spare, keep);

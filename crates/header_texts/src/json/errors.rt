@@ -13,7 +13,7 @@ use ep_tag::err::macsec;
 use ep_tcpudp::err::tcp;
 use serde::Serializer;
 
-/// Why a packet is refused.
+/// Why a packet is refused. It has no contract: tests compare the texts.
 pub fn member<S: Serializer>(out: &mut S, name: &str, error: &SliceError) -> Result<(), S::Error> {
     begin(out, name)?;
     match error {
@@ -48,7 +48,7 @@ pub fn member<S: Serializer>(out: &mut S, name: &str, error: &SliceError) -> Res
     out.end_map()
 }
 
-/// Why a part of a message is refused.
+/// Why a part of a message is refused. It has no contract: tests compare the texts.
 pub fn part<S: Serializer>(out: &mut S, error: &IpDefragError) -> Result<(), S::Error> {
     begin(out, "error")?;
     match error {

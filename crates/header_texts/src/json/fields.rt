@@ -4,13 +4,13 @@ use serde::Serializer;
 use std::fmt;
 use std::fmt::{Debug, Display};
 
-/// Begins an object that is a member.
+/// Begins an object that is a member. It has no contract: tests compare the texts.
 pub fn begin<S: Serializer>(out: &mut S, name: &str) -> Result<(), S::Error> {
     out.key(name)?;
     out.begin_map(None)
 }
 
-/// A member that is a number.
+/// A member that is a number. It has no contract: tests compare the texts.
 pub fn number<S: Serializer>(out: &mut S, name: &str, n: u64) -> Result<(), S::Error> {
     out.key(name)?;
     out.u64(n)
@@ -21,7 +21,7 @@ pub(crate) fn flag<S: Serializer>(out: &mut S, name: &str, is_set: bool) -> Resu
     out.bool(is_set)
 }
 
-/// A member that is a text.
+/// A member that is a text. It has no contract: tests compare the texts.
 pub fn text<S: Serializer>(out: &mut S, name: &str, text: &str) -> Result<(), S::Error> {
     out.key(name)?;
     out.str(text)
@@ -37,7 +37,8 @@ pub(crate) fn printed<S: Serializer, T: Display>(
     out.collect_str(value)
 }
 
-/// A member that is a variant without fields, by its name.
+/// A member that is a variant without fields, by its name. It has no contract: tests compare the
+/// texts.
 pub fn named<S: Serializer, T: Copy + Debug>(
     out: &mut S,
     name: &str,

@@ -28,7 +28,7 @@ pub(crate) fn member<S: Serializer>(
 }
 
 /// A message that was put together of parts: its protocol, its length, and its header or why it is
-/// refused.
+/// refused. It has no contract: tests compare the texts.
 pub fn completed<S: Serializer>(
     out: &mut S,
     ip_number: IpNumber,

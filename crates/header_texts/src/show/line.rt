@@ -7,7 +7,8 @@ use std::alloc::AllocError;
 /// The sequence that ends a tone.
 const RESET: &[u8; 4] = b"\x1b[0m";
 
-/// A line of ASCII that is being written behind what stands in `out`.
+/// A line that is being written behind what stands in `out`. A text is cut by its bytes, so it should
+/// be ASCII.
 #[derive(Drop)]
 pub struct Line<'o> {
     out: &'o mut Vec<u8>,
@@ -17,7 +18,8 @@ pub struct Line<'o> {
 }
 
 impl<'o> Line<'o> {
-    /// Begins a line of this style, of so many columns at most if it is cut.
+    /// Begins a line of this style, of so many columns at most if it is cut. It has no contract:
+    /// tests compare the texts.
     pub fn begin(style: Style, width: Option<usize>, out: &'o mut Vec<u8>) -> Line<'o> {
         Line {
             out,
@@ -26,7 +28,8 @@ impl<'o> Line<'o> {
         }
     }
 
-    /// Writes what fits into the columns that are left.
+    /// Writes what fits into the columns that are left. It has no contract: tests compare the
+    /// texts.
     pub fn text(&mut self, text: &str) -> Result<(), AllocError> {
         let bytes = text.as_bytes();
         let shown = match bytes.get(..self.left) {
@@ -41,7 +44,7 @@ impl<'o> Line<'o> {
         self.text(Buffer::new().format(n))
     }
 
-    /// A word and a number behind it.
+    /// A word and a number behind it. It has no contract: tests compare the texts.
     pub fn counted(&mut self, word: &str, n: u64) -> Result<(), AllocError> {
         self.text(word)?;
         self.number(n)

@@ -11,7 +11,7 @@ use ep_packet::SlicedPacket;
 use ep_tag::{LinkExtSlice, MacsecPayloadSlice, MacsecSlice};
 use std::alloc::AllocError;
 
-/// The tags behind a link header, the outer one first.
+/// The tags behind a link header, the outer one first. It has no contract: tests compare the texts.
 pub fn tags(line: &mut Line<'_>, tags: &[LinkExtSlice<'_>]) -> Result<(), AllocError> {
     for tag in tags {
         match tag {
@@ -40,7 +40,7 @@ fn macsec(line: &mut Line<'_>, tag: &MacsecSlice<'_>) -> Result<(), AllocError> 
     }
 }
 
-/// An ARP packet (RFC 826).
+/// An ARP packet (RFC 826). It has no contract: tests compare the texts.
 pub fn arp(line: &mut Line<'_>, packet: &ArpPacketSlice<'_>) -> Result<(), AllocError> {
     line.toned(Tone::Protocol, "ARP")?;
     let sender = <[u8; 4]>::try_from(packet.sender_protocol_addr());
@@ -110,7 +110,7 @@ fn arp_ipv4(line: &mut Line<'_>, address: &[u8]) -> Result<(), AllocError> {
 }
 
 /// A packet that has nothing of the network layer that is looked into: its addresses and what it
-/// is.
+/// is. It has no contract: tests compare the texts.
 pub fn other(
     line: &mut Line<'_>,
     layers: &SlicedPacket<'_>,

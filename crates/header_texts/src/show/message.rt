@@ -10,7 +10,7 @@ use std::alloc::AllocError;
 use verdicts::Verdict;
 
 /// A message that stands whole in a packet: where it came from and went to, its protocol, what its
-/// header says, and what its checksum tells.
+/// header says, and what its checksum tells. It has no contract: tests compare the texts.
 pub fn whole(
     line: &mut Line<'_>,
     whole: &WholeMessage<'_>,
@@ -23,7 +23,7 @@ pub fn whole(
 }
 
 /// A message that was put together of parts: its ports, its protocol, what its header says and its
-/// checksum tells, or why it is refused.
+/// checksum tells, or why it is refused. It has no contract: tests compare the texts.
 pub fn completed(
     line: &mut Line<'_>,
     ip_number: IpNumber,

@@ -8,7 +8,8 @@ use ep_packet::{Addresses, CutMessage, Part};
 use std::alloc::AllocError;
 
 /// A part of a message: where it came from and went to, its protocol, where it stands in its
-/// message, and its identification in a parenthesis that stays open.
+/// message, and its identification in a parenthesis that stays open. It has no contract: tests
+/// compare the texts.
 pub fn part(line: &mut Line<'_>, cut: &CutMessage<'_>) -> Result<(), AllocError> {
     addresses::endpoints(line, &cut.addresses, None)?;
     line.text(" ")?;
@@ -43,7 +44,8 @@ fn identification(line: &mut Line<'_>, cut: &CutMessage<'_>) -> Result<(), Alloc
     line.hex(d)
 }
 
-/// A fragment header that tells of no part, before one that does.
+/// A fragment header that tells of no part, before one that does. It has no contract: tests compare
+/// the texts.
 pub fn two_fragment_headers(
     line: &mut Line<'_>,
     addresses: Option<Addresses>,

@@ -14,7 +14,7 @@ use ep_tag::err::macsec;
 use ep_tcpudp::err::tcp;
 use std::alloc::AllocError;
 
-/// Why a packet is refused.
+/// Why a packet is refused. It has no contract: tests compare the texts.
 pub fn packet(line: &mut Line<'_>, error: &SliceError) -> Result<(), AllocError> {
     refused(line)?;
     match error {
@@ -52,7 +52,7 @@ pub(crate) fn message(line: &mut Line<'_>, error: &SliceError) -> Result<(), All
     }
 }
 
-/// Why a part of a message is refused.
+/// Why a part of a message is refused. It has no contract: tests compare the texts.
 pub fn part(line: &mut Line<'_>, error: &IpDefragError) -> Result<(), AllocError> {
     refused(line)?;
     match error {

@@ -6,7 +6,8 @@ use jiff::Timestamp;
 use jiff::tz::Offset;
 use std::alloc::AllocError;
 
-/// The number of a packet, and when it came: by the calendar, or since the first one.
+/// The number of a packet, and when it came: by the calendar, or since the first one. It has no
+/// contract: tests compare the texts.
 pub fn number_and_time(
     line: &mut Line<'_>,
     form: TimeForm,

@@ -7,7 +7,9 @@ use capture_inputs::{Look, note};
 use captures::RunError;
 use std::process::ExitCode;
 
-/// Tells an error on standard error, by the program's name, with a note behind it.
+/// Tells an error on standard error, by the program's name, with a note behind it. The status is 0,
+/// 3 where the input is refused, 4 where a read or a write failed, and 5 out of memory or after too
+/// many reads.
 pub fn exit_code<P: Eprint>(
     rt: &P,
     program: &str,

@@ -1,12 +1,18 @@
 //! What is written and flushed.
+ghost use Rattle.std.specs.Prelude.{Result};
+ghost use Rattle.runs.specs.Endings.{EndsFlushed};
+ghost use Rattle.captures.specs.declared.translation.run_error.RunError.{RunError};
+ghost use Rattle.packets.specs.Written.{WritesLines};
+
 use crate::{LineWriter, Report, Rules, write_lines};
 use captures::{RunError, Skipped};
+use runs::flush_behind;
 use std::alloc::Global;
 use std::hash::BuildHasher;
 use std::io::{ErrorKind, Read, Write};
 
-/// Writes lines of a capture. What is written is flushed, where the input is refused too. It has no
-/// contract: `write_lines` says what is written.
+/// [`write_lines`], and a flush behind it, where the input is refused too. A flush that fails behind
+/// a whole input is a failed write.
 pub fn write_flushed<R: Read + Drop, W: Write, L: LineWriter>(
     alloc: Global,
     rules: &Rules,
@@ -14,11 +20,13 @@ pub fn write_flushed<R: Read + Drop, W: Write, L: LineWriter>(
     reader: R,
     writer: &mut W,
     skipped: &mut Skipped,
-) -> Result<(), RunError> {
+) -> Result<(), RunError>
+    ensures { (done : Result Unit RunError) × EndsFlushed RunError.Write done result
+        × WritesLines (L.tells lines.now) rules.now skipped.new (R.remaining reader)
+        (W.contents writer.old) (W.contents writer.new) done }
+{
     let written = write_lines(alloc, rules, lines, reader, writer, skipped);
-    let flushed = flushed(writer);
-    written?;
-    flushed
+    flush_behind(writer, written, RunError::Write)
 }
 
 /// Writes what is told of a capture at its end. It has no contract: tests compare the texts.
@@ -31,15 +39,8 @@ pub fn write_report<S: BuildHasher, W: Write>(
         return Err(RunError::Memory);
     };
     match writer.write_all(text.as_bytes()) {
-        Ok(()) => flushed(writer),
+        Ok(()) => flush_behind(writer, Ok(()), RunError::Write),
         Err(error) if error.kind() == ErrorKind::WriteZero => Err(RunError::WriteZero),
-        Err(_) => Err(RunError::Write),
-    }
-}
-
-fn flushed<W: Write>(writer: &mut W) -> Result<(), RunError> {
-    match writer.flush() {
-        Ok(()) => Ok(()),
         Err(_) => Err(RunError::Write),
     }
 }

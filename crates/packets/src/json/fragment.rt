@@ -5,7 +5,8 @@ use header_texts::json::errors;
 use header_texts::json::fields::{begin as begin_object, number};
 use serde::Serializer;
 
-/// Begins the object that tells it, up to what is told of a message that is complete.
+/// Begins the object that tells it, up to what is told of a message that is complete. It has no
+/// contract: tests compare the texts.
 pub(crate) fn begin<S: Serializer>(out: &mut S, part: &Fragment) -> Result<(), S::Error> {
     begin_object(out, "fragment")?;
     match part {
@@ -27,7 +28,7 @@ pub(crate) fn begin<S: Serializer>(out: &mut S, part: &Fragment) -> Result<(), S
     }
 }
 
-/// Ends the object.
+/// Ends the object. It has no contract: tests compare the texts.
 pub(crate) fn end<S: Serializer>(out: &mut S) -> Result<(), S::Error> {
     out.end_map()?;
     out.end_map()

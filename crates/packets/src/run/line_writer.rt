@@ -1,10 +1,8 @@
 //! Writes the packets of a capture, a line for each.
-ghost use Rattle.std.specs.Prelude.{◌≡◌, ◌++◌, true, List, [], ℕ, IfOk, MatchResult, Option};
-ghost use Rattle.std.specs.Io.KnownBytes.{Appends, Consumes};
-ghost use Rattle.captures.specs.declared.packet.Packet.{Packet};
-ghost use Rattle.packets.specs.Courses.{AreDissected, no_course, shown};
-ghost use Rattle.packets.specs.Runs.{BreaksBy, EndsBy, IsWritten};
-ghost use Rattle.packets.specs.Written.{AreLines, one_line};
+ghost use Rattle.std.specs.Prelude.{◌≡◌, ◌++◌, true, List, [], ℕ, IfOk, MatchResult};
+ghost use Rattle.std.specs.Io.KnownBytes.{Appends};
+ghost use Rattle.packets.specs.Runs.{BreaksBy};
+ghost use Rattle.packets.specs.Written.{AreLines, WritesLines, one_line};
 ghost use Rattle.packets.specs.declared.dissection.Dissection.{Dissection};
 
 use crate::run::progress::NoProgress;
@@ -55,7 +53,8 @@ impl LineWriter for JsonLines {
 ///
 /// Lines of packets before a refusal are written, also where memory is wanting for the next one. An
 /// error of the writer goes before why the packets end. No write is tried again, and none follows
-/// one that failed.
+/// one that failed. No clause says when lines are written, nor that no write follows a failed one:
+/// tests do.
 pub fn write_lines<R: Read + Drop, W: Write, L: LineWriter>(
     alloc: Global,
     rules: &Rules,
@@ -64,13 +63,8 @@ pub fn write_lines<R: Read + Drop, W: Write, L: LineWriter>(
     writer: &mut W,
     skipped: &mut Skipped,
 ) -> Result<(), RunError>
-    ensures { (read : List ℕ) × (left : Option (List ℕ)) × (given : List Packet)
-        × (told : List Dissection) × Consumes (R.remaining reader) left read
-        × EndsBy true rules.now.unfit skipped.new left read given result
-        × AreDissected rules.now.forget no_course given told
-        × (text : List ℕ) × AreLines (L.tells lines.now) (shown rules.now.filter told) text
-        × (written : List ℕ) × Appends (W.contents writer.old) (W.contents writer.new) written
-        × IsWritten result text written }
+    ensures { WritesLines (L.tells lines.now) rules.now skipped.new (R.remaining reader)
+        (W.contents writer.old) (W.contents writer.new) result }
 {
     *skipped = Skipped::NONE;
     let Ok(mut packets) = PacketReader::new(alloc, rules.unfit, reader) else {

@@ -12,9 +12,10 @@ use captures::Unfit;
 pub struct Rules {
     /// Which packets are told.
     pub filter: Filter,
-    /// What becomes of packets that have no frame.
+    /// What becomes of packets of links that aren't read, without a frame, or too long.
     pub unfit: Unfit,
-    /// After how many seconds of packet time a message that is not complete is dropped, if ever.
+    /// The length in seconds, at least 1, of the spans of packet time after one to two of which a
+    /// message that is not complete is dropped. `None`: never.
     pub forget: Option<u32>,
 }
 

@@ -25,7 +25,7 @@ use std::io::Read;
 pub struct Ending {
     /// How many messages were on their way still.
     pub open: usize,
-    /// How many packets were passed over.
+    /// How many packets were passed over by then.
     pub skipped: Skipped,
     /// Whether the whole capture was read, or why not.
     pub result: Result<(), RunError>,

@@ -7,7 +7,7 @@ use header_texts::show::{Line, message, part, refusal};
 use std::alloc::AllocError;
 use verdicts::Verdict;
 
-/// A part of a message, and what became of it.
+/// A part of a message, and what became of it. It has no contract: tests compare the texts.
 pub(crate) fn part(
     line: &mut Line<'_>,
     number: u64,

@@ -8,6 +8,7 @@ pub(crate) struct Bar {
     pub eighths: u32,
 }
 
+/// It has no contract: tests compare the texts.
 impl fmt::Display for Bar {
     fn fmt<W: fmt::Write>(&self, f: &mut fmt::Formatter<W>) -> fmt::Result {
         for _ in 0..self.eighths / 8 {
@@ -26,7 +27,8 @@ impl fmt::Display for Bar {
     }
 }
 
-/// A column of one line's height, so many eighths of it high.
+/// A column of one line's height, so many eighths of it high. It has no contract: tests compare the
+/// texts.
 pub(crate) fn column(eighths: u32) -> &'static str {
     match eighths {
         0 => " ",
@@ -41,7 +43,8 @@ pub(crate) fn column(eighths: u32) -> &'static str {
     }
 }
 
-/// How many of `steps` a part of a whole is, rounded up, so that no part that is there has none.
+/// How many of `steps` a part of a whole is, rounded up, so that no part that is there has none. It
+/// has no contract: tests compare the texts.
 pub(crate) fn steps_of(part: u64, whole: u64, steps: u32) -> u32 {
     if part == 0 {
         return 0;

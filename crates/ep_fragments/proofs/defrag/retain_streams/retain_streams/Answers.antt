@@ -19,6 +19,7 @@ loop-at-preserved-then-answer g c =
           (rw c.if-answer.true at c.answer.ensures) i.asked;
       places = i.places;
       counts = i.counts;
+      sections = i.sections;
       fewer = i.fewer;
     }
 
@@ -72,6 +73,7 @@ loop-at-preserved g c =
         );
       };
       counts = omega (arith, fewer, i.counts, c.give.ensures.bytes);
+      sections = omega (arith, fewer, i.sections, c.give.ensures.sections);
       fewer = omega (arith, fewer, i.fewer);
     }
 
@@ -84,6 +86,9 @@ returns-clause-places g c = c.loop-at.invariant.places
 
 pub returns-clause-counts : goal.returns-clause-counts
 returns-clause-counts g c = c.loop-at.invariant.counts
+
+pub returns-clause-sections : goal.returns-clause-sections
+returns-clause-sections g c = c.loop-at.invariant.sections
 
 pub returns-clause-fewer : goal.returns-clause-fewer
 returns-clause-fewer g c = c.loop-at.invariant.fewer

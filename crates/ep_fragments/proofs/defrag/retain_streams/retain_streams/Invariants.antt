@@ -15,6 +15,8 @@ invariant-loop-at g l = record {
   places : HasPlaces l.spare (index_map_len l.streams);
   counts : index_map_len l.streams + vec_len l.spare.bytes
       ≡ index_map_len l.initial.streams + vec_len l.initial.spare.bytes;
+  sections : index_map_len l.streams + vec_len l.spare.sections
+      ≡ index_map_len l.initial.streams + vec_len l.initial.spare.sections;
   fewer : index_map_len l.streams ≤ index_map_len l.initial.streams;
 }
 

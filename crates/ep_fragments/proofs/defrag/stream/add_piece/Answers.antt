@@ -31,6 +31,6 @@ returns-in-Err-add-clause-places g c =
     (same_places _ _ _ (search rules) (c.make_places.ensures.made (search rules))))
 
 pub returns-in-Ok-2-add-clause-accepted : goal.returns-in-Ok-2-add-clause-accepted
-returns-in-Ok-2-add-clause-accepted g c fs shows =
-    first_waits c.args.rule (fragment_of c.args.piece.now) c.args.timestamp _ _ fs (search rules)
-    shows (search rules) (search rules) (search rules)
+returns-in-Ok-2-add-clause-accepted g c kept fs shows begins =
+    first_waits kept c.args.rule (fragment_of c.args.piece.now) c.args.timestamp _ _ fs
+    (search rules) shows begins (search rules) (search rules) (search rules)

@@ -3,10 +3,11 @@ use Rattle.std.proofs.KnownBytes.{Appends-nil, Consumes-nil}
 use Rattle.std.specs.Io.KnownBytes.{Consumes}
 use Rattle.captures.specs.Readers.{source_of}
 use Rattle.packets.specs.Courses.{shown}
-use Rattle.packets.specs.Runs.{EndsBy}
+use Rattle.packets.specs.Runs.{AreTaken, EndsBy}
+use Rattle.packets.specs.Written.{WritesLines}
 use Rattle.packets.proofs.EndLemmas.{break_ends, either_way, ends_taken, nothing_first}
 use Rattle.packets.proofs.EndLemmas.{weaker_unbroken}
-use Rattle.packets.proofs.LineLemmas.{Break, RunTold, Wait, ended_broken, ended_whole}
+use Rattle.packets.proofs.LineLemmas.{Break, Wait, ended_broken, ended_whole}
 use Rattle.packets.proofs.run.line_writer.write_lines.Goals as goal
 
 pub returns-in_default : goal.returns-in_default
@@ -46,7 +47,7 @@ returns-in-Ok-written g c =
     ((output.texts.waiting.items ≡ []) × Break tells first mid seen)
     (λ held. (held.2, held.3, held.4)) (λ held. (held.1, (held.2, held.3, held.4, held.5))) walked.6)
     c.in-Ok-written.ensures.written in
-    subst (λ writer. RunTold tells rules.unfit rules.forget rules.filter c.skipped.result
+    subst (λ writer. WritesLines tells rules c.skipped.result
     source first (g.W.Write.contents writer) result) (sym (c.writer-1.given.1 (sym writer))) (
       walked.0,
       left,
@@ -85,7 +86,7 @@ returns g c =
     ((output.texts.waiting.items ≡ []) × Break tells first mid seen)
     (λ held. (held.2, held.3, held.4)) (λ held. (held.1, (held.2, held.3, held.4, held.5))) walked.6)
     by in
-    subst (λ writer. RunTold tells rules.unfit rules.forget rules.filter c.skipped.result
+    subst (λ writer. WritesLines tells rules c.skipped.result
     source first (g.W.Write.contents writer) (Err c.in-Err.error))
     (sym (c.writer-1.given.1 (sym writer))) (
       walked.0,
@@ -95,7 +96,8 @@ returns g c =
       subst (λ reader. Consumes (g.R.Read.remaining reader) left walked.0) c.in-Ok.ensures.source
           walked.3,
       break_ends true rules.unfit c.skipped.result left walked.0 walked.1 c.in-Err.error _ by
-          (ends_taken rules.unfit _ left walked.0 walked.1 true result walked.4),
+          (subst (λ skipped. AreTaken rules.unfit skipped walked.0 walked.1) (sym c.skipped.ensures)
+          (ends_taken rules.unfit _ left walked.0 walked.1 true result walked.4)),
       walked.5,
       told.0,
       told.1,

@@ -37,7 +37,7 @@ returns-then-self-ge-READ_COUNT_LIMIT-clause-comes g c unfit read given h =
       r.0,
       rw (same.0, c.take_front.ensures.same.source) r.1,
       comes_too_many unfit front c.stop.new.self (read ++ r.0) given _ c.stop.result finds
-          c.if-self-ge-READ_COUNT_LIMIT.true c.stop.ensures.result same.1,
+          c.if-self-ge-READ_COUNT_LIMIT.true c.stop.ensures.result same.1 same.2,
     )
 
 pub returns-in-Ok-eq0-clause-comes : goal.returns-in-Ok-eq0-clause-comes
@@ -110,5 +110,5 @@ returns-in-Err-fill-clause-comes g c unfit read given h =
           (g.R.Read.remaining front.reader) (g.R.Read.remaining c.fill.new.reader) r.0
           (rw c.take_front.ensures.same.source r.1) failed.1),
       comes_failed unfit front c.stop-in-Err-fill.new.self (read ++ r.0) given _
-          c.stop-in-Err-fill.result finds c.stop-in-Err-fill.ensures.result same.1,
+          c.stop-in-Err-fill.result finds c.stop-in-Err-fill.ensures.result same.1 same.2,
     )

@@ -1,3 +1,4 @@
+use Rattle.std.proofs.Common.{refl}
 use Rattle.ep_defrag.proofs.Handed.{none_told, whole_told}
 use Rattle.ep_defrag.proofs.defrag.ip_defrag_pool.IpDefragPool.add_piece.Goals as goal
 use Rattle.ep_defrag.proofs.defrag.ip_defrag_pool.IpDefragPool.add_piece.Goals.{in-Ok-Some, in-Ok-None}
@@ -8,7 +9,7 @@ returns-clause-accepted g c fs shows =
     elim c.match-add.branch [
       | in-Ok-Some w ↦
           let told = rw w.in-Ok-Some.field-0-is at
-          (w.in-Ok-Some.ensures.accepted fs (rw c.self.view_is shows)) in
+          (w.in-Ok-Some.ensures.accepted c.args.rule fs (rw c.self.view_is shows) (λ e. refl)) in
           rw w.result-is
           (whole_told c.args.rule c.args.id c.args.timestamp _ _ _ _ told
           (λ i. record {
@@ -18,7 +19,16 @@ returns-clause-accepted g c fs shows =
           }))
       | in-Ok-None w ↦
           let told = rw w.in-Ok-None.field-0-is at
-          (w.in-Ok-None.ensures.accepted fs (rw c.self.view_is shows)) in
+          (w.in-Ok-None.ensures.accepted c.args.rule fs (rw c.self.view_is shows) (λ e. refl)) in
           rw w.result-is (none_told c.args.rule c.args.id c.args.timestamp _ _ told)
       | in-Err w ↦ rw w.result-is tt
+    ]
+
+pub returns-clause-refused : goal.returns-clause-refused
+returns-clause-refused g c fs shows =
+    elim c.match-add.branch [
+      | in-Ok-Some w ↦ rw w.result-is tt
+      | in-Ok-None w ↦ rw w.result-is tt
+      | in-Err w ↦ rw w.result-is
+          (w.in-Err.ensures.refused c.args.rule fs (rw c.self.view_is shows) (λ e. refl))
     ]

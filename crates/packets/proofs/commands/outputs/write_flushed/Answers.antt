@@ -1,0 +1,9 @@
+use Rattle.std.proofs.Common.{rules}
+use Rattle.packets.proofs.LineLemmas.{lines_flushed}
+use Rattle.packets.proofs.commands.outputs.write_flushed.Goals as goal
+
+pub returns : goal.returns
+returns g c =
+    let lines = lines_flushed (g.L.LineWriter.tells c.args.lines.now) c.args.rules.now _ _ _ _ _ _
+    c.write_lines-written.ensures c.flush_behind.ensures.bytes in
+    search rules
