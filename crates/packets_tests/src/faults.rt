@@ -3,10 +3,10 @@
 use crate::captured::{FRAMES, captured, captured_front};
 use crate::checks::{equal, holds};
 use crate::outcomes::{LINES, are_counted, are_written, end_of_lines, every_packet};
-use captures::{RunError, Skipped};
+use captures::{RunError, Skipped, Unfit};
 use fault_devices::{Fault, FaultReader, FaultWriter};
 use hex::FromHexError;
-use packets::{Dissection, Ending, LineWriter, Progress, Summary, summarize};
+use packets::{Dissection, Ending, LineWriter, Progress, Rules, Summary, summarize};
 use std::alloc::{AllocError, Global};
 use std::cell::Cell;
 use std::io::{self, ErrorKind, Read, Write};
@@ -38,6 +38,25 @@ fn readers_that_fail(rt: HostRuntime) {
     let capture = captured(&rt, rt.alloc(), 1, FRAMES);
     is_failed_by_read(&rt, rt.alloc(), capture.as_slice(), ErrorKind::Other);
     is_failed_by_read(&rt, rt.alloc(), capture.as_slice(), ErrorKind::Interrupted);
+}
+
+// Of a link that isn't read: the first packet is passed over by then.
+#[test]
+fn packets_are_passed_over_before_a_failed_read(rt: HostRuntime) {
+    let capture = captured(&rt, rt.alloc(), 9, FRAMES);
+    let rules = Rules {
+        unfit: Unfit::Skip,
+        ..every_packet(rt.alloc())
+    };
+    let fails = Fault::Fails(ErrorKind::Other);
+    let reader = FaultReader::failing(capture.as_slice(), 1, FIRST_END, fails);
+    let mut writer = FaultWriter::new(rt.alloc(), usize::MAX);
+    let ended = end_of_lines(rt.alloc(), &rules, &LINES, reader, &mut writer);
+    let skipped = Skipped {
+        of_other_links: 1,
+        ..Skipped::NONE
+    };
+    equal(&rt, &ended, &(Err(RunError::Read), skipped));
 }
 
 const TAKEN: &[u8] = b"    1   0.00\n    2  ";
