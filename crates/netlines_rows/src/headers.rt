@@ -24,7 +24,7 @@ pub struct Frames {
 }
 
 impl Frames {
-    /// No frames.
+    /// No frames. It has no contract: what the program prints is compared with what is stored.
     pub fn new(alloc: Global) -> Frames {
         Frames {
             same: 0,

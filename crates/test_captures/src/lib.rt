@@ -1,5 +1,4 @@
-//! Classic captures for tests, of frames that are written in hex. Tests alone call these functions,
-//! and are run: so none has a contract.
+//! Classic captures for tests, of frames that are written in hex.
 #![tactic(auto)]
 
 mod frames;
@@ -9,7 +8,8 @@ use hex::FromHexError;
 use std::alloc::Global;
 
 /// A capture of these frames, high byte first, on links of this type. The first came at
-/// 1700000000 s, and each other one 1500 us after the one before it.
+/// 1700000000 s, and each other one 1500 us after the one before it. It has no contract: tests alone
+/// call it, and are run.
 pub fn capture_of(alloc: Global, link_type: u32, frames: &[&str]) -> Result<Vec<u8>, FromHexError> {
     let mut capture = header(alloc, link_type)?;
     let mut microseconds = 0u32;
@@ -20,7 +20,8 @@ pub fn capture_of(alloc: Global, link_type: u32, frames: &[&str]) -> Result<Vec<
     Ok(capture)
 }
 
-/// A capture of Ethernet frames, each so many seconds after 1700000000 s.
+/// A capture of Ethernet frames, each so many seconds after 1700000000 s; it has no contract, as
+/// `capture_of`.
 pub fn timed_capture_of(alloc: Global, frames: &[(u32, &str)]) -> Result<Vec<u8>, FromHexError> {
     let mut capture = header(alloc, 1)?;
     for (seconds, frame) in frames {
