@@ -14,7 +14,7 @@ import ipaddress
 import os
 from dataclasses import dataclass, fields
 from pathlib import Path
-from typing import List, Optional, Sequence, Union
+from typing import Dict, List, Optional, Sequence, Union
 
 from . import _raw
 
@@ -42,6 +42,14 @@ _raw.declare_etherparse(_etherparse)
 _netlines = _library("netlines")
 _raw.declare_netlines(_netlines)
 
+
+def _names(prefix: str) -> Dict[int, str]:
+    """The names of constants with this prefix, by their values."""
+    names = [name for name in vars(_raw) if name.startswith(prefix)]
+    return {getattr(_raw, name): name[len(prefix) :].lower() for name in names}
+
+
+_LAYERS = {value: name.replace("_", " ") for value, name in _names("LAYER_").items()}
 _KINDS = {
     1: "too few bytes",
     2: "packet type of a Linux cooked capture",
@@ -76,7 +84,8 @@ class Refused(ValueError):
         self.source: int = refusal.source
         self.value: int = refusal.value
         if self.kind == 1:
-            text = f"layer {self.layer} at byte {self.place} needs {self.needed} bytes, and {self.there} are there"
+            layer = _LAYERS[self.layer]
+            text = f"{layer} at byte {self.place} needs {self.needed} bytes, and {self.there} are there"
         elif self.kind in _KINDS_WITHOUT_VALUE:
             text = _KINDS[self.kind]
         else:
@@ -274,9 +283,7 @@ def checksum_is_right(data: bytes) -> bool:
 
 Address = Union[ipaddress.IPv4Address, ipaddress.IPv6Address]
 
-_FIELDS = {
-    value: name[len("FIELD_") :].lower() for name, value in vars(_raw).items() if name.startswith("FIELD_")
-}
+_FIELDS = _names("FIELD_")
 
 
 class BuildRefused(ValueError):

@@ -87,7 +87,7 @@ class Packets(unittest.TestCase):
         self.assertEqual(ep.slice_ethernet(bytes(12) + b"\x88\xcc" + bytes(3)).payload, bytes(3))
 
     def test_refusal_text(self):
-        with self.assertRaisesRegex(ep.Refused, "layer 2 at byte 0 needs 14 bytes, and 13 are there"):
+        with self.assertRaisesRegex(ep.Refused, "^ethernet2 header at byte 0 needs 14 bytes, and 13 are there$"):
             ep.slice_ethernet(bytes(13))
         # Destination options, and behind them hop-by-hop options (RFC 8200, section 4.1).
         packet = bytes.fromhex("60000000 0010 3c 40") + bytes(32) + bytes([0] + [0] * 7) + bytes([59] + [0] * 7)

@@ -63,6 +63,35 @@ pub const NETLINES_NO_MEMORY: u32 = 2;
 /// The session isn't open, or was told the end, or is open already.
 pub const NETLINES_WRONG_STATE: u32 = 3;
 
+/// The layers' names, from number 1 on.
+pub(crate) const LAYER_NAMES: [&str; 25] = [
+    "linux sll header",
+    "ethernet2 header",
+    "ether payload",
+    "vlan header",
+    "macsec header",
+    "macsec packet",
+    "ip header",
+    "ipv4 header",
+    "ipv4 packet",
+    "ip auth header",
+    "ipv6 header",
+    "ipv6 packet",
+    "ipv6 ext header",
+    "ipv6 hop by hop header",
+    "ipv6 dest options header",
+    "ipv6 route header",
+    "ipv6 frag header",
+    "udp header",
+    "udp payload",
+    "tcp header",
+    "icmpv4",
+    "icmpv4 timestamp",
+    "icmpv4 timestamp reply",
+    "icmpv6",
+    "arp",
+];
+
 /// Why a packet is refused. All fields are 0 where it isn't.
 #[repr(C)]
 #[derive(Clone, Copy, Debug, PartialEq, Eq)]

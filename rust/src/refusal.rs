@@ -112,6 +112,13 @@ impl Refusal {
     }
 }
 
+impl fmt::Display for Layer {
+    fn fmt(&self, f: &mut fmt::Formatter<'_>) -> fmt::Result {
+        let index = (self.0 as usize).wrapping_sub(1);
+        f.write_str(raw::LAYER_NAMES.get(index).unwrap_or(&"no layer"))
+    }
+}
+
 impl LenSource {
     fn told(number: u32) -> LenSource {
         match number {
@@ -130,7 +137,7 @@ impl fmt::Display for Refusal {
     fn fmt(&self, f: &mut fmt::Formatter<'_>) -> fmt::Result {
         match self {
             Refusal::TooFewBytes { layer, needed, there, place, .. } => {
-                write!(f, "layer {} at byte {place} needs {needed} bytes, and {there} are there", layer.0)
+                write!(f, "{layer} at byte {place} needs {needed} bytes, and {there} are there")
             }
             Refusal::Header { fault, value, .. } => write!(f, "{fault:?}: {value}"),
         }

@@ -93,8 +93,9 @@ fn layers_borrow_the_frame() {
 fn faults_have_texts() {
     let refusal = slice_ip(&[0x50; 41]).unwrap_err();
     assert_eq!(refusal, Refusal::Header { layer: Layer(raw::LAYER_IP_HEADER), fault: Fault::IpVersion, value: 5 });
+    assert_eq!(Layer(raw::LAYER_ARP).to_string(), "arp");
     let error: Box<dyn std::error::Error> = slice_ethernet(&[0; 13]).unwrap_err().into();
-    assert_eq!(error.to_string(), "layer 2 at byte 0 needs 14 bytes, and 13 are there");
+    assert_eq!(error.to_string(), "ethernet2 header at byte 0 needs 14 bytes, and 13 are there");
 }
 
 #[test]

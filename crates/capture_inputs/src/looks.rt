@@ -18,7 +18,7 @@ pub enum Look {
     Bzip2,
     /// A capture, pcap or pcapng.
     Capture,
-    /// All of it is text.
+    /// All that was read first is text.
     Text,
     /// It can't be read, as it is a directory.
     Directory,

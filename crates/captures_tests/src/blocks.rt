@@ -47,7 +47,7 @@ pub(super) const TWO_SECTIONS_LINES: &[u8; 64] = b"frame 1 0102030405\n\
 
 #[test]
 fn file_of_scapy(rt: HostRuntime) {
-    tells(&rt, SCAPY, Ok(()), LINES);
+    tells(rt, SCAPY, Ok(()), LINES);
 }
 
 const SECTION: u32 = 0x0a0d_0d0a;
@@ -96,7 +96,7 @@ fn each_front_of_two_sections(rt: HostRuntime) {
             28 | 48 | 68 | 88 | 132 | 152 | 192 | 212 | 232 | 252 | 288 | 320 => Ok(()),
             _ => refused(CaptureError::CutOff, packet, offset as u64, block),
         };
-        tells(&rt, &TWO_SECTIONS[..n], wanted, lines_before(n));
+        tells(rt, &TWO_SECTIONS[..n], wanted, lines_before(n));
     }
 }
 
@@ -177,7 +177,7 @@ fn each_refusal(rt: HostRuntime) {
         (260, b"\x00\x00\x00\x02", bad, three, (4, 252, Some(6))),
     ] {
         let wanted = refused(error, packet, offset, block);
-        tells(&rt, &with_bytes(at, bytes), wanted, lines);
+        tells(rt, &with_bytes(at, bytes), wanted, lines);
     }
 }
 
@@ -199,6 +199,6 @@ fn fields_that_are_ignored(rt: HostRuntime) {
         (121, b"\xff\xff\xff"),
         (147, b"\xff"),
     ] {
-        tells(&rt, &with_bytes(at, bytes), Ok(()), TWO_SECTIONS_LINES);
+        tells(rt, &with_bytes(at, bytes), Ok(()), TWO_SECTIONS_LINES);
     }
 }

@@ -3,29 +3,34 @@
 use std::fmt::Debug;
 use std::process::Abort;
 
-pub fn equal<T: PartialEq + Debug>(rt: &impl Abort, told: &T, wanted: &T) {
+pub fn equal<T: PartialEq + Debug + Drop>(rt: impl Abort + Copy, told: T, wanted: T) {
     assert_eq!(rt; told, wanted);
 }
 
-pub fn holds(rt: &impl Abort, is_so: bool) {
+/// The same of bytes.
+pub fn equal_bytes(rt: impl Abort + Copy, told: &[u8], wanted: &[u8]) {
+    assert_eq!(rt; told, wanted);
+}
+
+pub fn holds(rt: impl Abort + Copy, is_so: bool) {
     assert!(rt; is_so);
 }
 
 /// These parts behind what is there.
-pub fn append(rt: &impl Abort, bytes: &mut Vec<u8>, parts: &[&[u8]]) {
+pub fn append(rt: impl Abort + Copy, bytes: &mut Vec<u8>, parts: &[&[u8]]) {
     for part in parts {
         assert!(rt; bytes.extend_from_slice(part).is_ok());
     }
 }
 
 /// These parts, one behind the other.
-pub fn joined(rt: &(impl Abort + AllocGlobal), parts: &[&[u8]]) -> Vec<u8> {
+pub fn joined(rt: impl Abort + AllocGlobal + Copy, parts: &[&[u8]]) -> Vec<u8> {
     let mut bytes = Vec::new(rt.alloc());
     append(rt, &mut bytes, parts);
     bytes
 }
 
 /// These bytes, so often.
-pub fn repeated(rt: &(impl Abort + AllocGlobal), bytes: &[u8], count: usize) -> Vec<u8> {
-    bytes.repeat(rt.alloc(), count).expect(rt, "no memory")
+pub fn repeated(rt: impl Abort + AllocGlobal + Copy, bytes: &[u8], count: usize) -> Vec<u8> {
+    bytes.repeat(rt.alloc(), count).expect(&rt, "no memory")
 }

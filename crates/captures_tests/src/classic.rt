@@ -57,7 +57,7 @@ fn each_byte_order_and_time_unit(rt: HostRuntime) {
         LITTLE_NANOSECONDS,
         BIG_NANOSECONDS,
     ] {
-        tells(&rt, file, Ok(()), LINES);
+        tells(rt, file, Ok(()), LINES);
     }
 }
 
@@ -76,7 +76,7 @@ fn each_front(rt: HostRuntime) {
             91..=147 => (refused(CaptureError::CutOff, 2, 90, None), &LINES[..109]),
             _ => (Ok(()), LINES.as_slice()),
         };
-        tells(&rt, &BIG_MICROSECONDS[..n], wanted, lines);
+        tells(rt, &BIG_MICROSECONDS[..n], wanted, lines);
     }
 }
 
@@ -115,7 +115,7 @@ fn each_refusal(rt: HostRuntime) {
         (98, b"\x00\x01\x86\x97", CaptureError::CutOff, first, 2, 90),
     ] {
         let wanted = refused(error, packet, offset, None);
-        tells(&rt, &with_bytes(at, bytes), wanted, lines);
+        tells(rt, &with_bytes(at, bytes), wanted, lines);
     }
 }
 
@@ -132,7 +132,7 @@ fn fields_that_are_ignored(rt: HostRuntime) {
         (36, b"\x00\x00\x05\xdc"),
         (36, b"\x00\x00\x00\x01"),
     ] {
-        tells(&rt, &with_bytes(at, bytes), Ok(()), LINES);
+        tells(rt, &with_bytes(at, bytes), Ok(()), LINES);
     }
 }
 
@@ -140,6 +140,6 @@ fn fields_that_are_ignored(rt: HostRuntime) {
 #[test]
 fn packet_of_no_bytes(rt: HostRuntime) {
     let record = b"\0\0\0\0\0\0\0\0\0\0\0\0\x3c\0\0\0";
-    let file = joined(&rt, &[&LITTLE_MICROSECONDS[..24], record]);
-    tells(&rt, file.as_slice(), Ok(()), b"");
+    let file = joined(rt, &[&LITTLE_MICROSECONDS[..24], record]);
+    tells(rt, file.as_slice(), Ok(()), b"");
 }

@@ -1,5 +1,5 @@
 //! What is made of an input, the flush, the status and what is told of an error.
-use crate::checks::{equal, holds, joined};
+use crate::checks::{equal, equal_bytes, holds, joined};
 use capture_commands::{Mode, PROGRAM, asked_for, exit_code, make, note};
 use capture_inputs::{Look, Told, input_look, input_of, look_at, tell_skipped};
 use captures::{CaptureError, Extra, Place, RunError, Skipped, TimeUnit, Unfit};
@@ -36,11 +36,11 @@ fn lines_are_made_a_capture_and_lines_again(rt: HostRuntime) -> Result<(), Fail>
     let mut skipped = Skipped::NONE;
     let to_capture = Mode::Capture(TimeUnit::Microseconds);
     let capture = made(rt.alloc(), to_capture, text, &mut skipped)?;
-    let wanted = joined(&rt, &[HEADER.as_slice(), PACKET.as_slice()]);
-    equal(&rt, &capture.as_slice(), &wanted.as_slice());
+    let wanted = joined(rt, &[HEADER.as_slice(), PACKET.as_slice()]);
+    equal_bytes(rt, capture.as_slice(), wanted.as_slice());
     let to_lines = Mode::Lines(Extra::Nothing, Unfit::Refuse);
     let lines = made(rt.alloc(), to_lines, capture.as_slice(), &mut skipped)?;
-    equal(&rt, &lines.as_slice(), &b"frame 0 0aff\n".as_slice());
+    equal_bytes(rt, lines.as_slice(), b"frame 0 0aff\n".as_slice());
     Ok(())
 }
 
@@ -80,7 +80,7 @@ fn the_word_capture_makes_a_capture(rt: HostRuntime) -> Result<(), Fail> {
         panic!(rt; "no mode");
     };
     let capture = made(rt.alloc(), mode, LINES, &mut Skipped::NONE)?;
-    equal(&rt, &capture.as_slice(), &CAPTURE.as_slice());
+    equal_bytes(rt, capture.as_slice(), CAPTURE.as_slice());
     Ok(())
 }
 
@@ -93,14 +93,14 @@ fn the_word_skip_passes_packets_over(rt: HostRuntime) -> Result<(), Fail> {
     let Some(mode) = mode_of(rt.alloc(), &["captures_cli", "lines", "--skip", "-"])? else {
         panic!(rt; "no mode");
     };
-    let file = joined(&rt, &[PPP_HEADER.as_slice(), PACKET.as_slice()]);
+    let file = joined(rt, &[PPP_HEADER.as_slice(), PACKET.as_slice()]);
     let mut skipped = Skipped::NONE;
     let lines = made(rt.alloc(), mode, file.as_slice(), &mut skipped)?;
-    holds(&rt, lines.is_empty());
+    holds(rt, lines.is_empty());
     equal(
-        &rt,
-        &format!(in rt.alloc(); "{skipped}")?.as_str(),
-        &"1 of other links, 0 too long, 0 without a frame",
+        rt,
+        format!(in rt.alloc(); "{skipped}")?.as_str(),
+        "1 of other links, 0 too long, 0 without a frame",
     );
     Ok(())
 }
@@ -132,7 +132,7 @@ const OPTIONS: &[(&[&str], Option<Mode>)] = &[
 fn words_of_options(rt: HostRuntime) -> Result<(), Fail> {
     for (words, wanted) in OPTIONS.iter() {
         let mode = mode_of(rt.alloc(), *words)?;
-        equal(&rt, &mode, wanted);
+        equal(rt, mode, *wanted);
     }
     Ok(())
 }
@@ -167,7 +167,7 @@ fn a_flush_that_fails_is_a_failed_write(rt: HostRuntime) {
         let mut skipped = Skipped::NONE;
         let made = make(rt.alloc(), mode, &mut &*input, &mut writer, &mut skipped);
         assert_eq!(rt; made, Err(RunError::Write));
-        equal(&rt, &writer.taken.as_slice(), &wanted);
+        equal(rt, writer.taken.as_slice(), wanted);
     }
 }
 
@@ -287,24 +287,24 @@ fn what_inputs_look_like(rt: HostRuntime) -> Result<(), Fail> {
 }
 
 // What a reader looks like whose first read is this one.
-fn look_of<R: Read + Drop>(rt: &(impl Abort + AllocGlobal), reader: R, wanted: Look) {
+fn look_of<R: Read + Drop>(rt: impl Abort + AllocGlobal + Copy, reader: R, wanted: Look) {
     let Ok(mut input) = input_of(rt.alloc(), reader) else {
         panic!(rt; "no memory for a buffer");
     };
-    equal(rt, &input_look(&mut input), &wanted);
+    equal(rt, input_look(&mut input), wanted);
 }
 
 #[test]
 fn what_first_reads_look_like(rt: HostRuntime) {
     let text = b"frame 0 0aff\n".as_slice();
-    look_of(&rt, text, Look::Text);
-    look_of(&rt, b"".as_slice(), Look::Empty);
+    look_of(rt, text, Look::Text);
+    look_of(rt, b"".as_slice(), Look::Empty);
     for (kind, wanted) in [
         (ErrorKind::IsADirectory, Look::Directory),
         (ErrorKind::Other, Look::Other),
     ] {
         let reader = FaultReader::failing(text, 64, 0, Fault::Fails(kind));
-        look_of(&rt, reader, wanted);
+        look_of(rt, reader, wanted);
     }
 }
 

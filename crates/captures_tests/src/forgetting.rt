@@ -1,12 +1,12 @@
 //! Lines that have messages dropped, worked by hand.
-use crate::checks::{append, equal, joined};
+use crate::checks::{append, equal, equal_bytes, joined};
 use crate::lines::tells_all;
 use captures::{Extra, Skipped, Unfit, run};
 use fault_devices::FaultReader;
 use std::process::Abort;
 
 // A classic capture, high byte first, of packets of one byte at these seconds and microseconds.
-fn capture_at(rt: &(impl Abort + AllocGlobal), times: &[(u32, u32)]) -> Vec<u8> {
+fn capture_at(rt: impl Abort + AllocGlobal + Copy, times: &[(u32, u32)]) -> Vec<u8> {
     let mut file = joined(
         rt,
         &[b"\xa1\xb2\xc3\xd4\x00\x02\x00\x04\0\0\0\0\0\0\0\0\x00\x04\x00\x00\0\0\0\x01"],
@@ -64,9 +64,9 @@ fn spans_that_pass(rt: HostRuntime) {
             "frame 0 01\nframe 0 01\nforget 1\nframe 0 01\n",
         ),
     ] {
-        let file = capture_at(&rt, times);
+        let file = capture_at(rt, times);
         tells_all(
-            &rt,
+            rt,
             Extra::Forget(seconds),
             file.as_slice(),
             wanted.as_bytes(),
@@ -79,7 +79,7 @@ fn spans_that_pass(rt: HostRuntime) {
 fn spans_over_reads(rt: HostRuntime) {
     // At 100 seconds IPv4, at 110 nothing, at 120 no version of IP, at 130 and 135 IPv4.
     let file = joined(
-        &rt,
+        rt,
         &[
             b"\xa1\xb2\xc3\xd4\x00\x02\x00\x04\0\0\0\0\0\0\0\0\x00\x04\x00\x00\0\0\0\x65",
             b"\0\0\0\x64\0\0\0\0\0\0\0\x01\0\0\0\x01\x45",
@@ -100,9 +100,9 @@ fn spans_over_reads(rt: HostRuntime) {
         &mut lines,
         &mut skipped,
     );
-    equal(&rt, &result, &Ok(()));
-    equal(&rt, &skipped.without_frame, &1);
+    equal(rt, result, Ok(()));
+    equal(rt, skipped.without_frame, 1);
     let wanted = b"frame 0 000000000000000000000000080045\nforget 1\n\
         frame 0 000000000000000000000000080045\nframe 0 000000000000000000000000080045\n";
-    equal(&rt, &lines.as_slice(), &wanted.as_slice());
+    equal_bytes(rt, lines.as_slice(), wanted.as_slice());
 }

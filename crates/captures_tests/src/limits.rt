@@ -11,7 +11,7 @@ const FRONT: &[u8; 48] = b"\
     \x00\x00\x00\x00\x14\x00\x00\x00";
 
 // The front and a block of this kind and length, 0 but for these words behind its two lengths.
-fn with_block(rt: &(impl Abort + AllocGlobal), kind: u32, len: u32, words: &[u32]) -> Vec<u8> {
+fn with_block(rt: impl Abort + AllocGlobal + Copy, kind: u32, len: u32, words: &[u32]) -> Vec<u8> {
     let mut file = joined(rt, &[FRONT, &kind.to_le_bytes(), &len.to_le_bytes()]);
     let mut left = (len as usize).saturating_sub(12);
     for word in words {
@@ -92,13 +92,13 @@ fn each_length(rt: HostRuntime) {
         (5, 262_148, [].as_slice(), Ok(()), 0),
         (5, 262_149, [].as_slice(), bad, 0),
     ] {
-        let file = with_block(&rt, kind, len, words);
+        let file = with_block(rt, kind, len, words);
         // The block stands behind the 48 bytes of the front.
         let wanted = match wanted {
             Ok(()) => Ok(()),
             Err(error) => refused(error, 1, 48, Some(kind)),
         };
-        tells_bytes(&rt, file.as_slice(), wanted, line_len);
+        tells_bytes(rt, file.as_slice(), wanted, line_len);
     }
 }
 
@@ -109,6 +109,6 @@ fn front_of_a_bad_section(rt: HostRuntime) {
     file[4] = 7;
     for (len, error) in [(20, CaptureError::NotCapture), (24, CaptureError::BadBlock)] {
         let wanted = refused(error, 1, 0, Some(0x0a0d_0d0a));
-        tells(&rt, &file[..len], wanted, b"");
+        tells(rt, &file[..len], wanted, b"");
     }
 }

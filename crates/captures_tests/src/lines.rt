@@ -46,7 +46,7 @@ pub fn lines_to<R: Read, W: Write>(
 
 /// The lines of a run that tells this beside frames and ends so.
 pub fn lines_of<R: Read>(
-    rt: &(impl Abort + AllocGlobal),
+    rt: impl Abort + AllocGlobal + Copy,
     extra: Extra,
     reader: &mut R,
     wanted: Result<(), RunError>,
@@ -61,24 +61,24 @@ pub fn lines_of<R: Read>(
         &mut lines,
         &mut skipped,
     );
-    equal(rt, &result, &wanted);
+    equal(rt, result, wanted);
     lines
 }
 
 /// A run over what is read ends so, and these are its lines.
 pub fn tells_read<R: Read>(
-    rt: &(impl Abort + AllocGlobal),
+    rt: impl Abort + AllocGlobal + Copy,
     reader: &mut R,
     wanted: Result<(), RunError>,
     lines: &[u8],
 ) {
     let told = lines_of(rt, Extra::Nothing, reader, wanted);
-    equal(rt, &told.as_slice(), &lines);
+    equal(rt, told.as_slice(), lines);
 }
 
 /// The same of a capture.
 pub fn tells(
-    rt: &(impl Abort + AllocGlobal),
+    rt: impl Abort + AllocGlobal + Copy,
     capture: &[u8],
     wanted: Result<(), RunError>,
     lines: &[u8],
@@ -88,25 +88,25 @@ pub fn tells(
 
 /// The same where only the number of the lines' bytes is told.
 pub fn tells_bytes(
-    rt: &(impl Abort + AllocGlobal),
+    rt: impl Abort + AllocGlobal + Copy,
     capture: &[u8],
     wanted: Result<(), RunError>,
     count: usize,
 ) {
     let told = lines_of(rt, Extra::Nothing, &mut &*capture, wanted);
-    equal(rt, &told.len(), &count);
+    equal(rt, told.len(), count);
 }
 
 /// A run that tells this beside frames tells the whole capture by these lines.
-pub fn tells_all(rt: &(impl Abort + AllocGlobal), extra: Extra, capture: &[u8], lines: &[u8]) {
+pub fn tells_all(rt: impl Abort + AllocGlobal + Copy, extra: Extra, capture: &[u8], lines: &[u8]) {
     let told = lines_of(rt, extra, &mut &*capture, Ok(()));
-    equal(rt, &told.as_slice(), &lines);
+    equal(rt, told.as_slice(), lines);
 }
 
 /// A run that passes over packets that can't be told ends so, after these lines, and has passed
 /// over so many. It doesn't add to what stood there.
 pub fn tells_skipping(
-    rt: &(impl Abort + AllocGlobal),
+    rt: impl Abort + AllocGlobal + Copy,
     capture: &[u8],
     wanted: Result<(), RunError>,
     lines: &[u8],
@@ -126,7 +126,7 @@ pub fn tells_skipping(
         &mut told,
         &mut skipped,
     );
-    equal(rt, &result, &wanted);
-    equal(rt, &told.as_slice(), &lines);
-    equal(rt, &skipped, &passed);
+    equal(rt, result, wanted);
+    equal(rt, told.as_slice(), lines);
+    equal(rt, skipped, passed);
 }

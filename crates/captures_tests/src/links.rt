@@ -5,7 +5,7 @@ use captures::CaptureError;
 use std::process::Abort;
 
 // A classic capture of one packet.
-pub fn capture(rt: &(impl Abort + AllocGlobal), link_type: u8, packet: &[u8]) -> Vec<u8> {
+pub fn capture(rt: impl Abort + AllocGlobal + Copy, link_type: u8, packet: &[u8]) -> Vec<u8> {
     // Link type 276 is written as 1 and 20.
     let high = if link_type == 20 { 1 } else { 0 };
     let len = ((packet.len() % 0x1_0000_0000) as u32).to_be_bytes();
@@ -100,13 +100,13 @@ fn frame_of_each_link(rt: HostRuntime) {
             Some(line) => (Ok(()), line),
             None => (refused(CaptureError::NoFrame, 1, 24, None), ""),
         };
-        let file = capture(&rt, link_type, packet);
-        tells(&rt, file.as_slice(), wanted, line.as_bytes());
+        let file = capture(rt, link_type, packet);
+        tells(rt, file.as_slice(), wanted, line.as_bytes());
     }
 }
 
 // A packet of this length that begins so, and else is 0.
-fn filled(rt: &(impl Abort + AllocGlobal), front: &[u8], len: usize) -> Vec<u8> {
+fn filled(rt: impl Abort + AllocGlobal + Copy, front: &[u8], len: usize) -> Vec<u8> {
     let zeros = repeated(rt, b"\0", len.saturating_sub(front.len()));
     joined(rt, &[front, zeros.as_slice()])
 }
@@ -123,9 +123,9 @@ fn longest_packets(rt: HostRuntime) {
         (113, cooked, 99_993, Ok(()), 199_991),
         (113, cooked, 99_994, too_long(99_994), 0),
     ] {
-        let packet = filled(&rt, front, len);
-        let file = capture(&rt, link_type, packet.as_slice());
-        tells_bytes(&rt, file.as_slice(), wanted, line_len);
+        let packet = filled(rt, front, len);
+        let file = capture(rt, link_type, packet.as_slice());
+        tells_bytes(rt, file.as_slice(), wanted, line_len);
     }
 }
 
@@ -153,7 +153,7 @@ pub fn packet_of(interface: u8) -> [u8; 36] {
 #[test]
 fn links_of_a_section(rt: HostRuntime) {
     let file = joined(
-        &rt,
+        rt,
         &[
             SECTION,
             &interface_of(101),
@@ -172,7 +172,7 @@ fn links_of_a_section(rt: HostRuntime) {
         frame 0 000000000000000000000000080045\n\
         frame 1 000000000000000000000000080045\n\
         frame 0 00000000000000000000000086dd60\n";
-    tells(&rt, file.as_slice(), Ok(()), lines);
+    tells(rt, file.as_slice(), Ok(()), lines);
 }
 
 // The 32nd interface of a section may have any link that is read, the 33rd has to be Ethernet.
@@ -185,13 +185,13 @@ fn link_of_the_33rd_interface(rt: HostRuntime) {
         (101, 101, link_error(101), b""),
         (101, 9, link_error(9), b""),
     ] {
-        let mut file = joined(&rt, &[SECTION]);
+        let mut file = joined(rt, &[SECTION]);
         for _ in 0..31 {
-            append(&rt, &mut file, &[&interface_of(1)]);
+            append(rt, &mut file, &[&interface_of(1)]);
         }
-        append(&rt, &mut file, &[&interface_of(last), &interface_of(next)]);
+        append(rt, &mut file, &[&interface_of(last), &interface_of(next)]);
         // A packet of the 33rd, and one of the 32nd.
-        append(&rt, &mut file, &[&packet_of(32), &packet_of(31)]);
-        tells(&rt, file.as_slice(), wanted, lines);
+        append(rt, &mut file, &[&packet_of(32), &packet_of(31)]);
+        tells(rt, file.as_slice(), wanted, lines);
     }
 }

@@ -20,7 +20,7 @@ const PACKET: &[u8; 20] = b"\
 pub(super) const CUSTOM: u32 = 0x0bad;
 
 // What stands within a block of this length: what could be taken for its end too.
-fn words_within(rt: &(impl Abort + AllocGlobal), len: u32) -> Vec<u8> {
+fn words_within(rt: impl Abort + AllocGlobal + Copy, len: u32) -> Vec<u8> {
     let mut words = Vec::new(rt.alloc());
     for place in 0..len.saturating_sub(12) / 4 {
         let word = if place % 3 == 0 { len } else { place };
@@ -31,7 +31,7 @@ fn words_within(rt: &(impl Abort + AllocGlobal), len: u32) -> Vec<u8> {
 
 // A packet, a block of this kind and length, which ends with another one, and two packets.
 pub(super) fn with_long_block(
-    rt: &(impl Abort + AllocGlobal),
+    rt: impl Abort + AllocGlobal + Copy,
     kind: u32,
     len: u32,
     second: u32,
@@ -56,10 +56,10 @@ pub(super) fn with_long_block(
 fn long_blocks_are_skipped(rt: HostRuntime) {
     let lines = b"frame 0 abcd\nframe 0 abcd\nframe 0 abcd\n";
     for len in [262_148, 262_152, 1_000_000] {
-        let file = with_long_block(&rt, CUSTOM, len, len);
+        let file = with_long_block(rt, CUSTOM, len, len);
         for size in [1, 3, 4_096, 262_144] {
             let mut reader = FaultReader::new(file.as_slice(), size);
-            tells_read(&rt, &mut reader, Ok(()), lines);
+            tells_read(rt, &mut reader, Ok(()), lines);
         }
     }
 }
@@ -77,11 +77,11 @@ fn long_blocks_that_are_refused(rt: HostRuntime) {
         (CUSTOM, 262_148, 262_144, CaptureError::BadBlock),
         (CUSTOM, 1_000_000, 1_000_001, CaptureError::BadBlock),
     ] {
-        let file = with_long_block(&rt, kind, len, second);
+        let file = with_long_block(rt, kind, len, second);
         let wanted = refused(error, 2, 68, Some(kind));
         for size in [3, 262_144] {
             let mut reader = FaultReader::new(file.as_slice(), size);
-            tells_read(&rt, &mut reader, wanted, b"frame 0 abcd\n");
+            tells_read(rt, &mut reader, wanted, b"frame 0 abcd\n");
         }
     }
 }
@@ -89,7 +89,7 @@ fn long_blocks_that_are_refused(rt: HostRuntime) {
 // The block has the bytes from 68 to 600,068.
 #[test]
 fn long_block_cut_off(rt: HostRuntime) {
-    let file = with_long_block(&rt, CUSTOM, 600_000, 600_000);
+    let file = with_long_block(rt, CUSTOM, 600_000, 600_000);
     let cut = refused(CaptureError::CutOff, 2, 68, Some(CUSTOM));
     for (len, wanted) in [
         // One byte tells no type.
@@ -105,7 +105,7 @@ fn long_block_cut_off(rt: HostRuntime) {
         assert!(rt; len <= file.len());
         for size in [3, 262_144] {
             let mut reader = FaultReader::new(&file.as_slice()[..len], size);
-            tells_read(&rt, &mut reader, wanted, b"frame 0 abcd\n");
+            tells_read(rt, &mut reader, wanted, b"frame 0 abcd\n");
         }
     }
 }
@@ -123,10 +123,10 @@ const END: &[u8; 4] = b"\x00\x04\x00\x04";
 // Two long blocks in a row, and a section of the other byte order that has one.
 #[test]
 fn long_blocks_of_both_byte_orders(rt: HostRuntime) {
-    let low_order = with_long_block(&rt, CUSTOM, 300_000, 300_000);
-    let within = repeated(&rt, b"\xff", 262_136);
+    let low_order = with_long_block(rt, CUSTOM, 300_000, 300_000);
+    let within = repeated(rt, b"\xff", 262_136);
     let file = joined(
-        &rt,
+        rt,
         &[
             low_order.as_slice(),
             OTHER_SECTION,
@@ -142,6 +142,6 @@ fn long_blocks_of_both_byte_orders(rt: HostRuntime) {
     let lines = b"frame 0 abcd\nframe 0 abcd\nframe 0 abcd\nframe 1 ef\n";
     for size in [7, 100_000, 262_144] {
         let mut reader = FaultReader::new(file.as_slice(), size);
-        tells_read(&rt, &mut reader, Ok(()), lines);
+        tells_read(rt, &mut reader, Ok(()), lines);
     }
 }

@@ -1,6 +1,6 @@
 //! Runs whose reads and writes move one byte, fail, or move none.
 use crate::blocks::{TWO_SECTIONS, TWO_SECTIONS_LINES};
-use crate::checks::equal;
+use crate::checks::{equal, equal_bytes};
 use crate::classic::LITTLE_NANOSECONDS;
 use crate::lines::{LINES, lines_to, tells_read};
 use crate::text::capture_of;
@@ -20,8 +20,8 @@ fn one_byte_a_call(rt: HostRuntime) {
         let mut reader = FaultReader::new(file, 1);
         let mut writer = FaultWriter::new(rt.alloc(), 1);
         let result = lines_to(rt.alloc(), &mut reader, &mut writer);
-        equal(&rt, &result, &Ok(()));
-        equal(&rt, &writer.taken.as_slice(), &lines);
+        equal(rt, result, Ok(()));
+        equal(rt, writer.taken.as_slice(), lines);
     }
 }
 
@@ -30,10 +30,10 @@ fn reads_that_fail(rt: HostRuntime) {
     let failed = Err(RunError::Read);
     // The first line, and a byte of the second.
     let mut reader = FaultReader::failing(&LINES[..110], 1, 110, FAILS);
-    let capture = capture_of(&rt, TimeUnit::Microseconds, &mut reader, failed);
-    equal(&rt, &capture.len(), &90);
+    let capture = capture_of(rt, TimeUnit::Microseconds, &mut reader, failed);
+    equal(rt, capture.len(), 90);
     let mut reader = FaultReader::failing(capture.as_slice(), 1, 90, FAILS);
-    tells_read(&rt, &mut reader, failed, &LINES[..109]);
+    tells_read(rt, &mut reader, failed, &LINES[..109]);
 }
 
 #[test]
@@ -47,8 +47,8 @@ fn writes_that_fail(rt: HostRuntime) {
             &mut LINES.as_slice(),
             &mut writer,
         );
-        equal(&rt, &result, &Err(RunError::Write));
-        equal(&rt, &writer.taken.len(), &room);
+        equal(rt, result, Err(RunError::Write));
+        equal(rt, writer.taken.len(), room);
     }
 }
 
@@ -57,8 +57,8 @@ fn writer_without_room(rt: HostRuntime) {
     let mut room = [0u8; 111];
     let mut reader = LITTLE_NANOSECONDS.as_slice();
     let result = lines_to(rt.alloc(), &mut reader, &mut room.as_mut_slice());
-    equal(&rt, &result, &Err(RunError::WriteZero));
-    equal(&rt, &room.as_slice(), &&LINES[..111]);
+    equal(rt, result, Err(RunError::WriteZero));
+    equal_bytes(rt, room.as_slice(), &LINES[..111]);
 }
 
 #[test]
@@ -87,6 +87,6 @@ fn texts_of_errors(rt: HostRuntime) {
         };
         let told = format!(in rt.alloc(); "{}", RunError::Capture(error, place));
         let told = told.expect(&rt, "no memory");
-        equal(&rt, &told.as_str(), &text);
+        equal(rt, told.as_str(), text);
     }
 }

@@ -54,8 +54,8 @@ fn each_read_of_a_run(rt: HostRuntime) {
                 _ => Err(RunError::Read),
             };
             let mut reader = FaultReader::failing(CAPTURE, 1, before, fault);
-            tells_read(&rt, &mut reader, wanted, lines_of(before));
-            equal(&rt, &reader.calls, &before.saturating_add(1));
+            tells_read(rt, &mut reader, wanted, lines_of(before));
+            equal(rt, reader.calls, before.saturating_add(1));
         }
     }
 }
@@ -75,9 +75,9 @@ fn each_read_of_lines(rt: HostRuntime) {
         for before in [0usize, 14, 15, 31, 32] {
             let mut reader = FaultReader::failing(TIMED_LINES, 1, before, fault);
             let wanted = Err(RunError::Read);
-            let capture = capture_of(&rt, TimeUnit::Microseconds, &mut reader, wanted);
-            equal(&rt, &reader.calls, &before.saturating_add(1));
-            equal(&rt, &capture.as_slice(), &front_of(before));
+            let capture = capture_of(rt, TimeUnit::Microseconds, &mut reader, wanted);
+            equal(rt, reader.calls, before.saturating_add(1));
+            equal(rt, capture.as_slice(), front_of(before));
         }
     }
 }
@@ -116,8 +116,8 @@ fn runs_of_few_reads(rt: HostRuntime) {
         let mut reader = FaultReader::new(CAPTURE, 1);
         let mut lines = Vec::new(rt.alloc());
         let result = run_of(rt.alloc(), &mut reader, &mut lines, reads);
-        equal(&rt, &(result, reader.calls), &end_of_reads(reads, 60));
-        equal(&rt, &lines.as_slice(), &lines_of(usize::from(reads)));
+        equal(rt, (result, reader.calls), end_of_reads(reads, 60));
+        equal(rt, lines.as_slice(), lines_of(usize::from(reads)));
     }
 }
 
@@ -137,7 +137,7 @@ fn runs_of_few_reads_of_lines(rt: HostRuntime) {
         let mut reader = FaultReader::new(TIMED_LINES, 1);
         let mut capture = Vec::new(rt.alloc());
         let result = run_of_lines(rt.alloc(), &mut reader, &mut capture, reads);
-        equal(&rt, &(result, reader.calls), &end_of_reads(reads, 33));
-        equal(&rt, &capture.as_slice(), &front_of(usize::from(reads)));
+        equal(rt, (result, reader.calls), end_of_reads(reads, 33));
+        equal(rt, capture.as_slice(), front_of(usize::from(reads)));
     }
 }

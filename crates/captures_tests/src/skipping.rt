@@ -12,7 +12,7 @@ use std::process::Abort;
 const RECORD: &[u8; 17] = b"\0\0\0\0\0\0\0\0\0\0\0\x01\0\0\0\x01\x45";
 
 // A classic capture of a packet of so many bytes, which are 0, and of RECORD.
-fn two_packets(rt: &(impl Abort + AllocGlobal), link_type: u8, len: usize) -> Vec<u8> {
+fn two_packets(rt: impl Abort + AllocGlobal + Copy, link_type: u8, len: usize) -> Vec<u8> {
     let packet = repeated(rt, b"\0", len);
     let file = capture(rt, link_type, packet.as_slice());
     joined(rt, &[file.as_slice(), RECORD])
@@ -73,8 +73,8 @@ fn packets_of_each_kind(rt: HostRuntime) {
             "",
         ),
     ] {
-        let file = two_packets(&rt, link_type, len);
-        tells_skipping(&rt, file.as_slice(), Ok(()), lines.as_bytes(), skipped);
+        let file = two_packets(rt, link_type, len);
+        tells_skipping(rt, file.as_slice(), Ok(()), lines.as_bytes(), skipped);
     }
 }
 
@@ -86,8 +86,8 @@ fn captures_that_are_told_whole(rt: HostRuntime) {
         BIG_NANOSECONDS,
         TWO_SECTIONS,
     ] {
-        let lines = lines_of(&rt, Extra::Nothing, &mut &*file, Ok(()));
-        tells_skipping(&rt, file, Ok(()), lines.as_slice(), Skipped::NONE);
+        let lines = lines_of(rt, Extra::Nothing, &mut &*file, Ok(()));
+        tells_skipping(rt, file, Ok(()), lines.as_slice(), Skipped::NONE);
     }
 }
 
@@ -95,9 +95,9 @@ fn captures_that_are_told_whole(rt: HostRuntime) {
 // counted, but not in the place.
 #[test]
 fn refusals_after_packets_are_passed_over(rt: HostRuntime) {
-    let packet = capture(&rt, 101, b"\0");
+    let packet = capture(rt, 101, b"\0");
     let head = b"\0\0\0\0\0\0\0\0\0\x03\xff\xf1\0\x03\xff\xf1";
-    let file = joined(&rt, &[packet.as_slice(), head]);
+    let file = joined(rt, &[packet.as_slice(), head]);
     let one = Skipped {
         without_frame: 1,
         ..Skipped::NONE
@@ -108,7 +108,7 @@ fn refusals_after_packets_are_passed_over(rt: HostRuntime) {
     ] {
         assert!(rt; len <= file.len());
         let wanted = refused(error, 1, 41, None);
-        tells_skipping(&rt, &file.as_slice()[..len], wanted, b"", one);
+        tells_skipping(rt, &file.as_slice()[..len], wanted, b"", one);
     }
 }
 
@@ -117,7 +117,7 @@ fn refusals_after_packets_are_passed_over(rt: HostRuntime) {
 #[test]
 fn interfaces_of_two_sections(rt: HostRuntime) {
     let section = joined(
-        &rt,
+        rt,
         &[
             SECTION,
             &interface_of(9),
@@ -129,15 +129,15 @@ fn interfaces_of_two_sections(rt: HostRuntime) {
             &packet_of(0),
         ],
     );
-    let file = repeated(&rt, section.as_slice(), 2);
+    let file = repeated(rt, section.as_slice(), 2);
     let lines = b"frame 1 45\nframe 2 000000000000000000000000080045\n\
         frame 4 45\nframe 5 000000000000000000000000080045\n";
     let passed = Skipped {
         of_other_links: 4,
         ..Skipped::NONE
     };
-    tells_skipping(&rt, file.as_slice(), Ok(()), lines, passed);
+    tells_skipping(rt, file.as_slice(), Ok(()), lines, passed);
     // Without that, the run ends at the first description.
     let wanted = refused(CaptureError::LinkType(9), 1, 28, Some(1));
-    tells(&rt, file.as_slice(), wanted, b"");
+    tells(rt, file.as_slice(), wanted, b"");
 }

@@ -13,36 +13,36 @@ const HEADER: &[u8; 24] = b"\
 
 /// The capture that a run makes of what is read, which ends so.
 pub fn capture_of<R: Read>(
-    rt: &(impl Abort + AllocGlobal),
+    rt: impl Abort + AllocGlobal + Copy,
     time_unit: TimeUnit,
     reader: &mut R,
     wanted: Result<(), RunError>,
 ) -> Vec<u8> {
     let mut capture = Vec::new(rt.alloc());
     let result = write_capture(rt.alloc(), time_unit, reader, &mut capture);
-    equal(rt, &result, &wanted);
+    equal(rt, result, wanted);
     capture
 }
 
 // Compares what follows the file header too.
 fn writes<R: Read>(
-    rt: &(impl Abort + AllocGlobal),
+    rt: impl Abort + AllocGlobal + Copy,
     reader: &mut R,
     wanted: Result<(), RunError>,
     packets: &[u8],
 ) {
     let capture = capture_of(rt, TimeUnit::Microseconds, reader, wanted);
-    equal(rt, &capture.as_slice().strip_prefix(HEADER), &Some(packets));
+    equal(rt, capture.as_slice().strip_prefix(HEADER), Some(packets));
 }
 
 #[test]
 fn lines_come_back(rt: HostRuntime) {
-    let capture = capture_of(&rt, TimeUnit::Microseconds, &mut LINES.as_slice(), Ok(()));
+    let capture = capture_of(rt, TimeUnit::Microseconds, &mut LINES.as_slice(), Ok(()));
     let capture = capture.as_slice();
     let record = b"\0\0\0\0\0\0\0\0\x32\0\0\0\x32\0\0\0".as_slice();
-    equal(&rt, &capture.get(..24), &Some(HEADER.as_slice()));
-    equal(&rt, &capture.get(24..40), &Some(record));
-    tells(&rt, capture, Ok(()), LINES);
+    equal(rt, capture.get(..24), Some(HEADER.as_slice()));
+    equal(rt, capture.get(24..40), Some(record));
+    tells(rt, capture, Ok(()), LINES);
 }
 
 // Each with what follows the file header.
@@ -99,7 +99,7 @@ fn each_line(rt: HostRuntime) {
             b"\0\0\0\0\0\0\0\0\x01\0\0\0\x01\0\0\0\x01",
         ),
     ] {
-        writes(&rt, &mut &*text, wanted, packets);
+        writes(rt, &mut &*text, wanted, packets);
     }
 }
 
@@ -132,8 +132,8 @@ fn each_front_of_a_text(rt: HostRuntime) {
     for n in 0..=28 {
         let (wanted, packets) = front_of_two(n);
         let text = &TWO_LINES[..n];
-        writes(&rt, &mut &*text, wanted, packets);
-        writes(&rt, &mut FaultReader::new(text, 1), wanted, packets);
+        writes(rt, &mut &*text, wanted, packets);
+        writes(rt, &mut FaultReader::new(text, 1), wanted, packets);
     }
 }
 
@@ -147,15 +147,15 @@ fn longest_frame(rt: HostRuntime) {
     ] {
         // A frame of so many bytes, all of them 0.
         let line = joined(
-            &rt,
+            rt,
             &[
                 b"frame 0000000000 ",
-                repeated(&rt, b"00", len).as_slice(),
+                repeated(rt, b"00", len).as_slice(),
                 b" 0000000000 0000000000 0000000000",
             ],
         );
-        let capture = capture_of(&rt, TimeUnit::Microseconds, &mut line.as_slice(), wanted);
-        equal(&rt, &capture.len(), &size);
+        let capture = capture_of(rt, TimeUnit::Microseconds, &mut line.as_slice(), wanted);
+        equal(rt, capture.len(), size);
     }
 }
 
@@ -163,12 +163,12 @@ fn longest_frame(rt: HostRuntime) {
 #[test]
 fn line_without_end(rt: HostRuntime) {
     for (len, wanted) in [(200_032, RunError::Read), (200_033, RunError::BadLine(1))] {
-        let text = repeated(&rt, b"0", len);
+        let text = repeated(rt, b"0", len);
         let fault = Fault::Fails(ErrorKind::Other);
         let mut reader = text
             .as_slice()
             .chain(FaultReader::failing(b"", 1, 0, fault));
-        let capture = capture_of(&rt, TimeUnit::Microseconds, &mut reader, Err(wanted));
-        equal(&rt, &capture.len(), &24);
+        let capture = capture_of(rt, TimeUnit::Microseconds, &mut reader, Err(wanted));
+        equal(rt, capture.len(), 24);
     }
 }

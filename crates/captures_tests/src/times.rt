@@ -20,11 +20,11 @@ fn times_of_scapy(rt: HostRuntime) {
         LITTLE_NANOSECONDS,
         BIG_NANOSECONDS,
     ] {
-        tells_all(&rt, Extra::Times, file, TIMED_LINES);
+        tells_all(rt, Extra::Times, file, TIMED_LINES);
     }
     for time_unit in [TimeUnit::Microseconds, TimeUnit::Nanoseconds] {
-        let file = capture_of(&rt, time_unit, &mut TIMED_LINES.as_slice(), Ok(()));
-        tells_all(&rt, Extra::Times, file.as_slice(), TIMED_LINES);
+        let file = capture_of(rt, time_unit, &mut TIMED_LINES.as_slice(), Ok(()));
+        tells_all(rt, Extra::Times, file.as_slice(), TIMED_LINES);
     }
 }
 
@@ -55,7 +55,7 @@ fn times_of_classic_captures(rt: HostRuntime) {
     ] {
         // High byte first, with one packet of one byte.
         let file = joined(
-            &rt,
+            rt,
             &[
                 magic,
                 b"\x00\x02\x00\x04\0\0\0\0\0\0\0\0\x00\x04\x00\x00\0\0\0\x01",
@@ -63,7 +63,7 @@ fn times_of_classic_captures(rt: HostRuntime) {
                 b"\0\0\0\x01\0\0\0\x01\x01",
             ],
         );
-        tells_all(&rt, Extra::Times, file.as_slice(), line.as_bytes());
+        tells_all(rt, Extra::Times, file.as_slice(), line.as_bytes());
     }
 }
 
@@ -72,7 +72,7 @@ const SECTION: &[u8; 28] = b"\
     \x0a\x0d\x0d\x0a\x1c\0\0\0\x4d\x3c\x2b\x1a\x01\0\0\0\xff\xff\xff\xff\xff\xff\xff\xff\x1c\0\0\0";
 
 // The description of an Ethernet interface with these options.
-fn describe(rt: &impl Abort, file: &mut Vec<u8>, options: &[u8]) {
+fn describe(rt: impl Abort + Copy, file: &mut Vec<u8>, options: &[u8]) {
     let len = 20u8.saturating_add((options.len() % 256) as u8);
     append(
         rt,
@@ -86,7 +86,7 @@ fn describe(rt: &impl Abort, file: &mut Vec<u8>, options: &[u8]) {
 }
 
 // An enhanced packet of one byte, at this count of its clock's parts.
-fn add_packet(rt: &impl Abort, file: &mut Vec<u8>, interface: u8, count: u64) {
+fn add_packet(rt: impl Abort + Copy, file: &mut Vec<u8>, interface: u8, count: u64) {
     append(
         rt,
         file,
@@ -183,10 +183,10 @@ fn clocks_of_interfaces(rt: HostRuntime) {
         (b"\x09\0\x02\0\x00\0\0\0", 5, "frame 0 01 0 5\n"),
         (b"\x0e\0\x08\0\x10\x0e\0\0", 5, "frame 0 01 0 5\n"),
     ] {
-        let mut file = joined(&rt, &[SECTION]);
-        describe(&rt, &mut file, options);
-        add_packet(&rt, &mut file, 0, count);
-        tells_all(&rt, Extra::Times, file.as_slice(), line.as_bytes());
+        let mut file = joined(rt, &[SECTION]);
+        describe(rt, &mut file, options);
+        add_packet(rt, &mut file, 0, count);
+        tells_all(rt, Extra::Times, file.as_slice(), line.as_bytes());
     }
 }
 
@@ -194,10 +194,10 @@ fn clocks_of_interfaces(rt: HostRuntime) {
 // section in the other byte order, whose interface counts seconds.
 #[test]
 fn times_of_other_blocks(rt: HostRuntime) {
-    let mut file = joined(&rt, &[SECTION]);
-    describe(&rt, &mut file, b"");
+    let mut file = joined(rt, &[SECTION]);
+    describe(rt, &mut file, b"");
     append(
-        &rt,
+        rt,
         &mut file,
         &[
             b"\x02\0\0\0\x24\0\0\0\0\0\x10\0\0\0\0\0\x40\x42\x0f\0\x01\0\0\0\x01\0\0\0\
@@ -212,27 +212,27 @@ fn times_of_other_blocks(rt: HostRuntime) {
         ],
     );
     let lines = b"frame 0 02 1 0\nframe 0 03 0 0\nframe 1 04 7 0\n";
-    tells_all(&rt, Extra::Times, file.as_slice(), lines);
+    tells_all(rt, Extra::Times, file.as_slice(), lines);
 }
 
 // The first 32 interfaces have clocks of their own. Behind them all have that of the last one.
 #[test]
 fn clocks_behind_the_32nd(rt: HostRuntime) {
-    let mut file = joined(&rt, &[SECTION]);
+    let mut file = joined(rt, &[SECTION]);
     for _ in 0..31 {
-        describe(&rt, &mut file, b"");
+        describe(rt, &mut file, b"");
     }
-    describe(&rt, &mut file, b"\x09\0\x01\0\x03\0\0\0");
-    describe(&rt, &mut file, b"\x09\0\x01\0\x00\0\0\0");
-    add_packet(&rt, &mut file, 31, 1);
-    add_packet(&rt, &mut file, 32, 1);
-    describe(&rt, &mut file, b"");
-    add_packet(&rt, &mut file, 32, 1);
-    add_packet(&rt, &mut file, 31, 1);
-    add_packet(&rt, &mut file, 0, 1);
+    describe(rt, &mut file, b"\x09\0\x01\0\x03\0\0\0");
+    describe(rt, &mut file, b"\x09\0\x01\0\x00\0\0\0");
+    add_packet(rt, &mut file, 31, 1);
+    add_packet(rt, &mut file, 32, 1);
+    describe(rt, &mut file, b"");
+    add_packet(rt, &mut file, 32, 1);
+    add_packet(rt, &mut file, 31, 1);
+    add_packet(rt, &mut file, 0, 1);
     let lines = b"frame 31 01 0 1000\nframe 32 01 1 0\nframe 32 01 0 1\n\
         frame 31 01 0 1000\nframe 0 01 0 1\n";
-    tells_all(&rt, Extra::Times, file.as_slice(), lines);
+    tells_all(rt, Extra::Times, file.as_slice(), lines);
 }
 
 // What follows the file header of a capture in microseconds, and in nanoseconds.
@@ -267,9 +267,9 @@ fn nanoseconds_of_lines(rt: HostRuntime) {
             ),
             (TimeUnit::Nanoseconds, b"\x4d\x3c\xb2\xa1", nano),
         ] {
-            let file = capture_of(&rt, time_unit, &mut text.as_bytes(), wanted);
-            equal(&rt, &file.as_slice().get(..4), &Some(magic));
-            equal(&rt, &file.as_slice().get(24..), &Some(packets));
+            let file = capture_of(rt, time_unit, &mut text.as_bytes(), wanted);
+            equal(rt, file.as_slice().get(..4), Some(magic));
+            equal(rt, file.as_slice().get(24..), Some(packets));
         }
     }
 }

@@ -35,8 +35,8 @@ fn each_write_of_some_bytes(rt: HostRuntime) {
             reader: &mut nothing,
             writer: &mut writer,
         };
-        equal(&rt, &write_whole(&mut device, LINES), &wanted);
-        equal(&rt, &Some(writer.taken.as_slice()), &LINES.get(..len));
+        equal(rt, write_whole(&mut device, LINES), wanted);
+        equal(rt, Some(writer.taken.as_slice()), LINES.get(..len));
     }
 }
 
@@ -50,8 +50,8 @@ fn each_write_of_a_run(rt: HostRuntime) {
             let mut writer = FaultWriter::failing(rt.alloc(), 50, before, fault);
             let result = lines_to(rt.alloc(), &mut reader, &mut writer);
             let (wanted, len) = ended_by(fault, place, 202);
-            equal(&rt, &result, &wanted);
-            equal(&rt, &Some(writer.taken.as_slice()), &LINES.get(..len));
+            equal(rt, result, wanted);
+            equal(rt, Some(writer.taken.as_slice()), LINES.get(..len));
         }
     }
 }
@@ -59,8 +59,8 @@ fn each_write_of_a_run(rt: HostRuntime) {
 // The header has 24 bytes, and the two records, which one read lets be written together, 66 and 58.
 #[test]
 fn each_write_of_a_capture(rt: HostRuntime) {
-    let whole = capture_of(&rt, TimeUnit::Microseconds, &mut LINES.as_slice(), Ok(()));
-    equal(&rt, &whole.len(), &148);
+    let whole = capture_of(rt, TimeUnit::Microseconds, &mut LINES.as_slice(), Ok(()));
+    equal(rt, whole.len(), 148);
     for fault in [FAILS, Fault::MovesNone, Fault::MovesOne] {
         for (before, place) in [(0, 0), (1, 24), (2, 74), (3, 124), (4, 148)] {
             let mut writer = FaultWriter::failing(rt.alloc(), 50, before, fault);
@@ -71,11 +71,11 @@ fn each_write_of_a_capture(rt: HostRuntime) {
                 &mut writer,
             );
             let (wanted, len) = ended_by(fault, place, 148);
-            equal(&rt, &result, &wanted);
+            equal(rt, result, wanted);
             equal(
-                &rt,
-                &Some(writer.taken.as_slice()),
-                &whole.as_slice().get(..len),
+                rt,
+                Some(writer.taken.as_slice()),
+                whole.as_slice().get(..len),
             );
         }
     }

@@ -19,14 +19,14 @@ fn packets_are_those_of_scapy(rt: HostRuntime) {
             writer: &mut file,
         },
     };
-    equal(&rt, &writer.write_header(), &Ok(()));
+    equal(rt, writer.write_header(), Ok(()));
     let written = writer.write_packet(1_700_000_000, 250_000, first);
-    equal(&rt, &written, &Ok(()));
+    equal(rt, written, Ok(()));
     let written = writer.write_packet(1_700_000_001, 250_000, second);
-    equal(&rt, &written, &Ok(()));
+    equal(rt, written, Ok(()));
     let file = file.as_slice();
-    equal(&rt, &file.len(), &148);
-    equal(&rt, &file.get(..16), &wanted.get(..16));
-    equal(&rt, &file.get(20..), &wanted.get(20..));
-    tells(&rt, file, Ok(()), LINES);
+    equal(rt, file.len(), 148);
+    equal(rt, file.get(..16), wanted.get(..16));
+    equal(rt, file.get(20..), wanted.get(20..));
+    tells(rt, file, Ok(()), LINES);
 }

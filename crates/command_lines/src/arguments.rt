@@ -1,6 +1,22 @@
-//! Arguments of both programs, each with a help of its own.
-use clap::{Arg, ArgAction, value_parser};
-use std::alloc::Global;
+//! What the command lines of both programs have in common, each with a help of its own.
+use clap::{Arg, ArgAction, Command, value_parser};
+use std::alloc::{AllocError, Global};
+
+/// A program, of which a command is wanted. It has no contract: tests compare what words ask for.
+pub fn program<'a>(alloc: Global, name: &'a str, about: &'a str) -> Command<'a> {
+    Command::new(alloc, name)
+        .about(about)
+        .version("0.1.0")
+        .subcommand_required(true)
+}
+
+/// The program with one more command. It has no contract, as `program`.
+pub fn with_command<'a>(
+    program: Command<'a>,
+    command: Result<Command<'a>, AllocError>,
+) -> Result<Command<'a>, AllocError> {
+    program.subcommand(command?)
+}
 
 /// An option without a value. It has no contract: tests compare what words ask for.
 pub fn flag<'a>(alloc: Global, name: &'a str, help: &'a str) -> Arg<'a> {

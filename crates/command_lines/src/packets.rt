@@ -1,24 +1,23 @@
 //! The command line of `packets_cli`.
-use crate::arguments::{file, flag, number};
+use crate::arguments::{file, flag, number, program, with_command};
 use clap::{Arg, ArgAction, Command};
 use std::alloc::{AllocError, Global};
 
 /// The command line. It has no contract: tests compare what words ask for.
-pub fn command<'a>(alloc: Global) -> Result<Command<'a>, clap::Error> {
-    Ok(
-        Command::new(alloc, "packets_cli")
-            .about("What is in a capture file")
-            .version("0.1.0")
-            .subcommand_required(true)
-            .subcommand(with_input(alloc, show(alloc)?)?)?
-            .subcommand(with_input(alloc, json(alloc)?)?)?
-            .subcommand(with_input(alloc, summary(alloc))?)?,
-    )
+pub fn command<'a>(alloc: Global) -> Result<Command<'a>, AllocError> {
+    let program = program(alloc, "packets_cli", "What is in a capture file");
+    let program = with_command(program, show(alloc))?;
+    let program = with_command(program, json(alloc))?;
+    with_command(program, summary(alloc))
 }
 
 fn show<'a>(alloc: Global) -> Result<Command<'a>, AllocError> {
-    Command::new(alloc, "show")
-        .about("Writes a line for each packet")
+    let command = Command::new(alloc, "show").about("Writes a line for each packet");
+    with_input(alloc, with_style(alloc, command)?)
+}
+
+fn with_style<'a>(alloc: Global, command: Command<'a>) -> Result<Command<'a>, AllocError> {
+    command
         .arg(flag(
             alloc,
             "utc",
@@ -38,15 +37,17 @@ fn color<'a>(alloc: Global) -> Arg<'a> {
 }
 
 fn json<'a>(alloc: Global) -> Result<Command<'a>, AllocError> {
-    Command::new(alloc, "json")
+    let command = Command::new(alloc, "json")
         .about("Writes a JSON object for each packet")
-        .arg(flag(alloc, "payload", "Writes the bytes of payloads, in hex"))
+        .arg(flag(alloc, "payload", "Writes the bytes of payloads, in hex"))?;
+    with_input(alloc, command)
 }
 
-fn summary<'a>(alloc: Global) -> Command<'a> {
-    Command::new(alloc, "summary").about(
+fn summary<'a>(alloc: Global) -> Result<Command<'a>, AllocError> {
+    let command = Command::new(alloc, "summary").about(
         "Counts what is in a capture: protocols, refusals, checksums, fragments, talkers",
-    )
+    );
+    with_input(alloc, command)
 }
 
 // What each command takes: which packets are told, and of which file.

@@ -41,7 +41,7 @@ pub struct Script {
 }
 
 // What a fragment's call has to tell; no contract, as above.
-fn wanted(rt: &impl Abort, answer: Answer) -> Result<bool, IpDefragError> {
+fn wanted(rt: impl Abort + Copy, answer: Answer) -> Result<bool, IpDefragError> {
     match answer {
         Answer::Open => Ok(false),
         Answer::Whole => Ok(true),
@@ -51,7 +51,7 @@ fn wanted(rt: &impl Abort, answer: Answer) -> Result<bool, IpDefragError> {
 
 // Whether the message is complete with a fragment; no contract, as above.
 fn told(
-    rt: &impl Abort,
+    rt: impl Abort + Copy,
     buf: &mut IpDefragBuf,
     units: u16,
     more_fragments: bool,
@@ -64,7 +64,7 @@ fn told(
 }
 
 /// Hands a fragment in, and fails where something else becomes of it; no contract, as above.
-pub fn goes(rt: &impl Abort, row: &str, buf: &mut IpDefragBuf, step: &Step) {
+pub fn goes(rt: impl Abort + Copy, row: &str, buf: &mut IpDefragBuf, step: &Step) {
     let Step(units, more_fragments, bytes, answer, len) = *step;
     let told = told(rt, buf, units, more_fragments, bytes);
     equal_in(rt, row, &told, &wanted(rt, answer));
@@ -79,7 +79,7 @@ pub fn is_left_as(buf: &IpDefragBuf, left: &Left) -> bool {
 }
 
 /// Hands a script's fragments in to a buffer that is empty; no contract, as above.
-pub fn goes_through(rt: &impl Abort, buf: &mut IpDefragBuf, script: &Script) {
+pub fn goes_through(rt: impl Abort + Copy, buf: &mut IpDefragBuf, script: &Script) {
     let row = script.name;
     holds_in(
         rt,
@@ -102,7 +102,7 @@ fn made(alloc: Global, rule: OverlapRule) -> IpDefragBuf {
 }
 
 // A buffer without a section is as it was made; no contract, as above.
-fn runs(rt: &impl Abort, alloc: Global, script: &Script) {
+fn runs(rt: impl Abort + Copy, alloc: Global, script: &Script) {
     let mut buf = made(alloc, script.rule);
     goes_through(rt, &mut buf, script);
     holds_in(
@@ -118,7 +118,7 @@ fn runs(rt: &impl Abort, alloc: Global, script: &Script) {
 }
 
 /// Goes through each script with a buffer of its own; no contract, as above.
-pub fn runs_all(rt: &impl Abort, alloc: Global, scripts: &[Script]) {
+pub fn runs_all(rt: impl Abort + Copy, alloc: Global, scripts: &[Script]) {
     for script in scripts.iter() {
         runs(rt, alloc, script);
     }

@@ -2,7 +2,7 @@
 
 use crate::buffer_scripts::Answer::{Open, Refused, Whole};
 use crate::buffer_scripts::{Left, Script, Step, goes, goes_through, is_left_as, runs_all};
-use crate::checks::{equal, holds};
+use crate::checks::{equal, fail, holds};
 use crate::fragments::{ZEROS, empty, has_bytes, is_its_copy, offset};
 use crate::refusals::Refusal::{Conflict, TooBig, Unaligned};
 use crate::refusals::error_of;
@@ -160,7 +160,7 @@ const SCRIPTS: &[Script] = &[
 
 #[test]
 fn fragments_as_they_come(rt: HostRuntime) {
-    runs_all(&rt, rt.alloc(), SCRIPTS);
+    runs_all(rt, rt.alloc(), SCRIPTS);
 }
 
 const FIRST: &[u8] = &[0x01, 0x02, 0x03, 0x04, 0x05, 0x06, 0x07, 0x08];
@@ -173,11 +173,11 @@ fn all_of_a_repeat_and_its_end(rt: HostRuntime) {
     let all = [
         (zero, true, &FIRST[..]),
         (zero, true, &SECOND[..]),
-        (offset(&rt, 1), false, &ZEROS[..0]),
+        (offset(rt, 1), false, &ZEROS[..0]),
     ];
     let mut buf = empty(rt.alloc());
-    equal(&rt, &buf.add_all(&all), &Ok(3));
-    holds(&rt, buf.is_complete() && has_bytes(&buf, SECOND));
+    equal(rt, buf.add_all(&all), Ok(3));
+    holds(rt, buf.is_complete() && has_bytes(&buf, SECOND));
 }
 
 const WITH_A_GAP: Left = Left {
@@ -196,16 +196,16 @@ const BEYOND: Step = Step(3, true, &[0; 8], Refused(Conflict(24, 32)), 24);
 #[test]
 fn all_but_one_beyond_the_end(rt: HostRuntime) {
     let all = [
-        (offset(&rt, 4), true, &ZEROS[..0]),
-        (offset(&rt, 0), true, &FIRST[..]),
-        (offset(&rt, 1), false, &ZEROS[..16]),
-        (offset(&rt, 3), true, &ZEROS[..8]),
+        (offset(rt, 4), true, &ZEROS[..0]),
+        (offset(rt, 0), true, &FIRST[..]),
+        (offset(rt, 1), false, &ZEROS[..16]),
+        (offset(rt, 3), true, &ZEROS[..8]),
     ];
     let mut buf = empty(rt.alloc());
-    equal(&rt, &buf.add_all(&all), &Ok(3));
-    holds(&rt, !buf.is_complete() && is_left_as(&buf, &WITH_A_GAP));
-    goes(&rt, "beyond the end", &mut buf, &BEYOND);
-    equal(&rt, &is_its_copy(&buf), &Some(true));
+    equal(rt, buf.add_all(&all), Ok(3));
+    holds(rt, !buf.is_complete() && is_left_as(&buf, &WITH_A_GAP));
+    goes(rt, "beyond the end", &mut buf, &BEYOND);
+    equal(rt, is_its_copy(&buf), Some(true));
 }
 
 const OPEN_AT_ZERO: Script = Script {
@@ -230,13 +230,13 @@ const AT_ZERO: Step = Step(0, true, &[0; 8], Open, 24);
 #[test]
 fn a_copy_is_equal(rt: HostRuntime) {
     let mut buf = empty(rt.alloc());
-    goes_through(&rt, &mut buf, &OPEN_AT_ZERO);
+    goes_through(rt, &mut buf, &OPEN_AT_ZERO);
     let Ok(copy) = buf.try_clone() else {
-        panic!(rt; "no memory for a copy");
+        fail(rt, "no memory for a copy");
     };
-    equal(&rt, &copy, &buf);
-    goes(&rt, "behind the copy", &mut buf, &AT_ZERO);
-    holds(&rt, copy != buf);
+    equal(rt, &copy, &buf);
+    goes(rt, "behind the copy", &mut buf, &AT_ZERO);
+    holds(rt, copy != buf);
 }
 
 // A fragment for a buffer, and what comes where its memory serves again.
@@ -271,11 +271,11 @@ const AGAIN: &[(Step, Script)] = &[
 
 // Goes through a script with the memory of a buffer that took a fragment. It has no contract, as
 // tests alone call it.
-fn serves_again(rt: &impl Abort, alloc: Global, step: &Step, script: &Script) {
+fn serves_again(rt: impl Abort + Copy, alloc: Global, step: &Step, script: &Script) {
     let mut buf = empty(alloc);
     goes(rt, script.name, &mut buf, step);
     let (bytes, sections) = buf.take_bufs();
-    equal(rt, &bytes.len(), &step.4);
+    equal(rt, bytes.len(), step.4);
     let mut again = IpDefragBuf::new(IpNumber::TCP, bytes, sections);
     goes_through(rt, &mut again, script);
 }
@@ -283,24 +283,24 @@ fn serves_again(rt: &impl Abort, alloc: Global, step: &Step, script: &Script) {
 #[test]
 fn buffers_serve_again(rt: HostRuntime) {
     for (step, script) in AGAIN.iter() {
-        serves_again(&rt, rt.alloc(), step, script);
+        serves_again(rt, rt.alloc(), step, script);
     }
 }
 
 // 65536 bytes are too many, and none are a message. It has no contract, as above.
-fn are_too_many(rt: &impl Abort, alloc: Global, bytes: &[u8]) {
+fn are_too_many(rt: impl Abort + Copy, alloc: Global, bytes: &[u8]) {
     let zero = IpFragOffset::ZERO;
     let mut buf = empty(alloc);
     let long = buf.add(zero, true, bytes);
-    equal(rt, &long, &Err(error_of(rt, TooBig(0, 65536, 65535))));
+    equal(rt, long, Err(error_of(rt, TooBig(0, 65536, 65535))));
     let taken = buf.add_all(&[(zero, false, bytes), (zero, false, &[])]);
-    equal(rt, &taken, &Ok(1));
+    equal(rt, taken, Ok(1));
     holds(rt, buf.is_complete());
 }
 
 #[test]
 fn bytes_above_the_greatest_length(rt: HostRuntime) -> Result<(), Fail> {
     let bytes = vec![in rt.alloc(); 0u8; 65536]?;
-    are_too_many(&rt, rt.alloc(), &bytes);
+    are_too_many(rt, rt.alloc(), &bytes);
     Ok(())
 }

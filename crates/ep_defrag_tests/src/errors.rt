@@ -1,6 +1,6 @@
 //! Why fragments are refused: the texts and their order.
 
-use crate::checks::{equal_in, holds_in};
+use crate::checks::{equal_in, fail, holds_in};
 use crate::refusals::Refusal::{Conflict, NoMemory, Overlap, TooBig, Unaligned};
 use crate::refusals::{Refusal, error_of};
 use std::alloc::Global;
@@ -31,18 +31,18 @@ const TEXTS: &[(Refusal, &str)] = &[
 ];
 
 // Fails where a refusal reads otherwise. It has no contract, as tests alone call it.
-fn reads_as(rt: &impl Abort, alloc: Global, refusal: Refusal, text: &str) {
+fn reads_as(rt: impl Abort + Copy, alloc: Global, refusal: Refusal, text: &str) {
     let error = error_of(rt, refusal);
     match format!(in alloc; "{error}") {
         Ok(found) => equal_in(rt, text, &found.as_str(), &text),
-        Err(_) => panic!(rt; "no memory for a text"),
+        Err(_) => fail(rt, "no memory for a text"),
     }
 }
 
 #[test]
 fn texts_of_refusals(rt: HostRuntime) {
     for (refusal, text) in TEXTS.iter() {
-        reads_as(&rt, rt.alloc(), *refusal, text);
+        reads_as(rt, rt.alloc(), *refusal, text);
     }
 }
 
@@ -60,13 +60,13 @@ const ORDERED: &[(&str, Refusal, Refusal)] = &[
 ];
 
 // Whether one refusal is less than the other; no contract, as above.
-fn are_ordered(rt: &impl Abort, less: Refusal, greater: Refusal) -> bool {
+fn are_ordered(rt: impl Abort + Copy, less: Refusal, greater: Refusal) -> bool {
     error_of(rt, less) < error_of(rt, greater)
 }
 
 #[test]
 fn refusals_are_ordered_by_kind(rt: HostRuntime) {
     for (row, less, greater) in ORDERED.iter() {
-        holds_in(&rt, row, are_ordered(&rt, *less, *greater));
+        holds_in(rt, row, are_ordered(rt, *less, *greater));
     }
 }

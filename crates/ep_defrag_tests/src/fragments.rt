@@ -20,7 +20,7 @@ pub fn refusing(alloc: Global) -> IpDefragBuf {
 }
 
 /// The offset of so many units of 8 bytes; no contract, as above.
-pub fn offset(rt: &impl Abort, units: u16) -> IpFragOffset {
+pub fn offset(rt: impl Abort + Copy, units: u16) -> IpFragOffset {
     let Ok(offset) = IpFragOffset::try_new(units) else {
         panic!(rt; "{units} is no offset");
     };

@@ -1,7 +1,7 @@
 //! Frames with the two halves of a UDP message, as the tests hand them in. The functions have no
 //! contracts: tests alone call them, and are run.
 
-use crate::checks::holds;
+use crate::checks::{fail, holds};
 use ep_defrag::defrag::{IpDefragError, IpDefragPayloadVec, IpDefragPool};
 use ep_packet::SlicedPacket;
 use std::hash::BuildHasher;
@@ -91,21 +91,21 @@ pub const TAGGED_SECOND: &[u8] = &[
 
 /// Hands a frame in; no contract, as above.
 pub fn process<S: BuildHasher>(
-    rt: &impl Abort,
+    rt: impl Abort + Copy,
     pool: &mut IpDefragPool<u64, u32, S>,
     frame: &[u8],
     timestamp: u64,
     channel: u32,
 ) -> Result<Option<IpDefragPayloadVec>, IpDefragError> {
     let Ok(packet) = SlicedPacket::from_ethernet(frame) else {
-        panic!(rt; "a frame isn't sliced");
+        fail(rt, "a frame isn't sliced");
     };
     pool.process_sliced_packet(&packet, timestamp, channel)
 }
 
 /// Hands a frame in, and tells whether it completes a message; no contract, as above.
 pub fn delivers<S: BuildHasher>(
-    rt: &impl Abort,
+    rt: impl Abort + Copy,
     pool: &mut IpDefragPool<u64, u32, S>,
     frame: &[u8],
     timestamp: u64,
@@ -119,7 +119,7 @@ pub fn delivers<S: BuildHasher>(
 
 /// Hands a frame in whose message waits for more; no contract, as above.
 pub fn waits<S: BuildHasher>(
-    rt: &impl Abort,
+    rt: impl Abort + Copy,
     pool: &mut IpDefragPool<u64, u32, S>,
     frame: &[u8],
     timestamp: u64,
@@ -131,7 +131,7 @@ pub fn waits<S: BuildHasher>(
 /// Keeps the messages of this time and of later ones: from `u64::MAX` on there are none. No
 /// contract, as above.
 pub fn keep_from<S: BuildHasher>(
-    rt: &impl Abort,
+    rt: impl Abort + Copy,
     pool: &mut IpDefragPool<u64, u32, S>,
     least: u64,
 ) {

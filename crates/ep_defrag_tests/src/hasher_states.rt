@@ -31,15 +31,15 @@ fn the_names_collide_by_the_fixed_seed_alone(rt: HostRuntime) -> Result<(), Fail
     let fixed = BuildHasherDefault::<FoldHasher>::new();
     let random = RandomState::new(&rt)?;
     for first in 1..=255 {
-        equal(&rt, &hash_of(&fixed, first), &hash_of(&fixed, 0));
-        holds(&rt, hash_of(&random, first) != hash_of(&random, 0));
+        equal(rt, hash_of(&fixed, first), hash_of(&fixed, 0));
+        holds(rt, hash_of(&random, first) != hash_of(&random, 0));
     }
     Ok(())
 }
 
 // How many of 256 halves whose names are such ones complete a message; no contract, as above.
 fn completed<S: BuildHasher>(
-    rt: &impl Abort,
+    rt: impl Abort + Copy,
     pool: &mut IpDefragPool<u64, u32, S>,
     half: &[u8],
 ) -> usize {
@@ -58,17 +58,20 @@ fn completed<S: BuildHasher>(
 }
 
 // Each message is handed out by its second half; no contract, as above.
-fn keeps_names_apart<S: BuildHasher + Drop>(rt: &impl Abort, mut pool: IpDefragPool<u64, u32, S>) {
+fn keeps_names_apart<S: BuildHasher + Drop>(
+    rt: impl Abort + Copy,
+    mut pool: IpDefragPool<u64, u32, S>,
+) {
     let begun = completed(rt, &mut pool, IPV6_FIRST);
     let ended = completed(rt, &mut pool, IPV6_SECOND);
-    equal(rt, &(begun, ended, pool.open_len()), &(0, 256, 0));
+    equal(rt, (begun, ended, pool.open_len()), (0, 256, 0));
 }
 
 #[test]
 fn names_that_collide_stay_apart(rt: HostRuntime) -> Result<(), Fail> {
-    keeps_names_apart(&rt, IpDefragPool::new(rt.alloc()));
+    keeps_names_apart(rt, IpDefragPool::new(rt.alloc()));
     let state = RandomState::new(&rt)?;
-    keeps_names_apart(&rt, IpDefragPool::with_hasher(rt.alloc(), state));
+    keeps_names_apart(rt, IpDefragPool::with_hasher(rt.alloc(), state));
     Ok(())
 }
 
@@ -76,6 +79,6 @@ fn names_that_collide_stay_apart(rt: HostRuntime) -> Result<(), Fail> {
 fn calls_in_a_row_by_random_keys(rt: HostRuntime) -> Result<(), Fail> {
     let state = RandomState::new(&rt)?;
     let pool = IpDefragPool::with_hasher(rt.alloc(), state);
-    goes_in_a_row(&rt, rt.alloc(), pool, &CALLS_IN_A_ROW);
+    goes_in_a_row(rt, rt.alloc(), pool, &CALLS_IN_A_ROW);
     Ok(())
 }

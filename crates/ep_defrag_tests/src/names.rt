@@ -76,7 +76,7 @@ const NAMES: &[(&str, &[u8], &[u8], usize)] = &[
 // Whether the second half completes the message, and not where one byte is changed. It has no
 // contract, as tests alone call it.
 fn stays_apart(
-    rt: &impl Abort,
+    rt: impl Abort + Copy,
     alloc: Global,
     first: &[u8],
     second: &[u8],
@@ -95,8 +95,8 @@ fn stays_apart(
 #[test]
 fn names_in_each_part(rt: HostRuntime) {
     for (row, first, second, changed) in NAMES.iter() {
-        let apart = stays_apart(&rt, rt.alloc(), first, second, *changed);
-        holds_in(&rt, row, apart);
+        let apart = stays_apart(rt, rt.alloc(), first, second, *changed);
+        holds_in(rt, row, apart);
     }
 }
 
@@ -123,5 +123,5 @@ const SCRIPTS: &[Script] = &[
 
 #[test]
 fn names_with_other_parts(rt: HostRuntime) {
-    runs_all(&rt, rt.alloc(), SCRIPTS);
+    runs_all(rt, rt.alloc(), SCRIPTS);
 }

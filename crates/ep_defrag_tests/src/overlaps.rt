@@ -2,7 +2,7 @@
 
 use crate::buffer_scripts::Answer::{Open, Refused, Whole};
 use crate::buffer_scripts::{Answer, Left, Script, Step, goes, goes_through, is_left_as, runs_all};
-use crate::checks::{equal, holds};
+use crate::checks::{equal, fail, holds};
 use crate::fragments::{ZEROS, empty, offset, refusing};
 use crate::refusals::Refusal::{Conflict, Overlap, Unaligned};
 use ep_base::IpFragOffset;
@@ -151,7 +151,7 @@ const CLASHES: &[Script] = &[
 
 #[test]
 fn each_overlap_empties_the_buffer(rt: HostRuntime) {
-    runs_all(&rt, rt.alloc(), CLASHES);
+    runs_all(rt, rt.alloc(), CLASHES);
 }
 
 /// Behind the same units these are taken: the same fragment, neighbours, fragments without bytes
@@ -244,7 +244,7 @@ const NO_OVERLAPS: &[Script] = &[
 
 #[test]
 fn what_is_no_overlap(rt: HostRuntime) {
-    runs_all(&rt, rt.alloc(), NO_OVERLAPS);
+    runs_all(rt, rt.alloc(), NO_OVERLAPS);
 }
 
 const MESSAGES: &[Script] = &[
@@ -328,7 +328,7 @@ const MESSAGES: &[Script] = &[
 
 #[test]
 fn messages_without_overlaps(rt: HostRuntime) {
-    runs_all(&rt, rt.alloc(), MESSAGES);
+    runs_all(rt, rt.alloc(), MESSAGES);
 }
 
 const FROM_THE_FRONT: Left = Left {
@@ -345,13 +345,13 @@ fn all_go_on_behind_an_overlap(rt: HostRuntime) {
         (zero, true, &BYTES_0_8[..]),
         (zero, true, &BYTES_0_8[..]),
         (zero, true, &ZEROS[..8]),
-        (offset(&rt, 1), false, &BYTES_8_16[..]),
+        (offset(rt, 1), false, &BYTES_8_16[..]),
         (zero, true, &BYTES_0_8[..]),
     ];
     let mut buf = refusing(rt.alloc());
-    equal(&rt, &buf.add_all(&all), &Ok(4));
-    equal(&rt, &buf.data().len(), &16);
-    holds(&rt, buf.is_complete() && is_left_as(&buf, &FROM_THE_FRONT));
+    equal(rt, buf.add_all(&all), Ok(4));
+    equal(rt, buf.data().len(), 16);
+    holds(rt, buf.is_complete() && is_left_as(&buf, &FROM_THE_FRONT));
 }
 
 const TO_BE_COPIED: Script = Script {
@@ -375,14 +375,14 @@ const CLASH: Step = Step(0, true, BYTES_0_16, Refused(Overlap(0, 16)), 0);
 #[test]
 fn a_copy_refuses_overlaps_too(rt: HostRuntime) {
     let mut buf = refusing(rt.alloc());
-    holds(&rt, buf != empty(rt.alloc()));
-    goes_through(&rt, &mut buf, &TO_BE_COPIED);
+    holds(rt, buf != empty(rt.alloc()));
+    goes_through(rt, &mut buf, &TO_BE_COPIED);
     let Ok(mut copy) = buf.try_clone() else {
-        panic!(rt; "no memory for a copy");
+        fail(rt, "no memory for a copy");
     };
-    equal(&rt, &copy, &buf);
-    goes(&rt, "a repeat in the copy", &mut copy, &REPEAT);
-    equal(&rt, &copy, &buf);
-    goes(&rt, "a clash in the copy", &mut copy, &CLASH);
-    holds(&rt, copy == refusing(rt.alloc()) && buf != copy);
+    equal(rt, &copy, &buf);
+    goes(rt, "a repeat in the copy", &mut copy, &REPEAT);
+    equal(rt, &copy, &buf);
+    goes(rt, "a clash in the copy", &mut copy, &CLASH);
+    holds(rt, copy == refusing(rt.alloc()) && buf != copy);
 }

@@ -119,5 +119,5 @@ const SCRIPTS: &[Script] = &[
 
 #[test]
 fn what_is_no_fragment(rt: HostRuntime) {
-    runs_all(&rt, rt.alloc(), SCRIPTS);
+    runs_all(rt, rt.alloc(), SCRIPTS);
 }

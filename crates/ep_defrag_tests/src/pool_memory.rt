@@ -1,7 +1,7 @@
 //! Want of memory in a pool. To be run with each allocation failing in turn, too: then one of the
 //! calls wants memory and leaves the pool as it was, and the next one gets it.
 
-use crate::checks::{equal, holds};
+use crate::checks::{equal, fail, holds};
 use crate::frames::{
     FIRST, IPV6_FIRST, IPV6_SECOND, MESSAGE, SECOND, delivers, keep_from, process, waits,
 };
@@ -13,17 +13,17 @@ use std::test::*;
 #[test]
 fn a_message_wants_memory(rt: HostRuntime) {
     let mut pool = IpDefragPool::new(rt.alloc());
-    if let Err(error) = process(&rt, &mut pool, FIRST, 1, 0) {
-        equal(&rt, &error, &IpDefragError::AllocationFailure { len: 8 });
-        waits(&rt, &mut pool, FIRST, 1, 0);
+    if let Err(error) = process(rt, &mut pool, FIRST, 1, 0) {
+        equal(rt, error, IpDefragError::AllocationFailure { len: 8 });
+        waits(rt, &mut pool, FIRST, 1, 0);
     }
-    if let Err(error) = process(&rt, &mut pool, SECOND, 2, 1) {
-        equal(&rt, &error, &IpDefragError::AllocationFailure { len: 16 });
-        waits(&rt, &mut pool, SECOND, 2, 1);
+    if let Err(error) = process(rt, &mut pool, SECOND, 2, 1) {
+        equal(rt, error, IpDefragError::AllocationFailure { len: 16 });
+        waits(rt, &mut pool, SECOND, 2, 1);
     }
-    keep_from(&rt, &mut pool, 2);
-    holds(&rt, !delivers_at_last(&rt, &mut pool, SECOND, 0, 16));
-    holds(&rt, delivers_at_last(&rt, &mut pool, FIRST, 1, 8));
+    keep_from(rt, &mut pool, 2);
+    holds(rt, !delivers_at_last(rt, &mut pool, SECOND, 0, 16));
+    holds(rt, delivers_at_last(rt, &mut pool, FIRST, 1, 8));
 }
 
 const TWICE: &[PoolCall<'static>] = &[
@@ -55,12 +55,12 @@ fn a_list_of_calls_wants_memory(rt: HostRuntime) {
     match run_calls(rt.alloc(), &mut pool, TWICE) {
         Ok(replies) => {
             // At most one of the two wanted memory.
-            holds(&rt, one_waits(&replies));
-            holds(&rt, delivers_at_last(&rt, &mut pool, SECOND, 0, 16));
+            holds(rt, one_waits(&replies));
+            holds(rt, delivers_at_last(rt, &mut pool, SECOND, 0, 16));
         }
         Err(_) => {
-            waits(&rt, &mut pool, SECOND, 2, 0);
-            holds(&rt, run_calls(rt.alloc(), &mut pool, TWICE).is_ok());
+            waits(rt, &mut pool, SECOND, 2, 0);
+            holds(rt, run_calls(rt.alloc(), &mut pool, TWICE).is_ok());
         }
     }
 }
@@ -68,7 +68,7 @@ fn a_list_of_calls_wants_memory(rt: HostRuntime) {
 // Hands a frame in until it finds memory, and tells whether it completes a message. One that finds
 // none tells where it ends. It has no contract, as tests alone call it.
 fn delivers_at_last(
-    rt: &impl Abort,
+    rt: impl Abort + Copy,
     pool: &mut IpDefragPool<u64, u32>,
     frame: &[u8],
     channel: u32,
@@ -77,7 +77,7 @@ fn delivers_at_last(
     match process(rt, pool, frame, 1, channel) {
         Ok(message) => message.is_some(),
         Err(error) => {
-            equal(rt, &error, &IpDefragError::AllocationFailure { len: end });
+            equal(rt, error, IpDefragError::AllocationFailure { len: end });
             delivers(rt, pool, frame, 1, channel)
         }
     }
@@ -88,18 +88,15 @@ fn delivers_at_last(
 fn many_messages_want_memory(rt: HostRuntime) {
     let mut pool = IpDefragPool::new(rt.alloc());
     for channel in 0..10u32 {
-        holds(&rt, !delivers_at_last(&rt, &mut pool, FIRST, channel, 8));
+        holds(rt, !delivers_at_last(rt, &mut pool, FIRST, channel, 8));
         holds(
-            &rt,
-            !delivers_at_last(&rt, &mut pool, IPV6_SECOND, channel, 16),
+            rt,
+            !delivers_at_last(rt, &mut pool, IPV6_SECOND, channel, 16),
         );
     }
     for channel in 0..10u32 {
-        holds(&rt, delivers_at_last(&rt, &mut pool, SECOND, channel, 16));
-        holds(
-            &rt,
-            delivers_at_last(&rt, &mut pool, IPV6_FIRST, channel, 8),
-        );
+        holds(rt, delivers_at_last(rt, &mut pool, SECOND, channel, 16));
+        holds(rt, delivers_at_last(rt, &mut pool, IPV6_FIRST, channel, 8));
     }
 }
 
@@ -171,16 +168,16 @@ const RESTS: &[PoolCall<'static>] = &[
 
 // Whether a message's halves had memory both: one of them may have wanted it. It has no contract, as
 // tests alone call it.
-fn had_memory(rt: &impl Abort, begun: &PoolReply, ended: &PoolReply) -> bool {
+fn had_memory(rt: impl Abort + Copy, begun: &PoolReply, ended: &PoolReply) -> bool {
     match (begun, ended) {
         (PoolReply::Nothing, PoolReply::Payload(message)) => {
-            equal(rt, &message.payload.as_slice(), &MESSAGE);
+            equal(rt, message.payload.as_slice(), MESSAGE);
             true
         }
         (PoolReply::Refused(IpDefragError::AllocationFailure { len: 8 }), PoolReply::Nothing)
         | (PoolReply::Nothing, PoolReply::Refused(IpDefragError::AllocationFailure { len: 16 })) =>
             { false }
-        _ => panic!(rt; "the replies are others"),
+        _ => fail(rt, "the replies are others"),
     }
 }
 
@@ -188,20 +185,20 @@ fn had_memory(rt: &impl Abort, begun: &PoolReply, ended: &PoolReply) -> bool {
 #[test]
 fn one_of_many_calls_wants_memory(rt: HostRuntime) {
     let mut pool = IpDefragPool::new(rt.alloc());
-    let begun = at_last(&rt, rt.alloc(), &mut pool, HALVES);
-    let ended = at_last(&rt, rt.alloc(), &mut pool, RESTS);
+    let begun = at_last(rt, rt.alloc(), &mut pool, HALVES);
+    let ended = at_last(rt, rt.alloc(), &mut pool, RESTS);
     let mut wanting = 0u32;
     for (begun, ended) in begun.iter().zip(ended.iter()) {
-        if !had_memory(&rt, begun, ended) {
+        if !had_memory(rt, begun, ended) {
             wanting = wanting.wrapping_add(1);
         }
     }
-    holds(&rt, wanting <= 1);
+    holds(rt, wanting <= 1);
 }
 
 // The replies to calls, once there is room for them. It has no contract, as tests alone call it.
 fn at_last(
-    rt: &impl Abort,
+    rt: impl Abort + Copy,
     alloc: Global,
     pool: &mut IpDefragPool<u64, u32>,
     calls: &[PoolCall<'_>],
@@ -211,6 +208,6 @@ fn at_last(
     }
     match run_calls(alloc, pool, calls) {
         Ok(replies) => replies,
-        Err(_) => panic!(rt; "no room for the replies, twice"),
+        Err(_) => fail(rt, "no room for the replies, twice"),
     }
 }

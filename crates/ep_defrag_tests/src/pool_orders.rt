@@ -80,7 +80,7 @@ const ORDERS: &[Script] = &[
 fn each_order(rt: HostRuntime) {
     let mut pool = IpDefragPool::new(rt.alloc());
     for script in ORDERS.iter() {
-        goes_through(&rt, rt.alloc(), &mut pool, script);
+        goes_through(rt, rt.alloc(), &mut pool, script);
     }
 }
 
@@ -157,6 +157,6 @@ const REPEATS: &[Script] = &[
 fn each_order_with_repeats(rt: HostRuntime) {
     let mut pool = IpDefragPool::new(rt.alloc());
     for script in REPEATS.iter() {
-        goes_through(&rt, rt.alloc(), &mut pool, script);
+        goes_through(rt, rt.alloc(), &mut pool, script);
     }
 }

@@ -112,5 +112,5 @@ const SCRIPTS: &[Script] = &[
 
 #[test]
 fn overlaps_by_version(rt: HostRuntime) {
-    runs_all(&rt, rt.alloc(), SCRIPTS);
+    runs_all(rt, rt.alloc(), SCRIPTS);
 }

@@ -88,7 +88,7 @@ const SCRIPTS: &[Script] = &[
 
 #[test]
 fn refused_fragments(rt: HostRuntime) {
-    runs_all(&rt, rt.alloc(), SCRIPTS);
+    runs_all(rt, rt.alloc(), SCRIPTS);
 }
 
 /// To be run with each allocation failing in turn, too: a message's first fragment is refused then
@@ -97,14 +97,11 @@ fn refused_fragments(rt: HostRuntime) {
 fn refused_without_memory(rt: HostRuntime) {
     let mut pool = IpDefragPool::new(rt.alloc());
     for _ in 0..2 {
-        let long = process(&rt, &mut pool, LONG, 1, 0);
+        let long = process(rt, &mut pool, LONG, 1, 0);
+        holds(rt, matches!(long, Err(IpDefragError::SegmentTooBig { .. })));
+        let unaligned = process(rt, &mut pool, UNALIGNED, 1, 1);
         holds(
-            &rt,
-            matches!(long, Err(IpDefragError::SegmentTooBig { .. })),
-        );
-        let unaligned = process(&rt, &mut pool, UNALIGNED, 1, 1);
-        holds(
-            &rt,
+            rt,
             matches!(
                 unaligned,
                 Err(IpDefragError::UnalignedFragmentPayloadLen { .. })

@@ -36,7 +36,7 @@ const SCRIPTS: &[Script] = &[
 
 #[test]
 fn times_at_the_bound(rt: HostRuntime) {
-    runs_all(&rt, rt.alloc(), SCRIPTS);
+    runs_all(rt, rt.alloc(), SCRIPTS);
 }
 
 /// No clause says how often the test is asked: once for each message, whether it stays or goes.
@@ -46,7 +46,7 @@ fn asked_once_for_each_message(rt: HostRuntime) {
     let asked = Cell::new(0u32);
     let times = Cell::new(0u64);
     for (channel, time) in [(0, 1), (1, 10), (2, 100), (3, 1000), (4, 10000)] {
-        waits(&rt, &mut pool, FIRST, time, channel);
+        waits(rt, &mut pool, FIRST, time, channel);
     }
     for (bound, left, sum) in [
         (100, 5, 11111),
@@ -61,7 +61,7 @@ fn asked_once_for_each_message(rt: HostRuntime) {
             times.set(times.get().wrapping_add(*time));
             *time >= bound
         });
-        holds(&rt, kept.is_ok());
-        holds(&rt, asked.get() == left && times.get() == sum);
+        holds(rt, kept.is_ok());
+        holds(rt, asked.get() == left && times.get() == sum);
     }
 }

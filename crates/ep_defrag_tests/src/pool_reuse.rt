@@ -1,7 +1,7 @@
 //! Buffers that are kept for messages to come: how many there are, and that nothing of what they
 //! held is seen.
 
-use crate::checks::{equal, holds};
+use crate::checks::{equal, fail, holds};
 use crate::frames::{
     FIRST, IPV6_FIRST, IPV6_SECOND, LENT_IPV6_UDP, LENT_UDP, MESSAGE, SECOND, UDP, keep_from,
     process, waits,
@@ -50,7 +50,7 @@ const SCRIPTS: &[Script] = &[
 
 #[test]
 fn buffers_to_spare(rt: HostRuntime) {
-    runs_all(&rt, rt.alloc(), SCRIPTS);
+    runs_all(rt, rt.alloc(), SCRIPTS);
 }
 
 /// A pool takes the buffer of a message of another one, too.
@@ -64,8 +64,8 @@ fn a_message_that_is_given(rt: HostRuntime) -> Result<(), Fail> {
         len_source: LenSource::Ipv4HeaderTotalLen,
         payload,
     };
-    holds(&rt, pool.return_buf(message).is_ok());
-    has_counts(&rt, &pool, 0, 1);
+    holds(rt, pool.return_buf(message).is_ok());
+    has_counts(rt, &pool, 0, 1);
     Ok(())
 }
 
@@ -84,14 +84,14 @@ const IN_TURN: Script = (
 fn ten_times_over(rt: HostRuntime) {
     let mut pool = IpDefragPool::new(rt.alloc());
     for _ in 0..10 {
-        goes_through(&rt, rt.alloc(), &mut pool, &IN_TURN);
+        goes_through(rt, rt.alloc(), &mut pool, &IN_TURN);
     }
 }
 
 // So many messages are on their way, and so many buffers are spare. It has no contract, as tests
 // alone call it.
-fn has_counts(rt: &impl Abort, pool: &IpDefragPool<u64, u32>, open: usize, spare: usize) {
-    equal(rt, &(pool.open_len(), pool.spare_len()), &(open, spare));
+fn has_counts(rt: impl Abort + Copy, pool: &IpDefragPool<u64, u32>, open: usize, spare: usize) {
+    equal(rt, (pool.open_len(), pool.spare_len()), (open, spare));
 }
 
 /// To be run with each allocation failing in turn, too: a fragment that finds no memory leaves
@@ -102,30 +102,30 @@ fn reuse_wants_memory(rt: HostRuntime) {
     for channel in 0..3u32 {
         let spare = pool.spare_len();
         let open = pool.open_len();
-        if process(&rt, &mut pool, FIRST, 1, channel).is_err() {
-            has_counts(&rt, &pool, open, spare);
-            waits(&rt, &mut pool, FIRST, 1, channel);
+        if process(rt, &mut pool, FIRST, 1, channel).is_err() {
+            has_counts(rt, &pool, open, spare);
+            waits(rt, &mut pool, FIRST, 1, channel);
         }
     }
-    has_counts(&rt, &pool, 3, 0);
-    keep_from(&rt, &mut pool, u64::MAX);
-    has_counts(&rt, &pool, 0, 3);
+    has_counts(rt, &pool, 3, 0);
+    keep_from(rt, &mut pool, u64::MAX);
+    has_counts(rt, &pool, 0, 3);
     for channel in 0..3u32 {
         // The half ends behind what the buffer held.
-        if process(&rt, &mut pool, SECOND, 1, channel).is_err() {
-            waits(&rt, &mut pool, SECOND, 1, channel);
+        if process(rt, &mut pool, SECOND, 1, channel).is_err() {
+            waits(rt, &mut pool, SECOND, 1, channel);
         }
-        let Ok(Some(whole)) = process(&rt, &mut pool, FIRST, 1, channel) else {
-            panic!(rt; "the first half doesn't complete the message");
+        let Ok(Some(whole)) = process(rt, &mut pool, FIRST, 1, channel) else {
+            fail(rt, "the first half doesn't complete the message");
         };
         let spare = pool.spare_len();
         if let Err(whole) = pool.return_buf(whole) {
             holds(
-                &rt,
+                rt,
                 whole.payload.as_slice() == MESSAGE && pool.spare_len() == spare,
             );
-            holds(&rt, pool.return_buf(whole).is_ok());
+            holds(rt, pool.return_buf(whole).is_ok());
         }
-        holds(&rt, pool.spare_len() > spare);
+        holds(rt, pool.spare_len() > spare);
     }
 }

@@ -2,7 +2,7 @@
 //! their way and how many buffers are spare then. The functions have no contracts: tests alone call
 //! them, and are run.
 
-use crate::checks::{equal_in, holds, holds_in};
+use crate::checks::{equal_in, fail, holds, holds_in};
 use ep_defrag::defrag::{IpDefragPool, PoolCall, PoolReply, run_calls};
 use ep_packet::SlicedPacket;
 use std::alloc::Global;
@@ -39,10 +39,10 @@ pub const REFUSED_BEHIND: &str =
 const GIVEN_BACK: &str = " given back";
 
 /// Fails where a reply is shown otherwise; no contract, as above.
-pub fn is_shown(rt: &impl Abort, alloc: Global, row: &str, reply: &PoolReply, wanted: &str) {
+pub fn is_shown(rt: impl Abort + Copy, alloc: Global, row: &str, reply: &PoolReply, wanted: &str) {
     match format!(in alloc; "{reply:?}") {
         Ok(told) => equal_in(rt, row, &told.as_str(), &wanted),
-        Err(_) => panic!(rt; "no memory for a text"),
+        Err(_) => fail(rt, "no memory for a text"),
     }
 }
 
@@ -83,23 +83,23 @@ fn in_list(step: &Step) -> PoolCall<'static> {
 
 // The reply to a list of one call; no contract, as above.
 fn reply_to_list(
-    rt: &impl Abort,
+    rt: impl Abort + Copy,
     alloc: Global,
     pool: &mut IpDefragPool<u64, u32>,
     step: &Step,
 ) -> PoolReply {
     let Ok(mut replies) = run_calls(alloc, pool, &[in_list(step)]) else {
-        panic!(rt; "no room for a reply");
+        fail(rt, "no room for a reply");
     };
     match replies.pop() {
         Some(reply) if replies.is_empty() => reply,
-        _ => panic!(rt; "the replies to one call are more or none"),
+        _ => fail(rt, "the replies to one call are more or none"),
     }
 }
 
 // Fails where the reply or a number is another one; no contract, as above.
 fn settles(
-    rt: &impl Abort,
+    rt: impl Abort + Copy,
     alloc: Global,
     row: &str,
     pool: &mut IpDefragPool<u64, u32>,
@@ -123,7 +123,12 @@ fn settles(
 }
 
 // Gives a message back; no contract, as above.
-fn give_back(rt: &impl Abort, row: &str, pool: &mut IpDefragPool<u64, u32>, reply: PoolReply) {
+fn give_back(
+    rt: impl Abort + Copy,
+    row: &str,
+    pool: &mut IpDefragPool<u64, u32>,
+    reply: PoolReply,
+) {
     if let PoolReply::Payload(message) = reply {
         holds_in(rt, row, pool.return_buf(message).is_ok());
     }
@@ -131,7 +136,7 @@ fn give_back(rt: &impl Abort, row: &str, pool: &mut IpDefragPool<u64, u32>, repl
 
 /// Makes a call, and fails where the answer or a number is another one; no contract, as above.
 pub fn goes(
-    rt: &impl Abort,
+    rt: impl Abort + Copy,
     alloc: Global,
     row: &str,
     pool: &mut IpDefragPool<u64, u32>,
@@ -143,7 +148,7 @@ pub fn goes(
 
 // The same by a list of the one call; no contract, as above.
 fn goes_by_list(
-    rt: &impl Abort,
+    rt: impl Abort + Copy,
     alloc: Global,
     row: &str,
     pool: &mut IpDefragPool<u64, u32>,
@@ -155,7 +160,7 @@ fn goes_by_list(
 
 /// Makes a script's calls; no contract, as above.
 pub fn goes_through(
-    rt: &impl Abort,
+    rt: impl Abort + Copy,
     alloc: Global,
     pool: &mut IpDefragPool<u64, u32>,
     script: &Script,
@@ -166,7 +171,7 @@ pub fn goes_through(
 }
 
 // The same by lists of one call each; no contract, as above.
-fn goes_through_by_lists(rt: &impl Abort, alloc: Global, script: &Script) {
+fn goes_through_by_lists(rt: impl Abort + Copy, alloc: Global, script: &Script) {
     let mut pool = IpDefragPool::new(alloc);
     for step in script.1.iter() {
         goes_by_list(rt, alloc, script.0, &mut pool, step);
@@ -174,7 +179,7 @@ fn goes_through_by_lists(rt: &impl Abort, alloc: Global, script: &Script) {
 }
 
 // Fails where replies are others; no contract, as above.
-fn are_shown(rt: &impl Abort, alloc: Global, replies: &[PoolReply], script: &Script) {
+fn are_shown(rt: impl Abort + Copy, alloc: Global, replies: &[PoolReply], script: &Script) {
     equal_in(rt, script.0, &replies.len(), &script.1.len());
     for (reply, step) in replies.iter().zip(script.1.iter()) {
         let answer = step.3.strip_suffix(GIVEN_BACK).unwrap_or(step.3);
@@ -183,7 +188,7 @@ fn are_shown(rt: &impl Abort, alloc: Global, replies: &[PoolReply], script: &Scr
 }
 
 // The calls as a list; no contract, as above.
-fn list_of(rt: &impl Abort, alloc: Global, steps: &[Step]) -> Vec<PoolCall<'static>> {
+fn list_of(rt: impl Abort + Copy, alloc: Global, steps: &[Step]) -> Vec<PoolCall<'static>> {
     let mut calls = Vec::new(alloc);
     for step in steps.iter() {
         holds(rt, calls.push(in_list(step)).is_ok());
@@ -193,7 +198,7 @@ fn list_of(rt: &impl Abort, alloc: Global, steps: &[Step]) -> Vec<PoolCall<'stat
 
 /// Makes a script's calls in one list; no contract, as above.
 pub fn goes_in_a_row<S: BuildHasher + Drop>(
-    rt: &impl Abort,
+    rt: impl Abort + Copy,
     alloc: Global,
     mut pool: IpDefragPool<u64, u32, S>,
     script: &Script,
@@ -201,13 +206,13 @@ pub fn goes_in_a_row<S: BuildHasher + Drop>(
     let calls = list_of(rt, alloc, script.1);
     match run_calls(alloc, &mut pool, &calls) {
         Ok(replies) => are_shown(rt, alloc, &replies, script),
-        Err(_) => panic!(rt; "no room for the replies"),
+        Err(_) => fail(rt, "no room for the replies"),
     }
 }
 
 /// Goes through each script by calls, by lists of one call and by one list, each time with a pool of
 /// its own; no contract, as above.
-pub fn runs_all(rt: &impl Abort, alloc: Global, scripts: &[Script]) {
+pub fn runs_all(rt: impl Abort + Copy, alloc: Global, scripts: &[Script]) {
     for script in scripts.iter() {
         goes_through(rt, alloc, &mut IpDefragPool::new(alloc), script);
         goes_through_by_lists(rt, alloc, script);

@@ -1,6 +1,6 @@
 //! Many messages put together at a time, with memory enough.
 
-use crate::checks::equal;
+use crate::checks::{equal, fail};
 use crate::frames::{BEHIND, FIRST, IPV6_FIRST, IPV6_SECOND, IPV6_UDP, LENT_UDP, SECOND, UDP};
 use crate::pool_scripts::{
     KEEP_FROM, NOTHING, REFUSED_BEHIND, RETAINED, Script, is_shown, runs_all,
@@ -60,17 +60,17 @@ const SCRIPTS: &[Script] = &[
 
 #[test]
 fn messages_of_two_halves(rt: HostRuntime) {
-    runs_all(&rt, rt.alloc(), SCRIPTS);
+    runs_all(rt, rt.alloc(), SCRIPTS);
 }
 
 // Hands in a part by its class. It has no contract, as tests alone call it.
 fn process_part(
-    rt: &impl Abort,
+    rt: impl Abort + Copy,
     pool: &mut IpDefragPool<u64, u32>,
     frame: &[u8],
 ) -> Result<Option<IpDefragPayloadVec>, IpDefragError> {
     let Class::Cut(message) = Class::from_ethernet(frame) else {
-        panic!(rt; "a frame has no part");
+        fail(rt, "a frame has no part");
     };
     pool.process_cut_message(message, 1, 0)
 }
@@ -78,10 +78,10 @@ fn process_part(
 #[test]
 fn two_parts_by_their_class(rt: HostRuntime) {
     let mut pool = IpDefragPool::new(rt.alloc());
-    equal(&rt, &process_part(&rt, &mut pool, FIRST), &Ok(None));
-    let Ok(Some(message)) = process_part(&rt, &mut pool, SECOND) else {
-        panic!(rt; "the second half doesn't complete the message");
+    equal(rt, process_part(rt, &mut pool, FIRST), Ok(None));
+    let Ok(Some(message)) = process_part(rt, &mut pool, SECOND) else {
+        fail(rt, "the second half doesn't complete the message");
     };
     let message = PoolReply::Payload(message);
-    is_shown(&rt, rt.alloc(), "two parts", &message, UDP);
+    is_shown(rt, rt.alloc(), "two parts", &message, UDP);
 }

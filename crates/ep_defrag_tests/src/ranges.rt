@@ -33,7 +33,7 @@ fn merged(a: (u16, u16), b: (u16, u16)) -> ((u16, u16), (u16, u16), Option<(u16,
 #[test]
 fn ranges_merge(rt: HostRuntime) {
     for row in MERGED.iter() {
-        equal(&rt, &merged(row.0, row.1), row);
+        equal(rt, merged(row.0, row.1), *row);
     }
 }
 
@@ -41,6 +41,6 @@ fn ranges_merge(rt: HostRuntime) {
 fn ranges_are_ordered_by_their_start(rt: HostRuntime) {
     let early = IpFragRange { start: 1, end: 9 };
     let late = IpFragRange { start: 2, end: 3 };
-    holds(&rt, early < late);
-    holds(&rt, early < IpFragRange { start: 1, end: 10 });
+    holds(rt, early < late);
+    holds(rt, early < IpFragRange { start: 1, end: 10 });
 }

@@ -20,7 +20,7 @@ pub enum Refusal {
 }
 
 /// The refusal as the library tells it. It has no contract, as tests alone call it.
-pub fn error_of(rt: &impl Abort, refusal: Refusal) -> IpDefragError {
+pub fn error_of(rt: impl Abort + Copy, refusal: Refusal) -> IpDefragError {
     match refusal {
         Refusal::Unaligned(units, payload_len) => IpDefragError::UnalignedFragmentPayloadLen {
             offset: offset(rt, units),

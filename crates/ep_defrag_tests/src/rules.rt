@@ -14,14 +14,14 @@ fn buffers_of_each_rule(rt: HostRuntime) {
     for rule in RULES.iter() {
         let bytes = Vec::new(alloc);
         let buf = IpDefragBuf::of_rule(*rule, alloc, IpNumber::UDP, bytes, Vec::new(alloc));
-        holds(&rt, buf.overlap_rule() == *rule);
+        holds(rt, buf.overlap_rule() == *rule);
     }
 }
 
 // Eight bytes at byte 16 end at 24.
 #[test]
 fn ends_of_fragments(rt: HostRuntime) {
-    let offset = offset(&rt, 2);
+    let offset = offset(rt, 2);
     let conflict = IpDefragError::ConflictingEnd {
         previous_end: 16,
         conflicting_end: 24,
@@ -31,5 +31,5 @@ fn ends_of_fragments(rt: HostRuntime) {
         checked_end(Some(24), offset, false, &[0; 8]) == Ok(24),
         checked_end(Some(16), offset, true, &[0; 8]) == Err(conflict),
     ];
-    equal(&rt, &ends, &[true; 3]);
+    equal(rt, ends, [true; 3]);
 }

@@ -1,5 +1,5 @@
 //! Messages on their way with numbers as their names.
-use crate::checks::{equal, equal_in};
+use crate::checks::{equal, equal_bytes, equal_in, fail};
 use ep_base::IpFragOffset;
 use ep_fragments::defrag::{IpDefragError, OverlapRule, Piece, Streams};
 use std::hash::{BuildHasherDefault, FoldHasher};
@@ -18,7 +18,7 @@ fn piece(offset: u16, more_fragments: bool, bytes: &[u8]) -> Piece<'_> {
 
 // Takes a piece of the message of this name, which isn't refused.
 fn take(
-    rt: &impl Abort,
+    rt: impl Abort + Copy,
     streams: &mut Numbered,
     name: u32,
     piece: &Piece<'_>,
@@ -26,7 +26,7 @@ fn take(
 ) -> Option<Vec<u8>> {
     match streams.add(name, OverlapRule::Refuses, piece, time) {
         Ok(told) => told,
-        Err(_) => panic!(rt; "refused"),
+        Err(_) => fail(rt, "refused"),
     }
 }
 
@@ -34,35 +34,35 @@ fn take(
 fn a_complete_message_is_handed_out_by_its_name(rt: HostRuntime) {
     let mut streams = Streams::with_hasher(rt.alloc(), BuildHasherDefault::new());
     for (name, byte) in [(7, 1), (8, 3)] {
-        let first = take(&rt, &mut streams, name, &piece(0, true, &[byte; 8]), 0);
-        equal(&rt, &first.is_none(), &true);
+        let first = take(rt, &mut streams, name, &piece(0, true, &[byte; 8]), 0);
+        equal(rt, first.is_none(), true);
     }
-    equal(&rt, &streams.len(), &2);
-    let Some(whole) = take(&rt, &mut streams, 7, &piece(1, false, &[2; 8]), 0) else {
-        panic!(rt; "it waits");
+    equal(rt, streams.len(), 2);
+    let Some(whole) = take(rt, &mut streams, 7, &piece(1, false, &[2; 8]), 0) else {
+        fail(rt, "it waits");
     };
     let bytes = [1, 1, 1, 1, 1, 1, 1, 1, 2, 2, 2, 2, 2, 2, 2, 2];
-    equal(&rt, &whole.as_slice(), &bytes.as_slice());
-    equal(&rt, &(streams.len(), streams.spare_len()), &(1, 0));
-    equal(&rt, &streams.give(whole).is_ok(), &true);
-    equal(&rt, &streams.spare_len(), &1);
+    equal_bytes(rt, whole.as_slice(), bytes.as_slice());
+    equal(rt, (streams.len(), streams.spare_len()), (1, 0));
+    equal(rt, streams.give(whole).is_ok(), true);
+    equal(rt, streams.spare_len(), 1);
 }
 
 #[test]
 fn a_complete_message_may_be_empty(rt: HostRuntime) {
     let mut streams = Streams::with_hasher(rt.alloc(), BuildHasherDefault::new());
-    let whole = take(&rt, &mut streams, 7, &piece(0, false, &[]), 0);
-    equal(&rt, &whole.map(|bytes| bytes.len()), &Some(0));
+    let whole = take(rt, &mut streams, 7, &piece(0, false, &[]), 0);
+    equal(rt, whole.map(|bytes| bytes.len()), Some(0));
 }
 
 #[test]
 fn messages_stay_whose_time_is_kept(rt: HostRuntime) {
     let mut streams = Streams::with_hasher(rt.alloc(), BuildHasherDefault::new());
     for (name, time) in [(7, 5), (8, 6)] {
-        take(&rt, &mut streams, name, &piece(0, true, &[1; 8]), time);
+        take(rt, &mut streams, name, &piece(0, true, &[1; 8]), time);
     }
     streams.retain(&|time: &u64| *time >= 6);
-    equal(&rt, &(streams.len(), streams.spare_len()), &(1, 1));
+    equal(rt, (streams.len(), streams.spare_len()), (1, 1));
 }
 
 // Of one message a first piece, one of the same place with other bytes, and the last one: by the
@@ -98,20 +98,20 @@ fn a_message_keeps_the_rule_that_it_began_with(rt: HostRuntime) {
     ] {
         let mut streams: Numbered = Streams::with_hasher(rt.alloc(), BuildHasherDefault::new());
         let begun = streams.add(7, first, &piece(0, true, &[1; 8]), 0);
-        equal_in(&rt, row, &begun.is_ok(), &true);
+        equal_in(rt, row, &begun.is_ok(), &true);
         let refusal = streams.add(7, second, &piece(0, true, &[2; 8]), 0).err();
         let wanted = is_refused.then_some(IpDefragError::OverlappingFragment {
             offset: IpFragOffset::ZERO,
             payload_len: 8,
         });
-        equal_in(&rt, row, &refusal, &wanted);
-        equal_in(&rt, row, &streams.len(), &usize::from(!is_refused));
+        equal_in(rt, row, &refusal, &wanted);
+        equal_in(rt, row, &streams.len(), &usize::from(!is_refused));
         let whole = streams
             .add(7, second, &piece(1, false, &[3]), 0)
             .ok()
             .flatten();
         let bytes = whole.as_ref().map(|bytes| bytes.as_slice());
         let all = [2, 2, 2, 2, 2, 2, 2, 2, 3];
-        equal_in(&rt, row, &bytes, &(!is_refused).then_some(all.as_slice()));
+        equal_in(rt, row, &bytes, &(!is_refused).then_some(all.as_slice()));
     }
 }

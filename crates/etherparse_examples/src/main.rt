@@ -14,52 +14,66 @@ mod udp_ports;
 
 /// It has no contract: what it prints is compared with what the packets hold.
 fn main(rt: HostRuntime) -> anyhow::Result<()> {
+    print_frames(&rt)?;
+    print_values(&rt)?;
+    print_checksums(&rt)?;
+    print_built(&rt)?;
+    println!(rt; "A message in fragments:")?;
+    let frames = [(0, frames::LAST_FRAGMENT), (1, frames::FIRST_FRAGMENT)];
+    fragments::print_messages(&rt, rt.alloc(), &frames)?;
+    Ok(())
+}
+
+// What frames hold.
+fn print_frames(rt: &HostRuntime) -> anyhow::Result<()> {
     println!(rt; "The ports of UDP:")?;
     println!(rt; "{:?}", udp_ports::udp_ports(frames::UDP_OVER_IPV4)?)?;
     println!(rt; "{:?}", udp_ports::udp_ports(frames::TCP_OVER_IPV6)?)?;
-
     println!(rt; "A frame, sliced:")?;
-    sliced_frame::print_parts(&rt, frames::UDP_OVER_IPV4)?;
-    sliced_frame::print_parts(&rt, frames::TCP_OVER_IPV6)?;
-    sliced_frame::print_parts(&rt, frames::TAGGED_ARP)?;
+    for frame in [frames::UDP_OVER_IPV4, frames::TCP_OVER_IPV6, frames::TAGGED_ARP] {
+        sliced_frame::print_parts(rt, frame)?;
+    }
+    Ok(())
+}
 
+// Headers as values, and what is written of them.
+fn print_values(rt: &HostRuntime) -> anyhow::Result<()> {
     println!(rt; "Headers as values:")?;
-    let packet = &frames::UDP_OVER_IPV4[14..];
-    if let Some(bytes) = owned_headers::handed_on(rt.alloc(), packet)? {
-        print_hex(&rt, bytes.as_slice())?;
+    if let Some(bytes) = owned_headers::handed_on(rt.alloc(), &frames::UDP_OVER_IPV4[14..])? {
+        print_hex(rt, bytes.as_slice())?;
     }
-
     println!(rt; "VLAN tags and ARP:")?;
-    tags_and_arp::print_tags(&rt, frames::TAGGED_ARP)?;
+    tags_and_arp::print_tags(rt, frames::TAGGED_ARP)?;
     if let Some(bytes) = tags_and_arp::reply(rt.alloc(), frames::TAGGED_ARP, [2, 0, 0, 0, 0, 2])? {
-        print_hex(&rt, bytes.as_slice())?;
+        print_hex(rt, bytes.as_slice())?;
     }
+    Ok(())
+}
 
+fn print_checksums(rt: &HostRuntime) -> anyhow::Result<()> {
     println!(rt; "Checksums:")?;
-    println!(rt; "{}", checksums::has_its_checksum(packet)?)?;
+    println!(rt; "{}", checksums::has_its_checksum(&frames::UDP_OVER_IPV4[14..])?)?;
     let bytes = checksums::datagram(
         rt.alloc(),
         [10, 0, 0, 1],
         [10, 0, 0, 2],
         &[1, 2, 3, 4, 5, 6, 7, 8],
     )?;
-    print_hex(&rt, bytes.as_slice())?;
+    print_hex(rt, bytes.as_slice())?;
+    Ok(())
+}
 
+// Extension headers and options, and packets that are built.
+fn print_built(rt: &HostRuntime) -> anyhow::Result<()> {
     println!(rt; "Extension headers and options:")?;
-    extensions_and_options::print_all(&rt, frames::SYN_WITH_EXTENSIONS)?;
-
+    extensions_and_options::print_all(rt, frames::SYN_WITH_EXTENSIONS)?;
     println!(rt; "An echo request:")?;
     let bytes = echo_request::echo_request(rt.alloc(), 1, 2, b"ping")?;
-    print_hex(&rt, bytes.as_slice())?;
+    print_hex(rt, bytes.as_slice())?;
     println!(rt; "{:?}", echo_request::echoed(frames::ECHO_REPLY))?;
-
     println!(rt; "A TCP segment, built:")?;
     let bytes = built_segment::first_segment(rt.alloc(), 7)?;
-    print_hex(&rt, bytes.as_slice())?;
-
-    println!(rt; "A message in fragments:")?;
-    let frames = [(0, frames::LAST_FRAGMENT), (1, frames::FIRST_FRAGMENT)];
-    fragments::print_messages(&rt, rt.alloc(), &frames)?;
+    print_hex(rt, bytes.as_slice())?;
     Ok(())
 }
 

@@ -10,7 +10,7 @@ use std::test::*;
 
 // A buffer of one byte, for which memory is asked for twice. These calls have no contracts: tests
 // alone make them, and are run.
-fn begun(rt: &(impl Abort + AllocGlobal)) -> Vec<u8> {
+fn begun(rt: impl Abort + AllocGlobal + Copy) -> Vec<u8> {
     let mut buffer = Vec::new(rt.alloc());
     if buffer.push(0xaa).is_err() && buffer.push(0xaa).is_err() {
         panic!(rt; "no memory for a byte");
@@ -24,7 +24,7 @@ fn is_as_begun(buffer: &Vec<u8>) -> bool {
 }
 
 // Fails where a call was not made, or did not put exactly these bytes behind the first one.
-fn is_appended(rt: &impl Abort, is_made: bool, buffer: &Vec<u8>, bytes: &[u8]) {
+fn is_appended(rt: impl Abort + Copy, is_made: bool, buffer: &Vec<u8>, bytes: &[u8]) {
     assert!(rt; is_made);
     match buffer.as_slice() {
         [0xaa, behind @ ..] => assert_eq!(rt; behind, bytes),
@@ -42,10 +42,10 @@ fn an_arp_packet_wants_memory(rt: HostRuntime) {
     let Ok(arp) = ArpPacket::from_slice(&ARP) else {
         panic!(rt; "no ARP packet");
     };
-    let mut buffer = begun(&rt);
+    let mut buffer = begun(rt);
     let is_made = arp.write(&mut buffer).is_ok()
         || is_as_begun(&buffer) && arp.write(&mut buffer).is_ok();
-    is_appended(&rt, is_made, &buffer, &ARP);
+    is_appended(rt, is_made, &buffer, &ARP);
 }
 
 const ETHERNET: [u8; 14] = [2, 0, 0, 0, 0, 2, 2, 0, 0, 0, 0, 1, 8, 0];
@@ -55,10 +55,10 @@ fn an_ethernet_header_wants_memory(rt: HostRuntime) {
     let Ok((ethernet, _)) = Ethernet2Header::from_slice(&ETHERNET) else {
         panic!(rt; "no Ethernet header");
     };
-    let mut buffer = begun(&rt);
+    let mut buffer = begun(rt);
     let is_made = ethernet.write(&mut buffer).is_ok()
         || is_as_begun(&buffer) && ethernet.write(&mut buffer).is_ok();
-    is_appended(&rt, is_made, &buffer, &ETHERNET);
+    is_appended(rt, is_made, &buffer, &ETHERNET);
 }
 
 const COOKED: [u8; 16] = [0, 0, 0, 1, 0, 6, 1, 2, 3, 4, 5, 6, 0, 0, 8, 0];
@@ -68,10 +68,10 @@ fn a_header_of_a_cooked_capture_wants_memory(rt: HostRuntime) {
     let Ok((cooked, _)) = LinuxSllHeader::from_slice(&COOKED) else {
         panic!(rt; "no header of a cooked capture");
     };
-    let mut buffer = begun(&rt);
+    let mut buffer = begun(rt);
     let is_made = cooked.write(&mut buffer).is_ok()
         || is_as_begun(&buffer) && cooked.write(&mut buffer).is_ok();
-    is_appended(&rt, is_made, &buffer, &COOKED);
+    is_appended(rt, is_made, &buffer, &COOKED);
 }
 
 #[test]
@@ -80,10 +80,10 @@ fn a_link_header_wants_memory(rt: HostRuntime) {
         panic!(rt; "no header of a cooked capture");
     };
     let link = LinkHeader::LinuxSll(cooked);
-    let mut buffer = begun(&rt);
+    let mut buffer = begun(rt);
     let is_made = link.write(&mut buffer).is_ok()
         || is_as_begun(&buffer) && link.write(&mut buffer).is_ok();
-    is_appended(&rt, is_made, &buffer, &COOKED);
+    is_appended(rt, is_made, &buffer, &COOKED);
 }
 
 // Priority 1, not to be dropped first, identifier 5, with IPv4 behind; and the same twice.
@@ -94,10 +94,10 @@ const TAGS: [u8; 8] = [0x20, 5, 8, 0, 0x20, 5, 8, 0];
 #[test]
 fn a_tag_wants_memory(rt: HostRuntime) {
     let tag = tag();
-    let mut buffer = begun(&rt);
+    let mut buffer = begun(rt);
     let is_made = tag.write(&mut buffer).is_ok()
         || is_as_begun(&buffer) && tag.write(&mut buffer).is_ok();
-    is_appended(&rt, is_made, &buffer, &TAG);
+    is_appended(rt, is_made, &buffer, &TAG);
 }
 
 fn tag() -> SingleVlanHeader {
@@ -114,19 +114,19 @@ fn tags() -> DoubleVlanHeader {
 #[test]
 fn two_tags_want_memory(rt: HostRuntime) {
     let tags = tags();
-    let mut buffer = begun(&rt);
+    let mut buffer = begun(rt);
     let is_made = tags.write(&mut buffer).is_ok()
         || is_as_begun(&buffer) && tags.write(&mut buffer).is_ok();
-    is_appended(&rt, is_made, &buffer, &TAGS);
+    is_appended(rt, is_made, &buffer, &TAGS);
 }
 
 #[test]
 fn tags_of_either_number_want_memory(rt: HostRuntime) {
     let vlan = VlanHeader::Double(tags());
-    let mut buffer = begun(&rt);
+    let mut buffer = begun(rt);
     let is_made = vlan.write(&mut buffer).is_ok()
         || is_as_begun(&buffer) && vlan.write(&mut buffer).is_ok();
-    is_appended(&rt, is_made, &buffer, &TAGS);
+    is_appended(rt, is_made, &buffer, &TAGS);
 }
 
 // IEEE 802.1AE: no identifier of a channel, short length 12, packet number 1, unmodified IPv4.
@@ -137,10 +137,10 @@ fn a_macsec_header_wants_memory(rt: HostRuntime) {
     let Ok((macsec, _)) = MacsecHeader::from_slice(&MACSEC) else {
         panic!(rt; "no MACsec header");
     };
-    let mut buffer = begun(&rt);
+    let mut buffer = begun(rt);
     let is_made = macsec.write(&mut buffer).is_ok()
         || is_as_begun(&buffer) && macsec.write(&mut buffer).is_ok();
-    is_appended(&rt, is_made, &buffer, &MACSEC);
+    is_appended(rt, is_made, &buffer, &MACSEC);
 }
 
 #[test]
@@ -149,10 +149,10 @@ fn a_tag_of_either_kind_wants_memory(rt: HostRuntime) {
         panic!(rt; "no MACsec header");
     };
     let extension = LinkExtHeader::Macsec(macsec);
-    let mut buffer = begun(&rt);
+    let mut buffer = begun(rt);
     let is_made = extension.write(&mut buffer).is_ok()
         || is_as_begun(&buffer) && extension.write(&mut buffer).is_ok();
-    is_appended(&rt, is_made, &buffer, &MACSEC);
+    is_appended(rt, is_made, &buffer, &MACSEC);
 }
 
 // With a UDP message of 16 bytes behind it.
@@ -166,10 +166,10 @@ fn an_ipv4_header_wants_memory(rt: HostRuntime) {
     let Ok((ipv4, _)) = Ipv4Header::from_slice(&IPV4) else {
         panic!(rt; "no IPv4 header");
     };
-    let mut buffer = begun(&rt);
+    let mut buffer = begun(rt);
     let is_made = ipv4.write(&mut buffer).is_ok()
         || is_as_begun(&buffer) && ipv4.write(&mut buffer).is_ok();
-    is_appended(&rt, is_made, &buffer, &IPV4[..20]);
+    is_appended(rt, is_made, &buffer, &IPV4[..20]);
 }
 
 #[test]
@@ -177,10 +177,10 @@ fn an_ipv4_header_as_it_stands_wants_memory(rt: HostRuntime) {
     let Ok((ipv4, _)) = Ipv4Header::from_slice(&IPV4) else {
         panic!(rt; "no IPv4 header");
     };
-    let mut buffer = begun(&rt);
+    let mut buffer = begun(rt);
     let is_made = ipv4.write_raw(&mut buffer).is_ok()
         || is_as_begun(&buffer) && ipv4.write_raw(&mut buffer).is_ok();
-    is_appended(&rt, is_made, &buffer, &IPV4[..20]);
+    is_appended(rt, is_made, &buffer, &IPV4[..20]);
 }
 
 const IPV6: [u8; 40] = [
@@ -193,10 +193,10 @@ fn an_ipv6_header_wants_memory(rt: HostRuntime) {
     let Ok((ipv6, _)) = Ipv6Header::from_slice(&IPV6) else {
         panic!(rt; "no IPv6 header");
     };
-    let mut buffer = begun(&rt);
+    let mut buffer = begun(rt);
     let is_made = ipv6.write(&mut buffer).is_ok()
         || is_as_begun(&buffer) && ipv6.write(&mut buffer).is_ok();
-    is_appended(&rt, is_made, &buffer, &IPV6);
+    is_appended(rt, is_made, &buffer, &IPV6);
 }
 
 #[test]
@@ -204,10 +204,10 @@ fn headers_of_either_version_want_memory(rt: HostRuntime) {
     let Ok((headers, _)) = IpHeaders::from_slice(&IPV4) else {
         panic!(rt; "no IP headers");
     };
-    let mut buffer = begun(&rt);
+    let mut buffer = begun(rt);
     let is_made = headers.write(&mut buffer).is_ok()
         || is_as_begun(&buffer) && headers.write(&mut buffer).is_ok();
-    is_appended(&rt, is_made, &buffer, &IPV4[..20]);
+    is_appended(rt, is_made, &buffer, &IPV4[..20]);
 }
 
 #[test]
@@ -215,10 +215,10 @@ fn a_udp_header_wants_memory(rt: HostRuntime) {
     let Ok((udp, _)) = UdpHeader::from_slice(&IPV4[20..]) else {
         panic!(rt; "no UDP header");
     };
-    let mut buffer = begun(&rt);
+    let mut buffer = begun(rt);
     let is_made = udp.write(&mut buffer).is_ok()
         || is_as_begun(&buffer) && udp.write(&mut buffer).is_ok();
-    is_appended(&rt, is_made, &buffer, &IPV4[20..28]);
+    is_appended(rt, is_made, &buffer, &IPV4[20..28]);
 }
 
 #[test]
@@ -227,10 +227,10 @@ fn a_transport_header_wants_memory(rt: HostRuntime) {
         panic!(rt; "no UDP header");
     };
     let header = TransportHeader::Udp(udp);
-    let mut buffer = begun(&rt);
+    let mut buffer = begun(rt);
     let is_made = header.write(&mut buffer).is_ok()
         || is_as_begun(&buffer) && header.write(&mut buffer).is_ok();
-    is_appended(&rt, is_made, &buffer, &IPV4[20..28]);
+    is_appended(rt, is_made, &buffer, &IPV4[20..28]);
 }
 
 const TCP: [u8; 20] = [
@@ -242,10 +242,10 @@ fn a_tcp_header_wants_memory(rt: HostRuntime) {
     let Ok((tcp, _)) = TcpHeader::from_slice(&TCP) else {
         panic!(rt; "no TCP header");
     };
-    let mut buffer = begun(&rt);
+    let mut buffer = begun(rt);
     let is_made = tcp.write(&mut buffer).is_ok()
         || is_as_begun(&buffer) && tcp.write(&mut buffer).is_ok();
-    is_appended(&rt, is_made, &buffer, &TCP);
+    is_appended(rt, is_made, &buffer, &TCP);
 }
 
 // Echo replies: RFC 792 and RFC 4443, section 4.2.
@@ -256,10 +256,10 @@ fn an_icmpv4_header_wants_memory(rt: HostRuntime) {
     let Ok((icmpv4, _)) = Icmpv4Header::from_slice(&ICMPV4) else {
         panic!(rt; "no ICMPv4 header");
     };
-    let mut buffer = begun(&rt);
+    let mut buffer = begun(rt);
     let is_made = icmpv4.write(&mut buffer).is_ok()
         || is_as_begun(&buffer) && icmpv4.write(&mut buffer).is_ok();
-    is_appended(&rt, is_made, &buffer, &ICMPV4);
+    is_appended(rt, is_made, &buffer, &ICMPV4);
 }
 
 const ICMPV6: [u8; 8] = [129, 0, 0x7e, 0xf0, 0, 7, 0, 8];
@@ -269,8 +269,8 @@ fn an_icmpv6_header_wants_memory(rt: HostRuntime) {
     let Ok((icmpv6, _)) = Icmpv6Header::from_slice(&ICMPV6) else {
         panic!(rt; "no ICMPv6 header");
     };
-    let mut buffer = begun(&rt);
+    let mut buffer = begun(rt);
     let is_made = icmpv6.write(&mut buffer).is_ok()
         || is_as_begun(&buffer) && icmpv6.write(&mut buffer).is_ok();
-    is_appended(&rt, is_made, &buffer, &ICMPV6);
+    is_appended(rt, is_made, &buffer, &ICMPV6);
 }

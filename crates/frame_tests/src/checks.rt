@@ -7,34 +7,49 @@ use std::process::Abort;
 use std::test::*;
 
 /// Fails where what is told is not what is wanted, and shows both.
-pub fn equal<T: PartialEq + Debug>(rt: &impl Abort, told: &T, wanted: &T) {
+pub fn equal<T: PartialEq + Debug + Drop>(rt: impl Abort + Copy, told: T, wanted: T) {
+    assert_eq!(rt; told, wanted);
+}
+
+/// The same of bytes.
+pub fn equal_bytes(rt: impl Abort + Copy, told: &[u8], wanted: &[u8]) {
     assert_eq!(rt; told, wanted);
 }
 
 /// Fails where an error doesn't show the text of the one in it, and shows both texts.
-pub fn have_one_text(rt: &impl Abort, alloc: Global, error: &impl Display, inner: &impl Display) {
+pub fn have_one_text(
+    rt: impl Abort + Copy,
+    alloc: Global,
+    error: &impl Display,
+    inner: &impl Display,
+) {
     match (format!(in alloc; "{error}"), format!(in alloc; "{inner}")) {
         (Ok(error), Ok(inner)) => {
-            equal(rt, &error.as_str(), &inner.as_str());
-            equal(rt, &inner.is_empty(), &false);
+            equal(rt, error.as_str(), inner.as_str());
+            equal(rt, inner.is_empty(), false);
         }
         _ => panic!(rt; "no memory"),
     }
 }
 
 /// A buffer with one byte. Where the byte wants memory, the next try gets it.
-pub fn held(rt: &impl Abort, alloc: Global) -> Vec<u8> {
+pub fn held(rt: impl Abort + Copy, alloc: Global) -> Vec<u8> {
     let mut buffer = Vec::new(alloc);
     equal(
         rt,
-        &(buffer.push(0xaa).is_ok() || buffer.push(0xaa).is_ok()),
-        &true,
+        (buffer.push(0xaa).is_ok() || buffer.push(0xaa).is_ok()),
+        true,
     );
     buffer
 }
 
 /// Fails where the bytes aren't these two parts.
-pub fn are_joined(rt: &impl Abort, bytes: &[u8], front: &[u8], rest: &[u8]) {
-    equal(rt, &bytes.get(..front.len()), &Some(front));
-    equal(rt, &bytes.get(front.len()..), &Some(rest));
+pub fn are_joined(rt: impl Abort + Copy, bytes: &[u8], front: &[u8], rest: &[u8]) {
+    equal(rt, bytes.get(..front.len()), Some(front));
+    equal(rt, bytes.get(front.len()..), Some(rest));
+}
+
+/// Ends a test.
+pub fn fail(rt: impl Abort + Copy, why: &str) -> ! {
+    panic!(rt; "{why}")
 }

@@ -6,22 +6,32 @@ use std::process::Abort;
 use std::test::*;
 
 /// Fails where a row is told otherwise than wanted, and shows all three.
-pub fn equal<T: PartialEq + Debug>(rt: &impl Abort, row: &str, told: &T, wanted: &T) {
+pub fn equal<T: PartialEq + Debug + Drop>(rt: impl Abort + Copy, row: &str, told: T, wanted: T) {
+    assert_eq!(rt; told, wanted, "{row}");
+}
+
+/// The same of bytes.
+pub fn equal_bytes(rt: impl Abort + Copy, row: &str, told: &[u8], wanted: &[u8]) {
     assert_eq!(rt; told, wanted, "{row}");
 }
 
 /// The same of the text that a value is shown as.
-pub fn shows<T: Debug>(rt: &(impl Abort + AllocGlobal), row: &str, told: &T, wanted: &str) {
+pub fn shows<T: Debug>(rt: impl Abort + AllocGlobal + Copy, row: &str, told: &T, wanted: &str) {
     match format!(in rt.alloc(); "{told:?}") {
-        Ok(text) => equal(rt, row, &text.as_str(), &wanted),
+        Ok(text) => equal(rt, row, text.as_str(), wanted),
         Err(_) => panic!(rt; "no memory for a text"),
     }
 }
 
 /// The same of the text that a value is printed as.
-pub fn reads<T: Display>(rt: &(impl Abort + AllocGlobal), told: &T, wanted: &str) {
+pub fn reads<T: Display>(rt: impl Abort + AllocGlobal + Copy, told: &T, wanted: &str) {
     match format!(in rt.alloc(); "{told}") {
-        Ok(text) => equal(rt, "text", &text.as_str(), &wanted),
+        Ok(text) => equal(rt, "text", text.as_str(), wanted),
         Err(_) => panic!(rt; "no memory for a text"),
     }
+}
+
+/// Ends a test.
+pub fn fail(rt: impl Abort + Copy, why: &str) -> ! {
+    panic!(rt; "{why}")
 }

@@ -11,13 +11,13 @@ use std::process::Abort;
 use std::test::*;
 
 /// Fails where it is not so.
-pub fn holds(rt: &impl Abort, is_so: bool) {
+pub fn holds(rt: impl Abort + Copy, is_so: bool) {
     assert!(rt; is_so);
 }
 
 // Fails where a text is another, and tells the row and both.
 fn is_text<R: Display + Drop>(
-    rt: &impl Abort,
+    rt: impl Abort + Copy,
     row: R,
     told: Result<String, AllocError>,
     wanted: &str,
@@ -30,7 +30,7 @@ fn is_text<R: Display + Drop>(
 
 /// Fails where a value is shown otherwise, and tells the row and both.
 pub fn shows<R: Display + Drop, T: Debug>(
-    rt: &(impl Abort + AllocGlobal),
+    rt: impl Abort + AllocGlobal + Copy,
     row: R,
     told: &T,
     wanted: &str,
@@ -40,7 +40,7 @@ pub fn shows<R: Display + Drop, T: Debug>(
 
 /// Fails where this is not the text of each of these errors.
 pub fn read_as<E: Display, F: Display, G: Display>(
-    rt: &(impl Abort + AllocGlobal),
+    rt: impl Abort + AllocGlobal + Copy,
     (first, second, third): (&E, &F, &G),
     text: &str,
 ) {
@@ -50,13 +50,13 @@ pub fn read_as<E: Display, F: Display, G: Display>(
 }
 
 /// Fails where this is not the text of an error.
-pub fn reads_as<E: Display>(rt: &(impl Abort + AllocGlobal), error: &E, text: &str) {
+pub fn reads_as<E: Display>(rt: impl Abort + AllocGlobal + Copy, error: &E, text: &str) {
     is_text(rt, "a text", format!(in rt.alloc(); "{error}"), text);
 }
 
 /// Fails where one of these errors has another text than the last.
 pub fn read_alike<E: Display, F: Display, G: Display, H: Display>(
-    rt: &(impl Abort + AllocGlobal),
+    rt: impl Abort + AllocGlobal + Copy,
     errors: (&E, &F, &G),
     last: &H,
 ) {
@@ -77,4 +77,9 @@ pub fn want_in_slice(required_len: usize, len: usize, layer: Layer) -> LenError
         layer,
         layer_start_offset: 0,
     }
+}
+
+/// Ends a test.
+pub fn fail(rt: impl Abort + Copy, why: &str) -> ! {
+    panic!(rt; "{why}")
 }

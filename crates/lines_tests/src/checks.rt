@@ -3,6 +3,6 @@ use std::fmt::Debug;
 use std::process::Abort;
 
 /// Fails where both differ. It has no contract: tests alone call it, and are run.
-pub fn equal<T: PartialEq + Debug>(rt: &impl Abort, told: &T, wanted: &T) {
+pub fn equal<T: PartialEq + Debug + Drop>(rt: impl Abort + Copy, told: T, wanted: T) {
     assert_eq!(rt; told, wanted);
 }

@@ -23,19 +23,19 @@ fn given(reader: &mut FaultReader<'_>, writer: &mut FaultWriter, room: &mut [u8]
 
 // One call reads by a buffer of this size, and gives so many bytes, if it doesn't fail.
 fn reads(
-    rt: &(impl Abort + AllocGlobal),
+    rt: impl Abort + AllocGlobal + Copy,
     mut reader: FaultReader<'_>,
     size: usize,
     wanted: Option<usize>,
 ) {
-    let mut room = b"\0".repeat(rt.alloc(), size).expect(rt, "no memory");
+    let mut room = b"\0".repeat(rt.alloc(), size).expect(&rt, "no memory");
     let mut writer = FaultWriter::new(rt.alloc(), 0);
     let count = given(&mut reader, &mut writer, room.as_mut_slice());
     let told = (count, reader.calls, reader.room, writer.calls);
-    equal(rt, &told, &(wanted, 1, size, 0));
+    equal(rt, told, (wanted, 1, size, 0));
 }
 
-fn reads_of(rt: &(impl Abort + AllocGlobal), tally: &mut Tally, bytes: &[u8], size: usize) {
+fn reads_of(rt: impl Abort + AllocGlobal + Copy, tally: &mut Tally, bytes: &[u8], size: usize) {
     reads(rt, FaultReader::new(bytes, GREATEST), size, Some(size));
     tally.count(1);
     reads(
@@ -52,10 +52,10 @@ fn reads_of_each_size(rt: HostRuntime) -> Result<(), Fail> {
     let mut tally = Tally::new("ReaderWriter::read_some", "a read fails");
     let bytes = vec![in rt.alloc(); 7u8; GREATEST]?;
     for size in 0..=200 {
-        reads_of(&rt, &mut tally, bytes.as_slice(), size);
+        reads_of(rt, &mut tally, bytes.as_slice(), size);
     }
     for size in SIZES.iter() {
-        reads_of(&rt, &mut tally, bytes.as_slice(), *size);
+        reads_of(rt, &mut tally, bytes.as_slice(), *size);
     }
     println!(rt; "{tally}")?;
     Ok(())
@@ -68,7 +68,7 @@ fn taken(reader: &mut FaultReader<'_>, writer: &mut FaultWriter, bytes: &[u8]) -
 
 // One call writes bytes of this size, and takes so many, if it doesn't fail.
 fn writes(
-    rt: &(impl Abort + AllocGlobal),
+    rt: impl Abort + AllocGlobal + Copy,
     mut writer: FaultWriter,
     bytes: &[u8],
     wanted: Option<usize>,
@@ -76,11 +76,11 @@ fn writes(
     let mut reader = FaultReader::new(b"", 0);
     let count = taken(&mut reader, &mut writer, bytes);
     let told = (count, writer.calls, writer.taken.len(), reader.calls);
-    equal(rt, &told, &(wanted, 1, wanted.unwrap_or(0), 0));
+    equal(rt, told, (wanted, 1, wanted.unwrap_or(0), 0));
 }
 
-fn writes_of(rt: &(impl Abort + AllocGlobal), tally: &mut Tally, bytes: &[u8], size: usize) {
-    let bytes = bytes.get(..size).expect(rt, "no such size");
+fn writes_of(rt: impl Abort + AllocGlobal + Copy, tally: &mut Tally, bytes: &[u8], size: usize) {
+    let bytes = bytes.get(..size).expect(&rt, "no such size");
     writes(
         rt,
         FaultWriter::new(rt.alloc(), GREATEST),
@@ -98,10 +98,10 @@ fn writes_of_each_size(rt: HostRuntime) -> Result<(), Fail> {
     let mut tally = Tally::new("ReaderWriter::write_some", "a write fails");
     let bytes = vec![in rt.alloc(); 7u8; GREATEST]?;
     for size in 0..=200 {
-        writes_of(&rt, &mut tally, bytes.as_slice(), size);
+        writes_of(rt, &mut tally, bytes.as_slice(), size);
     }
     for size in SIZES.iter() {
-        writes_of(&rt, &mut tally, bytes.as_slice(), *size);
+        writes_of(rt, &mut tally, bytes.as_slice(), *size);
     }
     println!(rt; "{tally}")?;
     Ok(())
@@ -115,7 +115,12 @@ const READS: &[(Fault, Option<usize>)] = &[
 ];
 
 // Three calls, of which this one is a fault.
-fn reads_with(rt: &(impl Abort + AllocGlobal), fault: Fault, failing: usize, odd: Option<usize>) {
+fn reads_with(
+    rt: impl Abort + AllocGlobal + Copy,
+    fault: Fault,
+    failing: usize,
+    odd: Option<usize>,
+) {
     let mut reader = FaultReader::failing(b"abc", 1, failing, fault);
     let mut writer = FaultWriter::new(rt.alloc(), 0);
     let mut read = Vec::new(rt.alloc());
@@ -125,14 +130,14 @@ fn reads_with(rt: &(impl Abort + AllocGlobal), fault: Fault, failing: usize, odd
         let wanted = if call == failing { odd } else { Some(1) };
         equal(
             rt,
-            &(fault, failing, call, count),
-            &(fault, failing, call, wanted),
+            (fault, failing, call, count),
+            (fault, failing, call, wanted),
         );
         let front = &room[..count.unwrap_or(0).min(200)];
         assert!(rt; read.extend_from_slice(front).is_ok());
     }
     let told = (reader.calls, read.as_slice(), writer.calls);
-    equal(rt, &told, &(3, b"ab".as_slice(), 0));
+    equal(rt, told, (3, b"ab".as_slice(), 0));
 }
 
 // Nothing is tried again, and no fault is made up.
@@ -140,7 +145,7 @@ fn reads_with(rt: &(impl Abort + AllocGlobal), fault: Fault, failing: usize, odd
 fn each_read_is_one_read(rt: HostRuntime) {
     for (fault, odd) in READS.iter() {
         for failing in 0..3 {
-            reads_with(&rt, *fault, failing, *odd);
+            reads_with(rt, *fault, failing, *odd);
         }
     }
 }
@@ -157,7 +162,7 @@ const WRITES: &[(Fault, runs::Fault)] = &[
 
 // A whole write of five bytes, of which this write is a fault.
 fn writes_with(
-    rt: &(impl Abort + AllocGlobal),
+    rt: impl Abort + AllocGlobal + Copy,
     fault: Fault,
     failing: usize,
     wanted: Result<(), runs::Fault>,
@@ -172,17 +177,17 @@ fn writes_with(
     let result = write_whole(&mut device, b"abcde".as_slice());
     let told = (fault, result, writer.calls, writer.taken.as_slice());
     let calls = 3.min(failing.saturating_add(1));
-    equal(rt, &told, &(fault, wanted, calls, taken));
+    equal(rt, told, (fault, wanted, calls, taken));
 }
 
 // The same of writes, which end where one of them is a fault.
 #[test]
 fn writes_end_at_a_fault(rt: HostRuntime) {
     for (fault, told) in WRITES.iter() {
-        writes_with(&rt, *fault, 0, Err(*told), b"");
-        writes_with(&rt, *fault, 1, Err(*told), b"ab");
-        writes_with(&rt, *fault, 2, Err(*told), b"abcd");
-        writes_with(&rt, *fault, 3, Ok(()), b"abcde");
+        writes_with(rt, *fault, 0, Err(*told), b"");
+        writes_with(rt, *fault, 1, Err(*told), b"ab");
+        writes_with(rt, *fault, 2, Err(*told), b"abcd");
+        writes_with(rt, *fault, 3, Ok(()), b"abcde");
     }
 }
 
@@ -195,7 +200,7 @@ fn writes_of_no_bytes(rt: HostRuntime) {
         writer: &mut writer,
     };
     let result = write_whole(&mut device, b"".as_slice());
-    equal(&rt, &(result, writer.calls), &(Ok(()), 0));
+    equal(rt, (result, writer.calls), (Ok(()), 0));
 }
 
 // The end of a run, and what it is with a flush behind it: of a writer that flushes, and of one
@@ -204,8 +209,8 @@ fn writes_of_no_bytes(rt: HostRuntime) {
 fn flushes_behind_runs(rt: HostRuntime) {
     for (done, flushed, unflushed) in [(Ok(()), Ok(()), Err(1)), (Err(2), Err(2), Err(2))] {
         let mut writer = FaultWriter::new(rt.alloc(), 1);
-        equal(&rt, &flush_behind(&mut writer, done, 1), &flushed);
+        equal(rt, flush_behind(&mut writer, done, 1), flushed);
         let mut writer = UnflushableWriter::new(rt.alloc(), 1);
-        equal(&rt, &flush_behind(&mut writer, done, 1), &unflushed);
+        equal(rt, flush_behind(&mut writer, done, 1), unflushed);
     }
 }

@@ -119,12 +119,12 @@ fn answers_by_earlier_lines(rt: HostRuntime) -> Result<(), Fail> {
 fn answers_a_text_in_memory(rt: HostRuntime) {
     let replies = answers_by(rt.alloc(), unmarked(2), LINES).expect(&rt, "no memory");
     let wanted = b"odd\neven\nfirst\neven\nagain\neven\n".as_slice();
-    equal(&rt, &replies.as_slice(), &wanted);
+    equal(rt, replies.as_slice(), wanted);
 }
 
 // A session with so much room for its replies hands them out, or tells how many bytes they are.
 fn hands_out(
-    rt: &(impl Abort + AllocGlobal),
+    rt: impl Abort + AllocGlobal + Copy,
     session: &mut Session<Marker>,
     room: usize,
     wanted: (bool, usize),
@@ -133,12 +133,12 @@ fn hands_out(
     ensures going { session.new.has_ended ≡ session.old.has_ended }
     ensures written { IsWrittenOut session.old → IsWrittenOut session.new }
 {
-    let mut output = b"\0".repeat(rt.alloc(), room).expect(rt, "no memory");
+    let mut output = b"\0".repeat(rt.alloc(), room).expect(&rt, "no memory");
     let mut written = 0;
     let has_room = session.hand_out(output.as_mut_slice(), &mut written);
-    equal(rt, &(has_room, written), &wanted);
+    equal(rt, (has_room, written), wanted);
     output.truncate(if has_room { written } else { 0 });
-    equal(rt, &output.as_slice(), &text.as_bytes());
+    equal(rt, output.as_slice(), text.as_bytes());
 }
 
 #[test]
@@ -146,9 +146,9 @@ fn answers_a_text_in_pieces(rt: HostRuntime) {
     let mut session = Session::new(rt.alloc(), unmarked(2)).expect(&rt, "no memory");
     session.take(b"a").expect(&rt, "no memory");
     session.take(b"\nb\n\nc").expect(&rt, "no memory");
-    hands_out(&rt, &mut session, 8, (false, 15), "");
-    hands_out(&rt, &mut session, 16, (true, 15), "odd\neven\nfirst\n");
+    hands_out(rt, &mut session, 8, (false, 15), "");
+    hands_out(rt, &mut session, 16, (true, 15), "odd\neven\nfirst\n");
     session.finish().expect(&rt, "no memory");
-    equal(&rt, &session.has_ended(), &true);
-    hands_out(&rt, &mut session, 16, (true, 5), "even\n");
+    equal(rt, session.has_ended(), true);
+    hands_out(rt, &mut session, 16, (true, 5), "even\n");
 }

@@ -13,12 +13,17 @@ pub fn print_tally(rt: &HostRuntime, tally: &Tally) -> Result<(), Fail> {
 }
 
 /// Ends a test that is told another value, and shows both.
-pub fn equal<T: PartialEq + Debug>(rt: &impl Abort, told: &T, wanted: &T) {
+pub fn equal<T: PartialEq + Debug + Drop>(rt: impl Abort + Copy, told: T, wanted: T) {
+    assert_eq!(rt; told, wanted);
+}
+
+/// The same of bytes.
+pub fn equal_bytes(rt: impl Abort + Copy, told: &[u8], wanted: &[u8]) {
     assert_eq!(rt; told, wanted);
 }
 
 /// Ends a test in which it is not so.
-pub fn holds(rt: &impl Abort, is_so: bool) {
+pub fn holds(rt: impl Abort + Copy, is_so: bool) {
     assert!(rt; is_so);
 }
 

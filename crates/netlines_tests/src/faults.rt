@@ -1,6 +1,6 @@
 //! Runs over readers and writers that give and take little, and fail, some of them while a
 //! message is on its way.
-use crate::checks::{ended_lines, equal, holds, print_tally, repeated};
+use crate::checks::{ended_lines, equal, equal_bytes, holds, print_tally, repeated};
 use crate::texts::{BAD_ANSWERS, BAD_LINES, ON_THEIR_WAY, ON_THEIR_WAY_ANSWERS};
 use fault_devices::{Fault, FaultReader, FaultWriter, Tally};
 use netlines::{RunError, run};
@@ -46,21 +46,21 @@ fn are_first(told: &[u8], answers: &[u8], count: usize) -> bool {
 }
 
 // This read of a byte is the fault, and no other follows. What was read by then is answered.
-fn read_is_last(rt: &(impl Abort + AllocGlobal), row: &Read, at: usize) {
+fn read_is_last(rt: impl Abort + AllocGlobal + Copy, row: &Read, at: usize) {
     let (text, answers, fault, end) = *row;
     let mut reader = FaultReader::failing(text, 1, at, fault);
     let mut output = Vec::new(rt.alloc());
     let result = run(rt.alloc(), &mut reader, &mut output);
     equal(
         rt,
-        &(at, result, reader.calls),
-        &(at, end, at.saturating_add(1)),
+        (at, result, reader.calls),
+        (at, end, at.saturating_add(1)),
     );
     let lines = answered_lines(text.get(..at).unwrap_or(&[]), end.is_ok());
     holds(rt, are_first(output.as_slice(), answers, lines));
 }
 
-fn each_read_is_last(rt: &(impl Abort + AllocGlobal), tally: &mut Tally, row: &Read) {
+fn each_read_is_last(rt: impl Abort + AllocGlobal + Copy, tally: &mut Tally, row: &Read) {
     let calls = row.0.len().saturating_add(1);
     tally.count(calls);
     for at in 0..calls {
@@ -73,7 +73,7 @@ fn each_read_is_last(rt: &(impl Abort + AllocGlobal), tally: &mut Tally, row: &R
 fn stops_at_each_read_that_fails(rt: HostRuntime) -> Result<(), Fail> {
     let mut tally = Tally::new("run", "a read fails or is interrupted");
     for row in FAILING_READS.iter() {
-        each_read_is_last(&rt, &mut tally, row);
+        each_read_is_last(rt, &mut tally, row);
     }
     print_tally(&rt, &tally)
 }
@@ -82,7 +82,7 @@ fn stops_at_each_read_that_fails(rt: HostRuntime) -> Result<(), Fail> {
 fn ends_at_a_read_that_gives_nothing(rt: HostRuntime) {
     let mut tally = Tally::new("run", "a read gives nothing");
     for row in ENDING_READS.iter() {
-        each_read_is_last(&rt, &mut tally, row);
+        each_read_is_last(rt, &mut tally, row);
     }
 }
 
@@ -118,7 +118,7 @@ const FAILING_WRITES: &[Write] = &[
 /// Compares a run over a reader of so many bytes a call and a writer of a byte a call, of which one
 /// is a fault: its end, the writes, and what they took.
 pub(super) fn are_writes(
-    rt: &(impl Abort + AllocGlobal),
+    rt: impl Abort + AllocGlobal + Copy,
     text: &[u8],
     piece: usize,
     at: usize,
@@ -129,18 +129,18 @@ pub(super) fn are_writes(
     let mut writer = FaultWriter::failing(rt.alloc(), 1, at, fault);
     let result = run(rt.alloc(), &mut reader, &mut writer);
     let told = (result, writer.calls, writer.taken.as_slice());
-    equal(rt, &(at, told), &(at, wanted));
+    equal(rt, (at, told), (at, wanted));
 }
 
 // This write of a byte is the fault, and no other follows.
-fn write_is_last(rt: &(impl Abort + AllocGlobal), row: &Write, at: usize) {
+fn write_is_last(rt: impl Abort + AllocGlobal + Copy, row: &Write, at: usize) {
     let (text, piece, answers, fault, error) = *row;
     let taken = answers.get(..at).unwrap_or(&[]);
     let wanted = (Err(error), at.saturating_add(1), taken);
     are_writes(rt, text, piece, at, fault, wanted);
 }
 
-fn each_write_is_last(rt: &(impl Abort + AllocGlobal), tally: &mut Tally, row: &Write) {
+fn each_write_is_last(rt: impl Abort + AllocGlobal + Copy, tally: &mut Tally, row: &Write) {
     let calls = row.2.len();
     tally.count(calls);
     for at in 0..calls {
@@ -153,7 +153,7 @@ fn each_write_is_last(rt: &(impl Abort + AllocGlobal), tally: &mut Tally, row: &
 fn stops_at_each_write_that_fails(rt: HostRuntime) -> Result<(), Fail> {
     let mut tally = Tally::new("run", "a write fails, is interrupted or takes nothing");
     for row in FAILING_WRITES.iter() {
-        each_write_is_last(&rt, &mut tally, row);
+        each_write_is_last(rt, &mut tally, row);
     }
     print_tally(&rt, &tally)
 }
@@ -170,7 +170,7 @@ const FEW_WRITES: &[(usize, usize)] = &[
 ];
 
 fn writes_so_often(
-    rt: &(impl Abort + AllocGlobal),
+    rt: impl Abort + AllocGlobal + Copy,
     lines: usize,
     calls: usize,
 ) -> Result<(), Fail> {
@@ -178,15 +178,15 @@ fn writes_so_often(
     let wanted = repeated(rt.alloc(), b"bad line\n", lines)?;
     let mut writer = FaultWriter::new(rt.alloc(), usize::MAX);
     let result = run(rt.alloc(), &mut input.as_slice(), &mut writer);
-    equal(rt, &(lines, result, writer.calls), &(lines, Ok(()), calls));
-    equal(rt, &writer.taken.as_slice(), &wanted.as_slice());
+    equal(rt, (lines, result, writer.calls), (lines, Ok(()), calls));
+    equal_bytes(rt, writer.taken.as_slice(), wanted.as_slice());
     Ok(())
 }
 
 #[test]
 fn writes_few_times(rt: HostRuntime) -> Result<(), Fail> {
     for (lines, calls) in FEW_WRITES.iter() {
-        writes_so_often(&rt, *lines, *calls)?;
+        writes_so_often(rt, *lines, *calls)?;
     }
     Ok(())
 }
@@ -196,5 +196,5 @@ fn reads_up_to_65536_bytes(rt: HostRuntime) {
     let mut reader = FaultReader::new(b"", 1);
     let mut writer = FaultWriter::new(rt.alloc(), 1);
     let result = run(rt.alloc(), &mut reader, &mut writer);
-    equal(&rt, &(result, reader.room), &(Ok(()), 65536));
+    equal(rt, (result, reader.room), (Ok(()), 65536));
 }

@@ -92,17 +92,17 @@ const ROWS: &[Row] = &[
     (Call::With, b"a\nb", 3, 3, TOO_MANY, BAD_LINE),
 ];
 
-fn makes_so_many(rt: &(impl Abort + AllocGlobal), state: RandomState, row: &Row) {
+fn makes_so_many(rt: impl Abort + AllocGlobal + Copy, state: RandomState, row: &Row) {
     let (call, text, reads, calls, answer, written) = *row;
     let mut reader = FaultReader::new(text, 1);
     let mut writer = FaultWriter::new(rt.alloc(), 1);
     let result = run_by(rt.alloc(), state, call, &mut reader, &mut writer, reads);
     let call = call as u8;
-    equal(rt, &(call, result, reader.calls), &(call, answer, calls));
+    equal(rt, (call, result, reader.calls), (call, answer, calls));
     equal(
         rt,
-        &(writer.calls, writer.taken.as_slice()),
-        &(written.len(), written),
+        (writer.calls, writer.taken.as_slice()),
+        (written.len(), written),
     );
 }
 
@@ -110,7 +110,7 @@ fn makes_so_many(rt: &(impl Abort + AllocGlobal), state: RandomState, row: &Row)
 fn makes_no_more_reads_than_it_may(rt: HostRuntime) -> Result<(), Fail> {
     let state = RandomState::new(&rt)?;
     for row in ROWS.iter() {
-        makes_so_many(&rt, state, row);
+        makes_so_many(rt, state, row);
     }
     Ok(())
 }

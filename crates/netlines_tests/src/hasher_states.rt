@@ -9,7 +9,7 @@ use std::test::*;
 
 // A byte a call.
 fn answers_by_random_keys(
-    rt: &(impl Abort + AllocGlobal),
+    rt: impl Abort + AllocGlobal + Copy,
     state: RandomState,
     text: &[u8],
     wanted: &[u8],
@@ -23,12 +23,12 @@ fn answers_by_random_keys(
         &mut writer,
         READ_COUNT_LIMIT,
     );
-    equal(rt, &(result, writer.taken.as_slice()), &(Ok(()), wanted));
+    equal(rt, (result, writer.taken.as_slice()), (Ok(()), wanted));
 }
 
 #[test]
 fn puts_messages_together(rt: HostRuntime) -> Result<(), Fail> {
     let state = RandomState::new(&rt)?;
-    answers_by_random_keys(&rt, state, TWO_ROUNDS, TWO_ROUNDS_ANSWERS);
+    answers_by_random_keys(rt, state, TWO_ROUNDS, TWO_ROUNDS_ANSWERS);
     Ok(())
 }

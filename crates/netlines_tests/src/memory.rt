@@ -46,7 +46,7 @@ const RUNS: &[Run] = &[
 // answers to the lines before one that takes some: so many bytes. With no memory for its buffers it
 // reads nothing.
 fn is_answered(
-    rt: &(impl Abort + AllocGlobal),
+    rt: impl Abort + AllocGlobal + Copy,
     input: &[u8],
     answers: &[u8],
     fronts: &[usize],
@@ -72,9 +72,9 @@ fn is_answered(
 #[test]
 fn runs_want_memory(rt: HostRuntime) {
     for (input, answers, fronts) in RUNS.iter() {
-        let first = is_answered(&rt, input, answers, fronts);
-        let second = is_answered(&rt, input, answers, fronts);
-        holds(&rt, first || second);
+        let first = is_answered(rt, input, answers, fronts);
+        let second = is_answered(rt, input, answers, fronts);
+        holds(rt, first || second);
     }
 }
 
@@ -118,7 +118,7 @@ const POSTED: &[Posted] = &[
 ];
 
 // Whether the message is posted; the only refusal is that of memory.
-fn posts(rt: &(impl Abort + AllocGlobal), row: &Posted) -> bool {
+fn posts(rt: impl Abort + AllocGlobal + Copy, row: &Posted) -> bool {
     let (version, number, tags, message, cuts, frames) = *row;
     match post(
         rt.alloc(),
@@ -127,14 +127,14 @@ fn posts(rt: &(impl Abort + AllocGlobal), row: &Posted) -> bool {
         cuts,
     ) {
         Ok(posted) => {
-            equal(rt, &posted.len(), &frames.len());
+            equal(rt, posted.len(), frames.len());
             for (posted, frame) in posted.iter().zip(frames) {
-                equal(rt, &posted.as_slice(), frame);
+                equal(rt, posted.as_slice(), *frame);
             }
             true
         }
         Err(error) => {
-            equal(rt, &error, &PostError::Memory);
+            equal(rt, error, PostError::Memory);
             false
         }
     }
@@ -144,9 +144,9 @@ fn posts(rt: &(impl Abort + AllocGlobal), row: &Posted) -> bool {
 #[test]
 fn a_frame_wants_memory(rt: HostRuntime) {
     for row in POSTED.iter() {
-        let first = posts(&rt, row);
-        let second = posts(&rt, row);
-        holds(&rt, first || second);
+        let first = posts(rt, row);
+        let second = posts(rt, row);
+        holds(rt, first || second);
     }
 }
 
@@ -159,22 +159,22 @@ const REFUSED: &[Refused] = &[
     (4, 17, &[7], PostError::Cuts { index: 0 }),
 ];
 
-fn is_refused(rt: &(impl Abort + AllocGlobal), row: &Refused) {
+fn is_refused(rt: impl Abort + AllocGlobal + Copy, row: &Refused) {
     let (version, number, cuts, refusal) = *row;
     let told = post(rt.alloc(), &letter(rt, version, number, &[]), MESSAGE, cuts).err();
-    equal(rt, &told, &Some(refusal));
+    equal(rt, told, Some(refusal));
 }
 
 // Refused for another reason than memory, with all of it or without.
 #[test]
 fn refused_letters_want_no_memory(rt: HostRuntime) {
     for row in REFUSED.iter() {
-        is_refused(&rt, row);
+        is_refused(rt, row);
     }
 }
 
 // Whether the message's payload is sealed as the message; the only refusal is that of memory.
-fn seals(rt: &(impl Abort + AllocGlobal), version: u8, message: &[u8]) -> bool {
+fn seals(rt: impl Abort + AllocGlobal + Copy, version: u8, message: &[u8]) -> bool {
     let payload = message.get(8..).unwrap_or(&[]);
     match seal_message(
         rt.alloc(),
@@ -183,11 +183,11 @@ fn seals(rt: &(impl Abort + AllocGlobal), version: u8, message: &[u8]) -> bool {
         payload,
     ) {
         Ok(sealed) => {
-            equal(rt, &sealed.as_slice(), &message);
+            equal(rt, sealed.as_slice(), message);
             true
         }
         Err(error) => {
-            equal(rt, &error, &SealError::Memory);
+            equal(rt, error, SealError::Memory);
             false
         }
     }
@@ -195,8 +195,8 @@ fn seals(rt: &(impl Abort + AllocGlobal), version: u8, message: &[u8]) -> bool {
 
 #[test]
 fn sealed_messages_want_memory(rt: HostRuntime) {
-    let first = seals(&rt, 4, MESSAGE);
-    let second = seals(&rt, 4, MESSAGE);
-    holds(&rt, first || second);
-    holds(&rt, seals(&rt, 6, MESSAGE_V6) || seals(&rt, 6, MESSAGE_V6));
+    let first = seals(rt, 4, MESSAGE);
+    let second = seals(rt, 4, MESSAGE);
+    holds(rt, first || second);
+    holds(rt, seals(rt, 6, MESSAGE_V6) || seals(rt, 6, MESSAGE_V6));
 }

@@ -56,20 +56,16 @@ const VERDICTS: &[(u8, u8, &[u8], Verdict)] = &[
     (4, 6, SEGMENT, Verdict::Good),
 ];
 
-fn is_judged(rt: &impl Abort, version: u8, number: u8, message: &[u8], wanted: Verdict) {
+fn is_judged(rt: impl Abort + Copy, version: u8, number: u8, message: &[u8], wanted: Verdict) {
     let addresses = if version == 6 { &OVER_V6 } else { &OVER_V4 };
     let told = verdict(addresses, number, message);
-    equal(
-        rt,
-        &(version, number, told),
-        &(version, number, Some(wanted)),
-    );
+    equal(rt, (version, number, told), (version, number, Some(wanted)));
 }
 
 #[test]
 fn verdicts(rt: HostRuntime) {
     for (version, number, message, wanted) in VERDICTS.iter() {
-        is_judged(&rt, *version, *number, message, *wanted);
+        is_judged(rt, *version, *number, message, *wanted);
     }
 }
 
@@ -97,17 +93,17 @@ const REPLIES: &[(u16, &[u8], Verdict)] = &[
 fn payloads_of_one_byte_repeated(rt: HostRuntime) {
     for (checksum, payload, wanted) in REPLIES.iter() {
         let told = verdict_of_reply(*checksum, payload);
-        equal(&rt, &(*checksum, told), &(*checksum, Some(*wanted)));
+        equal(rt, (*checksum, told), (*checksum, Some(*wanted)));
     }
 }
 
 // A payload with its checksum, and with one more.
-fn is_judged_by_checksum(rt: &impl Abort, payload: &[u8], checksum: u16) {
+fn is_judged_by_checksum(rt: impl Abort + Copy, payload: &[u8], checksum: u16) {
     let told = [
         verdict_of_reply(checksum, payload),
         verdict_of_reply(checksum ^ 1, payload),
     ];
-    equal(rt, &told, &[Some(Verdict::Good), Some(Verdict::Bad)]);
+    equal(rt, told, [Some(Verdict::Good), Some(Verdict::Bad)]);
 }
 
 // Payloads of 1, 2, 3, .. of each length up to 130, of which the longest are summed in lanes.
@@ -118,7 +114,7 @@ fn payloads_of_every_length(rt: HostRuntime) {
     let mut total = 0u32;
     for len in 0..=130usize {
         let checksum = (65535 - total % 65535) as u16;
-        is_judged_by_checksum(&rt, &payload[..len], checksum);
+        is_judged_by_checksum(rt, &payload[..len], checksum);
         byte = byte.wrapping_add(1);
         payload[len] = byte;
         let weight = if len % 2 == 0 { 256 } else { 1 };
@@ -155,9 +151,9 @@ const KINDS: &[(u8, (u8, usize))] = &[
 fn a_message_is_the_slice_of_its_protocol(rt: HostRuntime) {
     for (number, wanted) in KINDS.iter() {
         equal(
-            &rt,
-            &(*number, kind_and_len(*number, BYTES)),
-            &(*number, *wanted),
+            rt,
+            (*number, kind_and_len(*number, BYTES)),
+            (*number, *wanted),
         );
     }
 }
@@ -176,7 +172,13 @@ const REFUSALS: &[(u8, &[u8], usize, Layer)] = &[
     (1, &[13, 0, 0, 0, 0, 0, 0, 0], 20, Layer::Icmpv4Timestamp),
 ];
 
-fn wants_bytes(rt: &impl Abort, number: u8, message: &[u8], required_len: usize, layer: Layer) {
+fn wants_bytes(
+    rt: impl Abort + Copy,
+    number: u8,
+    message: &[u8],
+    required_len: usize,
+    layer: Layer,
+) {
     let wanted = LenError {
         required_len,
         len: message.len(),
@@ -184,13 +186,13 @@ fn wants_bytes(rt: &impl Abort, number: u8, message: &[u8], required_len: usize,
         layer,
         layer_start_offset: 0,
     };
-    equal(rt, &fault(number, message), &Some(SliceError::Len(wanted)));
+    equal(rt, fault(number, message), Some(SliceError::Len(wanted)));
 }
 
 #[test]
 fn refusals_of_messages(rt: HostRuntime) {
     for (number, message, required_len, layer) in REFUSALS.iter() {
-        wants_bytes(&rt, *number, message, *required_len, *layer);
+        wants_bytes(rt, *number, message, *required_len, *layer);
     }
 }
 
@@ -199,5 +201,5 @@ fn refusal_of_a_data_offset(rt: HostRuntime) {
     let mut segment = [0; 20];
     segment[12] = 0x40;
     let too_small = HeaderError::DataOffsetTooSmall { data_offset: 4 };
-    equal(&rt, &fault(6, &segment), &Some(SliceError::Tcp(too_small)));
+    equal(rt, fault(6, &segment), Some(SliceError::Tcp(too_small)));
 }

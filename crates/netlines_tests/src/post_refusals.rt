@@ -68,7 +68,7 @@ fn refusals_and_their_neighbours(rt: HostRuntime) -> Result<(), Fail> {
     let zeros = vec![in rt.alloc(); 0u8; 65536]?;
     for (version, number, len, cuts, wanted) in ROWS.iter() {
         let message = zeros.get(..*len).unwrap_or(&[]);
-        is_told(&rt, *version, *number, &[], message, cuts, wanted);
+        is_told(rt, *version, *number, &[], message, cuts, wanted);
     }
     Ok(())
 }
@@ -98,6 +98,6 @@ const SENT: &[(u8, u8)] = &[
 #[test]
 fn numbers_that_are_sent(rt: HostRuntime) {
     for (version, number) in SENT.iter() {
-        is_told(&rt, *version, *number, &[], MESSAGE, &[], "frames: 1\n");
+        is_told(rt, *version, *number, &[], MESSAGE, &[], "frames: 1\n");
     }
 }

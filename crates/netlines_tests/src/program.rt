@@ -1,5 +1,5 @@
 //! The flush, the status and what is told of an error.
-use crate::checks::equal;
+use crate::checks::{equal, equal_bytes};
 use fault_devices::UnflushableWriter;
 use netlines::{RunError, answer_input, exit_code, fault_name};
 use std::process::ExitCode;
@@ -9,7 +9,7 @@ use std::test::Fail;
 fn answers_what_is_read(rt: HostRuntime) -> Result<(), Fail> {
     let mut output = Vec::new(rt.alloc());
     answer_input(rt.alloc(), &mut b"\n".as_slice(), &mut output)?;
-    equal(&rt, &output.as_slice(), &b"bad line\n".as_slice());
+    equal_bytes(rt, output.as_slice(), b"bad line\n".as_slice());
     Ok(())
 }
 
@@ -17,8 +17,8 @@ fn answers_what_is_read(rt: HostRuntime) -> Result<(), Fail> {
 fn a_flush_that_fails_is_a_failed_write(rt: HostRuntime) {
     let mut writer = UnflushableWriter::new(rt.alloc(), usize::MAX);
     let done = answer_input(rt.alloc(), &mut b"\n".as_slice(), &mut writer);
-    equal(&rt, &done, &Err(RunError::Write));
-    equal(&rt, &writer.taken.as_slice(), &b"bad line\n".as_slice());
+    equal(rt, done, Err(RunError::Write));
+    equal_bytes(rt, writer.taken.as_slice(), b"bad line\n".as_slice());
 }
 
 #[test]
@@ -31,10 +31,10 @@ fn errors_have_names(rt: HostRuntime) {
         (RunError::TooManyReads, "reads"),
     ];
     for (error, name) in rows {
-        equal(&rt, &fault_name(error), &name);
-        equal(&rt, &exit_code(&rt, Err(error)), &ExitCode::FAILURE);
+        equal(rt, fault_name(error), name);
+        equal(rt, exit_code(&rt, Err(error)), ExitCode::FAILURE);
     }
-    equal(&rt, &exit_code(&rt, Ok(())), &ExitCode::SUCCESS);
+    equal(rt, exit_code(&rt, Ok(())), ExitCode::SUCCESS);
 }
 
 #[test]

@@ -40,7 +40,7 @@ fn two_runs_over_the_same_halves(rt: HostRuntime) {
         &mut other_reader,
         &mut other_told,
     );
-    equal(&rt, &results, &(Ok(()), Ok(())));
+    equal(rt, results, (Ok(()), Ok(())));
     let told = (told.as_slice(), other_told.as_slice());
-    equal(&rt, &told, &(TOLD, OTHER_TOLD));
+    equal(rt, told, (TOLD, OTHER_TOLD));
 }

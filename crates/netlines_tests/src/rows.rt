@@ -32,7 +32,7 @@ fn three_reads_of_one_byte(rt: HostRuntime) {
     let mut writer = FaultWriter::new(rt.alloc(), usize::MAX);
     let result = run_bounded(rt.alloc(), &mut reader, &mut writer, 3);
     let told = (result, reader.calls, writer.calls);
-    equal(&rt, &told, &(Err(RunError::TooManyReads), 3, 0));
+    equal(rt, told, (Err(RunError::TooManyReads), 3, 0));
 }
 
 // A write that is a fault, the answer, the writes, and what they take: a byte each. The last row
@@ -55,7 +55,7 @@ const WRITES: &[Row] = &[
 fn each_write_takes_one_byte(rt: HostRuntime) {
     for (at, fault, answer, calls, taken) in WRITES.iter() {
         let wanted = (*answer, *calls, *taken);
-        are_writes(&rt, TWO_FRAGMENTS, usize::MAX, *at, *fault, wanted);
+        are_writes(rt, TWO_FRAGMENTS, usize::MAX, *at, *fault, wanted);
     }
 }
 
@@ -67,5 +67,5 @@ fn a_read_fails_behind_a_line(rt: HostRuntime) {
     let mut output = Vec::new(rt.alloc());
     let result = run(rt.alloc(), &mut reader, &mut output);
     let told = (result, reader.calls, output.as_slice());
-    equal(&rt, &told, &(Err(RunError::Read), 2, MESSAGE));
+    equal(rt, told, (Err(RunError::Read), 2, MESSAGE));
 }

@@ -87,7 +87,7 @@ const SEALED: &[Sealed] = &[
 
 // Compares the length of a sealed message and its first bytes, or why there is none.
 fn is_sealed(
-    rt: &(impl Abort + AllocGlobal),
+    rt: impl Abort + AllocGlobal + Copy,
     version: u8,
     header: Header,
     payload: &[u8],
@@ -101,15 +101,15 @@ fn is_sealed(
     };
     equal(
         rt,
-        &(version, payload.len(), told, bytes),
-        &(version, payload.len(), wanted, front),
+        (version, payload.len(), told, bytes),
+        (version, payload.len(), wanted, front),
     );
 }
 
 #[test]
 fn sealed_messages(rt: HostRuntime) {
     for (version, header, payload, bytes) in SEALED.iter() {
-        is_sealed(&rt, *version, *header, payload, Ok(bytes.len()), bytes);
+        is_sealed(rt, *version, *header, payload, Ok(bytes.len()), bytes);
     }
 }
 
@@ -138,7 +138,7 @@ fn refusals_of_sealing(rt: HostRuntime) -> Result<(), Fail> {
     let zeros = vec![in rt.alloc(); 0u8; 65528]?;
     for (version, header, len, wanted) in LENGTHS.iter() {
         let payload = zeros.get(..*len).unwrap_or(&[]);
-        is_sealed(&rt, *version, *header, payload, *wanted, &[]);
+        is_sealed(rt, *version, *header, payload, *wanted, &[]);
     }
     Ok(())
 }

@@ -105,27 +105,32 @@ const TEXTS: &[(&[u8], &[u8])] = &[
 ];
 
 // A text in memory.
-pub(super) fn answers_in_memory(rt: &(impl Abort + AllocGlobal), text: &[u8], wanted: &[u8]) {
+pub(super) fn answers_in_memory(rt: impl Abort + AllocGlobal + Copy, text: &[u8], wanted: &[u8]) {
     match answers(rt.alloc(), text) {
-        Ok(told) => equal(rt, &told.as_slice(), &wanted),
+        Ok(told) => equal(rt, told.as_slice(), wanted),
         Err(_) => panic!(rt; "no memory"),
     }
 }
 
 // So many bytes a call.
-fn answers_in_pieces(rt: &(impl Abort + AllocGlobal), text: &[u8], wanted: &[u8], piece: usize) {
+fn answers_in_pieces(
+    rt: impl Abort + AllocGlobal + Copy,
+    text: &[u8],
+    wanted: &[u8],
+    piece: usize,
+) {
     let mut reader = FaultReader::new(text, piece);
     let mut writer = FaultWriter::new(rt.alloc(), piece);
     let result = run(rt.alloc(), &mut reader, &mut writer);
-    equal(rt, &(result, writer.taken.as_slice()), &(Ok(()), wanted));
+    equal(rt, (result, writer.taken.as_slice()), (Ok(()), wanted));
 }
 
 #[test]
 fn answers_each_line_once(rt: HostRuntime) {
     for (text, wanted) in TEXTS.iter() {
-        answers_in_memory(&rt, text, wanted);
-        answers_in_pieces(&rt, text, wanted, usize::MAX);
-        answers_in_pieces(&rt, text, wanted, 1);
+        answers_in_memory(rt, text, wanted);
+        answers_in_pieces(rt, text, wanted, usize::MAX);
+        answers_in_pieces(rt, text, wanted, 1);
     }
 }
 
@@ -142,7 +147,7 @@ const LONG_TEXTS: &[Long] = &[
     (TWO_ROUNDS, 5, b"", TWO_ROUNDS_ANSWERS, 5),
 ];
 
-fn answers_long_text(rt: &(impl Abort + AllocGlobal), row: &Long) -> Result<(), Fail> {
+fn answers_long_text(rt: impl Abort + AllocGlobal + Copy, row: &Long) -> Result<(), Fail> {
     let (bytes, times, end, answer, count) = *row;
     let mut text = repeated(rt.alloc(), bytes, times)?;
     text.extend_from_slice(end)?;
@@ -155,7 +160,7 @@ fn answers_long_text(rt: &(impl Abort + AllocGlobal), row: &Long) -> Result<(), 
 #[test]
 fn answers_long_texts(rt: HostRuntime) -> Result<(), Fail> {
     for row in LONG_TEXTS.iter() {
-        answers_long_text(&rt, row)?;
+        answers_long_text(rt, row)?;
     }
     Ok(())
 }

@@ -14,7 +14,7 @@ use Rattle.captures.specs.declared.translation.skipped.Skipped.{Skipped}
 use Rattle.captures.specs.declared.translation.state.State.{State}
 use Rattle.captures.specs.declared.translation.state.State.TheVariants.{Start}
 use Rattle.captures.specs.declared.unfit.Unfit.{Unfit}
-use Rattle.packets.specs.Runs.{AreFirst, AreTaken, BreaksBy, EndsBy, Unbroken, UnlessWanting}
+use Rattle.packets.specs.Runs.{AreButLast, AreTaken, BreaksBy, EndsBy, Unbroken, UnlessWanting}
 
 pub weaker_match : {E : Type 0} (result : Result Unit E) (A C : Type 0) (B D : E → Type 0)
     → (A → C) → ((error : E) → B error → D error) → MatchResult result (λ _. A) B
@@ -73,14 +73,17 @@ unbroken_always result A holds =
 -- all packets that were given are told
 pub all_first : (unfit : Unfit) (skipped : Skipped) (bytes : List ℕ) (given : List Packet)
     (state : State) (rest : List ℕ) → Gives (Start unfit) bytes given state rest
-    → skipped_in state ≡ skipped → AreFirst unfit skipped bytes given
+    → skipped_in state ≡ skipped → AreButLast unfit skipped bytes given
 all_first unfit skipped bytes given state rest gives counts = (
   [],
   omega arith,
-  state,
-  rest,
-  subst (λ (l : List Packet). Gives (Start unfit) bytes l state rest) (sym (append-nil given)) gives,
-  counts,
+  (
+    state,
+    rest,
+    subst (λ (l : List Packet). Gives (Start unfit) bytes l state rest) (sym (append-nil given))
+        gives,
+    counts,
+  ),
 )
 
 -- it was given packets of the bytes
@@ -93,7 +96,10 @@ ends_taken unfit skipped left bytes given writes (Err Read) ends =
 ends_taken unfit skipped left bytes given writes (Err Write) ends = ends.1
 ends_taken unfit skipped left bytes given writes (Err WriteZero) ends = ends.1
 ends_taken unfit skipped left bytes given writes (Err Memory) ends = inl ends
-ends_taken unfit skipped left bytes given writes (Err TooManyReads) ends = inl ends.0
+ends_taken unfit skipped left bytes given writes (Err TooManyReads) (inl (are, reads)) =
+    inl (all_first unfit skipped bytes given are.state are.rest are.gives are.counts)
+ends_taken unfit skipped left bytes given writes (Err TooManyReads) (inr (first, count)) =
+    inl (all_first unfit skipped bytes given first.0 first.1 first.2 first.3)
 ends_taken unfit skipped left bytes given writes (Err (Capture why place)) ends =
     inl (all_first unfit skipped bytes given ends.state ends.rest ends.gives ends.counts)
 ends_taken unfit skipped left bytes given writes (Err (BadLine number)) ends = absurd ends
@@ -111,7 +117,7 @@ break_ends writes unfit skipped left bytes given TooManyReads Breaks by taken = 
 break_ends writes unfit skipped left bytes given (Capture why place) Breaks by taken = absurd by
 break_ends writes unfit skipped left bytes given (BadLine number) Breaks by taken = absurd by
 
-pub nothing_first : (unfit : Unfit) → AreFirst unfit none_skipped [] []
+pub nothing_first : (unfit : Unfit) → AreButLast unfit none_skipped [] []
 nothing_first unfit = all_first unfit none_skipped [] [] (Start unfit) []
     (record { units = []; row = (refl, refl); parts = refl }) refl
 

@@ -22,7 +22,7 @@ use Rattle.header_texts.specs.declared.reason.Reason.{Reason}
 use Rattle.packets.specs.Conditions.{lets_through}
 use Rattle.packets.specs.Courses.{AreDissected, Course, IsDissected, course_after, forgotten}
 use Rattle.packets.specs.Courses.{next_course, shown}
-use Rattle.packets.specs.Runs.{AreFirst, EndsBy, Unbroken}
+use Rattle.packets.specs.Runs.{AreButLast, AreFirst, EndsBy, Unbroken}
 use Rattle.packets.specs.Counts.{Counts}
 use Rattle.packets.specs.Outlines.{outline_of}
 use Rattle.packets.specs.declared.dissection.Dissection.{Dissection}
@@ -66,20 +66,24 @@ pub first_given : {R : Type 0} (unfit : Unfit) (reader : PacketReader R) (bytes 
     (given : List Packet) → HasRead unfit reader bytes given
     → AreFirst unfit (skipped_by reader) bytes given
 first_given unfit reader bytes given h =
+    (reader.state, h.dropped ++ reader.window.held, h.gives, refl)
+
+-- and none is left out
+pub given_but_none : {R : Type 0} (unfit : Unfit) (reader : PacketReader R) (bytes : List ℕ)
+    (given : List Packet) → HasRead unfit reader bytes given
+    → AreButLast unfit (skipped_by reader) bytes given
+given_but_none unfit reader bytes given h =
     all_first unfit (skipped_by reader) bytes given reader.state (h.dropped ++ reader.window.held)
     h.gives refl
 
--- all but the last one are too
+-- all but the last one
 pub first_but_last : {R : Type 0} (unfit : Unfit) (reader : PacketReader R) (bytes : List ℕ)
     (given : List Packet) (packet : Packet) → HasRead unfit reader bytes (given ++ packet ∷ [])
-    → AreFirst unfit (skipped_by reader) bytes given
+    → AreButLast unfit (skipped_by reader) bytes given
 first_but_last unfit reader bytes given packet h = (
   packet ∷ [],
   omega arith,
-  reader.state,
-  h.dropped ++ reader.window.held,
-  h.gives,
-  refl,
+  (reader.state, h.dropped ++ reader.window.held, h.gives, refl),
 )
 
 -- an error of a reader is how a run ends
@@ -88,11 +92,7 @@ comes_ends : {R : Type 0} (writes : Bool) (unfit : Unfit) (reader : PacketReader
     → ComesTo unfit reader left bytes given (Err from)
     → EndsBy writes unfit (skipped_by reader) left bytes given (Err (as_run_error from))
 comes_ends writes unfit reader left bytes given read.Read comes = comes.1
-comes_ends writes unfit reader left bytes given read.TooManyReads comes = (
-  all_first unfit (skipped_by reader) bytes given comes.1.state comes.1.rest comes.1.gives
-      comes.1.counts,
-  inl comes.2,
-)
+comes_ends writes unfit reader left bytes given read.TooManyReads comes = inl (comes.1, comes.2)
 comes_ends writes unfit reader left bytes given (read.Capture error place) comes = comes.1
 
 pub reader_ends : {R : Type 0} (writes : Bool) (unfit : Unfit) (reader : PacketReader R)

@@ -18,17 +18,20 @@ use Rattle.captures.specs.declared.translation.state.State.{State}
 use Rattle.captures.specs.declared.translation.state.State.TheVariants.{Start}
 use Rattle.captures.specs.declared.unfit.Unfit.{Unfit}
 
--- these are the first packets of the bytes, each once and in their order, and perhaps one more, for
--- which memory was wanting; so many were passed over by then
+-- these are the first packets of the bytes, each once and in their order; so many were passed over
 abbrev pub AreFirst : Unfit → Skipped → List ℕ → List Packet → Type 0
-AreFirst unfit skipped read given = (more : List Packet) × (length more ≤ 1)
-    × (state : State) × (rest : List ℕ) × Gives (Start unfit) read (given ++ more) state rest
-    × (skipped_in state ≡ skipped)
+AreFirst unfit skipped read given = (state : State) × (rest : List ℕ)
+    × Gives (Start unfit) read given state rest × (skipped_in state ≡ skipped)
 
--- these are packets of the bytes, each once and in their order: the first ones, or all of a
--- capture; so many were passed over
+-- these are the first packets of the bytes, but perhaps the last one, for which memory was wanting
+abbrev pub AreButLast : Unfit → Skipped → List ℕ → List Packet → Type 0
+AreButLast unfit skipped read given = (last : List Packet) × (length last ≤ 1)
+    × AreFirst unfit skipped read (given ++ last)
+
+-- these are packets of the bytes, each once and in their order: the first ones, all of a capture,
+-- or, as memory may be wanting before a write fails, all but the last one; so many were passed over
 abbrev pub AreTaken : Unfit → Skipped → List ℕ → List Packet → Type 0
-AreTaken unfit skipped read given = AreFirst unfit skipped read given
+AreTaken unfit skipped read given = AreButLast unfit skipped read given
     ⊎ IsCapture unfit read (map taken_of given) skipped
 
 -- a run with this result has read these bytes, of which it was given these packets and passed over
@@ -43,10 +46,10 @@ EndsBy writes unfit skipped left read given (Err Write) =
     (writes ≡ true) × AreTaken unfit skipped read given
 EndsBy writes unfit skipped left read given (Err WriteZero) =
     (writes ≡ true) × AreTaken unfit skipped read given
-EndsBy writes unfit skipped left read given (Err Memory) = AreFirst unfit skipped read given
+EndsBy writes unfit skipped left read given (Err Memory) = AreButLast unfit skipped read given
 EndsBy writes unfit skipped left read given (Err TooManyReads) =
-    AreFirst unfit skipped read given
-    × ((READ_COUNT_LIMIT ≤ length read) ⊎ (2 ^ 64 - 1 ≤ length given))
+    (AreGiven unfit skipped read given × (READ_COUNT_LIMIT ≤ length read))
+    ⊎ (AreFirst unfit skipped read given × (2 ^ 64 - 1 ≤ length given))
 EndsBy writes unfit skipped left read given (Err (Capture error place)) =
     IsRefusedAt unfit skipped error place left read given
 EndsBy writes unfit skipped left read given (Err (BadLine number)) = ⊥

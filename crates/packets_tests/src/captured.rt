@@ -1,6 +1,7 @@
 //! Captures, and the packets of those that have one. None of these has a contract: tests alone call
 //! them, and are run.
 
+use crate::checks::fail;
 use captures::{Packet, Packets, Unfit};
 use packets::{Dissection, Dissector};
 use std::alloc::Global;
@@ -14,37 +15,42 @@ pub(super) const FRAMES: &[&str] = &test_captures::FRAMES;
 pub(super) const REFUSED_WHOLE: &[&str] = &test_captures::REFUSED_WHOLE;
 
 /// A capture of the first so many frames.
-pub(super) fn captured_front(rt: &impl Abort, alloc: Global, count: usize) -> Vec<u8> {
+pub(super) fn captured_front(rt: impl Abort + Copy, alloc: Global, count: usize) -> Vec<u8> {
     match FRAMES.get(..count) {
         Some(frames) => captured(rt, alloc, 1, frames),
-        None => panic!(rt; "no so many frames"),
+        None => fail(rt, "no so many frames"),
     }
 }
 
 /// A capture of these frames.
-pub(super) fn captured(rt: &impl Abort, alloc: Global, link_type: u32, frames: &[&str]) -> Vec<u8> {
+pub(super) fn captured(
+    rt: impl Abort + Copy,
+    alloc: Global,
+    link_type: u32,
+    frames: &[&str],
+) -> Vec<u8> {
     let Ok(capture) = capture_of(alloc, link_type, frames) else {
-        panic!(rt; "no capture");
+        fail(rt, "no capture");
     };
     capture
 }
 
 /// The first packet of a capture.
-pub(super) fn first<'a>(rt: &impl Abort, capture: &'a [u8]) -> Packet<'a> {
+pub(super) fn first<'a>(rt: impl Abort + Copy, capture: &'a [u8]) -> Packet<'a> {
     let Some(packet) = Packets::new(Unfit::Refuse, capture).next() else {
-        panic!(rt; "no packet");
+        fail(rt, "no packet");
     };
     packet
 }
 
 /// What is told of a packet.
 pub(super) fn dissected<'a>(
-    rt: &impl Abort,
+    rt: impl Abort + Copy,
     dissector: &mut Dissector,
     packet: &Packet<'a>,
 ) -> Dissection<'a> {
     let Ok(dissection) = dissector.dissect(packet) else {
-        panic!(rt; "no memory");
+        fail(rt, "no memory");
     };
     dissection
 }

@@ -7,17 +7,17 @@ use std::process::Abort;
 use std::str;
 
 /// Fails where what is told is not what is wanted, and shows both.
-pub(super) fn equal<T: PartialEq + Debug>(rt: &impl Abort, told: &T, wanted: &T) {
+pub(super) fn equal<T: PartialEq + Debug + Drop>(rt: impl Abort + Copy, told: T, wanted: T) {
     assert_eq!(rt; told, wanted);
 }
 
 /// Fails where it is not so.
-pub(super) fn holds(rt: &impl Abort, is_so: bool) {
+pub(super) fn holds(rt: impl Abort + Copy, is_so: bool) {
     assert!(rt; is_so);
 }
 
 /// Compares a text, and tells both.
-pub(super) fn is_text(rt: &impl Abort, told: &[u8], wanted: &str) {
+pub(super) fn is_text(rt: impl Abort + Copy, told: &[u8], wanted: &str) {
     let Ok(told) = str::from_utf8(told) else {
         panic!(rt; "no text");
     };
@@ -25,9 +25,19 @@ pub(super) fn is_text(rt: &impl Abort, told: &[u8], wanted: &str) {
 }
 
 /// Compares how a value is shown.
-pub(super) fn is_shown_as<T: Display>(rt: &impl Abort, alloc: Global, told: &T, wanted: &str) {
+pub(super) fn is_shown_as<T: Display>(
+    rt: impl Abort + Copy,
+    alloc: Global,
+    told: &T,
+    wanted: &str,
+) {
     let Ok(text) = format!(in alloc; "{told}") else {
         panic!(rt; "no memory");
     };
     is_text(rt, text.as_bytes(), wanted);
+}
+
+/// Ends a test.
+pub(super) fn fail(rt: impl Abort + Copy, why: &str) -> ! {
+    panic!(rt; "{why}")
 }

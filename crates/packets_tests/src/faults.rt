@@ -1,7 +1,7 @@
 //! Runs that fail on the way or tell how far they are, and when lines are written.
 
 use crate::captured::{FRAMES, captured, captured_front};
-use crate::checks::{equal, holds};
+use crate::checks::{equal, fail, holds};
 use crate::outcomes::{LINES, are_counted, are_written, end_of_lines, every_packet};
 use captures::{RunError, Skipped, Unfit};
 use fault_devices::{Fault, FaultReader, FaultWriter};
@@ -23,7 +23,7 @@ const READ_FAILED: Ending = Ending {
 };
 
 // Each read gives a byte. That behind the first packet fails.
-fn is_failed_by_read(rt: &impl Abort, alloc: Global, capture: &[u8], kind: ErrorKind) {
+fn is_failed_by_read(rt: impl Abort + Copy, alloc: Global, capture: &[u8], kind: ErrorKind) {
     let rules = every_packet(alloc);
     let fails = Fault::Fails(kind);
     let reader = FaultReader::failing(capture, 1, FIRST_END, fails);
@@ -35,15 +35,15 @@ fn is_failed_by_read(rt: &impl Abort, alloc: Global, capture: &[u8], kind: Error
 
 #[test]
 fn readers_that_fail(rt: HostRuntime) {
-    let capture = captured(&rt, rt.alloc(), 1, FRAMES);
-    is_failed_by_read(&rt, rt.alloc(), capture.as_slice(), ErrorKind::Other);
-    is_failed_by_read(&rt, rt.alloc(), capture.as_slice(), ErrorKind::Interrupted);
+    let capture = captured(rt, rt.alloc(), 1, FRAMES);
+    is_failed_by_read(rt, rt.alloc(), capture.as_slice(), ErrorKind::Other);
+    is_failed_by_read(rt, rt.alloc(), capture.as_slice(), ErrorKind::Interrupted);
 }
 
 // Of a link that isn't read: the first packet is passed over by then.
 #[test]
 fn packets_are_passed_over_before_a_failed_read(rt: HostRuntime) {
-    let capture = captured(&rt, rt.alloc(), 9, FRAMES);
+    let capture = captured(rt, rt.alloc(), 9, FRAMES);
     let rules = Rules {
         unfit: Unfit::Skip,
         ..every_packet(rt.alloc())
@@ -56,14 +56,14 @@ fn packets_are_passed_over_before_a_failed_read(rt: HostRuntime) {
         of_other_links: 1,
         ..Skipped::NONE
     };
-    equal(&rt, &ended, &(Err(RunError::Read), skipped));
+    equal(rt, ended, (Err(RunError::Read), skipped));
 }
 
 const TAKEN: &[u8] = b"    1   0.00\n    2  ";
 
 // The first write takes 20 bytes, and the next one fails or takes none.
 fn is_failed_by_write(
-    rt: &impl Abort,
+    rt: impl Abort + Copy,
     alloc: Global,
     capture: &[u8],
     fault: Fault,
@@ -72,8 +72,8 @@ fn is_failed_by_write(
     let rules = every_packet(alloc);
     let mut writer = FaultWriter::failing(alloc, 20, 1, fault);
     let (result, _) = end_of_lines(alloc, &rules, &LINES, capture, &mut writer);
-    equal(rt, &(result, writer.calls), &(Err(wanted), 2));
-    equal(rt, &writer.taken.as_slice(), &TAKEN);
+    equal(rt, (result, writer.calls), (Err(wanted), 2));
+    equal(rt, writer.taken.as_slice(), TAKEN);
 }
 
 const FAILED_WRITES: &[(Fault, RunError)] = &[
@@ -84,9 +84,9 @@ const FAILED_WRITES: &[(Fault, RunError)] = &[
 
 #[test]
 fn what_failing_writers_took(rt: HostRuntime) {
-    let capture = captured(&rt, rt.alloc(), 1, FRAMES);
+    let capture = captured(rt, rt.alloc(), 1, FRAMES);
     for (fault, wanted) in FAILED_WRITES.iter() {
-        is_failed_by_write(&rt, rt.alloc(), capture.as_slice(), *fault, *wanted);
+        is_failed_by_write(rt, rt.alloc(), capture.as_slice(), *fault, *wanted);
     }
 }
 
@@ -112,9 +112,9 @@ impl LineWriter for LongLines {
 // What comes before is written.
 #[test]
 fn no_memory_for_a_line(rt: HostRuntime) {
-    let capture = captured(&rt, rt.alloc(), 1, FRAMES);
+    let capture = captured(rt, rt.alloc(), 1, FRAMES);
     are_written(
-        &rt,
+        rt,
         rt.alloc(),
         &every_packet(rt.alloc()),
         &LongLines { len: 2, wanting: 4 },
@@ -136,7 +136,7 @@ fn is_long_line(line: &[u8]) -> bool {
 // Lines wait for a read that isn't there, up to 64 KB: here two lines each time, and then the rest.
 #[test]
 fn long_output_is_written_in_pieces(rt: HostRuntime) {
-    let capture = captured_front(&rt, rt.alloc(), 5);
+    let capture = captured_front(rt, rt.alloc(), 5);
     let rules = every_packet(rt.alloc());
     let lines = LongLines {
         len: 40_000,
@@ -145,11 +145,8 @@ fn long_output_is_written_in_pieces(rt: HostRuntime) {
     let mut writer = FaultWriter::new(rt.alloc(), usize::MAX);
     let (result, _) = end_of_lines(rt.alloc(), &rules, &lines, capture.as_slice(), &mut writer);
     let written = (result, writer.calls, writer.taken.len());
-    equal(&rt, &written, &(Ok(()), 3, 5 * 40_001));
-    holds(
-        &rt,
-        writer.taken.as_slice().chunks(40_001).all(is_long_line),
-    );
+    equal(rt, written, (Ok(()), 3, 5 * 40_001));
+    holds(rt, writer.taken.as_slice().chunks(40_001).all(is_long_line));
 }
 
 // A text of three lines.
@@ -168,9 +165,9 @@ impl LineWriter for ThreeLines {
 // Other ends than that of the line are left out.
 #[test]
 fn a_packet_has_one_line(rt: HostRuntime) {
-    let capture = captured_front(&rt, rt.alloc(), 2);
+    let capture = captured_front(rt, rt.alloc(), 2);
     are_written(
-        &rt,
+        rt,
         rt.alloc(),
         &every_packet(rt.alloc()),
         &ThreeLines,
@@ -234,7 +231,7 @@ const ARP: &str =
 
 #[test]
 fn lines_are_written_before_the_next_read(rt: HostRuntime) {
-    let capture = captured(&rt, rt.alloc(), 1, &[ARP; 4]);
+    let capture = captured(rt, rt.alloc(), 1, &[ARP; 4]);
     let rules = every_packet(rt.alloc());
     let (written, late) = (Cell::new(0usize), Cell::new(false));
     let reader = WatchingReader {
@@ -247,7 +244,7 @@ fn lines_are_written_before_the_next_read(rt: HostRuntime) {
     let mut writer = WatchedWriter(&written);
     let (result, _) = end_of_lines(rt.alloc(), &rules, &LINES, reader, &mut writer);
     let ended = (result, written.get(), late.get());
-    equal(&rt, &ended, &(Ok(()), 4 * LINE, false));
+    equal(rt, ended, (Ok(()), 4 * LINE, false));
 }
 
 // Keeps what it was told last, and counts.
@@ -288,7 +285,7 @@ fn long_capture(alloc: Global) -> Result<Vec<u8>, FromHexError> {
 #[test]
 fn progress_is_told(rt: HostRuntime) {
     let Ok(capture) = long_capture(rt.alloc()) else {
-        panic!(rt; "no memory");
+        fail(rt, "no memory");
     };
     let rules = every_packet(rt.alloc());
     let mut summary = Summary::new(rt.alloc());
@@ -296,8 +293,8 @@ fn progress_is_told(rt: HostRuntime) {
     let reader = capture.as_slice();
     let ending = summarize(rt.alloc(), &rules, &mut summary, reader, &mut steps);
     let counted = (ending.result, summary.all.packets, summary.all.bytes);
-    equal(&rt, &counted, &(Ok(()), 100, 9_000_000));
+    equal(rt, counted, (Ok(()), 100, 9_000_000));
     // The second step came within a read of 64 KB and a packet of its end.
     let is_near = steps.last >= 1 << 23 && steps.last < (1 << 23) + 262_144;
-    holds(&rt, steps.count == 2 && is_near);
+    holds(rt, steps.count == 2 && is_near);
 }

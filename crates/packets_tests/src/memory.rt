@@ -2,7 +2,7 @@
 //! then a call tells of it and of nothing else, what it worked on is as before, and the same call
 //! succeeds after it. All growths are those of the calls.
 
-use crate::checks::{equal, holds};
+use crate::checks::{equal, fail, holds};
 use crate::outcomes::{LINES, every_packet};
 use captures::{Packet, Packets, RunError, Skipped, Unfit};
 use packets::{Dissection, Dissector, NoProgress, Summary, Tally, summarize, write_lines};
@@ -27,7 +27,7 @@ const CAPTURE: &[u8; 189] = b"\
 const WANTED: &[u8; 39] = b"    1   0.00\n    2   0.00\n    3   0.00\n";
 
 // Whether a run writes all lines. If not, it found no memory, and what it wrote are whole lines.
-fn are_written(rt: &impl Abort, alloc: Global) -> bool {
+fn are_written(rt: impl Abort + Copy, alloc: Global) -> bool {
     let mut room = [0u8; 64];
     let mut left = room.as_mut_slice();
     let result = write_lines(
@@ -53,13 +53,13 @@ fn are_written(rt: &impl Abort, alloc: Global) -> bool {
 
 #[test]
 fn lines_want_memory(rt: HostRuntime) {
-    let first = are_written(&rt, rt.alloc());
-    let second = are_written(&rt, rt.alloc());
-    holds(&rt, first || second);
+    let first = are_written(rt, rt.alloc());
+    let second = are_written(rt, rt.alloc());
+    holds(rt, first || second);
 }
 
 // Whether a run counts all packets. If not, it found no memory, and counted those before.
-fn are_counted(rt: &impl Abort, alloc: Global) -> bool {
+fn are_counted(rt: impl Abort + Copy, alloc: Global) -> bool {
     let rules = every_packet(alloc);
     let mut summary = Summary::new(alloc);
     let reader = CAPTURE.as_slice();
@@ -77,13 +77,13 @@ fn are_counted(rt: &impl Abort, alloc: Global) -> bool {
 
 #[test]
 fn counts_want_memory(rt: HostRuntime) {
-    let first = are_counted(&rt, rt.alloc());
-    let second = are_counted(&rt, rt.alloc());
-    holds(&rt, first || second);
+    let first = are_counted(rt, rt.alloc());
+    let second = are_counted(rt, rt.alloc());
+    holds(rt, first || second);
 }
 
 fn dissected<'a>(
-    rt: &impl Abort,
+    rt: impl Abort + Copy,
     dissector: &mut Dissector,
     packet: &Packet<'a>,
 ) -> Dissection<'a> {
@@ -91,16 +91,16 @@ fn dissected<'a>(
         return dissection;
     }
     let Ok(dissection) = dissector.dissect(packet) else {
-        panic!(rt; "no memory");
+        fail(rt, "no memory");
     };
     dissection
 }
 
 // Adds a packet behind so many.
-fn add(rt: &impl Abort, summary: &mut Summary, packet: &Dissection<'_>, number: u64) {
+fn add(rt: impl Abort + Copy, summary: &mut Summary, packet: &Dissection<'_>, number: u64) {
     if summary.add(packet).is_err() {
         let counted = (summary.all.packets, summary.refused);
-        equal(rt, &counted, &(number, Tally::NONE));
+        equal(rt, counted, (number, Tally::NONE));
         holds(rt, summary.add(packet).is_ok());
     }
 }
@@ -112,21 +112,17 @@ fn packets_want_memory(rt: HostRuntime) {
     let mut summary = Summary::new(rt.alloc());
     let mut number = 0u64;
     for packet in Packets::new(Unfit::Refuse, CAPTURE) {
-        let dissection = dissected(&rt, &mut dissector, &packet);
-        add(&rt, &mut summary, &dissection, number);
+        let dissection = dissected(rt, &mut dissector, &packet);
+        add(rt, &mut summary, &dissection, number);
         number = number.saturating_add(1);
         equal(
-            &rt,
-            &(dissection.number, summary.all.packets),
-            &(number, number),
+            rt,
+            (dissection.number, summary.all.packets),
+            (number, number),
         );
         dissector.give_back(dissection);
     }
     let counted = (number, dissector.open(), summary.parts.completing.packets);
-    equal(&rt, &counted, &(3, 0, 1));
-    equal(
-        &rt,
-        &(summary.reasons.len(), summary.talkers.len()),
-        &(1, 1),
-    );
+    equal(rt, counted, (3, 0, 1));
+    equal(rt, (summary.reasons.len(), summary.talkers.len()), (1, 1));
 }

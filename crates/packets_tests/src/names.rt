@@ -87,7 +87,7 @@ const PROTOCOLS: &[(&str, Option<Protocol>)] = &[
 #[test]
 fn protocols(rt: HostRuntime) {
     for (name, wanted) in PROTOCOLS.iter() {
-        equal(&rt, &Protocol::named(*name), wanted);
+        equal(rt, Protocol::named(*name), *wanted);
     }
 }
 
@@ -107,9 +107,9 @@ fn names_of_numbers(rt: HostRuntime) {
         if wanted.is_some() {
             at = at.saturating_add(1);
         }
-        equal(&rt, &ip_number_name(IpNumber(number)), &wanted);
+        equal(rt, ip_number_name(IpNumber(number)), wanted);
     }
-    holds(&rt, at == NAMES.len());
+    holds(rt, at == NAMES.len());
 }
 
 // Other names of numbers, and one of none.
@@ -119,17 +119,17 @@ const OTHERS: &[(&str, Option<IpNumber>)] = &[
     ("tcq", None),
 ];
 
-fn is_number(rt: &impl Abort, name: &str, wanted: Option<IpNumber>) {
-    equal(rt, &ip_number_named(name), &wanted);
+fn is_number(rt: impl Abort + Copy, name: &str, wanted: Option<IpNumber>) {
+    equal(rt, ip_number_named(name), wanted);
 }
 
 #[test]
 fn numbers_of_names(rt: HostRuntime) {
     for (number, name) in NAMES.iter() {
-        is_number(&rt, *name, Some(IpNumber(*number)));
+        is_number(rt, *name, Some(IpNumber(*number)));
     }
     for (name, wanted) in OTHERS.iter() {
-        is_number(&rt, *name, *wanted);
+        is_number(rt, *name, *wanted);
     }
 }
 
@@ -148,7 +148,7 @@ const TEXTS_OF_PROTOCOLS: &[(Protocol, &str)] = &[
 #[test]
 fn texts_of_protocols(rt: HostRuntime) {
     for (protocol, wanted) in TEXTS_OF_PROTOCOLS.iter() {
-        is_shown_as(&rt, rt.alloc(), protocol, *wanted);
+        is_shown_as(rt, rt.alloc(), protocol, *wanted);
     }
 }
 
@@ -185,7 +185,7 @@ const TEXTS_OF_REASONS: &[(Reason, &str)] = &[
 #[test]
 fn reasons(rt: HostRuntime) {
     for (reason, wanted) in TEXTS_OF_REASONS.iter() {
-        is_shown_as(&rt, rt.alloc(), reason, *wanted);
+        is_shown_as(rt, rt.alloc(), reason, *wanted);
     }
 }
 
@@ -211,8 +211,8 @@ const REASONS_OF_ERRORS: &[(SliceError, Reason)] = &[
 #[test]
 fn reasons_of_errors(rt: HostRuntime) {
     for (error, wanted) in REASONS_OF_ERRORS.iter() {
-        equal(&rt, &Reason::of(*error), wanted);
+        equal(rt, Reason::of(*error), *wanted);
     }
     let want = IpDefragError::AllocationFailure { len: 8 };
-    holds(&rt, Reason::of_part(want) == Reason::FragmentMemory);
+    holds(rt, Reason::of_part(want) == Reason::FragmentMemory);
 }

@@ -1,7 +1,7 @@
 //! Runs, and what is compared of them. None of these has a contract: tests alone call them, and are
 //! run.
 
-use crate::checks::{equal, holds};
+use crate::checks::{equal, fail, holds};
 use captures::{RunError, Skipped, Unfit};
 use packets::{
     Condition, Ending, Filter, LineWriter, NoProgress, Rules, ShowOptions, Style, Summary,
@@ -28,11 +28,11 @@ pub(super) fn every_packet(alloc: Global) -> Rules {
 }
 
 /// Those that meet a condition.
-pub(super) fn packets_of(rt: &impl Abort, alloc: Global, word: &str) -> Rules {
+pub(super) fn packets_of(rt: impl Abort + Copy, alloc: Global, word: &str) -> Rules {
     let mut filter = Filter::new(alloc);
     match word.parse::<Condition>() {
         Ok(condition) => holds(rt, filter.add(condition).is_ok()),
-        Err(_) => panic!(rt; "no condition"),
+        Err(_) => fail(rt, "no condition"),
     }
     Rules {
         filter,
@@ -56,7 +56,7 @@ pub(super) fn end_of_lines<R: Read + Drop, W: Write, L: LineWriter>(
 
 /// Compares how a run ends that passes nothing over, and the lines that it writes.
 pub(super) fn are_written<R: Read + Drop, L: LineWriter>(
-    rt: &impl Abort,
+    rt: impl Abort + Copy,
     alloc: Global,
     rules: &Rules,
     lines: &L,
@@ -66,13 +66,13 @@ pub(super) fn are_written<R: Read + Drop, L: LineWriter>(
 ) {
     let mut out = Vec::new(alloc);
     let ended = end_of_lines(alloc, rules, lines, reader, &mut out);
-    equal(rt, &ended, &(wanted, Skipped::NONE));
-    equal(rt, &out.as_slice(), &text);
+    equal(rt, ended, (wanted, Skipped::NONE));
+    equal(rt, out.as_slice(), text);
 }
 
 /// Compares how a run ends that counts, and how many packets it counts.
 pub(super) fn are_counted<R: Read + Drop>(
-    rt: &impl Abort,
+    rt: impl Abort + Copy,
     alloc: Global,
     rules: &Rules,
     reader: R,
@@ -81,5 +81,5 @@ pub(super) fn are_counted<R: Read + Drop>(
 ) {
     let mut summary = Summary::new(alloc);
     let ended = summarize(alloc, rules, &mut summary, reader, &mut NoProgress);
-    equal(rt, &(ended, summary.all.packets), &(ending, packets));
+    equal(rt, (ended, summary.all.packets), (ending, packets));
 }

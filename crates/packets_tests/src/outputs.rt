@@ -1,6 +1,6 @@
 //! Outputs that can't be written or flushed, statuses, and what is told of an error.
 
-use crate::checks::{equal, is_text};
+use crate::checks::{equal, fail, is_text};
 use crate::outcomes::every_packet;
 use capture_inputs::Look;
 use captures::{CaptureError, Place, RunError, Skipped};
@@ -21,7 +21,7 @@ const FIRST: Place = Place {
     block: None,
 };
 
-fn is_unflushed(rt: &impl Abort, alloc: Global, input: &[u8], wanted: RunError) {
+fn is_unflushed(rt: impl Abort + Copy, alloc: Global, input: &[u8], wanted: RunError) {
     let written = write_flushed(
         alloc,
         &every_packet(alloc),
@@ -30,15 +30,15 @@ fn is_unflushed(rt: &impl Abort, alloc: Global, input: &[u8], wanted: RunError) 
         &mut UnflushableWriter::new(alloc, 0),
         &mut Skipped::NONE,
     );
-    equal(rt, &written, &Err(wanted));
+    equal(rt, written, Err(wanted));
 }
 
 // A capture of no packet writes nothing, and is flushed.
 #[test]
 fn a_flush_that_fails_is_a_failed_write(rt: HostRuntime) {
-    is_unflushed(&rt, rt.alloc(), HEADER, RunError::Write);
+    is_unflushed(rt, rt.alloc(), HEADER, RunError::Write);
     let refusal = RunError::Capture(CaptureError::NotCapture, FIRST);
-    is_unflushed(&rt, rt.alloc(), b"text", refusal);
+    is_unflushed(rt, rt.alloc(), b"text", refusal);
 }
 
 // Writes the report of no packet.
@@ -56,10 +56,10 @@ fn reported<W: Write>(alloc: Global, skipped: Skipped, writer: &mut W) -> Result
 fn reports_that_cannot_be_written(rt: HostRuntime) {
     let mut full = UnflushableWriter::new(rt.alloc(), 10);
     let written = reported(rt.alloc(), Skipped::NONE, &mut full);
-    equal(&rt, &written, &Err(RunError::WriteZero));
+    equal(rt, written, Err(RunError::WriteZero));
     let mut roomy = UnflushableWriter::new(rt.alloc(), 11);
     let written = reported(rt.alloc(), Skipped::NONE, &mut roomy);
-    equal(&rt, &written, &Err(RunError::Write));
+    equal(rt, written, Err(RunError::Write));
 }
 
 const SKIPPED: Skipped = Skipped {
@@ -74,8 +74,8 @@ const REPORT: &str = "no packets\n\npassed over: 1 of other links, 2 too long, 3
 fn an_empty_report(rt: HostRuntime) {
     let mut text = Vec::new(rt.alloc());
     let written = reported(rt.alloc(), SKIPPED, &mut text);
-    equal(&rt, &written, &Ok(()));
-    is_text(&rt, text.as_slice(), REPORT);
+    equal(rt, written, Ok(()));
+    is_text(rt, text.as_slice(), REPORT);
 }
 
 const STATUSES: &[(RunError, u8)] = &[
@@ -101,10 +101,10 @@ const STATUSES: &[(RunError, u8)] = &[
 fn errors_have_a_status(rt: HostRuntime) {
     for (error, status) in STATUSES.iter() {
         let code = exit_code(&rt, "packets_cli", Err(*error), Look::Other);
-        equal(&rt, &code, &ExitCode::from(*status));
+        equal(rt, code, ExitCode::from(*status));
     }
     let code = exit_code(&rt, "packets_cli", Ok(()), Look::Other);
-    equal(&rt, &code, &ExitCode::SUCCESS);
+    equal(rt, code, ExitCode::SUCCESS);
 }
 
 #[test]
@@ -112,5 +112,5 @@ fn errors_have_a_status(rt: HostRuntime) {
 fn errors_are_told(rt: HostRuntime) {
     let error = RunError::Capture(CaptureError::NotCapture, FIRST);
     let _ = exit_code(&rt, "packets_cli", Err(error), Look::Text);
-    panic!(rt; "told");
+    fail(rt, "told");
 }

@@ -68,14 +68,14 @@ fn refused(error: SliceError) -> Dissection<'static> {
     }
 }
 
-fn is_line(rt: &impl Abort, alloc: Global, packet: &Dissection<'_>, wanted: &str) {
+fn is_line(rt: impl Abort + Copy, alloc: Global, packet: &Dissection<'_>, wanted: &str) {
     let mut line = Vec::new(alloc);
     holds(rt, PLAIN.write_line(packet, &mut line).is_ok());
     is_text(rt, line.as_slice(), wanted);
 }
 
 // The object of a packet.
-fn object_of(rt: &impl Abort, alloc: Global, packet: &Dissection<'_>) -> Vec<u8> {
+fn object_of(rt: impl Abort + Copy, alloc: Global, packet: &Dissection<'_>) -> Vec<u8> {
     let mut object = Vec::new(alloc);
     holds(
         rt,
@@ -86,16 +86,16 @@ fn object_of(rt: &impl Abort, alloc: Global, packet: &Dissection<'_>) -> Vec<u8>
     object
 }
 
-fn is_object(rt: &impl Abort, alloc: Global, packet: &Dissection<'_>, wanted: &str) {
+fn is_object(rt: impl Abort + Copy, alloc: Global, packet: &Dissection<'_>, wanted: &str) {
     is_text(rt, object_of(rt, alloc, packet).as_slice(), wanted);
 }
 
 #[test]
 fn of_packets(rt: HostRuntime) {
     for (error, line, object, reason) in ERRORS.iter() {
-        is_line(&rt, rt.alloc(), &refused(*error), *line);
-        is_object(&rt, rt.alloc(), &refused(*error), *object);
-        is_shown_as(&rt, rt.alloc(), &Reason::of(*error), *reason);
+        is_line(rt, rt.alloc(), &refused(*error), *line);
+        is_object(rt, rt.alloc(), &refused(*error), *object);
+        is_shown_as(rt, rt.alloc(), &Reason::of(*error), *reason);
     }
 }
 
@@ -112,12 +112,12 @@ const OBJECT_END: &str =
 // A part of a message, for which there is no memory. A run ends then, and tells nothing of it.
 #[test]
 fn of_a_part(rt: HostRuntime) {
-    let capture = captured(&rt, rt.alloc(), 1, &[PART]);
-    let packet = first(&rt, capture.as_slice());
-    let mut dissection = dissected(&rt, &mut Dissector::new(rt.alloc()), &packet);
+    let capture = captured(rt, rt.alloc(), 1, &[PART]);
+    let packet = first(rt, capture.as_slice());
+    let mut dissection = dissected(rt, &mut Dissector::new(rt.alloc()), &packet);
     let error = IpDefragError::AllocationFailure { len: 8 };
     dissection.fragment = Some(Fragment::Refused { begun: None, error });
-    is_line(&rt, rt.alloc(), &dissection, LINE);
-    let object = object_of(&rt, rt.alloc(), &dissection);
-    holds(&rt, object.as_slice().ends_with(OBJECT_END.as_bytes()));
+    is_line(rt, rt.alloc(), &dissection, LINE);
+    let object = object_of(rt, rt.alloc(), &dissection);
+    holds(rt, object.as_slice().ends_with(OBJECT_END.as_bytes()));
 }

@@ -2,7 +2,7 @@
 //! them was counted by hand.
 
 use crate::captured::{FRAMES, REFUSED_WHOLE, captured, dissected, first};
-use crate::checks::{equal, holds};
+use crate::checks::{equal, fail, holds};
 use crate::outcomes::{every_packet, packets_of};
 use captures::{Packets, Skipped, Unfit};
 use etherparse::err::Layer;
@@ -37,15 +37,15 @@ fn taken(packet: &Dissection<'_>) -> Taken {
 
 #[test]
 fn outlines(rt: HostRuntime) {
-    let capture = captured(&rt, rt.alloc(), 1, FRAMES);
+    let capture = captured(rt, rt.alloc(), 1, FRAMES);
     let mut dissector = Dissector::new(rt.alloc());
     let mut rows = TAKEN.iter();
     for packet in Packets::new(Unfit::Refuse, capture.as_slice()) {
-        let dissection = dissected(&rt, &mut dissector, &packet);
-        equal(&rt, &Some(&taken(&dissection)), &rows.next());
+        let dissection = dissected(rt, &mut dissector, &packet);
+        equal(rt, Some(&taken(&dissection)), rows.next());
         dissector.give_back(dissection);
     }
-    holds(&rt, rows.next().is_none());
+    holds(rt, rows.next().is_none());
 }
 
 // An ICMPv6 message in a VLAN.
@@ -65,12 +65,12 @@ const HEADERS: Headers = Headers {
     net: Some(Net::Ip(ADDRESSES, IpNumber::IPV6_ICMP)),
 };
 
-fn is_icmpv6(rt: &impl Abort, packet: &Dissection<'_>) {
+fn is_icmpv6(rt: impl Abort + Copy, packet: &Dissection<'_>) {
     let headers = Headers::of(packet);
     equal(
         rt,
-        &(headers, headers.addresses()),
-        &(HEADERS, Some(ADDRESSES)),
+        (headers, headers.addresses()),
+        (HEADERS, Some(ADDRESSES)),
     );
     holds(
         rt,
@@ -82,12 +82,12 @@ fn is_icmpv6(rt: &impl Abort, packet: &Dissection<'_>) {
 
 #[test]
 fn headers(rt: HostRuntime) {
-    let capture = captured(&rt, rt.alloc(), 1, &[ICMPV6]);
-    let packet = first(&rt, capture.as_slice());
-    let dissection = dissected(&rt, &mut Dissector::new(rt.alloc()), &packet);
-    is_icmpv6(&rt, &dissection);
-    let rules = packets_of(&rt, rt.alloc(), "vlan");
-    holds(&rt, rules.filter.matches(&dissection));
+    let capture = captured(rt, rt.alloc(), 1, &[ICMPV6]);
+    let packet = first(rt, capture.as_slice());
+    let dissection = dissected(rt, &mut Dissector::new(rt.alloc()), &packet);
+    is_icmpv6(rt, &dissection);
+    let rules = packets_of(rt, rt.alloc(), "vlan");
+    holds(rt, rules.filter.matches(&dissection));
 }
 
 fn tally_of(packets: u64, bytes: u64, first: u64) -> Tally {
@@ -98,30 +98,30 @@ fn tally_of(packets: u64, bytes: u64, first: u64) -> Tally {
     }
 }
 
-fn is_tally(rt: &impl Abort, told: Tally, wanted: (u64, u64, u64)) {
+fn is_tally(rt: impl Abort + Copy, told: Tally, wanted: (u64, u64, u64)) {
     let (packets, bytes, first) = wanted;
-    equal(rt, &told, &tally_of(packets, bytes, first));
+    equal(rt, told, tally_of(packets, bytes, first));
 }
 
 // Compares the tally of a reason that came as this one, from 0.
 fn is_reason<S: BuildHasher>(
-    rt: &impl Abort,
+    rt: impl Abort + Copy,
     summary: &Summary<S>,
     index: usize,
     reason: Reason,
     tally: Tally,
 ) {
-    equal(rt, &summary.reasons.get(index), &Some((&reason, &tally)));
+    equal(rt, summary.reasons.get(index), Some((&reason, &tally)));
 }
 
-fn are_counts<S: BuildHasher>(rt: &impl Abort, summary: &Summary<S>) {
+fn are_counts<S: BuildHasher>(rt: impl Abort + Copy, summary: &Summary<S>) {
     is_tally(rt, summary.all, (10, 485, 1));
     is_tally(rt, summary.refused, (2, 75, 7));
     let datagrams = summary.protocols.over_ip.get(IpNumber::UDP);
     is_tally(rt, datagrams, (5, 240, 2));
     is_tally(rt, summary.checksums.bad, (1, 46, 2));
     is_tally(rt, summary.parts.completing, (1, 50, 6));
-    equal(rt, &(summary.reasons.len(), summary.talkers.len()), &(2, 3));
+    equal(rt, (summary.reasons.len(), summary.talkers.len()), (2, 3));
     is_reason(rt, summary, 1, Reason::TcpDataOffset, tally_of(1, 54, 8));
 }
 
@@ -133,22 +133,22 @@ const ALL_READ: Ending = Ending {
 
 #[test]
 fn summary(rt: HostRuntime) {
-    let capture = captured(&rt, rt.alloc(), 1, FRAMES);
+    let capture = captured(rt, rt.alloc(), 1, FRAMES);
     let (Ok(addresses), Ok(reasons)) = (RandomState::new(&rt), RandomState::new(&rt)) else {
-        panic!(rt; "no random numbers");
+        fail(rt, "no random numbers");
     };
     let mut summary = Summary::with_hashers(rt.alloc(), addresses, reasons);
-    holds(&rt, summary.talkers.is_empty());
+    holds(rt, summary.talkers.is_empty());
     let (rules, reader) = (every_packet(rt.alloc()), capture.as_slice());
     let ending = summarize(rt.alloc(), &rules, &mut summary, reader, &mut NoProgress);
-    equal(&rt, &ending, &ALL_READ);
-    are_counts(&rt, &summary);
+    equal(rt, ending, ALL_READ);
+    are_counts(rt, &summary);
 }
 
-fn are_refused(rt: &impl Abort, summary: &Summary) {
+fn are_refused(rt: impl Abort + Copy, summary: &Summary) {
     is_tally(rt, summary.refused, (2, 96, 2));
     is_tally(rt, summary.parts.completing, (2, 96, 2));
-    equal(rt, &summary.parts.refused, &Tally::NONE);
+    equal(rt, summary.parts.refused, Tally::NONE);
     let cut_off = Reason::CutOff(Layer::UdpPayload);
     is_reason(rt, summary, 0, cut_off, tally_of(1, 58, 2));
     is_reason(rt, summary, 1, Reason::TcpDataOffset, tally_of(1, 38, 4));
@@ -157,12 +157,12 @@ fn are_refused(rt: &impl Abort, summary: &Summary) {
 // Parts that complete what can't be read are refused, and are parts that complete a message.
 #[test]
 fn messages_that_are_refused(rt: HostRuntime) {
-    let capture = captured(&rt, rt.alloc(), 1, REFUSED_WHOLE);
+    let capture = captured(rt, rt.alloc(), 1, REFUSED_WHOLE);
     let mut summary = Summary::new(rt.alloc());
     let (rules, reader) = (every_packet(rt.alloc()), capture.as_slice());
     let ending = summarize(rt.alloc(), &rules, &mut summary, reader, &mut NoProgress);
-    holds(&rt, ending.result.is_ok());
-    are_refused(&rt, &summary);
+    holds(rt, ending.result.is_ok());
+    are_refused(rt, &summary);
 }
 
 // A packet of which nothing but this is known.
@@ -189,7 +189,7 @@ fn counts(rt: HostRuntime) {
     tally.add_if(false, &outline(1, 0, 10));
     tally.add(&outline(2, 0, 60));
     tally.add_if(true, &outline(3, 0, 40));
-    is_tally(&rt, tally, (2, 100, 2));
+    is_tally(rt, tally, (2, 100, 2));
 
     // Of 0, 6, 6 and 7 binary digits.
     let mut sizes = Sizes::NONE;
@@ -197,7 +197,7 @@ fn counts(rt: HostRuntime) {
         sizes.add(&outline(1, 0, len));
     }
     let counts = (sizes.counts[0], sizes.counts[6], sizes.counts[7]);
-    equal(&rt, &counts, &(1, 2, 1));
+    equal(rt, counts, (1, 2, 1));
 }
 
 // 63 and 64 spans of 1/512 second later. Spans are doubled where a packet comes behind the 64th.
@@ -208,12 +208,12 @@ fn rates(rt: HostRuntime) {
         rate.add(&outline(1, time, 60));
     }
     equal(
-        &rt,
-        &(rate.begin, rate.span),
-        &(Some(1_000_000_000), 3_906_250),
+        rt,
+        (rate.begin, rate.span),
+        (Some(1_000_000_000), 3_906_250),
     );
     let counts = (rate.counts[0], rate.counts[31], rate.counts[32]);
-    equal(&rt, &counts, &(1, 1, 1));
+    equal(rt, counts, (1, 1, 1));
 }
 
 const PART: &str =
@@ -221,7 +221,7 @@ const PART: &str =
     6162636465666768";
 
 // In which packet the message began for whose rest that of this capture waits.
-fn begun_in(rt: &impl Abort, dissector: &mut Dissector, capture: &[u8]) -> Option<u64> {
+fn begun_in(rt: impl Abort + Copy, dissector: &mut Dissector, capture: &[u8]) -> Option<u64> {
     let dissection = dissected(rt, dissector, &first(rt, capture));
     let begun = match dissection.fragment {
         Some(Fragment::Waits { begun }) => Some(begun),
@@ -234,23 +234,23 @@ fn begun_in(rt: &impl Abort, dissector: &mut Dissector, capture: &[u8]) -> Optio
 // A part waits until its message is forgotten: one that came at this time is kept.
 #[test]
 fn open_messages(rt: HostRuntime) {
-    let capture = captured(&rt, rt.alloc(), 1, &[PART]);
+    let capture = captured(rt, rt.alloc(), 1, &[PART]);
     let mut dissector = Dissector::new(rt.alloc());
     let time = 1_700_000_000_000_000_000;
     equal(
-        &rt,
-        &begun_in(&rt, &mut dissector, capture.as_slice()),
-        &Some(1),
+        rt,
+        begun_in(rt, &mut dissector, capture.as_slice()),
+        Some(1),
     );
     dissector.forget_before(time);
-    equal(&rt, &dissector.open(), &1);
+    equal(rt, dissector.open(), 1);
     dissector.forget_before(time + 1);
-    equal(&rt, &dissector.open(), &0);
+    equal(rt, dissector.open(), 0);
     // Then it begins anew.
     equal(
-        &rt,
-        &begun_in(&rt, &mut dissector, capture.as_slice()),
-        &Some(2),
+        rt,
+        begun_in(rt, &mut dissector, capture.as_slice()),
+        Some(2),
     );
 }
 
@@ -261,7 +261,7 @@ const SHARES: &str = "      4000 100.0 %          135980 100.0 %         1  all 
 
 // So many times the packet of a capture.
 fn add_times(
-    rt: &impl Abort,
+    rt: impl Abort + Copy,
     times: u32,
     capture: &[u8],
     dissector: &mut Dissector,
@@ -274,14 +274,14 @@ fn add_times(
     }
 }
 
-fn reports(rt: &impl Abort, alloc: Global, summary: &Summary, wanted: &str) {
+fn reports(rt: impl Abort + Copy, alloc: Global, summary: &Summary, wanted: &str) {
     let report = Report {
         summary,
         open: 0,
         skipped: Skipped::NONE,
     };
     let Ok(text) = format!(in alloc; "{report}") else {
-        panic!(rt; "no memory");
+        fail(rt, "no memory");
     };
     holds(rt, text.as_str().contains(wanted));
 }
@@ -293,11 +293,11 @@ const LLDP: &str = "02000000000202000000000188cc";
 // Of 4000 packets one isn't of IPv4: 99.975 percent are, which is less than all.
 #[test]
 fn a_share_of_all_but_one(rt: HostRuntime) {
-    let capture = captured(&rt, rt.alloc(), 101, &[IPV4]);
-    let other = captured(&rt, rt.alloc(), 1, &[LLDP]);
+    let capture = captured(rt, rt.alloc(), 101, &[IPV4]);
+    let other = captured(rt, rt.alloc(), 1, &[LLDP]);
     let mut dissector = Dissector::new(rt.alloc());
     let mut summary = Summary::new(rt.alloc());
-    add_times(&rt, 3999, capture.as_slice(), &mut dissector, &mut summary);
-    add_times(&rt, 1, other.as_slice(), &mut dissector, &mut summary);
-    reports(&rt, rt.alloc(), &summary, SHARES);
+    add_times(rt, 3999, capture.as_slice(), &mut dissector, &mut summary);
+    add_times(rt, 1, other.as_slice(), &mut dissector, &mut summary);
+    reports(rt, rt.alloc(), &summary, SHARES);
 }

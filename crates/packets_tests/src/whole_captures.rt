@@ -15,18 +15,10 @@ const LINES_OF_UDP: &[u8] =
 // Packets that the filter keeps back are counted too.
 #[test]
 fn lines_of_packets_that_are_let_through(rt: HostRuntime) {
-    let capture = captured(&rt, rt.alloc(), 1, FRAMES);
-    let rules = packets_of(&rt, rt.alloc(), "udp");
+    let capture = captured(rt, rt.alloc(), 1, FRAMES);
+    let rules = packets_of(rt, rt.alloc(), "udp");
     let reader = FaultReader::new(capture.as_slice(), 1);
-    are_written(
-        &rt,
-        rt.alloc(),
-        &rules,
-        &LINES,
-        reader,
-        Ok(()),
-        LINES_OF_UDP,
-    );
+    are_written(rt, rt.alloc(), &rules, &LINES, reader, Ok(()), LINES_OF_UDP);
 }
 
 const ONE_OPEN: Ending = Ending {
@@ -38,10 +30,10 @@ const ONE_OPEN: Ending = Ending {
 // One message waits at the end, of whose parts the first one came.
 #[test]
 fn counts_of_packets_that_are_let_through(rt: HostRuntime) {
-    let capture = captured(&rt, rt.alloc(), 1, FRAMES);
-    let rules = packets_of(&rt, rt.alloc(), "udp");
+    let capture = captured(rt, rt.alloc(), 1, FRAMES);
+    let rules = packets_of(rt, rt.alloc(), "udp");
     let reader = FaultReader::new(capture.as_slice(), 1);
-    are_counted(&rt, rt.alloc(), &rules, reader, ONE_OPEN, 5);
+    are_counted(rt, rt.alloc(), &rules, reader, ONE_OPEN, 5);
 }
 
 // Bytes that begin like no IP packet, between two that do.
@@ -76,7 +68,7 @@ const PASSED_OVER: Ending = Ending {
 
 // A run that ends so, with lines of 13 bytes, of so many packets.
 fn passes_over(
-    rt: &impl Abort,
+    rt: impl Abort + Copy,
     alloc: Global,
     unfit: Unfit,
     ending: Ending,
@@ -92,14 +84,14 @@ fn passes_over(
     let ended = end_of_lines(alloc, &rules, &LINES, capture.as_slice(), &mut out);
     equal(
         rt,
-        &(ended, out.len()),
-        &((ending.result, ending.skipped), len),
+        (ended, out.len()),
+        ((ending.result, ending.skipped), len),
     );
     are_counted(rt, alloc, &rules, capture.as_slice(), ending, packets);
 }
 
 #[test]
 fn packets_that_are_passed_over(rt: HostRuntime) {
-    passes_over(&rt, rt.alloc(), Unfit::Refuse, REFUSED, 13, 1);
-    passes_over(&rt, rt.alloc(), Unfit::Skip, PASSED_OVER, 2 * 13, 2);
+    passes_over(rt, rt.alloc(), Unfit::Refuse, REFUSED, 13, 1);
+    passes_over(rt, rt.alloc(), Unfit::Skip, PASSED_OVER, 2 * 13, 2);
 }

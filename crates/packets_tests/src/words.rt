@@ -1,6 +1,6 @@
 //! What the words of the command line ask for.
 
-use crate::checks::{equal, is_shown_as, is_text};
+use crate::checks::{equal, fail, is_shown_as, is_text};
 use captures::Unfit;
 use packets::commands::{AskError, asked_for, command};
 use std::alloc::{AllocError, Global};
@@ -49,7 +49,7 @@ fn output_of(alloc: Global, words: &[&str]) -> Option<String> {
     }
 }
 
-fn is_output(rt: &impl Abort, alloc: Global, words: &[&str], wanted: &str) {
+fn is_output(rt: impl Abort + Copy, alloc: Global, words: &[&str], wanted: &str) {
     match output_of(alloc, words) {
         Some(output) => is_text(rt, output.as_bytes(), wanted),
         None => is_text(rt, b"", wanted),
@@ -59,7 +59,7 @@ fn is_output(rt: &impl Abort, alloc: Global, words: &[&str], wanted: &str) {
 #[test]
 fn words_of_outputs(rt: HostRuntime) {
     for (words, wanted) in OUTPUTS.iter() {
-        is_output(&rt, rt.alloc(), *words, *wanted);
+        is_output(rt, rt.alloc(), *words, *wanted);
     }
 }
 
@@ -78,22 +78,22 @@ const RULES: &[&str] = &[
 #[test]
 fn words_of_rules(rt: HostRuntime) {
     let Ok(command) = command(rt.alloc()) else {
-        panic!(rt; "no memory");
+        fail(rt, "no memory");
     };
     let Ok(matches) = command.try_get_matches_from(RULES) else {
-        panic!(rt; "refused");
+        fail(rt, "refused");
     };
     let Ok(Some(asked)) = asked_for(rt.alloc(), &matches) else {
-        panic!(rt; "no command");
+        fail(rt, "no command");
     };
     let rules = (asked.name, asked.rules.unfit, asked.rules.forget);
-    equal(&rt, &rules, &("x", Unfit::Skip, Some(7)));
+    equal(rt, rules, ("x", Unfit::Skip, Some(7)));
 }
 
 #[test]
 fn no_memory_for_conditions(rt: HostRuntime) {
     is_shown_as(
-        &rt,
+        rt,
         rt.alloc(),
         &AskError::Memory(AllocError),
         "out of memory",

@@ -3,7 +3,7 @@
 
 use super::parts::{IPV4_DESTINATION, IPV4_SOURCE, IPV6_DESTINATION, IPV6_SOURCE, PAYLOAD};
 use super::written::{message, packet};
-use crate::checks::equal;
+use crate::checks::{equal, equal_bytes};
 use ep_base::{IpFragOffset, IpNumber};
 use ep_build::PacketBuilder;
 use ep_ext::{
@@ -77,11 +77,11 @@ const UDP_BEHIND_AUTH: [u8; 48] = [
 #[test]
 fn udp_behind_auth(rt: HostRuntime) {
     let written = message(
-        &rt,
+        rt,
         rt.alloc(),
         PacketBuilder::ip(ipv4_headers()).udp(21, 1234),
     );
-    equal(&rt, &written.as_slice(), &UDP_BEHIND_AUTH.as_slice());
+    equal_bytes(rt, written.as_slice(), UDP_BEHIND_AUTH.as_slice());
 }
 
 const UDP_BEHIND_ALL: [u8; 108] = [
@@ -94,11 +94,11 @@ const UDP_BEHIND_ALL: [u8; 108] = [
 #[test]
 fn udp_behind_all(rt: HostRuntime) {
     let written = message(
-        &rt,
+        rt,
         rt.alloc(),
         PacketBuilder::ip(ipv6_headers()).udp(21, 1234),
     );
-    equal(&rt, &written.as_slice(), &UDP_BEHIND_ALL.as_slice());
+    equal_bytes(rt, written.as_slice(), UDP_BEHIND_ALL.as_slice());
 }
 
 const RAW_BEHIND_ALL: [u8; 100] = [
@@ -111,13 +111,13 @@ const RAW_BEHIND_ALL: [u8; 100] = [
 #[test]
 fn raw_behind_all(rt: HostRuntime) {
     let step = PacketBuilder::ip(ipv6_headers());
-    let written = packet(&rt, rt.alloc(), step, IpNumber(253), &PAYLOAD);
-    equal(&rt, &written.as_slice(), &RAW_BEHIND_ALL.as_slice());
+    let written = packet(rt, rt.alloc(), step, IpNumber(253), &PAYLOAD);
+    equal_bytes(rt, written.as_slice(), RAW_BEHIND_ALL.as_slice());
 }
 
 // The length of a packet with a payload of this number, and the byte at this place of it.
 fn has_number_at(
-    rt: &impl Abort,
+    rt: impl Abort + Copy,
     alloc: Global,
     headers: IpHeaders,
     number: u8,
@@ -127,12 +127,12 @@ fn has_number_at(
     let written = packet(rt, alloc, step, IpNumber(number), &PAYLOAD);
     equal(
         rt,
-        &(written.len(), written.get(place.1)),
-        &(place.0, Some(&number)),
+        (written.len(), written.get(place.1)),
+        (place.0, Some(&number)),
     );
 }
 
-fn is_last_number(rt: &impl Abort, alloc: Global, number: u8) {
+fn is_last_number(rt: impl Abort + Copy, alloc: Global, number: u8) {
     has_number_at(rt, alloc, ipv6_headers(), number, (100, 84));
     has_number_at(rt, alloc, ipv4_headers(), number, (40, 20));
 }
@@ -140,9 +140,9 @@ fn is_last_number(rt: &impl Abort, alloc: Global, number: u8) {
 // Every number leads through the extension headers, also those of the headers themselves.
 #[test]
 fn last_numbers_of_extension_headers(rt: HostRuntime) {
-    is_last_number(&rt, rt.alloc(), 0);
-    is_last_number(&rt, rt.alloc(), 43);
-    is_last_number(&rt, rt.alloc(), 44);
-    is_last_number(&rt, rt.alloc(), 51);
-    is_last_number(&rt, rt.alloc(), 60);
+    is_last_number(rt, rt.alloc(), 0);
+    is_last_number(rt, rt.alloc(), 43);
+    is_last_number(rt, rt.alloc(), 44);
+    is_last_number(rt, rt.alloc(), 51);
+    is_last_number(rt, rt.alloc(), 60);
 }

@@ -6,7 +6,7 @@ use super::parts::{
     ipv4, ipv6, linux_sll,
 };
 use super::written::packet;
-use crate::checks::{are_joined, equal};
+use crate::checks::{are_joined, equal, fail};
 use ep_base::{EtherType, IpNumber};
 use ep_build::{LinkStep, PacketBuilder, PacketBuilderStep, laws};
 use ep_ext::{Ipv4Extensions, Ipv6Extensions};
@@ -56,7 +56,7 @@ fn ipv6_header() -> IpHeaders {
 
 // The step writes the front, and behind it the packet.
 fn writes(
-    rt: &impl Abort,
+    rt: impl Abort + Copy,
     alloc: Global,
     step: PacketBuilderStep<IpHeaders>,
     front: &[u8],
@@ -72,7 +72,7 @@ fn writes(
 
 // The header brings IPv4, by both its steps.
 fn brings_ipv4<L: LinkStep>(
-    rt: &impl Abort,
+    rt: impl Abort + Copy,
     alloc: Global,
     one: PacketBuilderStep<L>,
     other: PacketBuilderStep<L>,
@@ -90,7 +90,7 @@ fn brings_ipv4<L: LinkStep>(
 
 // The same of IPv6.
 fn brings_ipv6<L: LinkStep>(
-    rt: &impl Abort,
+    rt: impl Abort + Copy,
     alloc: Global,
     one: PacketBuilderStep<L>,
     other: PacketBuilderStep<L>,
@@ -107,27 +107,32 @@ fn brings_ipv6<L: LinkStep>(
 }
 
 // The step writes the front, and behind it the ARP packet.
-fn writes_arp(rt: &impl Abort, alloc: Global, step: PacketBuilderStep<ArpPacket>, front: &[u8]) {
+fn writes_arp(
+    rt: impl Abort + Copy,
+    alloc: Global,
+    step: PacketBuilderStep<ArpPacket>,
+    front: &[u8],
+) {
     let size = step.size();
     let mut buffer = Vec::new(alloc);
-    equal(rt, &step.write(&mut buffer), &Ok(()));
-    equal(rt, &buffer.len(), &size);
+    equal(rt, step.write(&mut buffer), Ok(()));
+    equal(rt, buffer.len(), size);
     are_joined(rt, &buffer, front, &ARP);
 }
 
 #[test]
 fn behind_nothing(rt: HostRuntime) {
-    writes(&rt, rt.alloc(), ipv4(), &[], &IPV4[2..]);
+    writes(rt, rt.alloc(), ipv4(), &[], &IPV4[2..]);
     writes(
-        &rt,
+        rt,
         rt.alloc(),
         PacketBuilder::ip(ipv4_header()),
         &[],
         &IPV4[2..],
     );
-    writes(&rt, rt.alloc(), ipv6(), &[], &IPV6[2..]);
+    writes(rt, rt.alloc(), ipv6(), &[], &IPV6[2..]);
     writes(
-        &rt,
+        rt,
         rt.alloc(),
         PacketBuilder::ip(ipv6_header()),
         &[],
@@ -138,17 +143,17 @@ fn behind_nothing(rt: HostRuntime) {
 #[test]
 fn behind_ethernet2(rt: HostRuntime) {
     let front = [7, 8, 9, 0x0a, 0x0b, 0x0c, 1, 2, 3, 4, 5, 6];
-    brings_ipv4(&rt, rt.alloc(), ethernet2(), ethernet2(), &front);
-    brings_ipv6(&rt, rt.alloc(), ethernet2(), ethernet2(), &front);
-    writes_arp(&rt, rt.alloc(), ethernet2().arp(arp(&rt)), &front);
+    brings_ipv4(rt, rt.alloc(), ethernet2(), ethernet2(), &front);
+    brings_ipv6(rt, rt.alloc(), ethernet2(), ethernet2(), &front);
+    writes_arp(rt, rt.alloc(), ethernet2().arp(arp(rt)), &front);
 }
 
 #[test]
 fn behind_linux_sll(rt: HostRuntime) {
     let front = [0, 4, 0, 1, 0, 6, 1, 2, 3, 4, 5, 6, 0, 0];
-    brings_ipv4(&rt, rt.alloc(), linux_sll(), linux_sll(), &front);
-    brings_ipv6(&rt, rt.alloc(), linux_sll(), linux_sll(), &front);
-    writes_arp(&rt, rt.alloc(), linux_sll().arp(arp(&rt)), &front);
+    brings_ipv4(rt, rt.alloc(), linux_sll(), linux_sll(), &front);
+    brings_ipv6(rt, rt.alloc(), linux_sll(), linux_sll(), &front);
+    writes_arp(rt, rt.alloc(), linux_sll().arp(arp(rt)), &front);
 }
 
 fn one_tag() -> PacketBuilderStep<VlanHeader> {
@@ -160,9 +165,9 @@ fn behind_one_tag(rt: HostRuntime) {
     let front = [
         7, 8, 9, 0x0a, 0x0b, 0x0c, 1, 2, 3, 4, 5, 6, 0x81, 0, 1, 0x23,
     ];
-    brings_ipv4(&rt, rt.alloc(), one_tag(), one_tag(), &front);
-    brings_ipv6(&rt, rt.alloc(), one_tag(), one_tag(), &front);
-    writes_arp(&rt, rt.alloc(), one_tag().arp(arp(&rt)), &front);
+    brings_ipv4(rt, rt.alloc(), one_tag(), one_tag(), &front);
+    brings_ipv6(rt, rt.alloc(), one_tag(), one_tag(), &front);
+    writes_arp(rt, rt.alloc(), one_tag().arp(arp(rt)), &front);
 }
 
 fn two_tags() -> PacketBuilderStep<VlanHeader> {
@@ -174,9 +179,9 @@ fn behind_two_tags(rt: HostRuntime) {
     let front = [
         7, 8, 9, 0x0a, 0x0b, 0x0c, 1, 2, 3, 4, 5, 6, 0x88, 0xa8, 1, 0x23, 0x81, 0, 2, 0x34,
     ];
-    brings_ipv4(&rt, rt.alloc(), two_tags(), two_tags(), &front);
-    brings_ipv6(&rt, rt.alloc(), two_tags(), two_tags(), &front);
-    writes_arp(&rt, rt.alloc(), two_tags().arp(arp(&rt)), &front);
+    brings_ipv4(rt, rt.alloc(), two_tags(), two_tags(), &front);
+    brings_ipv6(rt, rt.alloc(), two_tags(), two_tags(), &front);
+    writes_arp(rt, rt.alloc(), two_tags().arp(arp(rt)), &front);
 }
 
 // A tag of priority 5 that may be dropped, with an ether type that doesn't belong to it.
@@ -198,9 +203,9 @@ fn behind_given_tag(rt: HostRuntime) {
     let front = [
         7, 8, 9, 0x0a, 0x0b, 0x0c, 1, 2, 3, 4, 5, 6, 0x81, 0, 0xb0, 1,
     ];
-    brings_ipv4(&rt, rt.alloc(), given_tag(), given_tag(), &front);
-    brings_ipv6(&rt, rt.alloc(), given_tag(), given_tag(), &front);
-    writes_arp(&rt, rt.alloc(), given_tag().arp(arp(&rt)), &front);
+    brings_ipv4(rt, rt.alloc(), given_tag(), given_tag(), &front);
+    brings_ipv6(rt, rt.alloc(), given_tag(), given_tag(), &front);
+    writes_arp(rt, rt.alloc(), given_tag().arp(arp(rt)), &front);
 }
 
 fn given_tags() -> PacketBuilderStep<VlanHeader> {
@@ -215,45 +220,45 @@ fn behind_given_tags(rt: HostRuntime) {
     let front = [
         7, 8, 9, 0x0a, 0x0b, 0x0c, 1, 2, 3, 4, 5, 6, 0x88, 0xa8, 0xb0, 1, 0x81, 0, 0xb0, 2,
     ];
-    brings_ipv4(&rt, rt.alloc(), given_tags(), given_tags(), &front);
-    brings_ipv6(&rt, rt.alloc(), given_tags(), given_tags(), &front);
-    writes_arp(&rt, rt.alloc(), given_tags().arp(arp(&rt)), &front);
+    brings_ipv4(rt, rt.alloc(), given_tags(), given_tags(), &front);
+    brings_ipv6(rt, rt.alloc(), given_tags(), given_tags(), &front);
+    writes_arp(rt, rt.alloc(), given_tags().arp(arp(rt)), &front);
 }
 
 // The IP payload of a packet is the one above, of number 253.
-fn holds_payload(rt: &impl Abort, packet: &SlicedPacket<'_>) {
+fn holds_payload(rt: impl Abort + Copy, packet: &SlicedPacket<'_>) {
     match packet.ip_payload() {
         Some(payload) => {
-            equal(rt, &payload.ip_number, &IpNumber(253));
-            equal(rt, &payload.payload, &PAYLOAD.as_slice());
+            equal(rt, payload.ip_number, IpNumber(253));
+            equal(rt, payload.payload, PAYLOAD.as_slice());
         }
-        None => panic!(rt; "no IP payload"),
+        None => fail(rt, "no IP payload"),
     }
 }
 
-fn frame_holds_payload(rt: &impl Abort, frame: &[u8]) {
+fn frame_holds_payload(rt: impl Abort + Copy, frame: &[u8]) {
     match laws::frames::built_frames_are_sliced(frame) {
         Ok(packet) => holds_payload(rt, &packet),
-        Err(_) => panic!(rt; "no frame"),
+        Err(_) => fail(rt, "no frame"),
     }
 }
 
-fn packet_holds_payload(rt: &impl Abort, packet: &[u8]) {
+fn packet_holds_payload(rt: impl Abort + Copy, packet: &[u8]) {
     match laws::frames::built_packets_are_sliced(packet) {
         Ok(packet) => holds_payload(rt, &packet),
-        Err(_) => panic!(rt; "no packet"),
+        Err(_) => fail(rt, "no packet"),
     }
 }
 
-fn cooked_packet_holds_payload(rt: &impl Abort, packet: &[u8]) {
+fn cooked_packet_holds_payload(rt: impl Abort + Copy, packet: &[u8]) {
     match laws::frames::built_cooked_packets_are_sliced(packet) {
         Ok(packet) => holds_payload(rt, &packet),
-        Err(_) => panic!(rt; "no cooked packet"),
+        Err(_) => fail(rt, "no cooked packet"),
     }
 }
 
 // Of a payload of number 253.
-fn built(rt: &impl Abort, alloc: Global, step: PacketBuilderStep<IpHeaders>) -> Vec<u8> {
+fn built(rt: impl Abort + Copy, alloc: Global, step: PacketBuilderStep<IpHeaders>) -> Vec<u8> {
     packet(rt, alloc, step, IpNumber(253), &PAYLOAD)
 }
 
@@ -261,15 +266,15 @@ fn built(rt: &impl Abort, alloc: Global, step: PacketBuilderStep<IpHeaders>) -> 
 fn what_is_built_is_sliced_again(rt: HostRuntime) {
     laws::frames::cooked_header_fits(LinuxSllPacketType::OUTGOING, [1, 2, 3, 4, 5, 6, 0, 0]);
     let tagged = ethernet2().single_vlan(id(5)).ip(ipv4_header());
-    frame_holds_payload(&rt, &built(&rt, rt.alloc(), tagged));
+    frame_holds_payload(rt, &built(rt, rt.alloc(), tagged));
     let packet = PacketBuilder::ip(ipv6_header());
-    packet_holds_payload(&rt, &built(&rt, rt.alloc(), packet));
+    packet_holds_payload(rt, &built(rt, rt.alloc(), packet));
     let cooked = linux_sll().ip(ipv4_header());
-    cooked_packet_holds_payload(&rt, &built(&rt, rt.alloc(), cooked));
+    cooked_packet_holds_payload(rt, &built(rt, rt.alloc(), cooked));
 }
 
 // A payload that is no datagram: its length field says 1286.
-fn broken(rt: &impl Abort, alloc: Global, step: PacketBuilderStep<IpHeaders>) -> Vec<u8> {
+fn broken(rt: impl Abort + Copy, alloc: Global, step: PacketBuilderStep<IpHeaders>) -> Vec<u8> {
     packet(rt, alloc, step, IpNumber::UDP, &PAYLOAD)
 }
 
@@ -287,13 +292,13 @@ fn cooked_packet_is_refused(packet: &[u8]) -> bool {
 
 #[test]
 fn what_is_no_message_is_refused(rt: HostRuntime) {
-    let frame = broken(&rt, rt.alloc(), ethernet2().ip(ipv4_header()));
-    let packet = broken(&rt, rt.alloc(), PacketBuilder::ip(ipv6_header()));
-    let cooked = broken(&rt, rt.alloc(), linux_sll().ip(ipv4_header()));
+    let frame = broken(rt, rt.alloc(), ethernet2().ip(ipv4_header()));
+    let packet = broken(rt, rt.alloc(), PacketBuilder::ip(ipv6_header()));
+    let cooked = broken(rt, rt.alloc(), linux_sll().ip(ipv4_header()));
     let found = [
         frame_is_refused(&frame),
         packet_is_refused(&packet),
         cooked_packet_is_refused(&cooked),
     ];
-    equal(&rt, &found, &[true; 3]);
+    equal(rt, found, [true; 3]);
 }

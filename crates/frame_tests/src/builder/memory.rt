@@ -18,20 +18,20 @@ use std::test::*;
 // Whether a packet of so many bytes was written behind the byte of the buffer. The only refusal is
 // that of memory, and then the byte stands there alone.
 fn is_written(
-    rt: &impl Abort,
+    rt: impl Abort + Copy,
     told: Result<(), BuildWriteError>,
     buffer: &[u8],
     len: usize,
 ) -> bool {
-    equal(rt, &buffer.first(), &Some(&0xaa));
+    equal(rt, buffer.first(), Some(&0xaa));
     match told {
         Ok(()) => {
-            equal(rt, &buffer.len(), &len.saturating_add(1));
+            equal(rt, buffer.len(), len.saturating_add(1));
             true
         }
         Err(error) => {
-            equal(rt, &error, &BuildWriteError::Memory);
-            equal(rt, &buffer.len(), &1);
+            equal(rt, error, BuildWriteError::Memory);
+            equal(rt, buffer.len(), 1);
             false
         }
     }
@@ -39,7 +39,7 @@ fn is_written(
 
 // The same of two steps, of which the second one is to find memory where the first one doesn't.
 fn message(
-    rt: &impl Abort,
+    rt: impl Abort + Copy,
     alloc: Global,
     first: PacketBuilderStep<impl TransportStep>,
     second: PacketBuilderStep<impl TransportStep>,
@@ -49,20 +49,20 @@ fn message(
     let told = first.write(&mut buffer, &PAYLOAD);
     if !is_written(rt, told, &buffer, len) {
         let told = second.write(&mut buffer, &PAYLOAD);
-        equal(rt, &is_written(rt, told, &buffer, len), &true);
+        equal(rt, is_written(rt, told, &buffer, len), true);
     }
 }
 
 #[test]
 fn messages_over_ipv4_want_memory(rt: HostRuntime) {
-    message(&rt, rt.alloc(), ipv4().udp(1, 2), ipv4().udp(1, 2), 36);
+    message(rt, rt.alloc(), ipv4().udp(1, 2), ipv4().udp(1, 2), 36);
     let (first, second) = (ipv4().tcp(1, 2, 3, 4), ipv4().tcp(1, 2, 3, 4));
-    message(&rt, rt.alloc(), first, second, 48);
+    message(rt, rt.alloc(), first, second, 48);
     let (first, second) = (
         ipv4().icmpv4_echo_reply(1, 2),
         ipv4().icmpv4_echo_reply(1, 2),
     );
-    message(&rt, rt.alloc(), first, second, 36);
+    message(rt, rt.alloc(), first, second, 36);
 }
 
 #[test]
@@ -71,8 +71,8 @@ fn messages_over_ipv6_want_memory(rt: HostRuntime) {
         ipv6().icmpv6_echo_reply(1, 2),
         ipv6().icmpv6_echo_reply(1, 2),
     );
-    message(&rt, rt.alloc(), first, second, 56);
-    message(&rt, rt.alloc(), ipv6().udp(1, 2), ipv6().udp(1, 2), 56);
+    message(rt, rt.alloc(), first, second, 56);
+    message(rt, rt.alloc(), ipv6().udp(1, 2), ipv6().udp(1, 2), 56);
 }
 
 fn tagged() -> PacketBuilderStep<UdpHeader> {
@@ -88,12 +88,12 @@ fn cooked() -> PacketBuilderStep<UdpHeader> {
 
 #[test]
 fn messages_behind_link_headers_want_memory(rt: HostRuntime) {
-    message(&rt, rt.alloc(), tagged(), tagged(), 54);
-    message(&rt, rt.alloc(), cooked(), cooked(), 52);
+    message(rt, rt.alloc(), tagged(), tagged(), 54);
+    message(rt, rt.alloc(), cooked(), cooked(), 52);
 }
 
 fn payload(
-    rt: &impl Abort,
+    rt: impl Abort + Copy,
     alloc: Global,
     first: PacketBuilderStep<IpHeaders>,
     second: PacketBuilderStep<IpHeaders>,
@@ -103,22 +103,22 @@ fn payload(
     let told = first.write(&mut buffer, IpNumber(253), &PAYLOAD);
     if !is_written(rt, told, &buffer, len) {
         let told = second.write(&mut buffer, IpNumber(253), &PAYLOAD);
-        equal(rt, &is_written(rt, told, &buffer, len), &true);
+        equal(rt, is_written(rt, told, &buffer, len), true);
     }
 }
 
 #[test]
 fn payloads_want_memory(rt: HostRuntime) {
-    payload(&rt, rt.alloc(), ipv4(), ipv4(), 28);
-    payload(&rt, rt.alloc(), ipv6(), ipv6(), 48);
+    payload(rt, rt.alloc(), ipv4(), ipv4(), 28);
+    payload(rt, rt.alloc(), ipv6(), ipv6(), 48);
 }
 
 #[test]
 fn arp_packets_want_memory(rt: HostRuntime) {
-    let mut buffer = held(&rt, rt.alloc());
-    let told = ethernet2().arp(arp(&rt)).write(&mut buffer);
-    if !is_written(&rt, told, &buffer, 42) {
-        let told = ethernet2().arp(arp(&rt)).write(&mut buffer);
-        equal(&rt, &is_written(&rt, told, &buffer, 42), &true);
+    let mut buffer = held(rt, rt.alloc());
+    let told = ethernet2().arp(arp(rt)).write(&mut buffer);
+    if !is_written(rt, told, &buffer, 42) {
+        let told = ethernet2().arp(arp(rt)).write(&mut buffer);
+        equal(rt, is_written(rt, told, &buffer, 42), true);
     }
 }

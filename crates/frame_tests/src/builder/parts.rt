@@ -1,6 +1,7 @@
 //! Parts of packets, as the tests of the builder take them. The functions have no contracts: tests
 //! alone call them, and are run.
 
+use crate::checks::fail;
 use ep_base::EtherType;
 use ep_build::{PacketBuilder, PacketBuilderStep};
 use ep_link::{
@@ -53,7 +54,7 @@ pub fn id(number: u16) -> VlanId {
 }
 
 /// A request for a hardware address; no contract, as above.
-pub fn arp(rt: &impl Abort) -> ArpPacket {
+pub fn arp(rt: impl Abort + Copy) -> ArpPacket {
     let packet = ArpPacket::new(
         ArpHardwareId::ETHERNET,
         EtherType::IPV4,
@@ -64,7 +65,7 @@ pub fn arp(rt: &impl Abort) -> ArpPacket {
         &IPV4_DESTINATION,
     );
     let Ok(packet) = packet else {
-        panic!(rt; "the addresses don't pair up");
+        fail(rt, "the addresses don't pair up");
     };
     packet
 }

@@ -4,7 +4,7 @@
 use super::parts::{IPV6_DESTINATION, IPV6_SOURCE, id, ipv4};
 use super::refusals::is_refused;
 use super::written::{message, packet};
-use crate::checks::equal;
+use crate::checks::{equal, equal_bytes};
 use ep_base::IpNumber;
 use ep_base::err::{ValueTooBigError, ValueType};
 use ep_build::err::packet::BuildWriteError;
@@ -28,11 +28,11 @@ fn builder_udp(rt: HostRuntime) {
     let step = PacketBuilder::ethernet2([1, 2, 3, 4, 5, 6], [7, 8, 9, 10, 11, 12])
         .ipv4([192, 168, 1, 1], [192, 168, 1, 2], 20)
         .udp(21, 1234);
-    equal(&rt, &step.size(8), &50);
-    equal(
-        &rt,
-        &message(&rt, rt.alloc(), step).as_slice(),
-        &BUILDER_UDP.as_slice(),
+    equal(rt, step.size(8), 50);
+    equal_bytes(
+        rt,
+        message(rt, rt.alloc(), step).as_slice(),
+        BUILDER_UDP.as_slice(),
     );
 }
 
@@ -44,7 +44,7 @@ fn frame() -> PacketBuilderStep<Ethernet2Header> {
 
 // The step writes these bytes with a payload of UDP.
 fn writes(
-    rt: &impl Abort,
+    rt: impl Abort + Copy,
     alloc: Global,
     step: PacketBuilderStep<IpHeaders>,
     payload: &[u8],
@@ -52,8 +52,8 @@ fn writes(
 ) {
     equal(
         rt,
-        &packet(rt, alloc, step, IpNumber::UDP, payload).as_slice(),
-        &wanted,
+        packet(rt, alloc, step, IpNumber::UDP, payload).as_slice(),
+        wanted,
     );
 }
 
@@ -69,7 +69,7 @@ const IPV6_UDP: [u8; 70] = [
 #[test]
 fn ipv6_udp(rt: HostRuntime) {
     let step = frame().ipv6(IPV6_SOURCE, IPV6_DESTINATION, 64);
-    writes(&rt, rt.alloc(), step, &UDP_OVER_IPV6, &IPV6_UDP);
+    writes(rt, rt.alloc(), step, &UDP_OVER_IPV6, &IPV6_UDP);
 }
 
 const ONE_TAG: [u8; 74] = [
@@ -83,7 +83,7 @@ fn one_tag(rt: HostRuntime) {
     let step = frame()
         .single_vlan(id(5))
         .ipv6(IPV6_SOURCE, IPV6_DESTINATION, 64);
-    writes(&rt, rt.alloc(), step, &UDP_OVER_IPV6, &ONE_TAG);
+    writes(rt, rt.alloc(), step, &UDP_OVER_IPV6, &ONE_TAG);
 }
 
 // A UDP message between the addresses of the IPv4 header below.
@@ -108,13 +108,13 @@ fn two_tags(rt: HostRuntime) {
     let step = frame()
         .double_vlan(id(5), id(9))
         .ip(IpHeaders::Ipv4(header, Ipv4Extensions { auth: None }));
-    writes(&rt, rt.alloc(), step, &UDP_OVER_IPV4, &TWO_TAGS);
+    writes(rt, rt.alloc(), step, &UDP_OVER_IPV4, &TWO_TAGS);
 }
 
 #[test]
 fn icmpv6_over_ipv4(rt: HostRuntime) {
     let step = ipv4().icmpv6_echo_request(1, 2);
-    is_refused(&rt, rt.alloc(), step, 8, BuildWriteError::Icmpv6InIpv4);
+    is_refused(rt, rt.alloc(), step, 8, BuildWriteError::Icmpv6InIpv4);
 }
 
 #[test]
@@ -124,5 +124,5 @@ fn udp_too_long(rt: HostRuntime) {
         max_allowed: 65515,
         value_type: ValueType::Ipv4PayloadLength,
     });
-    is_refused(&rt, rt.alloc(), ipv4().udp(21, 1234), 65508, fault);
+    is_refused(rt, rt.alloc(), ipv4().udp(21, 1234), 65508, fault);
 }

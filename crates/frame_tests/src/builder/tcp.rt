@@ -2,7 +2,7 @@
 
 use super::parts::{ipv4, ipv6};
 use super::written::message;
-use crate::checks::equal;
+use crate::checks::{equal, equal_bytes, fail};
 use ep_build::PacketBuilderStep;
 use ep_tcpudp::{TcpHeader, TcpOptionElement, TcpOptionWriteError, TcpOptions};
 use std::alloc::Global;
@@ -16,12 +16,12 @@ fn tcp() -> PacketBuilderStep<TcpHeader> {
 }
 
 // The step writes this segment.
-fn gives(rt: &impl Abort, alloc: Global, step: PacketBuilderStep<TcpHeader>, segment: &[u8]) {
+fn gives(rt: impl Abort + Copy, alloc: Global, step: PacketBuilderStep<TcpHeader>, segment: &[u8]) {
     let written = message(rt, alloc, step);
     equal(
         rt,
-        &(written.get(9), written.get(20..)),
-        &(Some(&6), Some(segment)),
+        (written.get(9), written.get(20..)),
+        (Some(&6), Some(segment)),
     );
 }
 
@@ -31,7 +31,7 @@ const PLAIN: [u8; 28] = [
 
 #[test]
 fn plain_segment(rt: HostRuntime) {
-    gives(&rt, rt.alloc(), tcp(), &PLAIN);
+    gives(rt, rt.alloc(), tcp(), &PLAIN);
 }
 
 const OVER_IPV6: [u8; 68] = [
@@ -42,8 +42,8 @@ const OVER_IPV6: [u8; 68] = [
 
 #[test]
 fn segment_over_ipv6(rt: HostRuntime) {
-    let written = message(&rt, rt.alloc(), ipv6().tcp(1, 2, 3, 4096));
-    equal(&rt, &written.as_slice(), &OVER_IPV6.as_slice());
+    let written = message(rt, rt.alloc(), ipv6().tcp(1, 2, 3, 4096));
+    equal_bytes(rt, written.as_slice(), OVER_IPV6.as_slice());
 }
 
 // The segment above with other flags: the bytes of offset and flags, the checksum.
@@ -57,7 +57,7 @@ fn flagged(bytes: [u8; 2], checksum: [u8; 2]) -> [u8; 28] {
 }
 
 fn flag(
-    rt: &impl Abort,
+    rt: impl Abort + Copy,
     alloc: Global,
     step: PacketBuilderStep<TcpHeader>,
     bytes: [u8; 2],
@@ -68,13 +68,13 @@ fn flag(
 
 #[test]
 fn flags(rt: HostRuntime) {
-    flag(&rt, rt.alloc(), tcp().ns(), [0x51, 0x00], [0x0b, 0x6f]);
-    flag(&rt, rt.alloc(), tcp().fin(), [0x50, 0x01], [0x0c, 0x6e]);
-    flag(&rt, rt.alloc(), tcp().syn(), [0x50, 0x02], [0x0c, 0x6d]);
-    flag(&rt, rt.alloc(), tcp().rst(), [0x50, 0x04], [0x0c, 0x6b]);
-    flag(&rt, rt.alloc(), tcp().psh(), [0x50, 0x08], [0x0c, 0x67]);
-    flag(&rt, rt.alloc(), tcp().ece(), [0x50, 0x40], [0x0c, 0x2f]);
-    flag(&rt, rt.alloc(), tcp().cwr(), [0x50, 0x80], [0x0b, 0xef]);
+    flag(rt, rt.alloc(), tcp().ns(), [0x51, 0x00], [0x0b, 0x6f]);
+    flag(rt, rt.alloc(), tcp().fin(), [0x50, 0x01], [0x0c, 0x6e]);
+    flag(rt, rt.alloc(), tcp().syn(), [0x50, 0x02], [0x0c, 0x6d]);
+    flag(rt, rt.alloc(), tcp().rst(), [0x50, 0x04], [0x0c, 0x6b]);
+    flag(rt, rt.alloc(), tcp().psh(), [0x50, 0x08], [0x0c, 0x67]);
+    flag(rt, rt.alloc(), tcp().ece(), [0x50, 0x40], [0x0c, 0x2f]);
+    flag(rt, rt.alloc(), tcp().cwr(), [0x50, 0x80], [0x0b, 0xef]);
 }
 
 const ACKNOWLEDGING: [u8; 28] = [
@@ -89,8 +89,8 @@ const URGENT: [u8; 28] = [
 
 #[test]
 fn flags_with_fields(rt: HostRuntime) {
-    gives(&rt, rt.alloc(), tcp().ack(7), &ACKNOWLEDGING);
-    gives(&rt, rt.alloc(), tcp().urg(9), &URGENT);
+    gives(rt, rt.alloc(), tcp().ack(7), &ACKNOWLEDGING);
+    gives(rt, rt.alloc(), tcp().urg(9), &URGENT);
 }
 
 const WITH_SEGMENT_SIZE: [u8; 32] = [
@@ -107,18 +107,18 @@ const WITH_BYTES: [u8; 32] = [
 type WithOptions = Result<PacketBuilderStep<TcpHeader>, TcpOptionWriteError>;
 
 // The step takes the options and writes this segment.
-fn takes_and_gives(rt: &impl Abort, alloc: Global, step: WithOptions, segment: &[u8]) {
+fn takes_and_gives(rt: impl Abort + Copy, alloc: Global, step: WithOptions, segment: &[u8]) {
     match step {
         Ok(step) => gives(rt, alloc, step, segment),
-        Err(_) => panic!(rt; "refused options"),
+        Err(_) => fail(rt, "refused options"),
     }
 }
 
 #[test]
 fn options(rt: HostRuntime) {
     let elements = tcp().options(&[TcpOptionElement::MaximumSegmentSize(1460)]);
-    takes_and_gives(&rt, rt.alloc(), elements, &WITH_SEGMENT_SIZE);
-    takes_and_gives(&rt, rt.alloc(), tcp().options_raw(&[1, 1, 1]), &WITH_BYTES);
+    takes_and_gives(rt, rt.alloc(), elements, &WITH_SEGMENT_SIZE);
+    takes_and_gives(rt, rt.alloc(), tcp().options_raw(&[1, 1, 1]), &WITH_BYTES);
 }
 
 // Why these options are refused, or no refusal.
@@ -133,10 +133,10 @@ fn refusal(step: WithOptions) -> Option<TcpOptionWriteError> {
 fn options_too_long(rt: HostRuntime) {
     let error = Some(TcpOptionWriteError::NotEnoughSpace(50));
     let elements = [TcpOptionElement::Timestamp(1, 2); 5];
-    equal(&rt, &refusal(tcp().options(&elements)), &error);
+    equal(rt, refusal(tcp().options(&elements)), error);
     let error = Some(TcpOptionWriteError::NotEnoughSpace(41));
-    equal(&rt, &refusal(tcp().options_raw(&[1; 41])), &error);
-    equal(&rt, &refusal(tcp().options_raw(&[1; 40])), &None);
+    equal(rt, refusal(tcp().options_raw(&[1; 41])), error);
+    equal(rt, refusal(tcp().options_raw(&[1; 40])), None);
 }
 
 const OF_A_HEADER: [u8; 32] = [
@@ -155,7 +155,7 @@ fn given_header(rt: HostRuntime) {
         ..TcpHeader::new(1, 2, 3, 4096)
     };
     gives(
-        &rt,
+        rt,
         rt.alloc(),
         ipv4().tcp_header(header).syn(),
         &OF_A_HEADER,

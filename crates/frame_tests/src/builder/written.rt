@@ -12,24 +12,24 @@ use std::test::*;
 
 /// What the step writes with the payload of packets; fails where it is refused.
 pub fn message<L: TransportStep>(
-    rt: &impl Abort,
+    rt: impl Abort + Copy,
     alloc: Global,
     step: PacketBuilderStep<L>,
 ) -> Vec<u8> {
     let mut buffer = Vec::new(alloc);
-    equal(rt, &step.write(&mut buffer, &PAYLOAD), &Ok(()));
+    equal(rt, step.write(&mut buffer, &PAYLOAD), Ok(()));
     buffer
 }
 
 /// What the step writes with a payload of this number; fails where it is refused.
 pub fn packet(
-    rt: &impl Abort,
+    rt: impl Abort + Copy,
     alloc: Global,
     step: PacketBuilderStep<IpHeaders>,
     number: IpNumber,
     payload: &[u8],
 ) -> Vec<u8> {
     let mut buffer = Vec::new(alloc);
-    equal(rt, &step.write(&mut buffer, number, payload), &Ok(()));
+    equal(rt, step.write(&mut buffer, number, payload), Ok(()));
     buffer
 }

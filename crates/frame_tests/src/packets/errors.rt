@@ -21,31 +21,31 @@ fn texts_of_faults_below_ip(rt: HostRuntime) {
         layer: Layer::Ethernet2Header,
         layer_start_offset: 0,
     };
-    have_one_text(&rt, rt.alloc(), &SliceError::Len(len), &len);
+    have_one_text(rt, rt.alloc(), &SliceError::Len(len), &len);
     let sll = linux_sll::HeaderError::UnsupportedPacketTypeField { packet_type: 5 };
-    have_one_text(&rt, rt.alloc(), &SliceError::LinuxSll(sll), &sll);
+    have_one_text(rt, rt.alloc(), &SliceError::LinuxSll(sll), &sll);
     let macsec = macsec::HeaderError::UnexpectedVersion;
-    have_one_text(&rt, rt.alloc(), &SliceError::Macsec(macsec), &macsec);
+    have_one_text(rt, rt.alloc(), &SliceError::Macsec(macsec), &macsec);
 }
 
 #[test]
 fn texts_of_faults_of_ip(rt: HostRuntime) {
     let ip = ip::HeaderError::UnsupportedIpVersion { version_number: 5 };
-    have_one_text(&rt, rt.alloc(), &SliceError::Ip(ip), &ip);
+    have_one_text(rt, rt.alloc(), &SliceError::Ip(ip), &ip);
     let ipv4 = ipv4::HeaderError::UnexpectedVersion { version_number: 6 };
-    have_one_text(&rt, rt.alloc(), &SliceError::Ipv4(ipv4), &ipv4);
+    have_one_text(rt, rt.alloc(), &SliceError::Ipv4(ipv4), &ipv4);
     let ipv6 = ipv6::HeaderError::UnexpectedVersion { version_number: 4 };
-    have_one_text(&rt, rt.alloc(), &SliceError::Ipv6(ipv6), &ipv6);
+    have_one_text(rt, rt.alloc(), &SliceError::Ipv6(ipv6), &ipv6);
 }
 
 #[test]
 fn texts_of_faults_behind_ip(rt: HostRuntime) {
     let auth = ip_auth::HeaderError::ZeroPayloadLen;
-    have_one_text(&rt, rt.alloc(), &SliceError::Ipv4Exts(auth), &auth);
+    have_one_text(rt, rt.alloc(), &SliceError::Ipv4Exts(auth), &auth);
     let exts = ipv6_exts::HeaderError::HopByHopNotAtStart;
-    have_one_text(&rt, rt.alloc(), &SliceError::Ipv6Exts(exts), &exts);
+    have_one_text(rt, rt.alloc(), &SliceError::Ipv6Exts(exts), &exts);
     let tcp = tcp::HeaderError::DataOffsetTooSmall { data_offset: 4 };
-    have_one_text(&rt, rt.alloc(), &SliceError::Tcp(tcp), &tcp);
+    have_one_text(rt, rt.alloc(), &SliceError::Tcp(tcp), &tcp);
 }
 
 #[test]
@@ -56,16 +56,11 @@ fn texts_of_missing_checksums(rt: HostRuntime) {
         value_type: ValueType::UdpPayloadLengthIpv4,
     };
     have_one_text(
-        &rt,
+        rt,
         rt.alloc(),
         &TransportChecksumError::PayloadLen(too_long),
         &too_long,
     );
     let text = "an ICMPv6 message over IPv4, which has no checksum";
-    have_one_text(
-        &rt,
-        rt.alloc(),
-        &TransportChecksumError::Icmpv6InIpv4,
-        &text,
-    );
+    have_one_text(rt, rt.alloc(), &TransportChecksumError::Icmpv6InIpv4, &text);
 }

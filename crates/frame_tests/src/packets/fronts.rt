@@ -37,11 +37,11 @@ fn parts(frame: &[u8]) -> Option<([bool; 3], usize)> {
     }
 }
 
-fn taken_alone(rt: &impl Abort, frame: &[u8], kinds: [bool; 3], tags: usize) {
+fn taken_alone(rt: impl Abort + Copy, frame: &[u8], kinds: [bool; 3], tags: usize) {
     equal(
         rt,
-        &(is_taken_alone(frame), parts(frame)),
-        &(true, Some((kinds, tags))),
+        (is_taken_alone(frame), parts(frame)),
+        (true, Some((kinds, tags))),
     );
 }
 
@@ -81,9 +81,9 @@ const ENCRYPTED: [u8; 31] = [
 
 #[test]
 fn frames_that_are_taken_alone(rt: HostRuntime) {
-    taken_alone(&rt, &TCP_WITH_OPTIONS, [true, false, true], 0);
-    taken_alone(&rt, &ICMPV4_BEHIND_TAGS, [true, false, true], 2);
-    taken_alone(&rt, &ICMPV6_BEHIND_EXTENSIONS, [true, false, true], 0);
-    taken_alone(&rt, &ARP, [false, true, true], 0);
-    taken_alone(&rt, &ENCRYPTED, [false, false, false], 1);
+    taken_alone(rt, &TCP_WITH_OPTIONS, [true, false, true], 0);
+    taken_alone(rt, &ICMPV4_BEHIND_TAGS, [true, false, true], 2);
+    taken_alone(rt, &ICMPV6_BEHIND_EXTENSIONS, [true, false, true], 0);
+    taken_alone(rt, &ARP, [false, true, true], 0);
+    taken_alone(rt, &ENCRYPTED, [false, false, false], 1);
 }

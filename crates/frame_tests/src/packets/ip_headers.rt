@@ -1,6 +1,6 @@
 //! Headers of IP packets. The bytes were worked out by hand after RFC 791, 4302 and 8200; the IPv4
 //! checksum is that of a worked frame.
-use crate::checks::{equal, held};
+use crate::checks::{equal, equal_bytes, held};
 use ep_base::err::{ValueTooBigError, ValueType};
 use ep_base::{EtherType, IpFragOffset, IpNumber};
 use ep_ext::err::{ip_exts, ipv6_exts};
@@ -55,9 +55,9 @@ fn told(headers: &IpHeaders) -> (usize, [bool; 2]) {
 // Each is of one version alone.
 #[test]
 fn lengths_and_versions_of_headers(rt: HostRuntime) {
-    equal(&rt, &told(&ipv4_with_auth(51)), &(32, [true, false]));
-    equal(&rt, &told(&ipv6_with_fragment(44)), &(48, [false, true]));
-    equal(&rt, &IpHeaders::MAX_LEN, &9268);
+    equal(rt, told(&ipv4_with_auth(51)), (32, [true, false]));
+    equal(rt, told(&ipv6_with_fragment(44)), (48, [false, true]));
+    equal(rt, IpHeaders::MAX_LEN, 9268);
 }
 
 fn not_referenced() -> ipv6_exts::ExtsWalkError {
@@ -68,13 +68,9 @@ fn not_referenced() -> ipv6_exts::ExtsWalkError {
 
 #[test]
 fn numbers_behind_headers(rt: HostRuntime) {
-    equal(
-        &rt,
-        &ipv6_with_fragment(44).next_header(),
-        &Ok(IpNumber(17)),
-    );
+    equal(rt, ipv6_with_fragment(44).next_header(), Ok(IpNumber(17)));
     let fault = ip_exts::ExtsWalkError::Ipv6Exts(not_referenced());
-    equal(&rt, &ipv6_with_fragment(17).next_header(), &Err(fault));
+    equal(rt, ipv6_with_fragment(17).next_header(), Err(fault));
 }
 
 // The number that headers name first.
@@ -94,14 +90,14 @@ fn linked(mut headers: IpHeaders) -> (EtherType, IpNumber) {
 #[test]
 fn linked_headers(rt: HostRuntime) {
     equal(
-        &rt,
-        &linked(ipv6_with_fragment(0)),
-        &(EtherType(0x86dd), IpNumber(44)),
+        rt,
+        linked(ipv6_with_fragment(0)),
+        (EtherType(0x86dd), IpNumber(44)),
     );
     equal(
-        &rt,
-        &linked(ipv4_with_auth(17)),
-        &(EtherType(0x0800), IpNumber(51)),
+        rt,
+        linked(ipv4_with_auth(17)),
+        (EtherType(0x0800), IpNumber(51)),
     );
 }
 
@@ -118,18 +114,14 @@ fn too_big(actual: usize, max_allowed: usize, value_type: ValueType) -> Set {
 #[test]
 fn lengths_of_ipv6_payloads(rt: HostRuntime) {
     let kind = ValueType::Ipv6PayloadLength;
-    equal(&rt, &ipv6_with_fragment(44).set_payload_len(65527), &Ok(()));
+    equal(rt, ipv6_with_fragment(44).set_payload_len(65527), Ok(()));
     let refused = too_big(65536, 65535, kind);
-    equal(
-        &rt,
-        &ipv6_with_fragment(44).set_payload_len(65528),
-        &refused,
-    );
+    equal(rt, ipv6_with_fragment(44).set_payload_len(65528), refused);
     let refused = too_big(usize::MAX, 65535, kind);
     equal(
-        &rt,
-        &ipv6_with_fragment(44).set_payload_len(usize::MAX),
-        &refused,
+        rt,
+        ipv6_with_fragment(44).set_payload_len(usize::MAX),
+        refused,
     );
 }
 
@@ -145,10 +137,10 @@ fn total_len(len: usize) -> (Set, Option<u16>) {
 
 #[test]
 fn total_lengths(rt: HostRuntime) {
-    equal(&rt, &total_len(100), &(Ok(()), Some(132)));
-    equal(&rt, &total_len(65503), &(Ok(()), Some(65535)));
+    equal(rt, total_len(100), (Ok(()), Some(132)));
+    equal(rt, total_len(65503), (Ok(()), Some(65535)));
     let refused = too_big(65516, 65515, ValueType::Ipv4PayloadLength);
-    equal(&rt, &total_len(65504), &(refused, Some(36)));
+    equal(rt, total_len(65504), (refused, Some(36)));
 }
 
 // An IPv4 packet of 36 bytes, a UDP message in it, and two bytes behind it.
@@ -173,19 +165,19 @@ fn headers_of_ipv4(packet: &[u8]) -> Option<([usize; 2], IpNumber, [bool; 2])> {
 #[test]
 fn headers_of_a_packet(rt: HostRuntime) {
     let wanted = Some(([20, 16], IpNumber(17), [false, false]));
-    equal(&rt, &headers_of_ipv4(&PACKET), &wanted);
-    equal(&rt, &headers_of_ipv4(&PACKET[..35]), &None);
+    equal(rt, headers_of_ipv4(&PACKET), wanted);
+    equal(rt, headers_of_ipv4(&PACKET[..35]), None);
 }
 
 #[test]
 fn written_ipv4_headers(rt: HostRuntime) {
-    let mut buffer = held(&rt, rt.alloc());
-    equal(&rt, &ipv4_with_auth(51).write(&mut buffer), &Ok(()));
+    let mut buffer = held(rt, rt.alloc());
+    equal(rt, ipv4_with_auth(51).write(&mut buffer), Ok(()));
     let bytes = [
         0xaa, 0x45, 0, 0, 0x24, 0, 7, 0, 0, 0x40, 0x33, 0x66, 0x9e, 10, 0, 0, 1, 10, 0, 0, 2, 17,
         1, 0, 0, 0, 0, 0, 5, 0, 0, 0, 6,
     ];
-    equal(&rt, &buffer.as_slice(), &bytes.as_slice());
+    equal_bytes(rt, buffer.as_slice(), bytes.as_slice());
 }
 
 // RFC 8200, sections 3 and 4.5.
@@ -199,29 +191,29 @@ fn written_ipv6_headers(rt: HostRuntime) {
         destination: [2; 16],
         ..ipv6_header(44)
     };
-    let mut buffer = held(&rt, rt.alloc());
-    equal(&rt, &with_fragment(header).write(&mut buffer), &Ok(()));
+    let mut buffer = held(rt, rt.alloc());
+    equal(rt, with_fragment(header).write(&mut buffer), Ok(()));
     let bytes = [
         0xaa, 0x61, 0x20, 0, 0, 0, 8, 44, 64, 1, 1, 1, 1, 1, 1, 1, 1, 1, 1, 1, 1, 1, 1, 1, 1, 2, 2,
         2, 2, 2, 2, 2, 2, 2, 2, 2, 2, 2, 2, 2, 2, 17, 0, 0, 0, 0, 0, 0, 7,
     ];
-    equal(&rt, &buffer.as_slice(), &bytes.as_slice());
+    equal_bytes(rt, buffer.as_slice(), bytes.as_slice());
 }
 
 #[test]
 fn headers_that_are_not_written(rt: HostRuntime) {
-    let mut buffer = held(&rt, rt.alloc());
+    let mut buffer = held(rt, rt.alloc());
     let refused = Err(HeadersWriteError::Ipv6Exts(not_referenced()));
-    equal(&rt, &ipv6_with_fragment(17).write(&mut buffer), &refused);
-    equal(&rt, &buffer.as_slice(), &[0xaa].as_slice());
-    equal(&rt, &ipv6_with_fragment(44).write(&mut buffer), &Ok(()));
-    equal(&rt, &buffer.len(), &49);
+    equal(rt, ipv6_with_fragment(17).write(&mut buffer), refused);
+    equal_bytes(rt, buffer.as_slice(), [0xaa].as_slice());
+    equal(rt, ipv6_with_fragment(44).write(&mut buffer), Ok(()));
+    equal(rt, buffer.len(), 49);
 }
 
 #[test]
 fn what_a_refusal_tells(rt: HostRuntime) {
     let error = HeadersWriteError::Ipv6Exts(not_referenced());
-    equal(&rt, &error.memory(), &false);
-    equal(&rt, &error.ipv4_exts(), &None);
-    equal(&rt, &error.ipv6_exts(), &Some(not_referenced()));
+    equal(rt, error.memory(), false);
+    equal(rt, error.ipv4_exts(), None);
+    equal(rt, error.ipv6_exts(), Some(not_referenced()));
 }

@@ -69,7 +69,7 @@ fn headers_of_ip(rt: HostRuntime) {
         20,
         ether_type,
     );
-    equal(&rt, &told(NetHeaders::from(headers)), &wanted);
+    equal(rt, told(NetHeaders::from(headers)), wanted);
     let headers = IpHeaders::Ipv6(Ipv6Header::default(), Ipv6Extensions::default());
     let ether_type = Ok(EtherType(0x86dd));
     let wanted = (
@@ -78,7 +78,7 @@ fn headers_of_ip(rt: HostRuntime) {
         40,
         ether_type,
     );
-    equal(&rt, &told(NetHeaders::from(headers)), &wanted);
+    equal(rt, told(NetHeaders::from(headers)), wanted);
 }
 
 // An ARP packet has no number behind it.
@@ -91,5 +91,5 @@ fn headers_of_arp(rt: HostRuntime) {
         28,
         refused,
     );
-    equal(&rt, &told_of_arp(), &Some(wanted));
+    equal(rt, told_of_arp(), Some(wanted));
 }

@@ -88,7 +88,7 @@ fn kinds_of_packets(rt: HostRuntime) {
     let ipv4 = Some(([true, true, false, false], [true, false, false], Some(1)));
     let ipv6 = Some(([true, false, true, false], [false, true, false], Some(0)));
     let arp = Some(([false, false, false, true], [false, false, true], None));
-    equal(&rt, &[of_ipv4(&IPV4), of_ip(&IPV4)], &[ipv4; 2]);
-    equal(&rt, &[of_ipv6(&IPV6), of_ip(&IPV6)], &[ipv6; 2]);
-    equal(&rt, &of_arp(&ARP), &arp);
+    equal(rt, [of_ipv4(&IPV4), of_ip(&IPV4)], [ipv4; 2]);
+    equal(rt, [of_ipv6(&IPV6), of_ip(&IPV6)], [ipv6; 2]);
+    equal(rt, of_arp(&ARP), arp);
 }

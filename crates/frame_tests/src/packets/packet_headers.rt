@@ -1,6 +1,6 @@
 //! Headers of frames. The bytes were worked out by hand after IEEE 802.1Q and 802.1AE and RFC 768,
 //! 791, 792, 826, 8200 and 9293; addresses are zero.
-use crate::checks::equal;
+use crate::checks::{equal, fail};
 use ep_base::err::{Layer, LenError};
 use ep_base::{EtherType, IpNumber, LenSource};
 use ep_ipslice::err::ip;
@@ -30,42 +30,42 @@ fn is_ipv4(net: &Option<NetHeaders>) -> bool {
 }
 
 // Headers of the link, of so many tags, and of IPv4 and UDP, and the payload of the frame above.
-fn are_headers_of_udp(rt: &impl Abort, headers: &Read<'_>, link: bool, tags: usize) {
+fn are_headers_of_udp(rt: impl Abort + Copy, headers: &Read<'_>, link: bool, tags: usize) {
     match headers {
         Ok(headers) => {
             equal(
                 rt,
-                &(headers.link.is_some(), headers.link_exts.len()),
-                &(link, tags),
+                (headers.link.is_some(), headers.link_exts.len()),
+                (link, tags),
             );
             let udp = matches!(headers.transport, Some(TransportHeader::Udp(_)));
-            equal(rt, &[is_ipv4(&headers.net), udp], &[true; 2]);
+            equal(rt, [is_ipv4(&headers.net), udp], [true; 2]);
             equal(
                 rt,
                 &headers.payload,
                 &PayloadSlice::Udp(&[1, 2, 3, 4, 5, 6, 7, 8]),
             );
         }
-        Err(_) => panic!(rt; "no headers"),
+        Err(_) => fail(rt, "no headers"),
     }
 }
 
 #[test]
 fn headers_of_a_udp_frame(rt: HostRuntime) {
-    are_headers_of_udp(&rt, &PacketHeaders::from_ethernet_slice(&UDP), true, 2);
+    are_headers_of_udp(rt, &PacketHeaders::from_ethernet_slice(&UDP), true, 2);
 }
 
 // The packet alone, without a link header and tags.
 #[test]
 fn headers_of_a_packet(rt: HostRuntime) {
-    are_headers_of_udp(&rt, &PacketHeaders::from_ip_slice(&UDP[22..]), false, 0);
+    are_headers_of_udp(rt, &PacketHeaders::from_ip_slice(&UDP[22..]), false, 0);
 }
 
 // What the first ether type of the frame names.
 #[test]
 fn headers_behind_an_ether_type(rt: HostRuntime) {
     let headers = PacketHeaders::from_ether_type(EtherType(0x88a8), &UDP[14..]);
-    are_headers_of_udp(&rt, &headers, false, 2);
+    are_headers_of_udp(rt, &headers, false, 2);
 }
 
 // No tags, one tag without a number here, or the identifiers of two.
@@ -91,23 +91,23 @@ fn tags(headers: &PacketHeaders<'_>) -> Tags {
     (ids.len(), first, outer_and_inner(&headers.vlan()))
 }
 
-fn are_tags(rt: &impl Abort, headers: &Read<'_>, wanted: Tags) {
+fn are_tags(rt: impl Abort + Copy, headers: &Read<'_>, wanted: Tags) {
     match headers {
-        Ok(headers) => equal(rt, &tags(headers), &wanted),
-        Err(_) => panic!(rt; "no headers"),
+        Ok(headers) => equal(rt, tags(headers), wanted),
+        Err(_) => fail(rt, "no headers"),
     }
 }
 
 #[test]
 fn tags_of_a_frame(rt: HostRuntime) {
     let two = (2, Some(5), Some((5, 9)));
-    are_tags(&rt, &PacketHeaders::from_ethernet_slice(&UDP), two);
+    are_tags(rt, &PacketHeaders::from_ethernet_slice(&UDP), two);
     are_tags(
-        &rt,
+        rt,
         &PacketHeaders::from_ip_slice(&UDP[22..]),
         (0, None, None),
     );
-    equal(&rt, &PacketHeaders::LINK_EXTS_CAP, &3);
+    equal(rt, PacketHeaders::LINK_EXTS_CAP, 3);
 }
 
 fn is_read(frame: &[u8]) -> bool {
@@ -123,7 +123,7 @@ fn is_sliced(frame: &[u8]) -> bool {
 fn udp_length_is_not_looked_at(rt: HostRuntime) {
     let mut frame = UDP;
     frame[47] = 17;
-    equal(&rt, &[is_read(&frame), is_sliced(&frame)], &[true, false]);
+    equal(rt, [is_read(&frame), is_sliced(&frame)], [true, false]);
 }
 
 fn len_error(layer: Layer, required_len: usize, len: usize, place: usize) -> LenError {
@@ -144,9 +144,9 @@ fn vlan_tag_beyond_a_short_length(rt: HostRuntime) {
     ];
     let want = SliceError::Len(len_error(Layer::VlanHeader, 4, 2, 22));
     equal(
-        &rt,
-        &PacketHeaders::from_ethernet_slice(&frame).err(),
-        &Some(want),
+        rt,
+        PacketHeaders::from_ethernet_slice(&frame).err(),
+        Some(want),
     );
 }
 
@@ -160,15 +160,15 @@ fn want_of_a_message(rt: HostRuntime) {
     let mut want = len_error(Layer::Icmpv4Timestamp, 20, 8, 34);
     want.len_source = LenSource::Ipv4HeaderTotalLen;
     equal(
-        &rt,
-        &PacketHeaders::from_ethernet_slice(&frame).err(),
-        &Some(SliceError::Len(want)),
+        rt,
+        PacketHeaders::from_ethernet_slice(&frame).err(),
+        Some(SliceError::Len(want)),
     );
     want.layer_start_offset = 20;
     equal(
-        &rt,
-        &PacketHeaders::from_ip_slice(&frame[14..]).err(),
-        &Some(SliceError::Len(want)),
+        rt,
+        PacketHeaders::from_ip_slice(&frame[14..]).err(),
+        Some(SliceError::Len(want)),
     );
 }
 
@@ -176,23 +176,23 @@ fn want_of_a_message(rt: HostRuntime) {
 fn faults_of_ip(rt: HostRuntime) {
     let other = ip::HeaderError::UnsupportedIpVersion { version_number: 5 };
     equal(
-        &rt,
-        &PacketHeaders::from_ip_slice(&[0x50]).err(),
-        &Some(SliceError::Ip(other)),
+        rt,
+        PacketHeaders::from_ip_slice(&[0x50]).err(),
+        Some(SliceError::Ip(other)),
     );
     let want = SliceError::Len(len_error(Layer::Ipv6Header, 40, 1, 0));
     equal(
-        &rt,
-        &PacketHeaders::from_ether_type(EtherType::IPV6, &[0x60]).err(),
-        &Some(want),
+        rt,
+        PacketHeaders::from_ether_type(EtherType::IPV6, &[0x60]).err(),
+        Some(want),
     );
 }
 
 // The payload behind an ether type.
-fn is_payload(rt: &impl Abort, ether_type: u16, bytes: &[u8], wanted: PayloadSlice<'_>) {
+fn is_payload(rt: impl Abort + Copy, ether_type: u16, bytes: &[u8], wanted: PayloadSlice<'_>) {
     match PacketHeaders::from_ether_type(EtherType(ether_type), bytes) {
-        Ok(headers) => equal(rt, &headers.payload, &wanted),
-        Err(_) => panic!(rt; "no headers"),
+        Ok(headers) => equal(rt, headers.payload, wanted),
+        Err(_) => fail(rt, "no headers"),
     }
 }
 
@@ -208,21 +208,16 @@ fn named(len_source: LenSource, payload: &[u8]) -> PayloadSlice<'_> {
 // bounds what a tag in front of it names.
 #[test]
 fn payloads_without_a_message(rt: HostRuntime) {
-    is_payload(&rt, 0x0806, &[0, 1, 8, 0, 0, 0, 0, 1], PayloadSlice::Empty);
+    is_payload(rt, 0x0806, &[0, 1, 8, 0, 0, 0, 0, 1], PayloadSlice::Empty);
     is_payload(
-        &rt,
+        rt,
         0x88e5,
         &[12, 0, 0, 0, 0, 1, 7],
         PayloadSlice::MacsecMod(&[7]),
     );
-    is_payload(&rt, 0x1234, &[7], named(LenSource::Slice, &[7]));
+    is_payload(rt, 0x1234, &[7], named(LenSource::Slice, &[7]));
     let bytes = [0, 6, 0, 0, 0, 1, 0x81, 0, 0, 5, 0x12, 0x34, 7];
-    is_payload(
-        &rt,
-        0x88e5,
-        &bytes,
-        named(LenSource::MacsecShortLength, &[]),
-    );
+    is_payload(rt, 0x88e5, &bytes, named(LenSource::MacsecShortLength, &[]));
 }
 
 // An IPv6 packet whose payload length is 16: a fragment header that names this number, with these
@@ -249,10 +244,10 @@ fn number_behind(next: u8, more: u8) -> Option<IpNumber> {
 // A part of a message, another protocol, a second fragment header, and a whole message.
 #[test]
 fn payloads_of_ip(rt: HostRuntime) {
-    equal(&rt, &number_behind(17, 1), &Some(IpNumber(17)));
-    equal(&rt, &number_behind(253, 0), &Some(IpNumber(253)));
-    equal(&rt, &number_behind(44, 0), &Some(IpNumber(44)));
-    equal(&rt, &number_behind(17, 0), &None);
+    equal(rt, number_behind(17, 1), Some(IpNumber(17)));
+    equal(rt, number_behind(253, 0), Some(IpNumber(253)));
+    equal(rt, number_behind(44, 0), Some(IpNumber(44)));
+    equal(rt, number_behind(17, 0), None);
 }
 
 #[test]
@@ -261,10 +256,10 @@ fn payloads_in_order(rt: HostRuntime) {
         PayloadSlice::Udp(&[9]) < PayloadSlice::Tcp(&[]),
         PayloadSlice::Udp(&[1]) < PayloadSlice::Udp(&[1, 0]),
     ];
-    equal(&rt, &ordered, &[true, true]);
+    equal(rt, ordered, [true, true]);
     let lengths = [
         PayloadSlice::Icmpv4(&[3]).slice().len(),
         PayloadSlice::Empty.slice().len(),
     ];
-    equal(&rt, &lengths, &[1, 0]);
+    equal(rt, lengths, [1, 0]);
 }

@@ -45,10 +45,10 @@ fn payload_of_ipv6(packet: &[u8]) -> Option<(IpNumber, bool, LenSource, &[u8])> 
 #[test]
 fn headers_and_payload_of_an_ipv6_packet(rt: HostRuntime) {
     let packet = ipv6_packet(17);
-    equal(&rt, &headers_of_ipv6(&packet), &Some((48, true)));
+    equal(rt, headers_of_ipv6(&packet), Some((48, true)));
     let bytes = [1, 2, 3, 4, 5, 6, 7, 8].as_slice();
     let payload = (IpNumber(17), true, LenSource::Ipv6HeaderPayloadLen, bytes);
-    equal(&rt, &payload_of_ipv6(&packet), &Some(payload));
+    equal(rt, payload_of_ipv6(&packet), Some(payload));
 }
 
 // Destination options behind the fragment header, of (2 + 1) * 8 bytes, where eight are left.
@@ -64,8 +64,8 @@ fn extension_header_cut_off(rt: HostRuntime) {
         layer_start_offset: 48,
     };
     let refused = IpHeaders::from_ipv6_slice(&packet).err();
-    equal(&rt, &refused, &Some(SliceError::Len(want)));
-    refuses(&rt, &packet, HeadersSliceError::Len(want));
+    equal(rt, refused, Some(SliceError::Len(want)));
+    refuses(rt, &packet, HeadersSliceError::Len(want));
 }
 
 // Whether the headers are of IPv6, the number behind them, and the length of the payload.
@@ -79,7 +79,7 @@ fn read(packet: &[u8]) -> Option<(bool, IpNumber, usize)> {
 // A second fragment header ends the headers, since a value holds one.
 #[test]
 fn second_fragment_header(rt: HostRuntime) {
-    equal(&rt, &read(&ipv6_packet(44)), &Some((true, IpNumber(44), 8)));
+    equal(rt, read(&ipv6_packet(44)), Some((true, IpNumber(44), 8)));
 }
 
 #[test]
@@ -87,13 +87,13 @@ fn version_tells_the_headers(rt: HostRuntime) {
     let mut ipv4 = [0; 20];
     ipv4[0] = 0x45;
     ipv4[3] = 20;
-    equal(&rt, &read(&ipv6_packet(17)), &Some((true, IpNumber(17), 8)));
-    equal(&rt, &IpHeaders::from_slice(&ipv4).is_ok(), &true);
-    equal(&rt, &read(&ipv4[..19]), &None);
+    equal(rt, read(&ipv6_packet(17)), Some((true, IpNumber(17), 8)));
+    equal(rt, IpHeaders::from_slice(&ipv4).is_ok(), true);
+    equal(rt, read(&ipv4[..19]), None);
 }
 
-fn refuses(rt: &impl Abort, packet: &[u8], error: HeadersSliceError) {
-    equal(rt, &IpHeaders::from_slice(packet).err(), &Some(error));
+fn refuses(rt: impl Abort + Copy, packet: &[u8], error: HeadersSliceError) {
+    equal(rt, IpHeaders::from_slice(packet).err(), Some(error));
 }
 
 #[test]
@@ -105,10 +105,10 @@ fn neither_version(rt: HostRuntime) {
         layer: Layer::IpHeader,
         layer_start_offset: 0,
     };
-    refuses(&rt, &[], HeadersSliceError::Len(want));
+    refuses(rt, &[], HeadersSliceError::Len(want));
     let other = HeaderError::UnsupportedIpVersion { version_number: 5 };
     refuses(
-        &rt,
+        rt,
         &[0x5f],
         HeadersSliceError::Content(HeadersError::Ip(other)),
     );

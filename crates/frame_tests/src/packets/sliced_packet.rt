@@ -1,6 +1,6 @@
 //! Parts of packets. The bytes were worked out by hand after IEEE 802.3, 802.1Q and 802.1AE,
 //! libpcap's page on LINKTYPE_LINUX_SLL, and RFC 768, 791, 8200 and 9293.
-use crate::checks::equal;
+use crate::checks::{equal, fail};
 use ep_base::{EtherType, LenSource};
 use ep_link::LinkSlice;
 use ep_link::err::linux_sll;
@@ -54,21 +54,21 @@ fn kinds_in_cooked_capture(bytes: &[u8]) -> Result<[bool; 4], SliceError> {
 
 #[test]
 fn cooked_capture_of_udp(rt: HostRuntime) {
-    equal(&rt, &kinds_in_cooked_capture(&COOKED), &Ok([true; 4]));
+    equal(rt, kinds_in_cooked_capture(&COOKED), Ok([true; 4]));
     let mut bytes = COOKED;
     bytes[1] = 5;
     let error = linux_sll::HeaderError::UnsupportedPacketTypeField { packet_type: 5 };
     equal(
-        &rt,
-        &kinds_in_cooked_capture(&bytes),
-        &Err(SliceError::LinuxSll(error)),
+        rt,
+        kinds_in_cooked_capture(&bytes),
+        Err(SliceError::LinuxSll(error)),
     );
 }
 
 #[test]
 fn ip_packet_without_a_link_header(rt: HostRuntime) {
     let wanted = Ok([false, true, true, false]);
-    equal(&rt, &kinds(SlicedPacket::from_ip(&IPV4)), &wanted);
+    equal(rt, kinds(SlicedPacket::from_ip(&IPV4)), wanted);
 }
 
 // Where a datagram comes from and goes to, the identification of a part, and whether the bytes are
@@ -98,30 +98,30 @@ const ENDS: Option<[[u8; 4]; 2]> = Some([[10, 0, 0, 1], [10, 0, 0, 2]]);
 #[test]
 fn class_of_a_packet(rt: HostRuntime) {
     match SlicedPacket::from_ip(&IPV4) {
-        Ok(packet) => equal(&rt, &told(&packet.class()), &(ENDS, None, false)),
-        Err(_) => panic!(rt; "no packet"),
+        Ok(packet) => equal(rt, told(&packet.class()), (ENDS, None, false)),
+        Err(_) => fail(rt, "no packet"),
     }
 }
 
 #[test]
 fn classes_of_a_frame(rt: HostRuntime) {
     equal(
-        &rt,
-        &told(&Class::from_ethernet(&TAGGED)),
-        &(ENDS, None, false),
+        rt,
+        told(&Class::from_ethernet(&TAGGED)),
+        (ENDS, None, false),
     );
     // More fragments follow.
     let mut part = TAGGED;
     part[36] = 0x20;
     equal(
-        &rt,
-        &told(&Class::from_ethernet(&part)),
-        &(None, Some(7), false),
+        rt,
+        told(&Class::from_ethernet(&part)),
+        (None, Some(7), false),
     );
     equal(
-        &rt,
-        &told(&Class::from_ethernet(&TAGGED[..13])),
-        &(None, None, true),
+        rt,
+        told(&Class::from_ethernet(&TAGGED[..13])),
+        (None, None, true),
     );
 }
 
@@ -156,22 +156,22 @@ fn ip_payload(packet: &SlicedPacket<'_>) -> Option<usize> {
 }
 
 // Each of these; the frame names no ether type that is not looked into, and is no fragment.
-fn has_tags_and_payloads(rt: &impl Abort, packet: &SlicedPacket<'_>) {
-    equal(rt, &tags(packet), &(2, Some(5), true));
+fn has_tags_and_payloads(rt: impl Abort + Copy, packet: &SlicedPacket<'_>) {
+    equal(rt, tags(packet), (2, Some(5), true));
     let payload = Some((EtherType::IPV4, LenSource::MacsecShortLength));
-    equal(rt, &ether_payload(packet), &payload);
-    equal(rt, &packet.payload_ether_type(), &None);
-    equal(rt, &ip_payload(packet), &Some(16));
-    equal(rt, &packet.is_ip_payload_fragmented(), &false);
+    equal(rt, ether_payload(packet), payload);
+    equal(rt, packet.payload_ether_type(), None);
+    equal(rt, ip_payload(packet), Some(16));
+    equal(rt, packet.is_ip_payload_fragmented(), false);
 }
 
 #[test]
 fn tags_and_payloads_of_a_frame(rt: HostRuntime) {
     match SlicedPacket::from_ethernet(&TAGGED) {
-        Ok(packet) => has_tags_and_payloads(&rt, &packet),
-        Err(_) => panic!(rt; "no packet"),
+        Ok(packet) => has_tags_and_payloads(rt, &packet),
+        Err(_) => fail(rt, "no packet"),
     }
-    equal(&rt, &SlicedPacket::LINK_EXTS_CAP, &3);
+    equal(rt, SlicedPacket::LINK_EXTS_CAP, 3);
 }
 
 // How many tags are read behind a VLAN ether type, and the ether type that is not looked into.
@@ -188,15 +188,11 @@ fn behind_tags(bytes: &[u8]) -> Option<(usize, Option<EtherType>)> {
 fn ends_of_the_tags(rt: HostRuntime) {
     let bytes = [0, 1, 0x88, 0xa8, 0, 2, 0x91, 0, 0, 3, 0x81, 0, 0];
     let vlan = Some(EtherType::VLAN_TAGGED_FRAME);
-    equal(&rt, &behind_tags(&bytes), &Some((3, vlan)));
+    equal(rt, behind_tags(&bytes), Some((3, vlan)));
     let bytes = [0, 1, 0x88, 0xe5, 12, 0, 0, 0, 0, 1, 8, 0, 0x45];
-    equal(&rt, &behind_tags(&bytes), &Some((2, None)));
+    equal(rt, behind_tags(&bytes), Some((2, None)));
     let bytes = [0, 1, 0x88, 0xe5, 4, 0, 0, 0, 0, 1, 8, 0, 0x45];
-    equal(&rt, &behind_tags(&bytes), &Some((2, None)));
+    equal(rt, behind_tags(&bytes), Some((2, None)));
     let bytes = [0, 1, 0x88, 0xe5, 0, 0, 0, 0, 0, 1, 0x12, 0x34, 0x45];
-    equal(
-        &rt,
-        &behind_tags(&bytes),
-        &Some((2, Some(EtherType(0x1234)))),
-    );
+    equal(rt, behind_tags(&bytes), Some((2, Some(EtherType(0x1234)))));
 }

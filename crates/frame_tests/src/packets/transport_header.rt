@@ -1,6 +1,6 @@
 //! Headers of transport messages.
 
-use crate::checks::equal;
+use crate::checks::{equal, equal_bytes};
 use ep_base::err::{ValueTooBigError, ValueType};
 use ep_base::{IpNumber, Ipv6FlowLabel};
 use ep_icmp::{IcmpEchoHeader, Icmpv4Header, Icmpv4Type, Icmpv6Header, Icmpv6Type};
@@ -99,30 +99,18 @@ fn over_ipv6(mut header: TransportHeader, payload: &[u8]) -> Option<TransportHea
 // Messages that other tools give between 10.0.0.1 and 10.0.0.2.
 #[test]
 fn checksums_over_ipv4(rt: HostRuntime) {
-    equal(&rt, &as_udp(over_ipv4(udp(), &PAYLOAD)), &Some(0xdbb4));
-    equal(&rt, &as_tcp(over_ipv4(tcp(), &[])), &Some(0x97da));
-    equal(
-        &rt,
-        &as_icmpv4(over_ipv4(icmpv4(), &PAYLOAD)),
-        &Some(0xe7e8),
-    );
+    equal(rt, as_udp(over_ipv4(udp(), &PAYLOAD)), Some(0xdbb4));
+    equal(rt, as_tcp(over_ipv4(tcp(), &[])), Some(0x97da));
+    equal(rt, as_icmpv4(over_ipv4(icmpv4(), &PAYLOAD)), Some(0xe7e8));
 }
 
 // The same between fd00::1 and fd00::2; an ICMPv4 message covers no addresses.
 #[test]
 fn checksums_over_ipv6(rt: HostRuntime) {
-    equal(&rt, &as_udp(over_ipv6(udp(), &PAYLOAD)), &Some(0xf5b2));
-    equal(&rt, &as_tcp(over_ipv6(tcp(), &[])), &Some(0xb1d8));
-    equal(
-        &rt,
-        &as_icmpv4(over_ipv6(icmpv4(), &PAYLOAD)),
-        &Some(0xe7e8),
-    );
-    equal(
-        &rt,
-        &as_icmpv6(over_ipv6(icmpv6(), &PAYLOAD)),
-        &Some(0x7599),
-    );
+    equal(rt, as_udp(over_ipv6(udp(), &PAYLOAD)), Some(0xf5b2));
+    equal(rt, as_tcp(over_ipv6(tcp(), &[])), Some(0xb1d8));
+    equal(rt, as_icmpv4(over_ipv6(icmpv4(), &PAYLOAD)), Some(0xe7e8));
+    equal(rt, as_icmpv6(over_ipv6(icmpv6(), &PAYLOAD)), Some(0x7599));
 }
 
 fn too_long(value_type: ValueType, max_allowed: usize) -> TransportChecksumError {
@@ -135,7 +123,7 @@ fn too_long(value_type: ValueType, max_allowed: usize) -> TransportChecksumError
 
 // What `update_checksum_ipv4` answers. The header stays as it was.
 fn is_refused(
-    rt: &impl Abort,
+    rt: impl Abort + Copy,
     mut header: TransportHeader,
     before: &TransportHeader,
     payload: &[u8],
@@ -143,8 +131,8 @@ fn is_refused(
 ) {
     equal(
         rt,
-        &header.update_checksum_ipv4(&ipv4_header(), payload),
-        &Err(error),
+        header.update_checksum_ipv4(&ipv4_header(), payload),
+        Err(error),
     );
     equal(rt, &header, before);
 }
@@ -153,11 +141,11 @@ fn is_refused(
 fn refused_checksums(rt: HostRuntime) {
     let payload = [0; 65528];
     let error = too_long(ValueType::UdpPayloadLengthIpv4, 65527);
-    is_refused(&rt, udp(), &udp(), &payload, error);
+    is_refused(rt, udp(), &udp(), &payload, error);
     let error = too_long(ValueType::TcpPayloadLengthIpv4, 65515);
-    is_refused(&rt, tcp(), &tcp(), &payload, error);
+    is_refused(rt, tcp(), &tcp(), &payload, error);
     is_refused(
-        &rt,
+        rt,
         icmpv6(),
         &icmpv6(),
         &PAYLOAD,
@@ -168,18 +156,18 @@ fn refused_checksums(rt: HostRuntime) {
 // Each header is of one protocol alone.
 #[test]
 fn header_of_its_protocol(rt: HostRuntime) {
-    equal(&rt, &as_udp(Some(udp())), &Some(0));
-    equal(&rt, &as_tcp(Some(tcp())), &Some(0));
-    equal(&rt, &as_icmpv4(Some(icmpv4())), &Some(0));
-    equal(&rt, &as_icmpv6(Some(icmpv6())), &Some(0));
+    equal(rt, as_udp(Some(udp())), Some(0));
+    equal(rt, as_tcp(Some(tcp())), Some(0));
+    equal(rt, as_icmpv4(Some(icmpv4())), Some(0));
+    equal(rt, as_icmpv6(Some(icmpv6())), Some(0));
 }
 
 #[test]
 fn header_of_no_other_protocol(rt: HostRuntime) {
-    equal(&rt, &as_tcp(Some(udp())), &None);
-    equal(&rt, &as_icmpv4(Some(tcp())), &None);
-    equal(&rt, &as_icmpv6(Some(icmpv4())), &None);
-    equal(&rt, &as_udp(Some(icmpv6())), &None);
+    equal(rt, as_tcp(Some(udp())), None);
+    equal(rt, as_icmpv4(Some(tcp())), None);
+    equal(rt, as_icmpv6(Some(icmpv4())), None);
+    equal(rt, as_udp(Some(icmpv6())), None);
 }
 
 // The functions below set the checksum of a header that is of their protocol.
@@ -246,10 +234,10 @@ fn set(mut header: TransportHeader) -> ([bool; 4], u16) {
 
 #[test]
 fn headers_are_written_to(rt: HostRuntime) {
-    equal(&rt, &set(udp()), &([true, false, false, false], 0xdbb4));
-    equal(&rt, &set(tcp()), &([false, true, false, false], 0x97da));
-    equal(&rt, &set(icmpv4()), &([false, false, true, false], 1));
-    equal(&rt, &set(icmpv6()), &([false, false, false, true], 2));
+    equal(rt, set(udp()), ([true, false, false, false], 0xdbb4));
+    equal(rt, set(tcp()), ([false, true, false, false], 0x97da));
+    equal(rt, set(icmpv4()), ([false, false, true, false], 1));
+    equal(rt, set(icmpv6()), ([false, false, false, true], 2));
 }
 
 // Whether the header is written, its length, and how many bytes there are then.
@@ -262,13 +250,13 @@ fn appended(header: TransportHeader, bytes: &mut Vec<u8>) -> (bool, usize, usize
 #[test]
 fn headers_are_appended(rt: HostRuntime) {
     let mut bytes = Vec::new(rt.alloc());
-    equal(&rt, &appended(udp(), &mut bytes), &(true, 8, 8));
-    equal(&rt, &appended(tcp(), &mut bytes), &(true, 20, 28));
-    equal(&rt, &appended(icmpv4(), &mut bytes), &(true, 8, 36));
-    equal(&rt, &appended(icmpv6(), &mut bytes), &(true, 8, 44));
+    equal(rt, appended(udp(), &mut bytes), (true, 8, 8));
+    equal(rt, appended(tcp(), &mut bytes), (true, 20, 28));
+    equal(rt, appended(icmpv4(), &mut bytes), (true, 8, 36));
+    equal(rt, appended(icmpv6(), &mut bytes), (true, 8, 44));
     let expected = [
         0, 1, 0, 2, 0, 16, 0, 0, 0, 1, 0, 2, 0, 0, 0, 3, 0, 0, 0, 0, 0x50, 2, 4, 0, 0, 0, 0, 0, 8,
         0, 0, 0, 0, 1, 0, 2, 128, 0, 0, 0, 0, 1, 0, 2,
     ];
-    equal(&rt, &bytes.as_slice(), &expected.as_slice());
+    equal_bytes(rt, bytes.as_slice(), expected.as_slice());
 }

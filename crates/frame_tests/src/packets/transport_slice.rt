@@ -34,12 +34,8 @@ fn compared(one: Option<TransportSlice<'_>>, other: Option<TransportSlice<'_>>) 
 // The same bytes are another message to another protocol.
 #[test]
 fn slices_of_each_protocol(rt: HostRuntime) {
-    equal(&rt, &compared(udp(&BYTES), tcp(&BYTES)), &[true, false]);
-    equal(
-        &rt,
-        &compared(icmpv4(&BYTES), icmpv6(&BYTES)),
-        &[true, false],
-    );
+    equal(rt, compared(udp(&BYTES), tcp(&BYTES)), [true, false]);
+    equal(rt, compared(icmpv4(&BYTES), icmpv6(&BYTES)), [true, false]);
 }
 
 fn is_copied(message: Option<TransportSlice<'_>>) -> bool {
@@ -54,5 +50,5 @@ fn is_copied(message: Option<TransportSlice<'_>>) -> bool {
 
 #[test]
 fn a_copy_of_a_slice(rt: HostRuntime) {
-    equal(&rt, &is_copied(udp(&BYTES)), &true);
+    equal(rt, is_copied(udp(&BYTES)), true);
 }

@@ -9,24 +9,24 @@ fn want_at_the_front(rt: HostRuntime) {
     let error = LenError::too_few_bytes(Layer::Ipv4Header, 20, 19);
     let fields = "LenError { required_len: 20, len: 19, len_source: Slice, layer: Ipv4Header, \
         layer_start_offset: 0 }";
-    shows(&rt, "front", &error, fields);
+    shows(rt, "front", &error, fields);
     let text = "IPv4 header Error: Not enough data to decode 'IPv4 header'. 20 byte(s) would be \
         required, but only 19 byte(s) are available based on the slice length.";
-    reads(&rt, &error, text);
+    reads(rt, &error, text);
 }
 
 // At byte 14, and from there to the greatest place that a `usize` names.
 #[test]
 fn wants_further_on(rt: HostRuntime) {
     let error = LenError::too_few_bytes(Layer::Ipv4Header, 20, 19).add_offset(14);
-    equal(&rt, "14", &error.layer_start_offset, &14);
+    equal(rt, "14", error.layer_start_offset, 14);
     let text = "IPv4 header Error: Not enough data to decode 'IPv4 header'. 20 byte(s) would be \
         required, but only 19 byte(s) are available based on the slice length, 'IPv4 header' \
         starts at overall parsed byte 14.";
-    reads(&rt, &error, text);
+    reads(rt, &error, text);
     let last = error.add_offset(0xffff_ffff_ffff_fff1);
     let found = (last.layer_start_offset, last.required_len);
-    equal(&rt, "last", &found, &(0xffff_ffff_ffff_ffff, 20));
+    equal(rt, "last", found, (0xffff_ffff_ffff_ffff, 20));
 }
 
 #[test]
@@ -38,7 +38,7 @@ fn texts_of_errors(rt: HostRuntime) {
     };
     let text = "Error '64' is too big to be a 'DSCP (Differentiated Services Code Point)' \
         (maximum allowed value is '63')";
-    reads(&rt, &too_big, text);
+    reads(rt, &too_big, text);
     let space = SliceWriteSpaceError {
         required_len: 14,
         len: 13,
@@ -47,7 +47,7 @@ fn texts_of_errors(rt: HostRuntime) {
     };
     let text = "Ethernet 2 header Error: Not enough space to write 'Ethernet 2 header' to slice. \
         Needed 14 byte(s), but only 13 byte(s) were available.";
-    reads(&rt, &space, text);
+    reads(rt, &space, text);
     let unknown = IpDscpUnknownValueError { value: 63 };
-    reads(&rt, &unknown, "Unknown IP DSCP value 63");
+    reads(rt, &unknown, "Unknown IP DSCP value 63");
 }

@@ -153,23 +153,23 @@ const FROM_100: &[IpNumber] = &[
     IpNumber::ROHC,
 ];
 
-fn are_numbered(rt: &impl Abort, numbers: &[IpNumber], first: u8) {
+fn are_numbered(rt: impl Abort + Copy, numbers: &[IpNumber], first: u8) {
     let mut wanted = first;
     for number in numbers.iter() {
-        equal(rt, "number", &number.0, &wanted);
+        equal(rt, "number", number.0, wanted);
         wanted = wanted.wrapping_add(1);
     }
 }
 
 #[test]
 fn ip_number_constants(rt: HostRuntime) {
-    are_numbered(&rt, FROM_0, 0);
-    are_numbered(&rt, FROM_100, 100);
+    are_numbered(rt, FROM_0, 0);
+    are_numbered(rt, FROM_100, 100);
     let testing = [
         IpNumber::EXPERIMENTAL_AND_TESTING_0,
         IpNumber::EXPERIMENTAL_AND_TESTING_1,
     ];
-    are_numbered(&rt, &testing, 253);
+    are_numbered(rt, &testing, 253);
 }
 
 // All numbers against the registry's list of IPv6 extension header types.
@@ -180,11 +180,11 @@ fn ext_header_numbers(rt: HostRuntime) {
     for number in 0..=255u8 {
         let found = IpNumber(number).is_ipv6_ext_header_value();
         let wanted = EXT_HEADERS.contains(&number);
-        equal(&rt, "number", &(number, found), &(number, wanted));
+        equal(rt, "number", (number, found), (number, wanted));
     }
     let mobility = IpNumber::MOBILITY_HEADER.is_ipv6_ext_header_value();
     let icmp = IpNumber::IPV6_ICMP.is_ipv6_ext_header_value();
-    equal(&rt, "mobility, ICMP", &[mobility, icmp], &[true, false]);
+    equal(rt, "mobility, ICMP", [mobility, icmp], [true, false]);
 }
 
 #[test]
@@ -195,12 +195,12 @@ fn ip_number_calls(rt: HostRuntime) {
         ip_number::UDP,
     );
     shows(
-        &rt,
+        rt,
         "conversions",
         &found,
         "(IpNumber(17), 51, IpNumber(17))",
     );
-    equal(&rt, "default", &IpTrafficClass::default(), &IpNumber(0));
-    equal(&rt, "order", &(IpNumber::ICMP < IpNumber::TCP), &true);
-    reads(&rt, &IpNumber::UDP, "17");
+    equal(rt, "default", IpTrafficClass::default(), IpNumber(0));
+    equal(rt, "order", (IpNumber::ICMP < IpNumber::TCP), true);
+    reads(rt, &IpNumber::UDP, "17");
 }

@@ -9,10 +9,10 @@ const RFC_1071: [u8; 8] = [0x00, 0x01, 0xf2, 0x03, 0xf4, 0xf5, 0xf6, 0xf7];
 
 #[test]
 fn sums_of_pieces(rt: HostRuntime) {
-    equal(&rt, "odd", &sum_pieces(&[&[1, 2, 3], &[4]]), &0xfdf7);
-    equal(&rt, "nothing", &sum_pieces(&[]), &0xffff);
+    equal(rt, "odd", sum_pieces(&[&[1, 2, 3], &[4]]), 0xfdf7);
+    equal(rt, "nothing", sum_pieces(&[]), 0xffff);
     let halves = sum_pieces(&[&RFC_1071[..4], &RFC_1071[4..]]);
-    equal(&rt, "halves", &halves.swap_bytes(), &0x220d);
+    equal(rt, "halves", halves.swap_bytes(), 0x220d);
 }
 
 // An IPv4 header whose checksum is b861, without its last eight bytes: once with the field as 0,
@@ -29,21 +29,16 @@ const ADDRESSES: [u8; 8] = [0xc0, 0xa8, 0x00, 0x01, 0xc0, 0xa8, 0x00, 0xc7];
 fn sum_of_a_header(rt: HostRuntime) {
     let without = header_sum().add_slice(&ADDRESSES);
     equal(
-        &rt,
+        rt,
         "without",
-        &without.ones_complement().swap_bytes(),
-        &0xb861,
+        without.ones_complement().swap_bytes(),
+        0xb861,
     );
     let whole = without.add_2bytes([0xb8, 0x61]);
-    equal(&rt, "whole", &whole.ones_complement(), &0);
-    equal(
-        &rt,
-        "whole",
-        &whole.to_ones_complement_with_no_zero(),
-        &0xffff,
-    );
+    equal(rt, "whole", whole.ones_complement(), 0);
+    equal(rt, "whole", whole.to_ones_complement_with_no_zero(), 0xffff);
     let all_ones = Sum16BitWords::default().add_2bytes([0xff, 0xff]);
-    equal(&rt, "whole", &(all_ones == whole), &true);
+    equal(rt, "whole", (all_ones == whole), true);
 }
 
 #[test]
@@ -54,7 +49,7 @@ fn sum_of_sixteen_bytes(rt: HostRuntime) {
     ];
     // Twice ddf2 is 1bbe4, and so bbe5.
     let sum = Sum16BitWords::new().add_16bytes(twice).ones_complement();
-    equal(&rt, "twice", &sum.swap_bytes(), &0x441a);
+    equal(rt, "twice", sum.swap_bytes(), 0x441a);
 }
 
 // The header's checksum stays where it is not 0.
@@ -63,44 +58,44 @@ fn checksums_that_are_not_zero(rt: HostRuntime) {
     let sum = header_sum()
         .add_8bytes(ADDRESSES)
         .to_ones_complement_with_no_zero();
-    equal(&rt, "header", &sum.swap_bytes(), &0xb861);
+    equal(rt, "header", sum.swap_bytes(), 0xb861);
 }
 
-fn narrow_is(rt: &impl Abort, sum: u32, wanted: u16) {
+fn narrow_is(rt: impl Abort + Copy, sum: u32, wanted: u16) {
     let found = [
         u32_16bit_word::ones_complement(sum).swap_bytes(),
         u32_16bit_word::ones_complement_with_no_zero(sum).swap_bytes(),
     ];
-    equal(rt, "narrow", &(sum, found), &(sum, [wanted, wanted]));
+    equal(rt, "narrow", (sum, found), (sum, [wanted, wanted]));
 }
 
-fn wide_is(rt: &impl Abort, sum: u64, wanted: u16) {
+fn wide_is(rt: impl Abort + Copy, sum: u64, wanted: u16) {
     let found = [
         u64_16bit_word::ones_complement(sum).swap_bytes(),
         u64_16bit_word::ones_complement_with_no_zero(sum).swap_bytes(),
     ];
-    equal(rt, "wide", &(sum, found), &(sum, [wanted, wanted]));
+    equal(rt, "wide", (sum, found), (sum, [wanted, wanted]));
 }
 
 // A start of 1234 and of words in the upper halves, read low byte first, and what they sum to by
 // hand.
 #[test]
 fn sums_from_another_start(rt: HostRuntime) {
-    narrow_is(&rt, u32_16bit_word::add_2bytes(0x3412, [0, 1]), 0xedca);
+    narrow_is(rt, u32_16bit_word::add_2bytes(0x3412, [0, 1]), 0xedca);
     narrow_is(
-        &rt,
+        rt,
         u32_16bit_word::add_4bytes(0x0001_3412, [0, 1, 0, 2]),
         0xecc8,
     );
-    narrow_is(&rt, u32_16bit_word::add_slice(0x3412, &RFC_1071), 0x0fd9);
-    wide_is(&rt, u64_16bit_word::add_2bytes(0x3412, [0, 1]), 0xedca);
+    narrow_is(rt, u32_16bit_word::add_slice(0x3412, &RFC_1071), 0x0fd9);
+    wide_is(rt, u64_16bit_word::add_2bytes(0x3412, [0, 1]), 0xedca);
     wide_is(
-        &rt,
+        rt,
         u64_16bit_word::add_4bytes(0x0001_0000_0000_3412, [0, 1, 0, 2]),
         0xecc8,
     );
-    wide_is(&rt, u64_16bit_word::add_8bytes(0x3412, RFC_1071), 0x0fd9);
-    wide_is(&rt, u64_16bit_word::add_slice(0x3412, &RFC_1071), 0x0fd9);
+    wide_is(rt, u64_16bit_word::add_8bytes(0x3412, RFC_1071), 0x0fd9);
+    wide_is(rt, u64_16bit_word::add_slice(0x3412, &RFC_1071), 0x0fd9);
 }
 
 // RFC 1071's words piece by piece: 220d is 0d22 the other way round.
@@ -108,19 +103,15 @@ fn sums_from_another_start(rt: HostRuntime) {
 fn sums_piece_by_piece(rt: HostRuntime) {
     let narrow = u32_16bit_word::add_2bytes(0, [0, 1]);
     let narrow = u32_16bit_word::add_4bytes(narrow, [0xf2, 3, 0xf4, 0xf5]);
-    narrow_is(
-        &rt,
-        u32_16bit_word::add_2bytes(narrow, [0xf6, 0xf7]),
-        0x220d,
-    );
+    narrow_is(rt, u32_16bit_word::add_2bytes(narrow, [0xf6, 0xf7]), 0x220d);
     let wide = u64_16bit_word::add_2bytes(0, [0, 1]);
     let wide = u64_16bit_word::add_4bytes(wide, [0xf2, 3, 0xf4, 0xf5]);
-    wide_is(&rt, u64_16bit_word::add_2bytes(wide, [0xf6, 0xf7]), 0x220d);
-    wide_is(&rt, u64_16bit_word::add_8bytes(0, RFC_1071), 0x220d);
+    wide_is(rt, u64_16bit_word::add_2bytes(wide, [0xf6, 0xf7]), 0x220d);
+    wide_is(rt, u64_16bit_word::add_8bytes(0, RFC_1071), 0x220d);
 }
 
 // Both widths give the same of these bytes.
-fn widths_agree(rt: &impl Abort, start: u32, bytes: &[u8]) {
+fn widths_agree(rt: impl Abort + Copy, start: u32, bytes: &[u8]) {
     let narrow = u32_16bit_word::add_slice(start, bytes);
     let wide = u64_16bit_word::add_slice(u64::from(start), bytes);
     let found = [
@@ -131,12 +122,7 @@ fn widths_agree(rt: &impl Abort, start: u32, bytes: &[u8]) {
         u64_16bit_word::ones_complement(wide),
         u64_16bit_word::ones_complement_with_no_zero(wide),
     ];
-    equal(
-        rt,
-        "widths",
-        &(bytes, start, found),
-        &(bytes, start, wanted),
-    );
+    equal(rt, "widths", (bytes, start, found), (bytes, start, wanted));
 }
 
 const BYTES: [u8; 17] = [
@@ -148,7 +134,7 @@ const BYTES: [u8; 17] = [
 fn both_widths_agree(rt: HostRuntime) {
     for len in 0..=17usize {
         for start in &[0u32, 1, 0xffff, 0x1_0000, 0xffff_ffff] {
-            widths_agree(&rt, *start, &BYTES[..len]);
+            widths_agree(rt, *start, &BYTES[..len]);
         }
     }
 }
@@ -163,5 +149,5 @@ fn sum_of_a_message(rt: HostRuntime) {
         .add_4bytes([0, 17, 0, 16]);
     let header = [0, 1, 0, 2, 0, 16, 0, 0];
     let sum = message_sum(pseudo, &header, &[1, 2, 3, 4, 5, 6, 7, 8]);
-    equal(&rt, "message", &sum.ones_complement().swap_bytes(), &0xdbb4);
+    equal(rt, "message", sum.ones_complement().swap_bytes(), 0xdbb4);
 }

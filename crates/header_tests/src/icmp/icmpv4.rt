@@ -1,16 +1,16 @@
 //! Every type and code of RFC 792 that has a variant, both ways, and neighbours that have none.
-use crate::checks::{equal, shows};
+use crate::checks::{equal, equal_bytes, fail, shows};
 use ep_icmp::Icmpv4Slice;
 use std::process::Abort;
 
 // A message of eight bytes, its kind, and what that kind's header is written as.
-fn is_kind(rt: &(impl Abort + AllocGlobal), bytes: &[u8; 8], kind: &str, written: &[u8; 8]) {
+fn is_kind(rt: impl Abort + AllocGlobal + Copy, bytes: &[u8; 8], kind: &str, written: &[u8; 8]) {
     let Ok(message) = Icmpv4Slice::from_slice(bytes) else {
-        panic!(rt; "no message");
+        fail(rt, "no message");
     };
     shows(rt, kind, &message.icmp_type(), kind);
     let header = message.header().to_bytes();
-    equal(rt, kind, &header.as_slice(), &written.as_slice());
+    equal_bytes(rt, kind, header.as_slice(), written.as_slice());
 }
 
 const UNREACHABLE: &[(u8, &str)] = &[
@@ -35,7 +35,7 @@ const UNREACHABLE: &[(u8, &str)] = &[
 fn codes_of_destination_unreachable(rt: HostRuntime) {
     for (code, kind) in UNREACHABLE.iter() {
         let bytes = [3, *code, 0x12, 0x34, 0, 0, 0, 0];
-        is_kind(&rt, &bytes, kind, &bytes);
+        is_kind(rt, &bytes, kind, &bytes);
     }
 }
 
@@ -98,7 +98,7 @@ const KINDS: &[([u8; 8], &str)] = &[
 #[test]
 fn other_types_and_codes(rt: HostRuntime) {
     for (bytes, kind) in KINDS.iter() {
-        is_kind(&rt, bytes, kind, bytes);
+        is_kind(rt, bytes, kind, bytes);
     }
 }
 
@@ -175,7 +175,7 @@ const UNKNOWN: &[(u8, u8, &str)] = &[
 fn types_and_codes_without_a_variant(rt: HostRuntime) {
     for (type_u8, code, kind) in UNKNOWN.iter() {
         let bytes = [*type_u8, *code, 0x12, 0x34, 0xa1, 0xb2, 0xc3, 0xd4];
-        is_kind(&rt, &bytes, kind, &bytes);
+        is_kind(rt, &bytes, kind, &bytes);
     }
 }
 
@@ -184,28 +184,28 @@ fn types_and_codes_without_a_variant(rt: HostRuntime) {
 fn unused_bytes(rt: HostRuntime) {
     let host = "DestinationUnreachable(Host)";
     is_kind(
-        &rt,
+        rt,
         &[3, 1, 5, 6, 1, 2, 3, 4],
         host,
         &[3, 1, 5, 6, 0, 0, 0, 0],
     );
     let mtu = "DestinationUnreachable(FragmentationNeeded { next_hop_mtu: 772 })";
     is_kind(
-        &rt,
+        rt,
         &[3, 4, 5, 6, 1, 2, 3, 4],
         mtu,
         &[3, 4, 5, 6, 0, 0, 3, 4],
     );
     let pointer = "ParameterProblem(PointerIndicatesError(1))";
     is_kind(
-        &rt,
+        rt,
         &[12, 0, 5, 6, 1, 2, 3, 4],
         pointer,
         &[12, 0, 5, 6, 1, 0, 0, 0],
     );
     let reassembly = "TimeExceeded(FragmentReassemblyTimeExceeded)";
     is_kind(
-        &rt,
+        rt,
         &[11, 1, 5, 6, 1, 2, 3, 4],
         reassembly,
         &[11, 1, 5, 6, 0, 0, 0, 0],

@@ -1,5 +1,5 @@
 //! ICMPv4 messages of RFC 792: lengths, bytes and checksums.
-use crate::checks::{equal, shows};
+use crate::checks::{equal, equal_bytes, fail, shows};
 use ep_base::LenSource;
 use ep_base::err::{Layer, LenError};
 use ep_icmp::icmpv4::*;
@@ -46,7 +46,7 @@ fn header_refusal(bytes: &[u8]) -> Option<LenError> {
     }
 }
 
-fn is_refused(rt: &impl Abort, bytes: &[u8], required_len: usize, layer: Layer) {
+fn is_refused(rt: impl Abort + Copy, bytes: &[u8], required_len: usize, layer: Layer) {
     let error = Some(LenError {
         required_len,
         len: bytes.len(),
@@ -54,27 +54,17 @@ fn is_refused(rt: &impl Abort, bytes: &[u8], required_len: usize, layer: Layer) 
         layer,
         layer_start_offset: 0,
     });
-    equal(rt, "slice", &(bytes, slice_refusal(bytes)), &(bytes, error));
-    equal(
-        rt,
-        "header",
-        &(bytes, header_refusal(bytes)),
-        &(bytes, error),
-    );
+    equal(rt, "slice", (bytes, slice_refusal(bytes)), (bytes, error));
+    equal(rt, "header", (bytes, header_refusal(bytes)), (bytes, error));
 }
 
-fn is_taken(rt: &impl Abort, bytes: &[u8]) {
-    equal(rt, "slice", &(bytes, slice_refusal(bytes)), &(bytes, None));
-    equal(
-        rt,
-        "header",
-        &(bytes, header_refusal(bytes)),
-        &(bytes, None),
-    );
+fn is_taken(rt: impl Abort + Copy, bytes: &[u8]) {
+    equal(rt, "slice", (bytes, slice_refusal(bytes)), (bytes, None));
+    equal(rt, "header", (bytes, header_refusal(bytes)), (bytes, None));
 }
 
 // Each front of these bytes: of fewer than eight it is refused, else it is taken.
-fn is_taken_from_eight_bytes_on(rt: &impl Abort, bytes: &[u8]) {
+fn is_taken_from_eight_bytes_on(rt: impl Abort + Copy, bytes: &[u8]) {
     for len in 0..8usize {
         is_refused(rt, bytes.split_at(len.min(bytes.len())).0, 8, Layer::Icmpv4);
     }
@@ -85,11 +75,11 @@ fn is_taken_from_eight_bytes_on(rt: &impl Abort, bytes: &[u8]) {
 
 #[test]
 fn every_front_of_an_echo_request(rt: HostRuntime) {
-    is_taken_from_eight_bytes_on(&rt, &PING);
+    is_taken_from_eight_bytes_on(rt, &PING);
 }
 
 // Each front and the whole of a timestamp message and a byte behind it.
-fn twenty_bytes_are_taken(rt: &impl Abort, bytes: &[u8; 21], layer: Layer) {
+fn twenty_bytes_are_taken(rt: impl Abort + Copy, bytes: &[u8; 21], layer: Layer) {
     for len in 0..8usize {
         is_refused(rt, &bytes[..len], 8, Layer::Icmpv4);
     }
@@ -102,10 +92,10 @@ fn twenty_bytes_are_taken(rt: &impl Abort, bytes: &[u8; 21], layer: Layer) {
 
 #[test]
 fn every_front_of_timestamp_messages(rt: HostRuntime) {
-    twenty_bytes_are_taken(&rt, &TIMESTAMP, Layer::Icmpv4Timestamp);
+    twenty_bytes_are_taken(rt, &TIMESTAMP, Layer::Icmpv4Timestamp);
     let mut reply = TIMESTAMP;
     reply[0] = 14;
-    twenty_bytes_are_taken(&rt, &reply, Layer::Icmpv4TimestampReply);
+    twenty_bytes_are_taken(rt, &reply, Layer::Icmpv4TimestampReply);
 }
 
 // Every type with each code that has a variant, and one above them: each kind but the timestamp
@@ -118,7 +108,7 @@ fn every_front_of_every_other_kind(rt: HostRuntime) {
         for code_u8 in 0..17u8 {
             bytes[1] = code_u8;
             if code_u8 != 0 || type_u8 != 13 && type_u8 != 14 {
-                is_taken_from_eight_bytes_on(&rt, &bytes);
+                is_taken_from_eight_bytes_on(rt, &bytes);
             }
         }
     }
@@ -128,7 +118,7 @@ fn every_front_of_every_other_kind(rt: HostRuntime) {
 fn timestamp_types_of_another_code(rt: HostRuntime) {
     let mut bytes = TIMESTAMP;
     bytes[1] = 1;
-    is_taken_from_eight_bytes_on(&rt, &bytes);
+    is_taken_from_eight_bytes_on(rt, &bytes);
 }
 
 // Type, code, checksum, the four bytes behind it, and the length of the header.
@@ -154,47 +144,47 @@ const PING_HEADER: &str =
 #[test]
 fn a_view_of_an_echo_request(rt: HostRuntime) {
     let Ok(message) = Icmpv4Slice::from_slice(&PING) else {
-        panic!(rt; "no message");
+        fail(rt, "no message");
     };
     equal(
-        &rt,
+        rt,
         "ping",
-        &numbers(&message),
-        &(8, 0, 0x4d5a, [0, 1, 0, 1], 8),
+        numbers(&message),
+        (8, 0, 0x4d5a, [0, 1, 0, 1], 8),
     );
-    equal(&rt, "ping", &parts(&message), &[&PING, &PING[8..]]);
-    shows(&rt, "ping", &message.header(), PING_HEADER);
+    equal(rt, "ping", parts(&message), [&PING, &PING[8..]]);
+    shows(rt, "ping", &message.header(), PING_HEADER);
     let copy: Result<_, _> = message.clone();
-    equal(&rt, "ping", &copy, &Ok(message));
+    equal(rt, "ping", copy, Ok(message));
 }
 
 #[test]
 fn the_header_of_an_echo_request(rt: HostRuntime) {
     let Ok((header, rest)) = Icmpv4Header::from_slice(&PING) else {
-        panic!(rt; "no header");
+        fail(rt, "no header");
     };
-    shows(&rt, "ping", &header, PING_HEADER);
-    equal(&rt, "ping", &rest, &&PING[8..]);
+    shows(rt, "ping", &header, PING_HEADER);
+    equal(rt, "ping", rest, &PING[8..]);
     let lengths = (header.header_len(), header.fixed_payload_size());
-    equal(&rt, "ping", &lengths, &(8, None));
+    equal(rt, "ping", lengths, (8, None));
     let copy: Result<_, _> = header.clone();
-    equal(&rt, "ping", &copy, &Ok(header));
+    equal(rt, "ping", copy, Ok(header));
 }
 
 #[test]
 fn a_view_of_a_timestamp_request(rt: HostRuntime) {
     let bytes = &TIMESTAMP[..20];
     let Ok(message) = Icmpv4Slice::from_slice(bytes) else {
-        panic!(rt; "no message");
+        fail(rt, "no message");
     };
     let wanted = (13, 0, 0xbca0, [0x12, 0x34, 0, 1], 20);
-    equal(&rt, "timestamp", &numbers(&message), &wanted);
-    equal(&rt, "timestamp", &parts(&message), &[bytes, &[]]);
+    equal(rt, "timestamp", numbers(&message), wanted);
+    equal(rt, "timestamp", parts(&message), [bytes, &[]]);
     let header = Icmpv4Header {
         icmp_type: Icmpv4Type::TimestampRequest(timestamp_message()),
         checksum: 0xbca0,
     };
-    equal(&rt, "timestamp", &message.header(), &header);
+    equal(rt, "timestamp", message.header(), header);
 }
 
 #[test]
@@ -204,13 +194,8 @@ fn the_header_of_a_timestamp_request(rt: HostRuntime) {
         checksum: 0xbca0,
     };
     let lengths = (header.header_len(), header.fixed_payload_size());
-    equal(&rt, "lengths", &lengths, &(20, Some(0)));
-    equal(
-        &rt,
-        "bytes",
-        &header.to_bytes().as_slice(),
-        &&TIMESTAMP[..20],
-    );
+    equal(rt, "lengths", lengths, (20, Some(0)));
+    equal_bytes(rt, "bytes", header.to_bytes().as_slice(), &TIMESTAMP[..20]);
 }
 
 #[test]
@@ -220,56 +205,52 @@ fn a_timestamp_reply(rt: HostRuntime) {
     bytes[2] = 0xbb;
     let kind = Icmpv4Type::TimestampReply(timestamp_message());
     let lengths = (kind.header_len(), kind.fixed_payload_size());
-    equal(&rt, "lengths", &lengths, &(20, Some(0)));
+    equal(rt, "lengths", lengths, (20, Some(0)));
     let Ok(message) = Icmpv4Slice::from_slice(&bytes[..20]) else {
-        panic!(rt; "no message");
+        fail(rt, "no message");
     };
-    equal(&rt, "read", &message.icmp_type(), &kind);
+    let read = message.icmp_type();
+    equal(
+        rt,
+        "read",
+        read,
+        Icmpv4Type::TimestampReply(timestamp_message()),
+    );
     let written = Icmpv4Header::with_checksum(kind, &[]).to_bytes();
-    equal(&rt, "written", &written.as_slice(), &&bytes[..20]);
+    equal_bytes(rt, "written", written.as_slice(), &bytes[..20]);
 }
 
 #[test]
 fn fields_and_their_bytes(rt: HostRuntime) {
     let echo = IcmpEchoHeader::from_bytes([1, 2, 3, 4]);
     // 258 is 0102, 772 is 0304.
-    shows(&rt, "echo", &echo, "IcmpEchoHeader { id: 258, seq: 772 }");
-    equal(&rt, "echo", &echo.to_bytes(), &[1, 2, 3, 4]);
-    shows(&rt, "timestamp", &timestamp_message(), TIMESTAMP_FIELDS);
+    shows(rt, "echo", &echo, "IcmpEchoHeader { id: 258, seq: 772 }");
+    equal(rt, "echo", echo.to_bytes(), [1, 2, 3, 4]);
+    shows(rt, "timestamp", &timestamp_message(), TIMESTAMP_FIELDS);
 }
 
 #[test]
 fn checksums(rt: HostRuntime) {
     let ping = echo_request().calc_checksum(&PING[8..]);
-    equal(&rt, "echo request", &ping, &0x4d5a);
+    equal(rt, "echo request", ping, 0x4d5a);
     let request = Icmpv4Type::TimestampRequest(timestamp_message());
-    equal(
-        &rt,
-        "timestamp request",
-        &request.calc_checksum(&[]),
-        &0xbca0,
-    );
+    equal(rt, "timestamp request", request.calc_checksum(&[]), 0xbca0);
     // An odd last byte is followed by a zero byte.
     let network = Icmpv4Type::DestinationUnreachable(DestUnreachableHeader::Network);
-    equal(&rt, "odd", &network.calc_checksum(&[0x45, 0, 1]), &0xb6ff);
+    equal(rt, "odd", network.calc_checksum(&[0x45, 0, 1]), 0xb6ff);
     // 0 stays 0.
     let zero = Icmpv4Type::EchoRequest(IcmpEchoHeader { id: 0xf7ff, seq: 0 });
-    equal(&rt, "zero", &zero.calc_checksum(&[]), &0);
+    equal(rt, "zero", zero.calc_checksum(&[]), 0);
 }
 
 #[test]
 fn an_echo_reply_of_zeros(rt: HostRuntime) {
     let kind = Icmpv4Type::EchoReply(IcmpEchoHeader { id: 0, seq: 0 });
     let mut header = Icmpv4Header::new(kind);
-    equal(
-        &rt,
-        "new",
-        &header.to_bytes().as_slice(),
-        &[0; 8].as_slice(),
-    );
+    equal_bytes(rt, "new", header.to_bytes().as_slice(), [0; 8].as_slice());
     header.update_checksum(&[]);
     let bytes = [0, 0, 0xff, 0xff, 0, 0, 0, 0].as_slice();
-    equal(&rt, "sealed", &header.to_bytes().as_slice(), &bytes);
+    equal(rt, "sealed", header.to_bytes().as_slice(), bytes);
 }
 
 #[test]
@@ -278,7 +259,7 @@ fn a_header_behind_a_byte_that_is_there(rt: HostRuntime) {
     let mut buffer = Vec::new(rt.alloc());
     let done = buffer.push(9).is_ok() && header.write(&mut buffer).is_ok();
     let bytes = [9, 8, 0, 0x4d, 0x5a, 0, 1, 0, 1].as_slice();
-    equal(&rt, "written", &buffer.as_slice(), &bytes);
+    equal(rt, "written", buffer.as_slice(), bytes);
 }
 
 #[test]
@@ -291,11 +272,11 @@ fn unknown_with_the_numbers_of_another_variant(rt: HostRuntime) {
     let bytes = header.to_bytes();
     match Icmpv4Slice::from_slice(bytes.as_slice()) {
         Ok(message) => shows(
-            &rt,
+            rt,
             "kind",
             &message.icmp_type(),
             "DestinationUnreachable(Host)",
         ),
-        Err(_) => panic!(rt; "no message"),
+        Err(_) => fail(rt, "no message"),
     }
 }

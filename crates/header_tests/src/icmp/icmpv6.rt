@@ -1,22 +1,22 @@
 //! Every type and code of RFC 4443 that has a variant, both ways, and neighbours that have none.
-use crate::checks::{equal, shows};
+use crate::checks::{equal, equal_bytes, fail, shows};
 use ep_icmp::{IcmpEchoHeader, Icmpv6Slice, Icmpv6Type};
 use std::process::Abort;
 
 // A message of eight bytes, its kind, and what that kind's header is written as.
-fn is_kind(rt: &(impl Abort + AllocGlobal), bytes: &[u8; 8], kind: &str, written: &[u8; 8]) {
+fn is_kind(rt: impl Abort + AllocGlobal + Copy, bytes: &[u8; 8], kind: &str, written: &[u8; 8]) {
     let Ok(message) = Icmpv6Slice::from_slice(bytes) else {
-        panic!(rt; "no message");
+        fail(rt, "no message");
     };
     shows(rt, kind, &message.icmp_type(), kind);
     equal(
         rt,
         kind,
-        &numbers(&message.icmp_type()),
-        &[bytes[0], bytes[1]],
+        numbers(&message.icmp_type()),
+        [bytes[0], bytes[1]],
     );
     let header = message.header().to_bytes();
-    equal(rt, kind, &header.as_slice(), &written.as_slice());
+    equal_bytes(rt, kind, header.as_slice(), written.as_slice());
 }
 
 fn numbers(kind: &Icmpv6Type) -> [u8; 2] {
@@ -75,7 +75,7 @@ const KINDS: &[([u8; 8], &str)] = &[
 #[test]
 fn types_and_codes(rt: HostRuntime) {
     for (bytes, kind) in KINDS.iter() {
-        is_kind(&rt, bytes, kind, bytes);
+        is_kind(rt, bytes, kind, bytes);
     }
 }
 
@@ -141,7 +141,7 @@ const PROBLEMS: &[(u8, &str)] = &[
 fn codes_of_parameter_problem(rt: HostRuntime) {
     for (code, kind) in PROBLEMS.iter() {
         let bytes = [4, *code, 0x12, 0x34, 1, 2, 3, 4];
-        is_kind(&rt, &bytes, kind, &bytes);
+        is_kind(rt, &bytes, kind, &bytes);
     }
 }
 
@@ -234,7 +234,7 @@ const UNKNOWN: &[(u8, u8, &str)] = &[
 fn types_and_codes_without_a_variant(rt: HostRuntime) {
     for (type_u8, code, kind) in UNKNOWN.iter() {
         let bytes = [*type_u8, *code, 0x12, 0x34, 0xa1, 0xb2, 0xc3, 0xd4];
-        is_kind(&rt, &bytes, kind, &bytes);
+        is_kind(rt, &bytes, kind, &bytes);
     }
 }
 
@@ -242,10 +242,10 @@ fn types_and_codes_without_a_variant(rt: HostRuntime) {
 fn lengths_of_an_echo_request(rt: HostRuntime) {
     let kind = Icmpv6Type::EchoRequest(IcmpEchoHeader { id: 1, seq: 2 });
     equal(
-        &rt,
+        rt,
         "lengths",
-        &(kind.header_len(), kind.fixed_payload_size()),
-        &(8, None),
+        (kind.header_len(), kind.fixed_payload_size()),
+        (8, None),
     );
 }
 
@@ -254,7 +254,7 @@ fn lengths_of_an_echo_request(rt: HostRuntime) {
 fn unused_bytes(rt: HostRuntime) {
     let address = "DestinationUnreachable(Address)";
     is_kind(
-        &rt,
+        rt,
         &[1, 3, 5, 6, 1, 2, 3, 4],
         address,
         &[1, 3, 5, 6, 0, 0, 0, 0],

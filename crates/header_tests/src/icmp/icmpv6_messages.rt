@@ -1,5 +1,5 @@
 //! ICMPv6 messages of RFC 4443: lengths, bytes and checksums.
-use crate::checks::{equal, shows};
+use crate::checks::{equal, equal_bytes, fail, shows};
 use ep_base::LenSource;
 use ep_base::err::{Layer, LenError};
 use ep_icmp::{IcmpEchoHeader, Icmpv6Header, Icmpv6Slice, Icmpv6Type};
@@ -48,17 +48,12 @@ fn too_short(len: usize) -> Option<LenError> {
     })
 }
 
-fn has_refusals(rt: &impl Abort, bytes: &[u8], error: Option<LenError>) {
-    equal(rt, "slice", &(bytes, slice_refusal(bytes)), &(bytes, error));
-    equal(
-        rt,
-        "header",
-        &(bytes, header_refusal(bytes)),
-        &(bytes, error),
-    );
+fn has_refusals(rt: impl Abort + Copy, bytes: &[u8], error: Option<LenError>) {
+    equal(rt, "slice", (bytes, slice_refusal(bytes)), (bytes, error));
+    equal(rt, "header", (bytes, header_refusal(bytes)), (bytes, error));
 }
 
-fn is_taken_from_eight_bytes_on(rt: &impl Abort, bytes: &[u8; 12]) {
+fn is_taken_from_eight_bytes_on(rt: impl Abort + Copy, bytes: &[u8; 12]) {
     for len in 0..8usize {
         has_refusals(rt, &bytes[..len], too_short(len));
     }
@@ -69,7 +64,7 @@ fn is_taken_from_eight_bytes_on(rt: &impl Abort, bytes: &[u8; 12]) {
 
 #[test]
 fn every_front_of_a_message(rt: HostRuntime) {
-    is_taken_from_eight_bytes_on(&rt, &PING);
+    is_taken_from_eight_bytes_on(rt, &PING);
 }
 
 // Every type with each code that has a variant, and one above them.
@@ -80,7 +75,7 @@ fn every_front_of_every_kind(rt: HostRuntime) {
         bytes[0] = type_u8;
         for code_u8 in 0..12u8 {
             bytes[1] = code_u8;
-            is_taken_from_eight_bytes_on(&rt, &bytes);
+            is_taken_from_eight_bytes_on(rt, &bytes);
         }
     }
 }
@@ -104,63 +99,69 @@ fn parts<'a>(message: &Icmpv6Slice<'a>) -> [&'a [u8]; 2] {
 #[test]
 fn a_view_of_a_message(rt: HostRuntime) {
     let Ok(message) = Icmpv6Slice::from_slice(&TOO_BIG) else {
-        panic!(rt; "no message");
+        fail(rt, "no message");
     };
     let wanted = (2, 0, 0x9857, [0, 0, 5, 0xdc], 8);
-    equal(&rt, "packet too big", &numbers(&message), &wanted);
+    equal(rt, "packet too big", numbers(&message), wanted);
     equal(
-        &rt,
+        rt,
         "packet too big",
-        &parts(&message),
-        &[&TOO_BIG, &[0x60, 1, 2]],
+        parts(&message),
+        [&TOO_BIG, &[0x60, 1, 2]],
     );
-    shows(&rt, "packet too big", &message.header(), TOO_BIG_HEADER);
+    shows(rt, "packet too big", &message.header(), TOO_BIG_HEADER);
     let copy: Result<_, _> = message.clone();
-    equal(&rt, "packet too big", &copy, &Ok(message));
+    equal(rt, "packet too big", copy, Ok(message));
 }
 
 #[test]
 fn the_header_of_a_message(rt: HostRuntime) {
     let Ok((header, rest)) = Icmpv6Header::from_slice(&TOO_BIG) else {
-        panic!(rt; "no header");
+        fail(rt, "no header");
     };
-    shows(&rt, "packet too big", &header, TOO_BIG_HEADER);
-    equal(&rt, "packet too big", &rest, &[0x60, 1, 2].as_slice());
+    shows(rt, "packet too big", &header, TOO_BIG_HEADER);
+    equal(rt, "packet too big", rest, [0x60, 1, 2].as_slice());
     let lengths = (header.header_len(), header.fixed_payload_size());
-    equal(&rt, "packet too big", &lengths, &(8, None));
+    equal(rt, "packet too big", lengths, (8, None));
     let copy: Result<_, _> = header.clone();
-    equal(&rt, "packet too big", &copy, &Ok(header));
+    equal(rt, "packet too big", copy, Ok(header));
 }
 
-fn is_valid(rt: &impl Abort, bytes: &[u8], source: [u8; 16], destination: [u8; 16], wanted: bool) {
+fn is_valid(
+    rt: impl Abort + Copy,
+    bytes: &[u8],
+    source: [u8; 16],
+    destination: [u8; 16],
+    wanted: bool,
+) {
     match Icmpv6Slice::from_slice(bytes) {
         Ok(message) => {
             let found = message.is_checksum_valid(source, destination);
-            equal(rt, "checksum", &(bytes, found), &(bytes, wanted));
+            equal(rt, "checksum", (bytes, found), (bytes, wanted));
         }
-        Err(_) => panic!(rt; "no message"),
+        Err(_) => fail(rt, "no message"),
     }
 }
 
 #[test]
 fn a_checksum_that_is_right(rt: HostRuntime) {
-    is_valid(&rt, &TOO_BIG, SOURCE, DESTINATION, true);
-    is_valid(&rt, &TOO_BIG, SOURCE, [0; 16], false);
+    is_valid(rt, &TOO_BIG, SOURCE, DESTINATION, true);
+    is_valid(rt, &TOO_BIG, SOURCE, [0; 16], false);
     let changed = [2, 0, 0x98, 0x57, 0, 0, 5, 0xdc, 0x60, 1, 3];
-    is_valid(&rt, &changed, SOURCE, DESTINATION, false);
+    is_valid(rt, &changed, SOURCE, DESTINATION, false);
 }
 
 #[test]
 fn both_zeros_are_right(rt: HostRuntime) {
     is_valid(
-        &rt,
+        rt,
         &[129, 0, 0, 0, 0x7e, 0xbd, 0, 0],
         [0; 16],
         [0; 16],
         true,
     );
     is_valid(
-        &rt,
+        rt,
         &[129, 0, 0xff, 0xff, 0x7e, 0xbd, 0, 0],
         [0; 16],
         [0; 16],
@@ -168,17 +169,17 @@ fn both_zeros_are_right(rt: HostRuntime) {
     );
     let kind = Icmpv6Type::EchoReply(IcmpEchoHeader { id: 0x7ebd, seq: 0 });
     let sum = kind.calc_checksum([0; 16], [0; 16], &[]);
-    equal(&rt, "sum", &sum, &Ok(0));
+    equal(rt, "sum", sum, Ok(0));
 }
 
 #[test]
 fn checksums(rt: HostRuntime) {
     let sum = too_big().calc_checksum(SOURCE, DESTINATION, &[0x60, 1, 2]);
-    equal(&rt, "too big", &sum, &Ok(0x9857));
+    equal(rt, "too big", sum, Ok(0x9857));
     let echo = Icmpv6Type::EchoRequest(IcmpEchoHeader { id: 1, seq: 1 });
     let payload = *b"abcdefghijklmnopqrstuvwabcdefghi";
     let sum = echo.calc_checksum(SOURCE, DESTINATION, &payload);
-    equal(&rt, "echo", &sum, &Ok(0xd771));
+    equal(rt, "echo", sum, Ok(0xd771));
 }
 
 // The text of a header that is made.
@@ -187,18 +188,18 @@ const MADE: &str = "Ok(Icmpv6Header { icmp_type: PacketTooBig { mtu: 1500 }, che
 #[test]
 fn headers_with_a_checksum(rt: HostRuntime) {
     let sealed = Icmpv6Header::with_checksum(too_big(), SOURCE, DESTINATION, &[0x60, 1, 2]);
-    shows(&rt, "sealed", &sealed, MADE);
+    shows(rt, "sealed", &sealed, MADE);
     let header = too_big().to_header(SOURCE, DESTINATION, &[0x60, 1, 2]);
-    shows(&rt, "of the kind", &header, MADE);
+    shows(rt, "of the kind", &header, MADE);
 }
 
 #[test]
 fn a_checksum_that_is_set(rt: HostRuntime) {
     let mut header = Icmpv6Header::new(too_big());
-    equal(&rt, "new", &header.checksum, &0);
+    equal(rt, "new", header.checksum, 0);
     let set = header.update_checksum(SOURCE, DESTINATION, &[0x60, 1, 2]);
-    equal(&rt, "set", &set, &Ok(()));
-    equal(&rt, "set", &header.to_bytes().as_slice(), &&TOO_BIG[..8]);
+    equal(rt, "set", set, Ok(()));
+    equal_bytes(rt, "set", header.to_bytes().as_slice(), &TOO_BIG[..8]);
 }
 
 #[test]
@@ -210,7 +211,7 @@ fn a_header_behind_a_byte_that_is_there(rt: HostRuntime) {
     let mut buffer = Vec::new(rt.alloc());
     let done = buffer.push(9).is_ok() && header.write(&mut buffer).is_ok();
     let bytes = [9, 2, 0, 0x98, 0x57, 0, 0, 5, 0xdc].as_slice();
-    equal(&rt, "written", &buffer.as_slice(), &bytes);
+    equal(rt, "written", buffer.as_slice(), bytes);
 }
 
 #[test]
@@ -223,11 +224,11 @@ fn unknown_with_the_numbers_of_another_variant(rt: HostRuntime) {
     let bytes = header.to_bytes();
     match Icmpv6Slice::from_slice(bytes.as_slice()) {
         Ok(message) => shows(
-            &rt,
+            rt,
             "kind",
             &message.icmp_type(),
             "DestinationUnreachable(Port)",
         ),
-        Err(_) => panic!(rt; "no message"),
+        Err(_) => fail(rt, "no message"),
     }
 }

@@ -1,6 +1,6 @@
 //! IPv6 headers and the walk against values from outside.
 
-use crate::checks::{equal, shows};
+use crate::checks::{equal, equal_bytes, fail, shows};
 use ep_base::err::{Layer, LenError};
 use ep_base::{IpDscp, IpEcn, IpNumber, Ipv6FlowLabel, LenSource};
 use ep_ip::err::ipv6::{HeaderError, HeaderSliceError};
@@ -39,15 +39,15 @@ fn too_short(required_len: usize, len: usize, layer: Layer, layer_start_offset: 
 #[test]
 fn fields_by_position(rt: HostRuntime) {
     let Ok((header, rest)) = Ipv6Header::from_slice(&BYTES) else {
-        panic!(rt; "no header");
+        fail(rt, "no header");
     };
-    shows(&rt, "bytes", &header, FIELDS);
-    equal(&rt, "bytes", &rest, &[0xaa, 0xbb].as_slice());
+    shows(rt, "bytes", &header, FIELDS);
+    equal(rt, "bytes", rest, [0xaa, 0xbb].as_slice());
     let Ok((header, rest)) = Ipv6Header::read_from_slice(&BYTES) else {
-        panic!(rt; "no header is read");
+        fail(rt, "no header is read");
     };
-    shows(&rt, "bytes", &header, FIELDS);
-    equal(&rt, "bytes", &rest, &[0xaa, 0xbb].as_slice());
+    shows(rt, "bytes", &header, FIELDS);
+    equal(rt, "bytes", rest, [0xaa, 0xbb].as_slice());
 }
 
 // Code point, congestion and the length of the header.
@@ -58,15 +58,15 @@ fn parts(header: &Ipv6Header) -> (u8, IpEcn, usize) {
 #[test]
 fn a_header_of_fields(rt: HostRuntime) {
     let Ok((header, _)) = Ipv6Header::from_slice(&BYTES) else {
-        panic!(rt; "no header");
+        fail(rt, "no header");
     };
     shows(
-        &rt,
+        rt,
         "bytes",
         &parts(&header),
         "(42, CongestionExperienced, 40)",
     );
-    equal(&rt, "bytes", &header.to_bytes().as_slice(), &&BYTES[..40]);
+    equal_bytes(rt, "bytes", header.to_bytes().as_slice(), &BYTES[..40]);
 }
 
 // The view's numbers before the addresses.
@@ -88,29 +88,29 @@ fn parts_of_view(view: &Ipv6HeaderSlice<'_>) -> (u8, IpEcn, usize) {
 #[test]
 fn fields_of_a_view(rt: HostRuntime) {
     let Ok(view) = Ipv6HeaderSlice::from_slice(&BYTES) else {
-        panic!(rt; "no header");
+        fail(rt, "no header");
     };
     let wanted = (6, 0xab, 0xcdef1, 0x1234, 17, 64);
-    equal(&rt, "bytes", &numbers(&view), &wanted);
+    equal(rt, "bytes", numbers(&view), wanted);
     shows(
-        &rt,
+        rt,
         "bytes",
         &parts_of_view(&view),
         "(42, CongestionExperienced, 40)",
     );
     let addresses = [view.source(), view.destination()];
-    equal(&rt, "bytes", &addresses, &[SOURCE, DESTINATION]);
-    shows(&rt, "bytes", &view.to_header(), FIELDS);
+    equal(rt, "bytes", addresses, [SOURCE, DESTINATION]);
+    shows(rt, "bytes", &view.to_header(), FIELDS);
 }
 
 #[test]
 fn a_view_is_its_bytes(rt: HostRuntime) {
     let Ok(view) = Ipv6HeaderSlice::from_slice(&BYTES) else {
-        panic!(rt; "no header");
+        fail(rt, "no header");
     };
-    equal(&rt, "bytes", &view.slice(), &&BYTES[..40]);
+    equal(rt, "bytes", view.slice(), &BYTES[..40]);
     let copy: Result<_, _> = view.clone();
-    equal(&rt, "bytes", &copy, &Ok(view));
+    equal(rt, "bytes", copy, Ok(view));
 }
 
 // Why these bytes are no header and no view of one.
@@ -133,19 +133,19 @@ fn every_front_of_a_header(rt: HostRuntime) {
     for len in 0..40usize {
         let front = &BYTES[..len];
         let error = HeaderSliceError::Len(too_short(40, len, Layer::Ipv6Header, 0));
-        equal(&rt, "front", &header_refusal(front), &Some(error));
-        equal(&rt, "front", &refusal(front), &Some(error));
+        equal(rt, "front", header_refusal(front), Some(error));
+        equal(rt, "front", refusal(front), Some(error));
     }
     for len in 40..43usize {
         let front = &BYTES[..len];
-        equal(&rt, "front", &header_refusal(front), &None);
+        equal(rt, "front", header_refusal(front), None);
     }
 }
 
 #[test]
 fn the_length_is_tested_before_the_version(rt: HostRuntime) {
     let short = HeaderSliceError::Len(too_short(40, 39, Layer::Ipv6Header, 0));
-    equal(&rt, "39", &header_refusal(&[0x45; 39]), &Some(short));
+    equal(rt, "39", header_refusal(&[0x45; 39]), Some(short));
     for version_number in 0..16u8 {
         let bytes = [version_number * 16 + 15; 40];
         let error = HeaderError::UnexpectedVersion { version_number };
@@ -154,7 +154,7 @@ fn the_length_is_tested_before_the_version(rt: HostRuntime) {
             _ => Some(HeaderSliceError::Content(error)),
         };
         let found = (version_number, header_refusal(&bytes));
-        equal(&rt, "version", &found, &(version_number, refused));
+        equal(rt, "version", found, (version_number, refused));
     }
 }
 
@@ -164,30 +164,30 @@ fn errors_further_on(rt: HostRuntime) {
     let error = LenError::too_few_bytes(Layer::Ipv6Header, 40, 3).add_offset(5);
     let moved = HeaderSliceError::Len(error).add_slice_offset(14);
     let wanted = too_short(40, 3, Layer::Ipv6Header, 19);
-    equal(&rt, "19", &moved, &HeaderSliceError::Len(wanted));
+    equal(rt, "19", moved, HeaderSliceError::Len(wanted));
     let last = HeaderSliceError::Len(error).add_slice_offset(0xffff_ffff_ffff_fffa);
     let wanted = too_short(40, 3, Layer::Ipv6Header, 0xffff_ffff_ffff_ffff);
-    equal(&rt, "last", &last, &HeaderSliceError::Len(wanted));
+    equal(rt, "last", last, HeaderSliceError::Len(wanted));
     let content = HeaderSliceError::Content(HeaderError::UnexpectedVersion { version_number: 4 });
-    equal(&rt, "14", &content.add_slice_offset(14), &content);
+    equal(rt, "14", content.add_slice_offset(14), content);
     equal(
-        &rt,
+        rt,
         "last",
-        &content.add_slice_offset(0xffff_ffff_ffff_ffff),
-        &content,
+        content.add_slice_offset(0xffff_ffff_ffff_ffff),
+        content,
     );
 }
 
 #[test]
 fn a_header_behind_a_byte_that_is_there(rt: HostRuntime) {
     let Ok((header, _)) = Ipv6Header::from_slice(&BYTES) else {
-        panic!(rt; "no header");
+        fail(rt, "no header");
     };
     let mut buffer = Vec::new(rt.alloc());
     let done = buffer.push(0xbb).is_ok() && header.write(&mut buffer).is_ok();
     let mut written = BYTES;
     written.rotate_right(1);
-    equal(&rt, "written", &buffer.as_slice(), &&written[..41]);
+    equal_bytes(rt, "written", buffer.as_slice(), &written[..41]);
 }
 
 #[test]
@@ -196,68 +196,68 @@ fn fields_set(rt: HostRuntime) {
     let mut bytes = [0; 40];
     bytes[0] = 0x60;
     bytes[6] = 255;
-    equal(&rt, "default", &header.to_bytes(), &bytes);
-    equal(&rt, "default", &header.flow_label, &Ipv6FlowLabel::ZERO);
+    equal(rt, "default", header.to_bytes(), bytes);
+    equal(rt, "default", header.flow_label, Ipv6FlowLabel::ZERO);
     header.traffic_class = 0xab;
     header.set_ecn(IpEcn::Ect1);
-    equal(&rt, "congestion", &header.traffic_class, &0xa9);
+    equal(rt, "congestion", header.traffic_class, 0xa9);
     header.set_dscp(IpDscp::EF);
-    equal(&rt, "code point", &header.traffic_class, &0xb9);
+    equal(rt, "code point", header.traffic_class, 0xb9);
 }
 
 #[test]
 fn payload_lengths_set(rt: HostRuntime) {
     let mut header = Ipv6Header::default();
-    equal(&rt, "65535", &header.set_payload_length(65535), &Ok(()));
+    equal(rt, "65535", header.set_payload_length(65535), Ok(()));
     let refused = "Err(ValueTooBigError { actual: 65536, max_allowed: 65535, \
         value_type: Ipv6PayloadLength })";
-    shows(&rt, "65536", &header.set_payload_length(65536), refused);
-    equal(&rt, "set", &header.payload_length, &65535);
+    shows(rt, "65536", &header.set_payload_length(65536), refused);
+    equal(rt, "set", header.payload_length, 65535);
 }
 
 #[test]
 fn laws_at_two_headers(rt: HostRuntime) {
     let Ok((header, _)) = Ipv6Header::from_slice(&BYTES) else {
-        panic!(rt; "no header");
+        fail(rt, "no header");
     };
     let other = Ipv6Header::default();
     laws::headers_are_their_bytes(&header);
     equal(
-        &rt,
+        rt,
         "again",
-        &laws::header_is_read_again(&header, &BYTES).is_ok(),
-        &true,
+        laws::header_is_read_again(&header, &BYTES).is_ok(),
+        true,
     );
     equal(
-        &rt,
+        rt,
         "itself",
-        &laws::headers_are_equal_as_fields(&header, &header),
-        &true,
+        laws::headers_are_equal_as_fields(&header, &header),
+        true,
     );
     equal(
-        &rt,
+        rt,
         "another",
-        &laws::headers_are_equal_as_fields(&header, &other),
-        &false,
+        laws::headers_are_equal_as_fields(&header, &other),
+        false,
     );
     let copy: Result<_, _> = laws::header_is_copied(&header);
-    equal(&rt, "copy", &copy, &Ok(header));
+    equal(rt, "copy", copy, Ok(header));
 }
 
 #[test]
 fn laws_of_no_header(rt: HostRuntime) {
     let Ok(view) = Ipv6HeaderSlice::from_slice(&BYTES) else {
-        panic!(rt; "no header");
+        fail(rt, "no header");
     };
     laws::traffic_class_has_two_parts();
     laws::skip_follows_every_walk();
     laws::skipped_numbers_are_ext_headers();
-    equal(&rt, "lengths", &laws::header_lengths(), &[40, 40]);
+    equal(rt, "lengths", laws::header_lengths(), [40, 40]);
     equal(
-        &rt,
+        rt,
         "equal",
-        &laws::slices_are_equal_as_bytes(&view, &view),
-        &true,
+        laws::slices_are_equal_as_bytes(&view, &view),
+        true,
     );
 }
 
@@ -269,19 +269,19 @@ fn walk(bytes: &[u8], first: u8) -> Result<(IpNumber, &[u8]), LenError> {
 fn walks(rt: HostRuntime) {
     let bytes = [60, 0, 0, 0, 0, 0, 0, 0, 17, 0, 0, 0, 0, 0, 0, 0, 0xaa, 0xbb];
     shows(
-        &rt,
+        rt,
         "two",
         &walk(&bytes, 0),
         "Ok((IpNumber(17), [170, 187]))",
     );
     let (_, turns) = Ipv6Header::skip_counted(&bytes, IpNumber(0));
-    equal(&rt, "turns", &turns, &3);
+    equal(rt, "turns", turns, 3);
     // To the end of the slice.
     let bytes = [0, 0, 0, 0, 0, 0, 0, 0, 17, 0, 0, 0, 0, 0, 0, 0];
-    shows(&rt, "end", &walk(&bytes, 60), "Ok((IpNumber(17), []))");
+    shows(rt, "end", &walk(&bytes, 60), "Ok((IpNumber(17), []))");
     let want = "Err(LenError { required_len: 2, len: 1, len_source: Slice, \
         layer: Ipv6ExtHeader, layer_start_offset: 0 })";
-    shows(&rt, "want", &walk(&[6], 43), want);
+    shows(rt, "want", &walk(&[6], 43), want);
 }
 
 // Hop-by-hop options of 16 bytes, an authentication header of 12, a fragment header of 8 whose
@@ -294,14 +294,14 @@ const ROW: [u8; 54] = [
 #[test]
 fn headers_in_a_row(rt: HostRuntime) {
     let found = Ipv6Header::skip_counted(&ROW, IpNumber(0));
-    shows(&rt, "row", &found, "(Ok((IpNumber(6), [7, 8])), 5)");
+    shows(rt, "row", &found, "(Ok((IpNumber(6), [7, 8])), 5)");
 }
 
 // A front of `ROW` that ends within a header: what is wanted there, and the turns of the walk.
-fn front_wants(rt: &impl Abort, len: usize, want: LenError, turns: usize) {
+fn front_wants(rt: impl Abort + Copy, len: usize, want: LenError, turns: usize) {
     let (front, _) = ROW.split_at(len.min(54));
     let found = Ipv6Header::skip_counted(front, IpNumber(0));
-    equal(rt, "front", &found, &(Err(want), turns));
+    equal(rt, "front", found, (Err(want), turns));
 }
 
 // The headers' places and lengths.
@@ -315,7 +315,7 @@ fn every_front_of_headers_in_a_row(rt: HostRuntime) {
         for len in 0..*header_len {
             let required_len = if len < 2 { 2 } else { *header_len };
             let want = too_short(required_len, len, Layer::Ipv6ExtHeader, *offset);
-            front_wants(&rt, offset.saturating_add(len), want, turns);
+            front_wants(rt, offset.saturating_add(len), want, turns);
         }
     }
 }
@@ -333,19 +333,19 @@ const LENGTHS: &[(u8, usize)] = &[
     (6, 24),
 ];
 
-fn is_skipped(rt: &impl Abort, number: u8, bytes: &[u8; 32], len: usize) {
+fn is_skipped(rt: impl Abort + Copy, number: u8, bytes: &[u8; 32], len: usize) {
     let (whole, rest) = bytes.split_at(len.min(32));
     let (cut, _) = whole.split_at(len.min(32).saturating_sub(1));
     let next = Ipv6Header::skip_header_extension_in_slice(bytes, IpNumber(number));
     equal(
         rt,
         "whole",
-        &(number, next),
-        &(number, Ok((IpNumber(99), rest))),
+        (number, next),
+        (number, Ok((IpNumber(99), rest))),
     );
     let want = too_short(len, cut.len(), Layer::Ipv6ExtHeader, 0);
     let refused = Ipv6Header::skip_header_extension_in_slice(cut, IpNumber(number));
-    equal(rt, "cut", &(number, refused), &(number, Err(want)));
+    equal(rt, "cut", (number, refused), (number, Err(want)));
 }
 
 #[test]
@@ -353,7 +353,7 @@ fn one_header_by_its_number(rt: HostRuntime) {
     let mut bytes = [99; 32];
     bytes[1] = 2;
     for (number, len) in LENGTHS.iter() {
-        is_skipped(&rt, *number, &bytes, *len);
+        is_skipped(rt, *number, &bytes, *len);
     }
 }
 
@@ -365,10 +365,10 @@ fn numbers_that_are_skipped(rt: HostRuntime) {
         let (number, behind) = if skipped { (253, 8) } else { (n, 0) };
         let (_, rest) = bytes.split_at(behind);
         equal(
-            &rt,
+            rt,
             "walk",
-            &(n, walk(&bytes, n)),
-            &(n, Ok((IpNumber(number), rest))),
+            (n, walk(&bytes, n)),
+            (n, Ok((IpNumber(number), rest))),
         );
     }
 }
@@ -383,25 +383,25 @@ fn row_of(alloc: Global, before_the_last: usize) -> Result<Vec<u8>, AllocError> 
     Ok(bytes)
 }
 
-fn has_turns(rt: &(impl Abort + AllocGlobal), before_the_last: usize, told: &str) {
+fn has_turns(rt: impl Abort + AllocGlobal + Copy, before_the_last: usize, told: &str) {
     match row_of(rt.alloc(), before_the_last) {
         Ok(bytes) => {
             let found = Ipv6Header::skip_counted(&bytes, IpNumber(60));
             shows(rt, "turns", &found, told);
         }
-        Err(_) => panic!(rt; "no memory"),
+        Err(_) => fail(rt, "no memory"),
     }
 }
 
 #[test]
 fn walks_over_thousands_of_headers(rt: HostRuntime) {
     has_turns(
-        &rt,
+        rt,
         8189,
         "(Ok((IpNumber(253), [1, 2, 3, 4, 5, 6, 7])), 8191)",
     );
     has_turns(
-        &rt,
+        rt,
         8190,
         "(Ok((IpNumber(253), [1, 2, 3, 4, 5, 6, 7])), 8192)",
     );

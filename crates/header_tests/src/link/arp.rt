@@ -1,5 +1,5 @@
 //! ARP packets (RFC 826).
-use crate::checks::{equal, reads, shows};
+use crate::checks::{equal, equal_bytes, fail, reads, shows};
 use ep_base::err::{Layer, LenError};
 use ep_base::{EtherType, LenSource};
 use ep_link::err::arp::{ArpHwAddrError, ArpNewError, ArpProtoAddrError};
@@ -54,12 +54,14 @@ fn lengths(packet: &ArpPacket) -> (usize, u8, u8) {
 #[test]
 fn a_packet_both_ways(rt: HostRuntime) {
     let Ok(packet) = ArpPacket::from_slice(&BYTES) else {
-        panic!(rt; "no packet");
+        fail(rt, "no packet");
     };
-    shows(&rt, "bytes", &types(&packet), TYPES);
-    equal(&rt, "bytes", &lengths(&packet), &(28, 6, 4));
-    equal(&rt, "bytes", &addresses(&packet), &ADDRESSES);
-    equal(&rt, "bytes", &packet.to_bytes().as_slice(), &&BYTES[..28]);
+    shows(rt, "bytes", &types(&packet), TYPES);
+    equal(rt, "bytes", lengths(&packet), (28, 6, 4));
+    for (told, wanted) in addresses(&packet).into_iter().zip(ADDRESSES) {
+        equal_bytes(rt, "bytes", told, wanted);
+    }
+    equal_bytes(rt, "bytes", packet.to_bytes().as_slice(), &BYTES[..28]);
 }
 
 fn types_of_slice(packet: &ArpPacketSlice<'_>) -> Types {
@@ -91,19 +93,14 @@ fn parts_of_slice<'a>(packet: &ArpPacketSlice<'a>) -> (&'a [u8], u8, u8) {
 #[test]
 fn a_view_of_a_packet(rt: HostRuntime) {
     let Ok(packet) = ArpPacketSlice::from_slice(&BYTES) else {
-        panic!(rt; "no packet");
+        fail(rt, "no packet");
     };
-    shows(&rt, "bytes", &types_of_slice(&packet), TYPES);
-    equal(&rt, "bytes", &addresses_of_slice(&packet), &ADDRESSES);
-    equal(
-        &rt,
-        "bytes",
-        &parts_of_slice(&packet),
-        &(&BYTES[..28], 6, 4),
-    );
+    shows(rt, "bytes", &types_of_slice(&packet), TYPES);
+    equal(rt, "bytes", addresses_of_slice(&packet), ADDRESSES);
+    equal(rt, "bytes", parts_of_slice(&packet), (&BYTES[..28], 6, 4));
     let fields = packet.to_packet();
-    equal(&rt, "bytes", &fields.to_bytes().as_slice(), &&BYTES[..28]);
-    equal(&rt, "bytes", &ArpPacket::from_slice(&BYTES), &Ok(fields));
+    equal_bytes(rt, "bytes", fields.to_bytes().as_slice(), &BYTES[..28]);
+    equal(rt, "bytes", ArpPacket::from_slice(&BYTES), Ok(fields));
 }
 
 // Why these bytes are no packet and no view of one.
@@ -131,21 +128,21 @@ fn too_short(required_len: usize, len: usize, len_source: LenSource) -> Option<L
     })
 }
 
-fn is_refused(rt: &impl Abort, front: &[u8], required_len: usize, len_source: LenSource) {
+fn is_refused(rt: impl Abort + Copy, front: &[u8], required_len: usize, len_source: LenSource) {
     let error = too_short(required_len, front.len(), len_source);
-    equal(rt, "front", &packet_refusal(front), &error);
-    equal(rt, "front", &refusal(front), &error);
+    equal(rt, "front", packet_refusal(front), error);
+    equal(rt, "front", refusal(front), error);
 }
 
 #[test]
 fn every_front_of_a_packet(rt: HostRuntime) {
     for len in 0..8usize {
-        is_refused(&rt, &BYTES[..len], 8, LenSource::Slice);
+        is_refused(rt, &BYTES[..len], 8, LenSource::Slice);
     }
     for len in 8..28usize {
-        is_refused(&rt, &BYTES[..len], 28, LenSource::ArpAddrLengths);
+        is_refused(rt, &BYTES[..len], 28, LenSource::ArpAddrLengths);
     }
-    equal(&rt, "whole", &refusal(&BYTES[..28]), &None);
+    equal(rt, "whole", refusal(&BYTES[..28]), None);
 }
 
 // A packet with a sender's and a target's addresses, each by its number of bytes, which are 7.
@@ -182,14 +179,14 @@ fn spelled(packet: &ArpPacket) -> Option<(usize, usize, usize, bool)> {
     }
 }
 
-fn is_written_with(rt: &impl Abort, hw_len: usize, proto_len: usize) {
+fn is_written_with(rt: impl Abort + Copy, hw_len: usize, proto_len: usize) {
     match made(&[hw_len, proto_len, hw_len, proto_len]) {
         Ok(packet) => {
             let whole = 8 + 2 * hw_len.min(255) + 2 * proto_len.min(255);
             let wanted = Some((whole, hw_len, proto_len, true));
-            equal(rt, "addresses", &spelled(&packet), &wanted);
+            equal(rt, "addresses", spelled(&packet), wanted);
         }
-        Err(_) => panic!(rt; "no packet"),
+        Err(_) => fail(rt, "no packet"),
     }
 }
 
@@ -197,7 +194,7 @@ fn is_written_with(rt: &impl Abort, hw_len: usize, proto_len: usize) {
 fn addresses_of_every_length(rt: HostRuntime) {
     for hw_len in &[0usize, 1, 6, 255] {
         for proto_len in &[0usize, 1, 6, 255] {
-            is_written_with(&rt, *hw_len, *proto_len);
+            is_written_with(rt, *hw_len, *proto_len);
         }
     }
 }
@@ -222,7 +219,7 @@ fn why_unmade(lens: &[usize; 4]) -> Option<ArpNewError> {
 #[test]
 fn addresses_that_make_no_packet(rt: HostRuntime) {
     for (lens, wanted) in REFUSED.iter() {
-        shows(&rt, wanted, &why_unmade(lens), wanted);
+        shows(rt, wanted, &why_unmade(lens), wanted);
     }
 }
 
@@ -246,71 +243,71 @@ fn a_packet_in_a_frame(rt: HostRuntime) {
         Ethernet2Slice::from_slice_without_fcs(&bytes),
         Ethernet2Slice::from_slice_without_fcs(&bytes[..41]),
     ) else {
-        panic!(rt; "no frames");
+        fail(rt, "no frames");
     };
     equal(
-        &rt,
+        rt,
         "whole",
-        &packet_in(&whole),
-        &Ok((EtherType::ARP, &BYTES[..28])),
+        packet_in(&whole),
+        Ok((EtherType::ARP, &BYTES[..28])),
     );
     let want = "Err(LenError { required_len: 28, len: 27, len_source: ArpAddrLengths, layer: Arp, \
         layer_start_offset: 14 })";
-    shows(&rt, "cut", &packet_in(&cut), want);
+    shows(rt, "cut", &packet_in(&cut), want);
 }
 
 #[test]
 fn error_texts(rt: HostRuntime) {
     let hw = ArpNewError::from(ArpHwAddrError::LenNonMatching(6, 5));
     reads(
-        &rt,
+        rt,
         &hw,
         "ARP hardware addresses of 6 and 5 bytes differ in length",
     );
     let proto = ArpNewError::from(ArpProtoAddrError::LenTooBig(256));
     let text = "ARP protocol addresses of 256 bytes are too long (at most 255 bytes)";
-    reads(&rt, &proto, text);
+    reads(rt, &proto, text);
 }
 
 #[test]
 fn a_packet_behind_a_byte_that_is_there(rt: HostRuntime) {
     let Ok(packet) = ArpPacket::from_slice(&BYTES) else {
-        panic!(rt; "no packet");
+        fail(rt, "no packet");
     };
     let mut buffer = Vec::new(rt.alloc());
     let done = buffer.push(0xff).is_ok() && packet.write(&mut buffer).is_ok();
     let mut written = BYTES;
     written.rotate_right(1);
-    equal(&rt, "written", &buffer.as_slice(), &written.as_slice());
+    equal_bytes(rt, "written", buffer.as_slice(), written.as_slice());
 }
 
 #[test]
 fn numbers(rt: HostRuntime) {
     let hardware = ArpHardwareId::from(824);
     equal(
-        &rt,
+        rt,
         "hardware",
-        &(hardware, u16::from(hardware)),
-        &(ArpHardwareId::NETLINK, 824),
+        (hardware, u16::from(hardware)),
+        (ArpHardwareId::NETLINK, 824),
     );
-    equal(&rt, "reply", &ArpOperation::from(2), &ArpOperation::REPLY);
-    equal(&rt, "request", &u16::from(ArpOperation::REQUEST), &1);
-    reads(&rt, &ArpHardwareId::FRAD, "770");
+    equal(rt, "reply", ArpOperation::from(2), ArpOperation::REPLY);
+    equal(rt, "request", u16::from(ArpOperation::REQUEST), 1);
+    reads(rt, &ArpHardwareId::FRAD, "770");
 }
 
 #[test]
 fn laws(rt: HostRuntime) {
     let Ok(packet) = ArpPacket::from_slice(&BYTES) else {
-        panic!(rt; "no packet");
+        fail(rt, "no packet");
     };
     arp_constants();
     packets_are_their_bytes(&packet);
     fields_by_hand();
-    equal(&rt, "lengths", &packet_lengths(), &[1028]);
+    equal(rt, "lengths", packet_lengths(), [1028]);
     equal(
-        &rt,
+        rt,
         "read again",
-        &packet_is_read_again(&packet, &BYTES),
-        &Ok(packet),
+        packet_is_read_again(&packet, &BYTES),
+        Ok(packet),
     );
 }

@@ -1,5 +1,5 @@
 //! Link headers of either kind.
-use crate::checks::{equal, shows};
+use crate::checks::{equal, equal_bytes, fail, shows};
 use ep_base::{EtherType, LenSource};
 use ep_link::{
     Ethernet2Header, Ethernet2Slice, LinkHeader, LinkSlice, LinuxSllHeader, LinuxSllPayloadSlice,
@@ -25,71 +25,66 @@ fn ethernet2() -> LinkHeader {
     LinkHeader::from(Ethernet2Header::from_bytes(ETHERNET))
 }
 
-fn linux_sll(rt: &impl Abort) -> LinkHeader {
+fn linux_sll(rt: impl Abort + Copy) -> LinkHeader {
     match LinuxSllHeader::from_slice(&SLL) {
         Ok((header, _)) => LinkHeader::from(header),
-        Err(_) => panic!(rt; "no header"),
+        Err(_) => fail(rt, "no header"),
     }
 }
 
 #[test]
 fn one_kind_or_the_other(rt: HostRuntime) {
-    shows(&rt, "Ethernet", &ethernet2().linux_sll(), "None");
+    shows(rt, "Ethernet", &ethernet2().linux_sll(), "None");
     let Some(header) = ethernet2().ethernet2() else {
-        panic!(rt; "no Ethernet header");
+        fail(rt, "no Ethernet header");
     };
-    shows(&rt, "Ethernet", &header, ETHERNET_FIELDS);
+    shows(rt, "Ethernet", &header, ETHERNET_FIELDS);
     equal(
-        &rt,
+        rt,
         "Ethernet",
-        &LinkHeader::Ethernet2(header).header_len(),
-        &14,
+        LinkHeader::Ethernet2(header).header_len(),
+        14,
     );
 }
 
 #[test]
 fn the_other_kind_or_the_one(rt: HostRuntime) {
-    shows(&rt, "cooked", &linux_sll(&rt).ethernet2(), "None");
-    let Some(header) = linux_sll(&rt).linux_sll() else {
-        panic!(rt; "no header of a cooked capture");
+    shows(rt, "cooked", &linux_sll(rt).ethernet2(), "None");
+    let Some(header) = linux_sll(rt).linux_sll() else {
+        fail(rt, "no header of a cooked capture");
     };
-    shows(&rt, "cooked", &header, SLL_FIELDS);
-    equal(
-        &rt,
-        "cooked",
-        &LinkHeader::LinuxSll(header).header_len(),
-        &16,
-    );
+    shows(rt, "cooked", &header, SLL_FIELDS);
+    equal(rt, "cooked", LinkHeader::LinuxSll(header).header_len(), 16);
 }
 
 #[test]
 fn an_ethernet_header_written_anew(rt: HostRuntime) {
     let mut header = ethernet2();
-    equal(&rt, "Ethernet", &header.mut_linux_sll().is_some(), &false);
+    equal(rt, "Ethernet", header.mut_linux_sll().is_some(), false);
     if let Some(ethernet2) = header.mut_ethernet2() {
         ethernet2.ether_type = EtherType::ARP;
     }
     let changed = "Ethernet2(Ethernet2Header { source: [7, 8, 9, 10, 11, 12], \
         destination: [1, 2, 3, 4, 5, 6], ether_type: EtherType(2054) })";
-    shows(&rt, "Ethernet", &header, changed);
+    shows(rt, "Ethernet", &header, changed);
 }
 
 #[test]
 fn a_cooked_header_written_anew(rt: HostRuntime) {
-    let mut header = linux_sll(&rt);
-    equal(&rt, "cooked", &header.mut_ethernet2().is_some(), &false);
+    let mut header = linux_sll(rt);
+    equal(rt, "cooked", header.mut_ethernet2().is_some(), false);
     if let Some(linux_sll) = header.mut_linux_sll() {
         linux_sll.sender_address_valid_length = 8;
     }
     let changed = "LinuxSll(LinuxSllHeader { packet_type: LinuxSllPacketType(4), \
         arp_hrd_type: ArpHardwareId(1), sender_address_valid_length: 8, \
         sender_address: [1, 2, 3, 4, 5, 6, 0, 0], protocol_type: EtherType(EtherType(2054)) })";
-    shows(&rt, "cooked", &header, changed);
+    shows(rt, "cooked", &header, changed);
 }
 
 #[test]
 fn headers_behind_a_byte_that_is_there(rt: HostRuntime) {
-    let (ethernet, cooked) = (ethernet2(), linux_sll(&rt));
+    let (ethernet, cooked) = (ethernet2(), linux_sll(rt));
     let mut buffer = Vec::new(rt.alloc());
     let done = buffer.push(9).is_ok()
         && ethernet.write(&mut buffer).is_ok()
@@ -98,11 +93,11 @@ fn headers_behind_a_byte_that_is_there(rt: HostRuntime) {
         9, 1, 2, 3, 4, 5, 6, 7, 8, 9, 10, 11, 12, 8, 0, 0, 4, 0, 1, 0, 6, 1, 2, 3, 4, 5, 6, 0, 0,
         8, 6,
     ];
-    equal(&rt, "written", &buffer.as_slice(), &written.as_slice());
+    equal_bytes(rt, "written", buffer.as_slice(), written.as_slice());
 }
 
 // The header and what an ether type names behind it, if there are such, as texts.
-fn is_link(rt: &(impl Abort + AllocGlobal), link: &LinkSlice<'_>, header: &str, payload: &str) {
+fn is_link(rt: impl Abort + AllocGlobal + Copy, link: &LinkSlice<'_>, header: &str, payload: &str) {
     shows(rt, header, &link.to_header(), header);
     shows(rt, header, &link.ether_payload(), payload);
 }
@@ -111,13 +106,13 @@ fn is_link(rt: &(impl Abort + AllocGlobal), link: &LinkSlice<'_>, header: &str, 
 fn a_frame(rt: HostRuntime) {
     let bytes = [1, 2, 3, 4, 5, 6, 7, 8, 9, 10, 11, 12, 8, 0, 7, 8];
     let Ok(frame) = Ethernet2Slice::from_slice_without_fcs(&bytes) else {
-        panic!(rt; "no frame");
+        fail(rt, "no frame");
     };
     let header = "Some(Ethernet2(Ethernet2Header { source: [7, 8, 9, 10, 11, 12], \
         destination: [1, 2, 3, 4, 5, 6], ether_type: EtherType(2048) }))";
     let payload = "Some(EtherPayloadSlice { ether_type: EtherType(2048), len_source: Slice, \
         payload: [7, 8] })";
-    is_link(&rt, &LinkSlice::Ethernet2(frame), header, payload);
+    is_link(rt, &LinkSlice::Ethernet2(frame), header, payload);
 }
 
 // A packet of ether type 0806 names it; 802.11 with radiotap, hardware type 803, gives the same
@@ -126,23 +121,23 @@ fn a_frame(rt: HostRuntime) {
 fn cooked_packets(rt: HostRuntime) {
     let mut bytes = [0, 4, 0, 1, 0, 6, 1, 2, 3, 4, 5, 6, 0, 0, 8, 6, 9];
     let Ok(packet) = LinuxSllSlice::from_slice(&bytes) else {
-        panic!(rt; "no packet");
+        fail(rt, "no packet");
     };
     let header = "Some(LinuxSll(LinuxSllHeader { packet_type: LinuxSllPacketType(4), \
         arp_hrd_type: ArpHardwareId(1), sender_address_valid_length: 6, \
         sender_address: [1, 2, 3, 4, 5, 6, 0, 0], protocol_type: EtherType(EtherType(2054)) }))";
     let payload = "Some(EtherPayloadSlice { ether_type: EtherType(2054), len_source: Slice, \
         payload: [9] })";
-    is_link(&rt, &LinkSlice::LinuxSll(packet), header, payload);
+    is_link(rt, &LinkSlice::LinuxSll(packet), header, payload);
     bytes[2] = 3;
     bytes[3] = 0x23;
     let Ok(radiotap) = LinuxSllSlice::from_slice(&bytes) else {
-        panic!(rt; "no packet");
+        fail(rt, "no packet");
     };
     let header = "Some(LinuxSll(LinuxSllHeader { packet_type: LinuxSllPacketType(4), \
         arp_hrd_type: ArpHardwareId(803), sender_address_valid_length: 6, \
         sender_address: [1, 2, 3, 4, 5, 6, 0, 0], protocol_type: Ignored(2054) }))";
-    is_link(&rt, &LinkSlice::LinuxSll(radiotap), header, "None");
+    is_link(rt, &LinkSlice::LinuxSll(radiotap), header, "None");
 }
 
 // 34525 is 86dd.
@@ -155,10 +150,10 @@ fn payloads_without_a_header(rt: HostRuntime) {
     });
     let payload = "Some(EtherPayloadSlice { ether_type: EtherType(34525), \
         len_source: MacsecShortLength, payload: [1, 2] })";
-    is_link(&rt, &ether, "None", payload);
+    is_link(rt, &ether, "None", payload);
     let sll = LinkSlice::LinuxSllPayload(LinuxSllPayloadSlice {
         protocol_type: LinuxSllProtocolType::NetlinkProtocolType(0x0800),
         payload: &[1, 2],
     });
-    is_link(&rt, &sll, "None", "None");
+    is_link(rt, &sll, "None", "None");
 }

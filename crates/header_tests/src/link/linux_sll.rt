@@ -1,5 +1,5 @@
 //! Headers of Linux cooked captures.
-use crate::checks::{equal, reads, shows};
+use crate::checks::{equal, equal_bytes, fail, reads, shows};
 use ep_base::err::{Layer, LenError};
 use ep_base::{EtherType, LenSource};
 use ep_link::err::linux_sll::{HeaderError, HeaderSliceError};
@@ -29,12 +29,12 @@ type Numbers = (LinuxSllPacketType, ArpHardwareId, u16, [u8; 8]);
 #[test]
 fn a_header_both_ways(rt: HostRuntime) {
     let Ok((header, rest)) = LinuxSllHeader::from_slice(&BYTES) else {
-        panic!(rt; "no header");
+        fail(rt, "no header");
     };
-    shows(&rt, "bytes", &header, FIELDS);
-    equal(&rt, "bytes", &rest, &[21, 22].as_slice());
-    equal(&rt, "bytes", &header.to_bytes().as_slice(), &&BYTES[..16]);
-    equal(&rt, "bytes", &header.header_len(), &16);
+    shows(rt, "bytes", &header, FIELDS);
+    equal(rt, "bytes", rest, [21, 22].as_slice());
+    equal_bytes(rt, "bytes", header.to_bytes().as_slice(), &BYTES[..16]);
+    equal(rt, "bytes", header.header_len(), 16);
 }
 
 fn numbers_of_view(slice: &LinuxSllHeaderSlice<'_>) -> Numbers {
@@ -49,12 +49,12 @@ fn numbers_of_view(slice: &LinuxSllHeaderSlice<'_>) -> Numbers {
 #[test]
 fn fields_of_a_view(rt: HostRuntime) {
     let Ok(slice) = LinuxSllHeaderSlice::from_slice(&BYTES) else {
-        panic!(rt; "no header");
+        fail(rt, "no header");
     };
-    equal(&rt, "bytes", &slice.slice(), &&BYTES[..16]);
-    shows(&rt, "bytes", &numbers_of_view(&slice), NUMBERS);
-    shows(&rt, "bytes", &slice.protocol_type(), PROTOCOL);
-    shows(&rt, "bytes", &slice.to_header(), FIELDS);
+    equal(rt, "bytes", slice.slice(), &BYTES[..16]);
+    shows(rt, "bytes", &numbers_of_view(&slice), NUMBERS);
+    shows(rt, "bytes", &slice.protocol_type(), PROTOCOL);
+    shows(rt, "bytes", &slice.to_header(), FIELDS);
 }
 
 fn numbers(slice: &LinuxSllSlice<'_>) -> Numbers {
@@ -69,11 +69,11 @@ fn numbers(slice: &LinuxSllSlice<'_>) -> Numbers {
 #[test]
 fn fields_of_a_packet(rt: HostRuntime) {
     let Ok(slice) = LinuxSllSlice::from_slice(&BYTES) else {
-        panic!(rt; "no packet");
+        fail(rt, "no packet");
     };
-    shows(&rt, "bytes", &numbers(&slice), NUMBERS);
-    shows(&rt, "bytes", &slice.protocol_type(), PROTOCOL);
-    shows(&rt, "bytes", &slice.to_header(), FIELDS);
+    shows(rt, "bytes", &numbers(&slice), NUMBERS);
+    shows(rt, "bytes", &slice.protocol_type(), PROTOCOL);
+    shows(rt, "bytes", &slice.to_header(), FIELDS);
 }
 
 // All bytes and those behind the header, and the header's length.
@@ -84,18 +84,18 @@ fn parts<'a>(slice: &LinuxSllSlice<'a>) -> ([&'a [u8]; 2], usize) {
 #[test]
 fn parts_of_a_packet(rt: HostRuntime) {
     let Ok(slice) = LinuxSllSlice::from_slice(&BYTES) else {
-        panic!(rt; "no packet");
+        fail(rt, "no packet");
     };
-    equal(&rt, "bytes", &parts(&slice), &([&BYTES, &[21, 22]], 16));
+    equal(rt, "bytes", parts(&slice), ([&BYTES, &[21, 22]], 16));
     let payload =
         "LinuxSllPayloadSlice { protocol_type: EtherType(EtherType(2048)), payload: [21, 22] }";
-    shows(&rt, "bytes", &slice.payload(), payload);
+    shows(rt, "bytes", &slice.payload(), payload);
 }
 
 // A payload as one that an ether type names, as a text, and that one back.
-fn is_named(rt: &(impl Abort + AllocGlobal), payload: LinuxSllPayloadSlice<'_>) {
+fn is_named(rt: impl Abort + AllocGlobal + Copy, payload: LinuxSllPayloadSlice<'_>) {
     let Ok(ether_payload) = EtherPayloadSlice::try_from(payload) else {
-        panic!(rt; "no ether type");
+        fail(rt, "no ether type");
     };
     let named =
         "EtherPayloadSlice { ether_type: EtherType(2048), len_source: Slice, payload: [21, 22] }";
@@ -113,8 +113,8 @@ fn is_named(rt: &(impl Abort + AllocGlobal), payload: LinuxSllPayloadSlice<'_>) 
 #[test]
 fn an_ether_payload_and_back(rt: HostRuntime) {
     match LinuxSllSlice::from_slice(&BYTES) {
-        Ok(slice) => is_named(&rt, slice.payload()),
-        Err(_) => panic!(rt; "no packet"),
+        Ok(slice) => is_named(rt, slice.payload()),
+        Err(_) => fail(rt, "no packet"),
     }
 }
 
@@ -134,7 +134,7 @@ fn payloads_behind_no_ether_type(rt: HostRuntime) {
         };
         let is_refused = EtherPayloadSlice::try_from(payload).is_err();
         let found = (*protocol_type, is_refused);
-        equal(&rt, "payload", &found, &(*protocol_type, true));
+        equal(rt, "payload", found, (*protocol_type, true));
     }
 }
 
@@ -160,10 +160,10 @@ fn refusal(bytes: &[u8]) -> Option<HeaderSliceError> {
     }
 }
 
-fn is_refused(rt: &impl Abort, bytes: &[u8], error: HeaderSliceError) {
-    equal(rt, "header", &header_refusal(bytes), &Some(error));
-    equal(rt, "view", &header_slice_refusal(bytes), &Some(error));
-    equal(rt, "packet", &refusal(bytes), &Some(error));
+fn is_refused(rt: impl Abort + Copy, bytes: &[u8], error: HeaderSliceError) {
+    equal(rt, "header", header_refusal(bytes), Some(error));
+    equal(rt, "view", header_slice_refusal(bytes), Some(error));
+    equal(rt, "packet", refusal(bytes), Some(error));
 }
 
 fn too_short(len: usize) -> HeaderSliceError {
@@ -179,9 +179,9 @@ fn too_short(len: usize) -> HeaderSliceError {
 #[test]
 fn every_front_of_a_header(rt: HostRuntime) {
     for len in 0..16usize {
-        is_refused(&rt, &BYTES[..len], too_short(len));
+        is_refused(rt, &BYTES[..len], too_short(len));
     }
-    equal(&rt, "whole", &refusal(&BYTES[..16]), &None);
+    equal(rt, "whole", refusal(&BYTES[..16]), None);
 }
 
 #[test]
@@ -189,7 +189,7 @@ fn a_packet_type_that_is_refused(rt: HostRuntime) {
     let mut bytes = BYTES;
     bytes[1] = 5;
     let error = HeaderError::UnsupportedPacketTypeField { packet_type: 5 };
-    is_refused(&rt, &bytes, HeaderSliceError::from(error));
+    is_refused(rt, &bytes, HeaderSliceError::from(error));
 }
 
 fn packet_type(number: u16) -> Option<u16> {
@@ -202,29 +202,29 @@ fn packet_type(number: u16) -> Option<u16> {
 #[test]
 fn packet_types(rt: HostRuntime) {
     for number in 0..5u16 {
-        equal(&rt, "packet type", &packet_type(number), &Some(number));
+        equal(rt, "packet type", packet_type(number), Some(number));
     }
     let unsupported = "Err(UnsupportedPacketTypeField { packet_type: 5 })";
-    shows(&rt, "5", &LinuxSllPacketType::try_from(5), unsupported);
+    shows(rt, "5", &LinuxSllPacketType::try_from(5), unsupported);
     shows(
-        &rt,
+        rt,
         "default",
         &LinuxSllPacketType::default(),
         "LinuxSllPacketType(0)",
     );
-    equal(&rt, "outgoing", &LinuxSllPacketType::OUTGOING.value(), &4);
+    equal(rt, "outgoing", LinuxSllPacketType::OUTGOING.value(), 4);
 }
 
 #[test]
 fn errors_further_on(rt: HostRuntime) {
     let unsupported = HeaderError::UnsupportedPacketTypeField { packet_type: 5 };
     let content = HeaderSliceError::from(unsupported);
-    equal(&rt, "content", &content.add_slice_offset(3), &content);
+    equal(rt, "content", content.add_slice_offset(3), content);
     let want = LenError::too_few_bytes(Layer::LinuxSllHeader, 16, 7).add_offset(4);
     let further = "Len(LenError { required_len: 16, len: 7, len_source: Slice, \
         layer: LinuxSllHeader, layer_start_offset: 7 })";
     shows(
-        &rt,
+        rt,
         "want",
         &HeaderSliceError::Len(want).add_slice_offset(3),
         further,
@@ -262,8 +262,8 @@ const PROTOCOLS: &[(u16, u16, LinuxSllProtocolType)] = &[
 fn protocols_by_hardware_type(rt: HostRuntime) {
     for (hardware_type, number, protocol) in PROTOCOLS.iter() {
         let read = LinuxSllProtocolType::from((ArpHardwareId(*hardware_type), *number));
-        equal(&rt, "protocol", &read, protocol);
-        equal(&rt, "number", &u16::from(*protocol), number);
+        equal(rt, "protocol", read, *protocol);
+        equal(rt, "number", u16::from(*protocol), *number);
     }
 }
 
@@ -301,7 +301,7 @@ fn numbers_set_anew(rt: HostRuntime) {
     for (before, number, wanted) in CHANGED_PROTOCOLS.iter() {
         let mut protocol = *before;
         protocol.change_value(*number);
-        equal(&rt, "changed", &protocol, wanted);
+        equal(rt, "changed", protocol, *wanted);
     }
 }
 
@@ -309,27 +309,27 @@ fn numbers_set_anew(rt: HostRuntime) {
 fn error_texts(rt: HostRuntime) {
     let packet_type = HeaderError::UnsupportedPacketTypeField { packet_type: 5 };
     let text = "Linux cooked capture header error: unsupported packet type 5";
-    reads(&rt, &HeaderSliceError::Content(packet_type), text);
+    reads(rt, &HeaderSliceError::Content(packet_type), text);
     let hardware_type = HeaderError::UnsupportedArpHardwareId {
         arp_hardware_type: ArpHardwareId(7),
     };
     let text = "Linux cooked capture header error: unsupported hardware type 7";
-    reads(&rt, &hardware_type, text);
+    reads(rt, &hardware_type, text);
 }
 
 #[test]
 fn laws(rt: HostRuntime) {
     let Ok((header, _)) = LinuxSllHeader::from_slice(&BYTES) else {
-        panic!(rt; "no header");
+        fail(rt, "no header");
     };
     let is_read_again = header_is_read_again(&header, &BYTES).is_ok();
     equal(
-        &rt,
+        rt,
         "lengths",
-        &(header_lengths(), is_read_again),
-        &([16], true),
+        (header_lengths(), is_read_again),
+        ([16], true),
     );
-    equal(&rt, "constants", &packet_type_constants().len(), &5);
+    equal(rt, "constants", packet_type_constants().len(), 5);
     headers_are_their_bytes(&header);
     number_stays();
     protocols_by_hand();

@@ -1,5 +1,5 @@
 //! Tags of either kind.
-use crate::checks::{equal, shows};
+use crate::checks::{equal, fail, shows};
 use ep_base::EtherType;
 use ep_tag::{LinkExtHeader, LinkExtSlice, MacsecSlice, SingleVlanHeader, SingleVlanSlice};
 use std::process::Abort;
@@ -19,36 +19,36 @@ fn length_and_type(header: &LinkExtHeader) -> (usize, Option<EtherType>) {
 // Tries the length of the tag's header by both calls, its ether type, its bytes, and what the
 // ether type names, if it names something.
 fn is_tag(
-    rt: &(impl Abort + AllocGlobal),
+    rt: impl Abort + AllocGlobal + Copy,
     tag: &LinkExtSlice<'_>,
     bytes: &[u8],
     ether_type: Option<EtherType>,
     payload: &str,
 ) {
     let header = tag.to_header();
-    equal(rt, payload, &tag.header_len(), &bytes.len());
+    equal(rt, payload, tag.header_len(), bytes.len());
     equal(
         rt,
         payload,
-        &length_and_type(&header),
-        &(bytes.len(), ether_type),
+        length_and_type(&header),
+        (bytes.len(), ether_type),
     );
     shows(rt, payload, &tag.ether_payload(), payload);
     let mut buffer = Vec::new(rt.alloc());
     let done = header.write(&mut buffer).is_ok();
-    equal(rt, "written", &buffer.as_slice(), &bytes);
+    equal(rt, "written", buffer.as_slice(), bytes);
 }
 
 // 33024 is 8100.
 #[test]
 fn a_vlan_tag(rt: HostRuntime) {
     let Ok(tag) = SingleVlanSlice::from_slice(&VLAN) else {
-        panic!(rt; "no tag");
+        fail(rt, "no tag");
     };
     let payload = "Some(EtherPayloadSlice { ether_type: EtherType(33024), len_source: Slice, \
         payload: [7, 8] })";
     is_tag(
-        &rt,
+        rt,
         &LinkExtSlice::Vlan(tag),
         &VLAN[..4],
         Some(EtherType(0x8100)),
@@ -60,12 +60,12 @@ fn a_vlan_tag(rt: HostRuntime) {
 #[test]
 fn a_macsec_header(rt: HostRuntime) {
     let Ok(tag) = MacsecSlice::from_slice(&MACSEC) else {
-        panic!(rt; "no tag");
+        fail(rt, "no tag");
     };
     let payload = "Some(EtherPayloadSlice { ether_type: EtherType(2054), \
         len_source: MacsecShortLength, payload: [7] })";
     is_tag(
-        &rt,
+        rt,
         &LinkExtSlice::Macsec(tag),
         &MACSEC[..8],
         Some(EtherType(0x0806)),
@@ -76,22 +76,22 @@ fn a_macsec_header(rt: HostRuntime) {
 #[test]
 fn changed_bytes_have_no_ether_type(rt: HostRuntime) {
     let Ok(tag) = MacsecSlice::from_slice(&CHANGED) else {
-        panic!(rt; "no tag");
+        fail(rt, "no tag");
     };
-    is_tag(&rt, &LinkExtSlice::Macsec(tag), &CHANGED[..6], None, "None");
+    is_tag(rt, &LinkExtSlice::Macsec(tag), &CHANGED[..6], None, "None");
 }
 
 #[test]
 fn tags_of_zeros(rt: HostRuntime) {
     let Ok(tag) = SingleVlanSlice::from_slice(&[0; 4]) else {
-        panic!(rt; "no tag");
+        fail(rt, "no tag");
     };
     equal(
-        &rt,
+        rt,
         "slice",
-        &LinkExtSlice::default(),
-        &LinkExtSlice::Vlan(tag),
+        LinkExtSlice::default(),
+        LinkExtSlice::Vlan(tag),
     );
     let header = LinkExtHeader::Vlan(SingleVlanHeader::default());
-    equal(&rt, "header", &LinkExtHeader::default(), &header);
+    equal(rt, "header", LinkExtHeader::default(), header);
 }

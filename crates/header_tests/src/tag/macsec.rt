@@ -1,5 +1,5 @@
 //! MACsec headers (IEEE 802.1AE, clause 9).
-use crate::checks::{equal, reads, shows};
+use crate::checks::{equal, equal_bytes, fail, reads, shows};
 use ep_base::err::{Layer, LenError};
 use ep_base::{EtherType, LenSource};
 use ep_tag::err::macsec::{HeaderError, HeaderSliceError};
@@ -75,16 +75,16 @@ fn lengths(header: &MacsecHeader) -> Lengths {
 #[test]
 fn fields_by_position(rt: HostRuntime) {
     let Ok((header, rest)) = MacsecHeader::from_slice(&BYTES) else {
-        panic!(rt; "no header");
+        fail(rt, "no header");
     };
-    shows(&rt, "bytes", &header, FIELDS);
-    equal(&rt, "bytes", &rest, &[21, 22, 23, 24].as_slice());
-    equal(&rt, "bytes", &lengths(&header), &(14, None, Some(3)));
-    equal(
-        &rt,
+    shows(rt, "bytes", &header, FIELDS);
+    equal(rt, "bytes", rest, [21, 22, 23, 24].as_slice());
+    equal(rt, "bytes", lengths(&header), (14, None, Some(3)));
+    equal_bytes(
+        rt,
         "bytes",
-        &header.to_bytes().as_slice(),
-        &WRITTEN.as_slice(),
+        header.to_bytes().as_slice(),
+        WRITTEN.as_slice(),
     );
 }
 
@@ -122,14 +122,14 @@ fn slice_lengths(header: &MacsecHeaderSlice<'_>) -> Lengths {
 #[test]
 fn a_view_of_a_header(rt: HostRuntime) {
     let Ok(header) = MacsecHeaderSlice::from_slice(&BYTES) else {
-        panic!(rt; "no header");
+        fail(rt, "no header");
     };
     let sci = Some(0x0a0b0c0d0e0f1011);
-    equal(&rt, "bytes", &numbers(&header), &(2, 3, 0x01020304, sci));
-    equal(&rt, "bytes", &slice_lengths(&header), &(14, None, Some(3)));
-    equal(&rt, "bytes", &header.slice(), &&BYTES[..14]);
-    shows(&rt, "bytes", &header.ptype(), "EncryptedUnmodified");
-    shows(&rt, "bytes", &header.to_header(), FIELDS);
+    equal(rt, "bytes", numbers(&header), (2, 3, 0x01020304, sci));
+    equal(rt, "bytes", slice_lengths(&header), (14, None, Some(3)));
+    equal(rt, "bytes", header.slice(), &BYTES[..14]);
+    shows(rt, "bytes", &header.ptype(), "EncryptedUnmodified");
+    shows(rt, "bytes", &header.to_header(), FIELDS);
 }
 
 // The first byte of a header, and its flags and association: as above, the flag of an end station
@@ -168,7 +168,7 @@ fn flags_of_a_header(rt: HostRuntime) {
         let mut bytes = BYTES;
         bytes[0] = *first;
         bytes[1] = 0;
-        equal(&rt, name, &flags_in(&bytes), &Some((*wanted, *association)));
+        equal(rt, name, flags_in(&bytes), Some((*wanted, *association)));
     }
 }
 
@@ -205,7 +205,7 @@ const PAYLOADS: &[(&[u8], [&str; 4])] = &[
     ),
 ];
 
-fn is_behind(rt: &(impl Abort + AllocGlobal), macsec: &MacsecSlice<'_>, wanted: &[&str; 4]) {
+fn is_behind(rt: impl Abort + AllocGlobal + Copy, macsec: &MacsecSlice<'_>, wanted: &[&str; 4]) {
     let [header_len, ether_type, payload, ether_payload] = *wanted;
     shows(rt, payload, &macsec.header_len(), header_len);
     shows(rt, payload, &macsec.next_ether_type(), ether_type);
@@ -217,26 +217,21 @@ fn is_behind(rt: &(impl Abort + AllocGlobal), macsec: &MacsecSlice<'_>, wanted: 
 fn payloads(rt: HostRuntime) {
     for (bytes, wanted) in PAYLOADS.iter() {
         let Ok(macsec) = MacsecSlice::from_slice(bytes) else {
-            panic!(rt; "no payload");
+            fail(rt, "no payload");
         };
-        is_behind(&rt, &macsec, wanted);
+        is_behind(rt, &macsec, wanted);
     }
 }
 
 #[test]
 fn the_header_of_an_unmodified_payload(rt: HostRuntime) {
     let Ok(macsec) = MacsecSlice::from_slice(&CUT_TAG) else {
-        panic!(rt; "no payload");
+        fail(rt, "no payload");
     };
     let header = macsec.to_header();
     let tag = Some(EtherType::VLAN_TAGGED_FRAME);
-    equal(&rt, "cut tag", &lengths(&header), &(8, tag, Some(2)));
-    equal(
-        &rt,
-        "cut tag",
-        &header.to_bytes().as_slice(),
-        &&CUT_TAG[..8],
-    );
+    equal(rt, "cut tag", lengths(&header), (8, tag, Some(2)));
+    equal_bytes(rt, "cut tag", header.to_bytes().as_slice(), &CUT_TAG[..8]);
 }
 
 // The refusal of a VLAN tag behind a MACsec header that stands behind 14 bytes of Ethernet II.
@@ -251,7 +246,7 @@ fn refusal_behind(bytes: &[u8]) -> Option<LenError> {
 fn a_tag_cut_by_a_short_length(rt: HostRuntime) {
     let error = "Some(LenError { required_len: 4, len: 2, len_source: Slice, layer: VlanHeader, \
         layer_start_offset: 22 })";
-    shows(&rt, "cut tag", &refusal_behind(&CUT_TAG), error);
+    shows(rt, "cut tag", &refusal_behind(&CUT_TAG), error);
 }
 
 // Version 1 and a short length of 1: in too few bytes, in too few for the identifier, and the
@@ -285,7 +280,7 @@ const REFUSED: &[(&str, &[u8], &str)] = &[
     ),
 ];
 
-fn is_refused(rt: &(impl Abort + AllocGlobal), name: &str, bytes: &[u8], wanted: &str) {
+fn is_refused(rt: impl Abort + AllocGlobal + Copy, name: &str, bytes: &[u8], wanted: &str) {
     shows(rt, name, &header_refusal(bytes), wanted);
     shows(rt, name, &header_slice_refusal(bytes), wanted);
     shows(rt, name, &refusal(bytes), wanted);
@@ -294,7 +289,7 @@ fn is_refused(rt: &(impl Abort + AllocGlobal), name: &str, bytes: &[u8], wanted:
 #[test]
 fn the_order_of_refusals(rt: HostRuntime) {
     for (name, bytes, wanted) in REFUSED.iter() {
-        is_refused(&rt, name, bytes, wanted);
+        is_refused(rt, name, bytes, wanted);
     }
 }
 
@@ -304,42 +299,42 @@ fn errors_further_on(rt: HostRuntime) {
     let moved = "Len(LenError { required_len: 6, len: 2, len_source: Slice, layer: MacsecHeader, \
         layer_start_offset: 14 })";
     let error = HeaderSliceError::Len(short);
-    equal(&rt, "from", &HeaderSliceError::from(short), &error);
-    shows(&rt, "short", &error.add_slice_offset(14), moved);
+    equal(rt, "from", HeaderSliceError::from(short), error);
+    shows(rt, "short", &error.add_slice_offset(14), moved);
     let content = HeaderSliceError::from(HeaderError::UnexpectedVersion);
-    equal(&rt, "content", &content.add_slice_offset(14), &content);
+    equal(rt, "content", content.add_slice_offset(14), content);
 }
 
 #[test]
 fn texts(rt: HostRuntime) {
     let version = "MACsec header error: unexpected version 1";
-    reads(&rt, &HeaderError::UnexpectedVersion, version);
+    reads(rt, &HeaderError::UnexpectedVersion, version);
     let content = HeaderSliceError::Content(HeaderError::InvalidUnmodifiedShortLen);
     let text = "MACsec header error: short length 1 leaves no room for the ether type";
-    reads(&rt, &content, text);
+    reads(rt, &content, text);
 }
 
 #[test]
 fn a_header_behind_a_byte_that_is_there(rt: HostRuntime) {
     let Ok((header, _)) = MacsecHeader::from_slice(&BYTES) else {
-        panic!(rt; "no header");
+        fail(rt, "no header");
     };
     let mut buffer = Vec::new(rt.alloc());
     let done = buffer.push(9).is_ok() && header.write(&mut buffer).is_ok();
     let written = [
         9, 0x7a, 3, 1, 2, 3, 4, 0xa, 0xb, 0xc, 0xd, 0xe, 0xf, 0x10, 0x11,
     ];
-    equal(&rt, "written", &buffer.as_slice(), &written.as_slice());
+    equal_bytes(rt, "written", buffer.as_slice(), written.as_slice());
 }
 
 #[test]
 fn laws(rt: HostRuntime) {
     let Ok((header, _)) = MacsecHeader::from_slice(&BYTES) else {
-        panic!(rt; "no header");
+        fail(rt, "no header");
     };
     headers_are_their_bytes(&header);
     let read = header_is_read_again(&header, &BYTES).is_ok();
-    equal(&rt, "laws", &(header_lengths(), read), &([6, 16], true));
+    equal(rt, "laws", (header_lengths(), read), ([6, 16], true));
 }
 
 #[test]

@@ -122,21 +122,21 @@ fn behind(bytes: &[u8], header_len: u8, len: u8) -> &[u8] {
     bytes.get(start..start + usize::from(len)).unwrap_or(&[])
 }
 
-fn is_told(rt: &impl Abort, row: &Row, short_len: u8, payload_len: Option<u8>) {
+fn is_told(rt: impl Abort + Copy, row: &Row, short_len: u8, payload_len: Option<u8>) {
     let bytes = numbered(row.0, short_len);
     let wanted = match payload_len {
         Some(len) => Ok(expected(row, short_len, behind(&bytes, row.1, len))),
         None => Err(HeaderSliceError::Content(HeaderError::InvalidUnmodifiedShortLen)),
     };
     let flags = [row.0, short_len];
-    equal(rt, "flags", &(flags, read(&bytes)), &(flags, wanted));
+    equal(rt, "flags", (flags, read(&bytes)), (flags, wanted));
 }
 
 #[test]
 fn every_flag_and_short_length(rt: HostRuntime) {
     for row in by_flags() {
         for i in 0..6usize {
-            is_told(&rt, &row, SHORT_LENS[i], row.3[i]);
+            is_told(rt, &row, SHORT_LENS[i], row.3[i]);
         }
     }
 }
@@ -148,7 +148,7 @@ fn every_flag_and_short_length_of_version_1(rt: HostRuntime) {
         for short_len in SHORT_LENS.iter() {
             let bytes = numbered(0x80 | row.0, *short_len);
             let flags = [row.0, *short_len];
-            equal(&rt, "flags", &(flags, refusal(&bytes)), &(flags, error));
+            equal(rt, "flags", (flags, refusal(&bytes)), (flags, error));
         }
     }
 }
@@ -156,7 +156,7 @@ fn every_flag_and_short_length_of_version_1(rt: HostRuntime) {
 // Tries the first `len` bytes of a header of `header_len` bytes, which needs `whole_len` with its
 // payload.
 fn front_is_refused(
-    rt: &impl Abort,
+    rt: impl Abort + Copy,
     bytes: &[u8],
     len: usize,
     header_len: usize,
@@ -174,12 +174,12 @@ fn front_is_refused(
     equal(
         rt,
         "payload",
-        &(bytes.first(), refusal(front)),
-        &(bytes.first(), error),
+        (bytes.first(), refusal(front)),
+        (bytes.first(), error),
     );
     if len < header_len {
-        equal(rt, "front", &header_refusal(front), &error);
-        equal(rt, "front", &header_slice_refusal(front), &error);
+        equal(rt, "front", header_refusal(front), error);
+        equal(rt, "front", header_slice_refusal(front), error);
     }
 }
 
@@ -192,7 +192,7 @@ fn every_flag_and_short_length_of_too_few_bytes(rt: HostRuntime) {
             let whole_len = header_len.saturating_add(usize::from(row.3[i].unwrap_or(0)));
             let bytes = numbered(row.0, SHORT_LENS[i]);
             front_is_refused(
-                &rt,
+                rt,
                 &bytes,
                 whole_len.saturating_sub(1),
                 header_len,
@@ -203,17 +203,22 @@ fn every_flag_and_short_length_of_too_few_bytes(rt: HostRuntime) {
 }
 
 // Every front of a header with its payload.
-fn fronts_are_refused(rt: &impl Abort, bytes: &[u8; 80], header_len: usize, whole_len: usize) {
+fn fronts_are_refused(
+    rt: impl Abort + Copy,
+    bytes: &[u8; 80],
+    header_len: usize,
+    whole_len: usize,
+) {
     for len in 0..whole_len {
         front_is_refused(rt, bytes, len, header_len, whole_len);
     }
     let (whole, _) = bytes.split_at(whole_len.min(80));
-    equal(rt, "whole", &refusal(whole), &None);
+    equal(rt, "whole", refusal(whole), None);
 }
 
 #[test]
 fn every_front_of_a_header_with_its_payload(rt: HostRuntime) {
     // Encrypted, with an identifier, and 3 bytes of payload; and unmodified, with 5 of them.
-    fronts_are_refused(&rt, &numbered(0x28, 3), 14, 17);
-    fronts_are_refused(&rt, &numbered(0x20, 7), 16, 21);
+    fronts_are_refused(rt, &numbered(0x28, 3), 14, 17);
+    fronts_are_refused(rt, &numbered(0x20, 7), 16, 21);
 }

@@ -1,5 +1,5 @@
 //! VLAN tags (IEEE 802.1Q, section 9.6).
-use crate::checks::{equal, shows};
+use crate::checks::{equal, equal_bytes, fail, shows};
 use ep_base::err::{Layer, LenError};
 use ep_base::{EtherType, LenSource};
 use ep_tag::laws::front::front_is_taken;
@@ -89,10 +89,10 @@ fn slice_read(bytes: &[u8]) -> Result<([Fields; 2], &[u8]), LenError> {
 fn fields_by_position(rt: HostRuntime) {
     for (bytes, fields) in TAGS.iter() {
         let (front, rest) = bytes.split_at(4);
-        equal(&rt, "header", &header_read(bytes), &Ok((*fields, rest)));
+        equal(rt, "header", header_read(bytes), Ok((*fields, rest)));
         let twice = [*fields, *fields];
-        equal(&rt, "view", &header_slice_read(bytes), &Ok((twice, front)));
-        equal(&rt, "tag", &slice_read(bytes), &Ok((twice, bytes)));
+        equal(rt, "view", header_slice_read(bytes), Ok((twice, front)));
+        equal(rt, "tag", slice_read(bytes), Ok((twice, bytes)));
     }
 }
 
@@ -119,7 +119,7 @@ fn too_short(len: usize) -> LenError {
 fn every_front_of_a_tag(rt: HostRuntime) {
     for len in 0..4usize {
         let front = &BYTES[..len];
-        equal(&rt, "front", &refusals(front), &[Some(too_short(len)); 3]);
+        equal(rt, "front", refusals(front), [Some(too_short(len)); 3]);
     }
 }
 
@@ -127,11 +127,11 @@ fn every_front_of_a_tag(rt: HostRuntime) {
 fn a_header_both_ways(rt: HostRuntime) {
     let bytes = [0xb1, 0x23, 0x86, 0xdd];
     let header = SingleVlanHeader::from_bytes(bytes);
-    equal(&rt, "fields", &of_header(&header), &[5, 1, 0x123, 0x86dd]);
-    equal(&rt, "bytes", &header.to_bytes(), &bytes);
-    equal(&rt, "length", &header.header_len(), &4);
+    equal(rt, "fields", of_header(&header), [5, 1, 0x123, 0x86dd]);
+    equal(rt, "bytes", header.to_bytes(), bytes);
+    equal(rt, "length", header.header_len(), 4);
     let zeros = SingleVlanHeader::default().to_bytes();
-    equal(&rt, "zeros", &zeros, &[0; 4]);
+    equal(rt, "zeros", zeros, [0; 4]);
 }
 
 // The bytes of a tag's header and those behind them, and how many the former are.
@@ -146,10 +146,10 @@ const BEHIND: &str =
 #[test]
 fn parts_of_a_tag(rt: HostRuntime) {
     let Ok(tag) = SingleVlanSlice::from_slice(&BYTES) else {
-        panic!(rt; "no tag");
+        fail(rt, "no tag");
     };
-    equal(&rt, "bytes", &parts(&tag), &([&BYTES[..4], &[7, 8]], 4));
-    shows(&rt, "bytes", &tag.payload(), BEHIND);
+    equal(rt, "bytes", parts(&tag), ([&BYTES[..4], &[7, 8]], 4));
+    shows(rt, "bytes", &tag.payload(), BEHIND);
 }
 
 #[test]
@@ -184,13 +184,13 @@ fn four_tags(rt: HostRuntime) {
     let mut rest = bytes.as_slice();
     for (id, next) in [(1, 0x8100), (2, 0x8100), (3, 0x8100), (4, 0x0800)] {
         let Ok(tag) = SingleVlanSlice::from_slice(rest) else {
-            panic!(rt; "no tag");
+            fail(rt, "no tag");
         };
         let (_, behind) = rest.split_at(4);
-        equal(&rt, "tag", &next_tag(&tag), &(id, next, behind));
+        equal(rt, "tag", next_tag(&tag), (id, next, behind));
         rest = behind;
     }
-    equal(&rt, "rest", &rest.len(), &0);
+    equal(rt, "rest", rest.len(), 0);
 }
 
 fn two_tags(bytes: &[u8]) -> Option<DoubleVlanSlice<'_>> {
@@ -222,36 +222,36 @@ fn of_either(tags: &VlanSlice<'_>) -> (usize, [u8; 8]) {
 #[test]
 fn two_tags_and_what_is_behind(rt: HostRuntime) {
     let Some(tags) = two_tags(&TWO_TAGS) else {
-        panic!(rt; "no tags");
+        fail(rt, "no tags");
     };
-    equal(&rt, "two", &tags.header_len(), &8);
-    equal(&rt, "two", &tags.payload_slice(), &[7, 8].as_slice());
-    shows(&rt, "two", &tags.payload(), BEHIND);
+    equal(rt, "two", tags.header_len(), 8);
+    equal(rt, "two", tags.payload_slice(), [7, 8].as_slice());
+    shows(rt, "two", &tags.payload(), BEHIND);
     let bytes = [0, 5, 0x81, 0, 0xb1, 0x23, 0x86, 0xdd];
-    equal(&rt, "two", &spelled(&tags.to_header()), &(8, bytes));
+    equal(rt, "two", spelled(&tags.to_header()), (8, bytes));
 }
 
 #[test]
 fn one_tag_or_two(rt: HostRuntime) {
     let (Ok(tag), Some(tags)) = (SingleVlanSlice::from_slice(&BYTES), two_tags(&TWO_TAGS)) else {
-        panic!(rt; "no tags");
+        fail(rt, "no tags");
     };
     let tag = VlanSlice::SingleVlan(tag);
     equal(
-        &rt,
+        rt,
         "one",
-        &of_either(&tag),
-        &(4, [0xb1, 0x23, 0x86, 0xdd, 0, 0, 0, 0]),
+        of_either(&tag),
+        (4, [0xb1, 0x23, 0x86, 0xdd, 0, 0, 0, 0]),
     );
-    shows(&rt, "one", &tag.payload(), BEHIND);
+    shows(rt, "one", &tag.payload(), BEHIND);
     let tags = VlanSlice::DoubleVlan(tags);
     equal(
-        &rt,
+        rt,
         "two",
-        &of_either(&tags),
-        &(8, [0, 5, 0x81, 0, 0xb1, 0x23, 0x86, 0xdd]),
+        of_either(&tags),
+        (8, [0, 5, 0x81, 0, 0xb1, 0x23, 0x86, 0xdd]),
     );
-    shows(&rt, "two", &tags.payload(), BEHIND);
+    shows(rt, "two", &tags.payload(), BEHIND);
 }
 
 fn header() -> SingleVlanHeader {
@@ -274,7 +274,7 @@ fn length_and_type(header: &VlanHeader) -> (usize, u16) {
 fn headers_of_one_tag_or_two(rt: HostRuntime) {
     let one = length_and_type(&VlanHeader::Single(header()));
     let two = length_and_type(&VlanHeader::Double(double_header()));
-    equal(&rt, "one, two", &[one, two], &[(4, 0x86dd), (8, 0x86dd)]);
+    equal(rt, "one, two", [one, two], [(4, 0x86dd), (8, 0x86dd)]);
 }
 
 // Whether one tag, two, and one of either kind are written.
@@ -291,7 +291,7 @@ fn tags_behind_a_byte_that_is_there(rt: HostRuntime) {
     let written = [
         9, 0xb1, 0x23, 0x86, 0xdd, 0, 0, 0, 0, 0xb1, 0x23, 0x86, 0xdd, 0xb1, 0x23, 0x86, 0xdd,
     ];
-    equal(&rt, "written", &buffer.as_slice(), &written.as_slice());
+    equal_bytes(rt, "written", buffer.as_slice(), written.as_slice());
 }
 
 #[test]
@@ -299,7 +299,7 @@ fn laws(rt: HostRuntime) {
     let header = header();
     headers_are_their_bytes(&header);
     let read = header_is_read_again(&header, &BYTES).is_ok();
-    equal(&rt, "laws", &(header_lengths(), read), &([4, 8], true));
+    equal(rt, "laws", (header_lengths(), read), ([4, 8], true));
 }
 
 #[test]

@@ -1,6 +1,6 @@
 //! Options of TCP, as bytes and as elements.
 
-use crate::checks::{equal, reads};
+use crate::checks::{equal, equal_bytes, reads};
 use ep_tcpudp::TcpOptionElement::*;
 use ep_tcpudp::{
     TcpHeader, TcpOptionElement, TcpOptionReadError, TcpOptionWriteError, TcpOptions,
@@ -26,17 +26,17 @@ fn options_of(elements: &[TcpOptionElement]) -> TcpOptions {
 #[test]
 fn option_lengths(rt: HostRuntime) {
     let options = options_of(&[WindowScale(123), Noop, Noop]);
-    equal(
-        &rt,
+    equal_bytes(
+        rt,
         "bytes",
-        &options.as_slice(),
-        &[3, 3, 0x7b, 1, 1, 0, 0, 0].as_slice(),
+        options.as_slice(),
+        [3, 3, 0x7b, 1, 1, 0, 0, 0].as_slice(),
     );
     equal(
-        &rt,
+        rt,
         "lengths",
-        &(options.len(), options.len_u8(), options.is_empty()),
-        &(8, 8, false),
+        (options.len(), options.len_u8(), options.is_empty()),
+        (8, 8, false),
     );
 }
 
@@ -60,10 +60,10 @@ fn kinds_and_lengths(rt: HostRuntime) {
         tcp_option::LEN_TIMESTAMP,
     ];
     equal(
-        &rt,
+        rt,
         "numbers",
-        &(kinds, lengths),
-        &([0, 1, 2, 3, 4, 5, 8], [1, 1, 4, 3, 2, 10]),
+        (kinds, lengths),
+        ([0, 1, 2, 3, 4, 5, 8], [1, 1, 4, 3, 2, 10]),
     );
 }
 
@@ -86,8 +86,8 @@ fn first_elements() -> [TcpOptionElement; 5] {
 #[test]
 fn elements_of_a_first_segment(rt: HostRuntime) {
     let mut header = TcpHeader::new(1, 2, 3, 4);
-    equal(&rt, "set", &header.set_options(&first_elements()), &Ok(()));
-    equal(&rt, "bytes", &header.options(), &FIRST_SEGMENT.as_slice());
+    equal(rt, "set", header.set_options(&first_elements()), Ok(()));
+    equal(rt, "bytes", header.options(), FIRST_SEGMENT.as_slice());
 }
 
 #[test]
@@ -95,25 +95,25 @@ fn elements_come_back(rt: HostRuntime) {
     let mut items = TcpOptionsIterator::from_slice(&FIRST_SEGMENT);
     for element in first_elements() {
         if element == Noop {
-            equal(&rt, "rest", &items.rest(), &[1, 3, 3, 7].as_slice());
+            equal(rt, "rest", items.rest(), [1, 3, 3, 7].as_slice());
         }
-        equal(&rt, "element", &items.next(), &Some(Ok(element)));
+        equal(rt, "element", items.next(), Some(Ok(element)));
     }
-    equal(&rt, "end", &items.next(), &None);
+    equal(rt, "end", items.next(), None);
 }
 
 #[test]
 fn blocks_are_packed(rt: HostRuntime) {
     let options = options_of(&[SelectiveAcknowledgement((1, 2), [None, Some((3, 4)), None])]);
     let bytes = [5, 18, 0, 0, 0, 1, 0, 0, 0, 2, 0, 0, 0, 3, 0, 0, 0, 4, 0, 0];
-    equal(&rt, "bytes", &options.as_slice(), &bytes.as_slice());
+    equal_bytes(rt, "bytes", options.as_slice(), bytes.as_slice());
     let mut items = options.elements_iter();
     let packed = SelectiveAcknowledgement((1, 2), [Some((3, 4)), None, None]);
     equal(
-        &rt,
+        rt,
         "packed",
-        &[items.next(), items.next()],
-        &[Some(Ok(packed)), None],
+        [items.next(), items.next()],
+        [Some(Ok(packed)), None],
     );
 }
 
@@ -122,23 +122,23 @@ fn four_blocks(rt: HostRuntime) {
     let element = SelectiveAcknowledgement((1, 2), [Some((3, 4)), Some((5, 6)), Some((7, 8))]);
     let options = options_of(&[element, Noop, Noop]);
     equal(
-        &rt,
+        rt,
         "four",
-        &(options.len(), options.elements_iter().next()),
-        &(36, Some(Ok(element))),
+        (options.len(), options.elements_iter().next()),
+        (36, Some(Ok(element))),
     );
 }
 
 #[test]
 fn room_for_forty_bytes(rt: HostRuntime) {
     let four = Timestamp(1, 2);
-    equal(&rt, "four times ten", &options_of(&[four; 4]).len(), &40);
+    equal(rt, "four times ten", options_of(&[four; 4]).len(), 40);
     let refused = Err(TcpOptionWriteError::NotEnoughSpace(41));
     equal(
-        &rt,
+        rt,
         "one more",
-        &TcpOptions::try_from_elements(&[four, four, four, four, Noop]),
-        &refused,
+        TcpOptions::try_from_elements(&[four, four, four, four, Noop]),
+        refused,
     );
 }
 
@@ -146,32 +146,32 @@ fn room_for_forty_bytes(rt: HostRuntime) {
 fn refused_options_change_nothing(rt: HostRuntime) {
     let mut header = TcpHeader::new(1, 2, 3, 4);
     let refused = Err(TcpOptionWriteError::NotEnoughSpace(41));
-    equal(&rt, "refused", &header.set_options(&[Noop; 41]), &refused);
-    equal(&rt, "unchanged", &header, &TcpHeader::new(1, 2, 3, 4));
+    equal(rt, "refused", header.set_options(&[Noop; 41]), refused);
+    equal(rt, "unchanged", header, TcpHeader::new(1, 2, 3, 4));
 }
 
 #[test]
 fn options_of_bytes(rt: HostRuntime) {
     equal(
-        &rt,
+        rt,
         "no bytes",
-        &TcpOptions::try_from_slice(&[]),
-        &Ok(TcpOptions::new()),
+        TcpOptions::try_from_slice(&[]),
+        Ok(TcpOptions::new()),
     );
     let padded = Ok(TcpOptions::from([1, 0, 0, 0]));
-    equal(&rt, "one byte", &TcpOptions::try_from_slice(&[1]), &padded);
+    equal(rt, "one byte", &TcpOptions::try_from_slice(&[1]), &padded);
     equal(
-        &rt,
+        rt,
         "one element",
-        &TcpOptions::try_from([Noop].as_slice()),
-        &padded,
+        TcpOptions::try_from([Noop].as_slice()),
+        padded,
     );
     let refused = Err(TcpOptionWriteError::NotEnoughSpace(41));
     equal(
-        &rt,
+        rt,
         "41 bytes",
-        &TcpOptions::try_from_slice(&[1; 41]),
-        &refused,
+        TcpOptions::try_from_slice(&[1; 41]),
+        refused,
     );
 }
 
@@ -179,14 +179,14 @@ fn options_of_bytes(rt: HostRuntime) {
 fn options_changed_in_place(rt: HostRuntime) {
     let mut options = TcpOptions::from([1, 1, 1, 1]);
     options.as_mut_slice()[3] = 0;
-    equal(&rt, "changed", &options, &TcpOptions::from([1, 1, 1, 0]));
+    equal(rt, "changed", &options, &TcpOptions::from([1, 1, 1, 0]));
     equal(
-        &rt,
+        rt,
         "bytes",
-        &TcpOptions::try_from([1, 1, 1, 0].as_slice()),
-        &Ok(options),
+        TcpOptions::try_from([1, 1, 1, 0].as_slice()),
+        Ok(options),
     );
-    equal(&rt, "default", &TcpOptions::default().is_empty(), &true);
+    equal(rt, "default", TcpOptions::default().is_empty(), true);
 }
 
 // The first two items, and how many bytes are left then.
@@ -198,18 +198,13 @@ fn two(bytes: &[u8]) -> ([Item; 2], usize) {
 // Nothing comes behind the end of the list, nor behind a fault.
 #[test]
 fn nothing_behind_the_end(rt: HostRuntime) {
-    equal(
-        &rt,
-        "end",
-        &two(&[1, 0, 1, 1]),
-        &([Some(Ok(Noop)), None], 0),
-    );
+    equal(rt, "end", two(&[1, 0, 1, 1]), ([Some(Ok(Noop)), None], 0));
     let unknown = TcpOptionReadError::UnknownId(6);
     equal(
-        &rt,
+        rt,
         "unknown",
-        &two(&[6, 1, 1, 1]),
-        &([Some(Err(unknown)), None], 0),
+        two(&[6, 1, 1, 1]),
+        ([Some(Err(unknown)), None], 0),
     );
 }
 
@@ -234,18 +229,18 @@ fn wrong(option_id: u8, size: u8) -> Item {
 }
 
 // A kind that has one size: with each number of bytes too few, and with each wrong size.
-fn one_size(rt: &impl Abort, kind: u8, size: u8) {
+fn one_size(rt: impl Abort + Copy, kind: u8, size: u8) {
     for len in 1..usize::from(size) {
         equal(
             rt,
             "too few bytes",
-            &option(kind, size, len),
-            &end(kind, size, len),
+            option(kind, size, len),
+            end(kind, size, len),
         );
     }
     for other in 0..=255u8 {
         if other != size {
-            equal(rt, "size", &option(kind, other, 10), &wrong(kind, other));
+            equal(rt, "size", option(kind, other, 10), wrong(kind, other));
         }
     }
 }
@@ -253,21 +248,16 @@ fn one_size(rt: &impl Abort, kind: u8, size: u8) {
 // RFC 9293, section 3.2; RFC 7323, sections 2.2 and 3.2; RFC 2018, section 2.
 #[test]
 fn sizes_of_kinds(rt: HostRuntime) {
-    one_size(&rt, 2, 4);
-    one_size(&rt, 3, 3);
-    one_size(&rt, 4, 2);
-    one_size(&rt, 8, 10);
+    one_size(rt, 2, 4);
+    one_size(rt, 3, 3);
+    one_size(rt, 4, 2);
+    one_size(rt, 8, 10);
 }
 
 // With each number of bytes too few.
-fn size_of_acknowledgement(rt: &impl Abort, size: u8) {
+fn size_of_acknowledgement(rt: impl Abort + Copy, size: u8) {
     for len in 2..usize::from(size) {
-        equal(
-            rt,
-            "too few bytes",
-            &option(5, size, len),
-            &end(5, size, len),
-        );
+        equal(rt, "too few bytes", option(5, size, len), end(5, size, len));
     }
 }
 
@@ -275,12 +265,12 @@ fn size_of_acknowledgement(rt: &impl Abort, size: u8) {
 // (RFC 2018, section 3).
 #[test]
 fn sizes_of_acknowledgements(rt: HostRuntime) {
-    equal(&rt, "no size", &first(&[5]), &end(5, 2, 1));
+    equal(rt, "no size", first(&[5]), end(5, 2, 1));
     for size in 0..=255u8 {
         if size == 10 || size == 18 || size == 26 || size == 34 {
-            size_of_acknowledgement(&rt, size);
+            size_of_acknowledgement(rt, size);
         } else {
-            equal(&rt, "size", &option(5, size, 2), &wrong(5, size));
+            equal(rt, "size", option(5, size, 2), wrong(5, size));
         }
     }
 }
@@ -292,10 +282,10 @@ fn unknown_kinds(rt: HostRuntime) {
         if kind != 8 {
             let unknown = Some(Err(TcpOptionReadError::UnknownId(kind)));
             equal(
-                &rt,
+                rt,
                 "unknown",
-                &[first(&[kind, 2, 0, 0]), first(&[kind])],
-                &[unknown; 2],
+                [first(&[kind, 2, 0, 0]), first(&[kind])],
+                [unknown; 2],
             );
         }
     }
@@ -315,28 +305,23 @@ fn counted<const N: usize>() -> [u8; N] {
     bytes
 }
 
-fn are_counted(rt: &impl Abort, options: TcpOptions, len: usize) {
-    equal(
-        rt,
-        "counted",
-        &Some(options.as_slice()),
-        &COUNTED.get(..len),
-    );
+fn are_counted(rt: impl Abort + Copy, options: TcpOptions, len: usize) {
+    equal(rt, "counted", Some(options.as_slice()), COUNTED.get(..len));
 }
 
 // Options of one to ten words by value are these bytes.
 #[test]
 fn options_of_words(rt: HostRuntime) {
-    are_counted(&rt, TcpOptions::from(counted::<4>()), 4);
-    are_counted(&rt, TcpOptions::from(counted::<8>()), 8);
-    are_counted(&rt, TcpOptions::from(counted::<12>()), 12);
-    are_counted(&rt, TcpOptions::from(counted::<16>()), 16);
-    are_counted(&rt, TcpOptions::from(counted::<20>()), 20);
-    are_counted(&rt, TcpOptions::from(counted::<24>()), 24);
-    are_counted(&rt, TcpOptions::from(counted::<28>()), 28);
-    are_counted(&rt, TcpOptions::from(counted::<32>()), 32);
-    are_counted(&rt, TcpOptions::from(counted::<36>()), 36);
-    are_counted(&rt, TcpOptions::from(counted::<40>()), 40);
+    are_counted(rt, TcpOptions::from(counted::<4>()), 4);
+    are_counted(rt, TcpOptions::from(counted::<8>()), 8);
+    are_counted(rt, TcpOptions::from(counted::<12>()), 12);
+    are_counted(rt, TcpOptions::from(counted::<16>()), 16);
+    are_counted(rt, TcpOptions::from(counted::<20>()), 20);
+    are_counted(rt, TcpOptions::from(counted::<24>()), 24);
+    are_counted(rt, TcpOptions::from(counted::<28>()), 28);
+    are_counted(rt, TcpOptions::from(counted::<32>()), 32);
+    are_counted(rt, TcpOptions::from(counted::<36>()), 36);
+    are_counted(rt, TcpOptions::from(counted::<40>()), 40);
 }
 
 #[test]
@@ -345,7 +330,7 @@ fn iterators_are_equal_by_what_is_left(rt: HostRuntime) {
     let shorter = TcpOptionsIterator::from_slice(&[1, 0]);
     let at_first = items == shorter;
     items.next();
-    equal(&rt, "equal", &[at_first, items == shorter], &[false, true]);
+    equal(rt, "equal", [at_first, items == shorter], [false, true]);
 }
 
 #[test]
@@ -360,18 +345,18 @@ fn laws_are_called() {
 #[test]
 fn errors_as_text(rt: HostRuntime) {
     let unknown = TcpOptionReadError::UnknownId(6);
-    reads(&rt, &unknown, "TCP option of kind 6: the kind is unknown");
+    reads(rt, &unknown, "TCP option of kind 6: the kind is unknown");
     let short = TcpOptionReadError::UnexpectedEndOfSlice {
         option_id: 2,
         expected_len: 4,
         actual_len: 3,
     };
     let wanted = "TCP option of kind 2: 4 byte(s) are needed, and 3 are left";
-    reads(&rt, &short, wanted);
+    reads(rt, &short, wanted);
     let wrong = TcpOptionReadError::UnexpectedSize {
         option_id: 3,
         size: 4,
     };
     let wanted = "TCP option of kind 3: the length byte is 4, which this kind doesn't have";
-    reads(&rt, &wrong, wanted);
+    reads(rt, &wrong, wanted);
 }

@@ -16,53 +16,59 @@ use serde::Serializer;
 /// Why a packet is refused. It has no contract: tests compare the texts.
 pub fn member<S: Serializer>(out: &mut S, name: &str, error: &SliceError) -> Result<(), S::Error> {
     begin(out, name)?;
-    match error {
-        SliceError::Len(error) => len(out, error)?,
-        SliceError::LinuxSll(error) => linux_sll(out, error)?,
-        SliceError::Macsec(error) => macsec(out, error)?,
-        SliceError::Ip(error) => ip(out, error)?,
-        SliceError::Ipv4(error) => ipv4(out, error)?,
-        SliceError::Ipv6(ipv6::HeaderError::UnexpectedVersion { version_number }) => {
-            nested(
-                out,
-                "Ipv6",
-                "UnexpectedVersion",
-                "version_number",
-                *version_number,
-            )?;
-        }
-        SliceError::Ipv4Exts(ip_auth::HeaderError::ZeroPayloadLen) => {
-            text(out, "Ipv4Exts", "ZeroPayloadLen")?;
-        }
-        SliceError::Ipv6Exts(error) => ipv6_exts(out, error)?,
-        SliceError::Tcp(tcp::HeaderError::DataOffsetTooSmall { data_offset }) => {
-            nested(
-                out,
-                "Tcp",
-                "DataOffsetTooSmall",
-                "data_offset",
-                *data_offset,
-            )?;
-        }
-    }
+    variant(out, error)?;
     out.end_map()
+}
+
+fn variant<S: Serializer>(out: &mut S, error: &SliceError) -> Result<(), S::Error> {
+    match error {
+        SliceError::Len(error) => len(out, error),
+        SliceError::LinuxSll(error) => linux_sll(out, error),
+        SliceError::Macsec(error) => macsec(out, error),
+        SliceError::Ip(error) => ip(out, error),
+        SliceError::Ipv4(error) => ipv4(out, error),
+        SliceError::Ipv6(ipv6::HeaderError::UnexpectedVersion { version_number }) => nested(
+            out,
+            "Ipv6",
+            "UnexpectedVersion",
+            "version_number",
+            *version_number,
+        ),
+        SliceError::Ipv4Exts(ip_auth::HeaderError::ZeroPayloadLen) => {
+            text(out, "Ipv4Exts", "ZeroPayloadLen")
+        }
+        SliceError::Ipv6Exts(error) => ipv6_exts(out, error),
+        SliceError::Tcp(tcp::HeaderError::DataOffsetTooSmall { data_offset }) => nested(
+            out,
+            "Tcp",
+            "DataOffsetTooSmall",
+            "data_offset",
+            *data_offset,
+        ),
+    }
 }
 
 /// Why a part of a message is refused. It has no contract: tests compare the texts.
 pub fn part<S: Serializer>(out: &mut S, error: &IpDefragError) -> Result<(), S::Error> {
     begin(out, "error")?;
+    begin_variant(out, error)?;
+    out.end_map()?;
+    out.end_map()
+}
+
+fn begin_variant<S: Serializer>(out: &mut S, error: &IpDefragError) -> Result<(), S::Error> {
     match error {
         IpDefragError::UnalignedFragmentPayloadLen {
             offset,
             payload_len,
-        } => placed(out, "UnalignedFragmentPayloadLen", *offset, *payload_len)?,
+        } => placed(out, "UnalignedFragmentPayloadLen", *offset, *payload_len),
         IpDefragError::SegmentTooBig {
             offset,
             payload_len,
             max,
         } => {
             placed(out, "SegmentTooBig", *offset, *payload_len)?;
-            number(out, "max", u64::from(*max))?;
+            number(out, "max", u64::from(*max))
         }
         IpDefragError::ConflictingEnd {
             previous_end,
@@ -70,19 +76,17 @@ pub fn part<S: Serializer>(out: &mut S, error: &IpDefragError) -> Result<(), S::
         } => {
             begin(out, "ConflictingEnd")?;
             number(out, "previous_end", u64::from(*previous_end))?;
-            number(out, "conflicting_end", u64::from(*conflicting_end))?;
+            number(out, "conflicting_end", u64::from(*conflicting_end))
         }
         IpDefragError::AllocationFailure { len } => {
             begin(out, "AllocationFailure")?;
-            number(out, "len", *len as u64)?;
+            number(out, "len", *len as u64)
         }
         IpDefragError::OverlappingFragment {
             offset,
             payload_len,
-        } => placed(out, "OverlappingFragment", *offset, *payload_len)?,
+        } => placed(out, "OverlappingFragment", *offset, *payload_len),
     }
-    out.end_map()?;
-    out.end_map()
 }
 
 // Begins a variant by where the part stands in its message, and its length.

@@ -14,22 +14,24 @@ pub(crate) fn list<S: Serializer>(
     out.begin_seq(None)?;
     for extension in extensions.iter() {
         out.begin_map(None)?;
-        match extension {
-            Ipv6ExtensionSlice::HopByHop(header) => raw(out, "HopByHop", &header)?,
-            Ipv6ExtensionSlice::Routing(header) => raw(out, "Routing", &header)?,
-            Ipv6ExtensionSlice::Fragment(header) => fragment(out, &header)?,
-            Ipv6ExtensionSlice::DestinationOptions(header) => {
-                raw(out, "DestinationOptions", &header)?;
-            }
-            Ipv6ExtensionSlice::Authentication(header) => {
-                begin(out, "Authentication")?;
-                auth(out, &header)?;
-                out.end_map()?;
-            }
-        }
+        header(out, &extension)?;
         out.end_map()?;
     }
     out.end_seq()
+}
+
+fn header<S: Serializer>(out: &mut S, extension: &Ipv6ExtensionSlice<'_>) -> Result<(), S::Error> {
+    match extension {
+        Ipv6ExtensionSlice::HopByHop(header) => raw(out, "HopByHop", header),
+        Ipv6ExtensionSlice::Routing(header) => raw(out, "Routing", header),
+        Ipv6ExtensionSlice::Fragment(header) => fragment(out, header),
+        Ipv6ExtensionSlice::DestinationOptions(header) => raw(out, "DestinationOptions", header),
+        Ipv6ExtensionSlice::Authentication(header) => {
+            begin(out, "Authentication")?;
+            auth(out, header)?;
+            out.end_map()
+        }
+    }
 }
 
 fn raw<S: Serializer>(

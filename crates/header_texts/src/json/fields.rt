@@ -16,9 +16,24 @@ pub fn number<S: Serializer>(out: &mut S, name: &str, n: u64) -> Result<(), S::E
     out.u64(n)
 }
 
+/// Members that are numbers, one behind the other.
+pub(crate) fn numbers<S: Serializer>(out: &mut S, members: &[(&str, u64)]) -> Result<(), S::Error> {
+    for &(name, n) in members {
+        number(out, name, n)?;
+    }
+    Ok(())
+}
+
 pub(crate) fn flag<S: Serializer>(out: &mut S, name: &str, is_set: bool) -> Result<(), S::Error> {
     out.key(name)?;
     out.bool(is_set)
+}
+
+pub(crate) fn flags<S: Serializer>(out: &mut S, members: &[(&str, bool)]) -> Result<(), S::Error> {
+    for &(name, is_set) in members {
+        flag(out, name, is_set)?;
+    }
+    Ok(())
 }
 
 /// A member that is a text. It has no contract: tests compare the texts.

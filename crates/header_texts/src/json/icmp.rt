@@ -1,6 +1,6 @@
 //! ICMP messages.
 
-use crate::json::fields::{Hex, begin, number, printed};
+use crate::json::fields::{Hex, begin, number, numbers, printed};
 use ep_icmp::icmpv4::{DestUnreachableHeader, ParameterProblemHeader, TimestampMessage};
 use ep_icmp::{IcmpEchoHeader, Icmpv4Slice, Icmpv4Type, Icmpv6Slice, Icmpv6Type};
 use serde::Serializer;
@@ -12,29 +12,36 @@ pub(crate) fn over_ipv4<S: Serializer>(
     message: &Icmpv4Slice<'_>,
 ) -> Result<(), S::Error> {
     begin(out, "Icmpv4")?;
-    number(out, "type_u8", message.type_u8().into())?;
-    number(out, "code_u8", message.code_u8().into())?;
-    number(out, "checksum", message.checksum().into())?;
+    let members = [
+        ("type_u8", message.type_u8().into()),
+        ("code_u8", message.code_u8().into()),
+        ("checksum", message.checksum().into()),
+    ];
+    numbers(out, &members)?;
     printed(out, "bytes5to8", &Hex(&message.bytes5to8()))?;
-    match message.icmp_type() {
-        Icmpv4Type::EchoReply(header) | Icmpv4Type::EchoRequest(header) => echo(out, &header)?,
+    fields_of_icmpv4(out, message.icmp_type())?;
+    out.end_map()
+}
+
+fn fields_of_icmpv4<S: Serializer>(out: &mut S, icmp_type: Icmpv4Type) -> Result<(), S::Error> {
+    match icmp_type {
+        Icmpv4Type::EchoReply(header) | Icmpv4Type::EchoRequest(header) => echo(out, &header),
         Icmpv4Type::DestinationUnreachable(
             DestUnreachableHeader::FragmentationNeeded { next_hop_mtu },
-        ) => number(out, "next_hop_mtu", next_hop_mtu.into())?,
+        ) => number(out, "next_hop_mtu", next_hop_mtu.into()),
         Icmpv4Type::Redirect(header) => printed(
             out,
             "gateway_internet_address",
             &Ipv4Addr::from(header.gateway_internet_address),
-        )?,
+        ),
         Icmpv4Type::ParameterProblem(ParameterProblemHeader::PointerIndicatesError(pointer)) => {
-            number(out, "pointer", pointer.into())?;
+            number(out, "pointer", pointer.into())
         }
         Icmpv4Type::TimestampRequest(header) | Icmpv4Type::TimestampReply(header) => {
-            timestamp(out, &header)?;
+            timestamp(out, &header)
         }
-        _ => {}
+        _ => Ok(()),
     }
-    out.end_map()
 }
 
 /// The header of a message over IPv6, with the fields that its kind has.
@@ -43,17 +50,24 @@ pub(crate) fn over_ipv6<S: Serializer>(
     message: &Icmpv6Slice<'_>,
 ) -> Result<(), S::Error> {
     begin(out, "Icmpv6")?;
-    number(out, "type_u8", message.type_u8().into())?;
-    number(out, "code_u8", message.code_u8().into())?;
-    number(out, "checksum", message.checksum().into())?;
+    let members = [
+        ("type_u8", message.type_u8().into()),
+        ("code_u8", message.code_u8().into()),
+        ("checksum", message.checksum().into()),
+    ];
+    numbers(out, &members)?;
     printed(out, "bytes5to8", &Hex(&message.bytes5to8()))?;
-    match message.icmp_type() {
-        Icmpv6Type::EchoReply(header) | Icmpv6Type::EchoRequest(header) => echo(out, &header)?,
-        Icmpv6Type::PacketTooBig { mtu } => number(out, "mtu", mtu.into())?,
-        Icmpv6Type::ParameterProblem(header) => number(out, "pointer", header.pointer.into())?,
-        _ => {}
-    }
+    fields_of_icmpv6(out, message.icmp_type())?;
     out.end_map()
+}
+
+fn fields_of_icmpv6<S: Serializer>(out: &mut S, icmp_type: Icmpv6Type) -> Result<(), S::Error> {
+    match icmp_type {
+        Icmpv6Type::EchoReply(header) | Icmpv6Type::EchoRequest(header) => echo(out, &header),
+        Icmpv6Type::PacketTooBig { mtu } => number(out, "mtu", mtu.into()),
+        Icmpv6Type::ParameterProblem(header) => number(out, "pointer", header.pointer.into()),
+        _ => Ok(()),
+    }
 }
 
 fn echo<S: Serializer>(out: &mut S, header: &IcmpEchoHeader) -> Result<(), S::Error> {
@@ -62,13 +76,12 @@ fn echo<S: Serializer>(out: &mut S, header: &IcmpEchoHeader) -> Result<(), S::Er
 }
 
 fn timestamp<S: Serializer>(out: &mut S, header: &TimestampMessage) -> Result<(), S::Error> {
-    number(out, "id", header.id.into())?;
-    number(out, "seq", header.seq.into())?;
-    number(
-        out,
-        "originate_timestamp",
-        header.originate_timestamp.into(),
-    )?;
-    number(out, "receive_timestamp", header.receive_timestamp.into())?;
-    number(out, "transmit_timestamp", header.transmit_timestamp.into())
+    let members = [
+        ("id", header.id.into()),
+        ("seq", header.seq.into()),
+        ("originate_timestamp", header.originate_timestamp.into()),
+        ("receive_timestamp", header.receive_timestamp.into()),
+        ("transmit_timestamp", header.transmit_timestamp.into()),
+    ];
+    numbers(out, &members)
 }

@@ -1,8 +1,8 @@
 //! Link headers and the tags behind them.
 
-use crate::json::fields::{Hardware, begin, flag, number, printed, text};
+use crate::json::fields::{Hardware, begin, flag, flags, number, numbers, printed, text};
 use captures::Header;
-use ep_link::LinkSlice;
+use ep_link::{Ethernet2Slice, LinkSlice};
 use ep_packet::SlicedPacket;
 use ep_tag::{LinkExtSlice, MacsecPType, MacsecSlice, SingleVlanSlice};
 use serde::Serializer;
@@ -15,11 +15,7 @@ pub(crate) fn header<S: Serializer>(
 ) -> Result<(), S::Error> {
     begin(out, "link")?;
     if let Some(LinkSlice::Ethernet2(frame)) = &layers.link {
-        begin(out, "Ethernet2")?;
-        printed(out, "source", &Hardware(&frame.source()))?;
-        printed(out, "destination", &Hardware(&frame.destination()))?;
-        number(out, "ether_type", frame.ether_type().0.into())?;
-        out.end_map()?;
+        ethernet2(out, frame)?;
     }
     if let Some(header) = made {
         begin(out, "Made")?;
@@ -27,6 +23,14 @@ pub(crate) fn header<S: Serializer>(
         number(out, "ether_type", header.ether_type.into())?;
         out.end_map()?;
     }
+    out.end_map()
+}
+
+fn ethernet2<S: Serializer>(out: &mut S, frame: &Ethernet2Slice<'_>) -> Result<(), S::Error> {
+    begin(out, "Ethernet2")?;
+    printed(out, "source", &Hardware(&frame.source()))?;
+    printed(out, "destination", &Hardware(&frame.destination()))?;
+    number(out, "ether_type", frame.ether_type().0.into())?;
     out.end_map()
 }
 
@@ -61,22 +65,32 @@ fn vlan<S: Serializer>(out: &mut S, tag: &SingleVlanSlice<'_>) -> Result<(), S::
 fn macsec<S: Serializer>(out: &mut S, tag: &MacsecSlice<'_>) -> Result<(), S::Error> {
     begin(out, "Macsec")?;
     let header = &tag.header;
-    match header.ptype() {
-        MacsecPType::Unmodified(ether_type) => {
-            text(out, "ptype", "Unmodified")?;
-            number(out, "ether_type", ether_type.0.into())?;
-        }
-        MacsecPType::Modified => text(out, "ptype", "Modified")?,
-        MacsecPType::Encrypted => text(out, "ptype", "Encrypted")?,
-        MacsecPType::EncryptedUnmodified => text(out, "ptype", "EncryptedUnmodified")?,
-    }
-    flag(out, "endstation_id", header.endstation_id())?;
-    flag(out, "scb", header.scb())?;
-    number(out, "an", header.an().value().into())?;
-    number(out, "short_len", header.short_len().value().into())?;
-    number(out, "packet_nr", header.packet_nr().into())?;
+    packet_type(out, header.ptype())?;
+    let bits = [
+        ("endstation_id", header.endstation_id()),
+        ("scb", header.scb()),
+    ];
+    flags(out, &bits)?;
+    let members = [
+        ("an", header.an().value().into()),
+        ("short_len", header.short_len().value().into()),
+        ("packet_nr", header.packet_nr().into()),
+    ];
+    numbers(out, &members)?;
     if let Some(sci) = header.sci() {
         number(out, "sci", sci)?;
     }
     out.end_map()
+}
+
+fn packet_type<S: Serializer>(out: &mut S, ptype: MacsecPType) -> Result<(), S::Error> {
+    match ptype {
+        MacsecPType::Unmodified(ether_type) => {
+            text(out, "ptype", "Unmodified")?;
+            number(out, "ether_type", ether_type.0.into())
+        }
+        MacsecPType::Modified => text(out, "ptype", "Modified"),
+        MacsecPType::Encrypted => text(out, "ptype", "Encrypted"),
+        MacsecPType::EncryptedUnmodified => text(out, "ptype", "EncryptedUnmodified"),
+    }
 }

@@ -1,7 +1,7 @@
 //! Packets of the network layer.
 
 use crate::json::extensions;
-use crate::json::fields::{Hardware, Hex, begin, flag, number, printed};
+use crate::json::fields::{Hardware, Hex, begin, flag, numbers, printed};
 use ep_base::EtherType;
 use ep_ip::{Ipv4HeaderSlice, Ipv6HeaderSlice};
 use ep_ipslice::{Ipv4Slice, Ipv6Slice};
@@ -39,20 +39,22 @@ fn ipv4<S: Serializer>(out: &mut S, packet: &Ipv4Slice<'_>) -> Result<(), S::Err
 }
 
 fn ipv4_header<S: Serializer>(out: &mut S, header: &Ipv4HeaderSlice<'_>) -> Result<(), S::Error> {
-    number(out, "dscp", header.dcp().value().into())?;
-    number(out, "ecn", header.ecn().value().into())?;
-    number(out, "total_len", header.total_len().into())?;
-    number(out, "identification", header.identification().into())?;
+    let front = [
+        ("dscp", header.dcp().value().into()),
+        ("ecn", header.ecn().value().into()),
+        ("total_len", header.total_len().into()),
+        ("identification", header.identification().into()),
+    ];
+    numbers(out, &front)?;
     flag(out, "dont_fragment", header.dont_fragment())?;
     flag(out, "more_fragments", header.more_fragments())?;
-    number(
-        out,
-        "fragment_offset",
-        header.fragments_offset().value().into(),
-    )?;
-    number(out, "time_to_live", header.ttl().into())?;
-    number(out, "protocol", header.protocol().0.into())?;
-    number(out, "header_checksum", header.header_checksum().into())?;
+    let rest = [
+        ("fragment_offset", header.fragments_offset().value().into()),
+        ("time_to_live", header.ttl().into()),
+        ("protocol", header.protocol().0.into()),
+        ("header_checksum", header.header_checksum().into()),
+    ];
+    numbers(out, &rest)?;
     printed(out, "source", &Ipv4Addr::from(header.source()))?;
     printed(out, "destination", &Ipv4Addr::from(header.destination()))?;
     printed(out, "options", &Hex(header.options()))
@@ -66,20 +68,26 @@ fn ipv6<S: Serializer>(out: &mut S, packet: &Ipv6Slice<'_>) -> Result<(), S::Err
 }
 
 fn ipv6_header<S: Serializer>(out: &mut S, header: &Ipv6HeaderSlice<'_>) -> Result<(), S::Error> {
-    number(out, "traffic_class", header.traffic_class().into())?;
-    number(out, "flow_label", header.flow_label().value().into())?;
-    number(out, "payload_length", header.payload_length().into())?;
-    number(out, "next_header", header.next_header().0.into())?;
-    number(out, "hop_limit", header.hop_limit().into())?;
+    let members = [
+        ("traffic_class", header.traffic_class().into()),
+        ("flow_label", header.flow_label().value().into()),
+        ("payload_length", header.payload_length().into()),
+        ("next_header", header.next_header().0.into()),
+        ("hop_limit", header.hop_limit().into()),
+    ];
+    numbers(out, &members)?;
     printed(out, "source", &Ipv6Addr::from(header.source()))?;
     printed(out, "destination", &Ipv6Addr::from(header.destination()))
 }
 
 fn arp<S: Serializer>(out: &mut S, packet: &ArpPacketSlice<'_>) -> Result<(), S::Error> {
     begin(out, "Arp")?;
-    number(out, "hw_addr_type", packet.hw_addr_type().0.into())?;
-    number(out, "proto_addr_type", packet.proto_addr_type().0.into())?;
-    number(out, "operation", packet.operation().0.into())?;
+    let members = [
+        ("hw_addr_type", packet.hw_addr_type().0.into()),
+        ("proto_addr_type", packet.proto_addr_type().0.into()),
+        ("operation", packet.operation().0.into()),
+    ];
+    numbers(out, &members)?;
     printed(out, "sender_hw_addr", &Hardware(packet.sender_hw_addr()))?;
     protocol_address(
         out,

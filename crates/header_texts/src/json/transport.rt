@@ -1,6 +1,6 @@
 //! Messages of the transport layer.
 
-use crate::json::fields::{begin, flag, number};
+use crate::json::fields::{begin, flags, number, numbers};
 use crate::json::{errors, icmp};
 use ep_base::IpNumber;
 use ep_packet::{Message, SlicedPacket, TransportSlice, read_message};
@@ -60,42 +60,53 @@ fn message<S: Serializer>(out: &mut S, message: &Message<'_>) -> Result<(), S::E
 
 fn udp<S: Serializer>(out: &mut S, datagram: &UdpSlice<'_>) -> Result<(), S::Error> {
     begin(out, "Udp")?;
-    number(out, "source_port", datagram.source_port().into())?;
-    number(out, "destination_port", datagram.destination_port().into())?;
-    number(out, "length", datagram.length().into())?;
-    number(out, "checksum", datagram.checksum().into())?;
+    let members = [
+        ("source_port", datagram.source_port().into()),
+        ("destination_port", datagram.destination_port().into()),
+        ("length", datagram.length().into()),
+        ("checksum", datagram.checksum().into()),
+    ];
+    numbers(out, &members)?;
     out.end_map()
 }
 
 fn tcp<S: Serializer>(out: &mut S, segment: &TcpSlice<'_>) -> Result<(), S::Error> {
     begin(out, "Tcp")?;
-    number(out, "source_port", segment.source_port().into())?;
-    number(out, "destination_port", segment.destination_port().into())?;
-    number(out, "sequence_number", segment.sequence_number().into())?;
-    number(
-        out,
-        "acknowledgment_number",
-        segment.acknowledgment_number().into(),
-    )?;
-    number(out, "data_offset", segment.data_offset().into())?;
-    flags(out, segment)?;
-    number(out, "window_size", segment.window_size().into())?;
-    number(out, "checksum", segment.checksum().into())?;
-    number(out, "urgent_pointer", segment.urgent_pointer().into())?;
+    let front = [
+        ("source_port", segment.source_port().into()),
+        ("destination_port", segment.destination_port().into()),
+        ("sequence_number", segment.sequence_number().into()),
+        (
+            "acknowledgment_number",
+            segment.acknowledgment_number().into(),
+        ),
+        ("data_offset", segment.data_offset().into()),
+    ];
+    numbers(out, &front)?;
+    control_bits(out, segment)?;
+    let rest = [
+        ("window_size", segment.window_size().into()),
+        ("checksum", segment.checksum().into()),
+        ("urgent_pointer", segment.urgent_pointer().into()),
+    ];
+    numbers(out, &rest)?;
     options(out, segment)?;
     out.end_map()
 }
 
-fn flags<S: Serializer>(out: &mut S, segment: &TcpSlice<'_>) -> Result<(), S::Error> {
-    flag(out, "ns", segment.ns())?;
-    flag(out, "fin", segment.fin())?;
-    flag(out, "syn", segment.syn())?;
-    flag(out, "rst", segment.rst())?;
-    flag(out, "psh", segment.psh())?;
-    flag(out, "ack", segment.ack())?;
-    flag(out, "urg", segment.urg())?;
-    flag(out, "ece", segment.ece())?;
-    flag(out, "cwr", segment.cwr())
+fn control_bits<S: Serializer>(out: &mut S, segment: &TcpSlice<'_>) -> Result<(), S::Error> {
+    let members = [
+        ("ns", segment.ns()),
+        ("fin", segment.fin()),
+        ("syn", segment.syn()),
+        ("rst", segment.rst()),
+        ("psh", segment.psh()),
+        ("ack", segment.ack()),
+        ("urg", segment.urg()),
+        ("ece", segment.ece()),
+        ("cwr", segment.cwr()),
+    ];
+    flags(out, &members)
 }
 
 // The options in their order. The first that can't be read ends them.

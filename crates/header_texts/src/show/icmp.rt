@@ -11,64 +11,72 @@ use std::alloc::AllocError;
 /// The kind of a message over IPv4 (RFC 792), and the length of its payload.
 pub(crate) fn over_ipv4(line: &mut Line<'_>, message: &Icmpv4Slice<'_>) -> Result<(), AllocError> {
     line.text(" ")?;
-    match message.icmp_type() {
-        Icmpv4Type::EchoRequest(header) => echo(line, "echo request", &header)?,
-        Icmpv4Type::EchoReply(header) => echo(line, "echo reply", &header)?,
-        Icmpv4Type::DestinationUnreachable(header) => unreachable_v4(line, &header)?,
+    kind_v4(line, message.icmp_type())?;
+    line.counted(" len ", message.payload().len() as u64)
+}
+
+fn kind_v4(line: &mut Line<'_>, icmp_type: Icmpv4Type) -> Result<(), AllocError> {
+    match icmp_type {
+        Icmpv4Type::EchoRequest(header) => echo(line, "echo request", &header),
+        Icmpv4Type::EchoReply(header) => echo(line, "echo reply", &header),
+        Icmpv4Type::DestinationUnreachable(header) => unreachable_v4(line, &header),
         Icmpv4Type::Redirect(header) => {
             line.text("redirect to ")?;
             addresses::ipv4(line, &header.gateway_internet_address)?;
-            line.text(redirected(header.code))?;
+            line.text(redirected(header.code))
         }
         Icmpv4Type::TimeExceeded(TimeExceededCode::TtlExceededInTransit) => {
-            line.text("time to live exceeded")?;
+            line.text("time to live exceeded")
         }
         Icmpv4Type::TimeExceeded(TimeExceededCode::FragmentReassemblyTimeExceeded) => {
-            line.text("reassembly time exceeded")?;
+            line.text("reassembly time exceeded")
         }
-        Icmpv4Type::ParameterProblem(header) => problem_v4(line, &header)?,
+        Icmpv4Type::ParameterProblem(header) => problem_v4(line, &header),
         Icmpv4Type::TimestampRequest(header) => {
             line.counted("timestamp request id ", header.id.into())?;
-            line.counted(" seq ", header.seq.into())?;
+            line.counted(" seq ", header.seq.into())
         }
         Icmpv4Type::TimestampReply(header) => {
             line.counted("timestamp reply id ", header.id.into())?;
-            line.counted(" seq ", header.seq.into())?;
+            line.counted(" seq ", header.seq.into())
         }
         Icmpv4Type::Unknown {
             type_u8,
             code_u8,
             ..
-        } => numbered(line, name_v4(type_u8), type_u8, code_u8)?,
+        } => numbered(line, name_v4(type_u8), type_u8, code_u8),
     }
-    line.counted(" len ", message.payload().len() as u64)
 }
 
 /// The kind of a message over IPv6 (RFC 4443), and the length of its payload.
 pub(crate) fn over_ipv6(line: &mut Line<'_>, message: &Icmpv6Slice<'_>) -> Result<(), AllocError> {
     line.text(" ")?;
-    match message.icmp_type() {
-        Icmpv6Type::EchoRequest(header) => echo(line, "echo request", &header)?,
-        Icmpv6Type::EchoReply(header) => echo(line, "echo reply", &header)?,
-        Icmpv6Type::DestinationUnreachable(code) => line.text(unreachable_v6(code))?,
-        Icmpv6Type::PacketTooBig { mtu } => line.counted("packet too big, mtu ", mtu.into())?,
+    kind_v6(line, message.icmp_type())?;
+    line.counted(" len ", message.payload().len() as u64)
+}
+
+fn kind_v6(line: &mut Line<'_>, icmp_type: Icmpv6Type) -> Result<(), AllocError> {
+    match icmp_type {
+        Icmpv6Type::EchoRequest(header) => echo(line, "echo request", &header),
+        Icmpv6Type::EchoReply(header) => echo(line, "echo reply", &header),
+        Icmpv6Type::DestinationUnreachable(code) => line.text(unreachable_v6(code)),
+        Icmpv6Type::PacketTooBig { mtu } => line.counted("packet too big, mtu ", mtu.into()),
         Icmpv6Type::TimeExceeded(icmpv6::TimeExceededCode::HopLimitExceeded) => {
-            line.text("hop limit exceeded")?;
+            line.text("hop limit exceeded")
         }
         Icmpv6Type::TimeExceeded(icmpv6::TimeExceededCode::FragmentReassemblyTimeExceeded) => {
-            line.text("reassembly time exceeded")?;
+            line.text("reassembly time exceeded")
         }
         Icmpv6Type::ParameterProblem(header) => {
             line.text(problem_v6(header.code))?;
-            line.counted(" at byte ", header.pointer.into())?;
+            line.counted(" at byte ", header.pointer.into())
         }
         Icmpv6Type::Unknown {
             type_u8,
             code_u8,
             ..
-        } => numbered(line, name_v6(type_u8), type_u8, code_u8)?,
+        } => numbered(line, name_v6(type_u8), type_u8, code_u8),
     }
-    line.counted(" len ", message.payload().len() as u64)
 }
 
 fn echo(line: &mut Line<'_>, word: &str, header: &IcmpEchoHeader) -> Result<(), AllocError> {

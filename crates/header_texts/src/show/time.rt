@@ -50,20 +50,19 @@ fn utc(line: &mut Line<'_>, time: u64) -> Result<(), AllocError> {
         return line.number(time);
     };
     let at = Offset::UTC.to_datetime(timestamp);
-    padded(line, at.year().unsigned_abs().into(), 4)?;
-    line.text("-")?;
-    padded(line, at.month().unsigned_abs().into(), 2)?;
-    line.text("-")?;
-    padded(line, at.day().unsigned_abs().into(), 2)?;
-    line.text("T")?;
-    padded(line, at.hour().unsigned_abs().into(), 2)?;
-    line.text(":")?;
-    padded(line, at.minute().unsigned_abs().into(), 2)?;
-    line.text(":")?;
-    padded(line, at.second().unsigned_abs().into(), 2)?;
-    line.text(".")?;
-    padded(line, time / 1000 % 1_000_000, 6)?;
-    line.text("Z")
+    for (n, count, behind) in [
+        (u64::from(at.year().unsigned_abs()), 4, "-"),
+        (u64::from(at.month().unsigned_abs()), 2, "-"),
+        (u64::from(at.day().unsigned_abs()), 2, "T"),
+        (u64::from(at.hour().unsigned_abs()), 2, ":"),
+        (u64::from(at.minute().unsigned_abs()), 2, ":"),
+        (u64::from(at.second().unsigned_abs()), 2, "."),
+        (time / 1000 % 1_000_000, 6, "Z"),
+    ] {
+        padded(line, n, count)?;
+        line.text(behind)?;
+    }
+    Ok(())
 }
 
 // A number with zeros before it, up to so many digits.

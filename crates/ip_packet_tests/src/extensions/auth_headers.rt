@@ -67,7 +67,7 @@ pub fn zero_auth(len: usize) -> Result<Shown, Result<Want, HeaderError>> {
 #[test]
 fn authentication_headers_and_their_rest(rt: HostRuntime) {
     rows(
-        &rt,
+        rt,
         Call::Auth,
         "0..12: Err(Ok((12, 0, Slice, IpAuthHeader, 0)))
         12..24: Err(Ok((24, 0, Slice, IpAuthHeader, 0)))
@@ -78,15 +78,15 @@ fn authentication_headers_and_their_rest(rt: HostRuntime) {
 #[test]
 fn the_greatest_authentication_header(rt: HostRuntime) {
     let greatest = (IpAuthHeader::MAX_LEN, IpAuthHeader::MAX_ICV_LEN);
-    shows(&rt, "MAX_LEN", &greatest, "(1028, 1016)");
+    shows(rt, "MAX_LEN", &greatest, "(1028, 1016)");
     let wanted = "1029: Ok((IpNumber(0), 0, 0, 1028, true, true, true))";
-    rows(&rt, Call::GreatestAuth, wanted);
+    rows(rt, Call::GreatestAuth, wanted);
 }
 
 #[test]
 fn a_length_byte_of_zero(rt: HostRuntime) {
     rows(
-        &rt,
+        rt,
         Call::ZeroAuth,
         "11: Err(Ok((12, 0, Slice, IpAuthHeader, 0)))
         12: Err(Err(ZeroPayloadLen))
@@ -98,14 +98,9 @@ fn a_length_byte_of_zero(rt: HostRuntime) {
 fn faults_seen_from_further_in_front(rt: HostRuntime) {
     let want = HeaderSliceError::Len(want_in_slice(12, 11, Layer::IpAuthHeader));
     let moved = fault_of(want.add_slice_offset(40), 11);
-    shows(
-        &rt,
-        "a want",
-        &moved,
-        "Ok((12, 0, Slice, IpAuthHeader, 40))",
-    );
+    shows(rt, "a want", &moved, "Ok((12, 0, Slice, IpAuthHeader, 40))");
     let zero = HeaderSliceError::Content(HeaderError::ZeroPayloadLen).add_slice_offset(40);
-    shows(&rt, "a fault", &zero, "Content(ZeroPayloadLen)");
+    shows(rt, "a fault", &zero, "Content(ZeroPayloadLen)");
 }
 
 // Whether the header at the front of `AUTH` is that of its fields.
@@ -119,7 +114,7 @@ fn is_of_its_fields() -> bool {
 
 #[test]
 fn an_authentication_header_of_fields(rt: HostRuntime) {
-    holds(&rt, is_of_its_fields());
+    holds(rt, is_of_its_fields());
 }
 
 #[test]
@@ -128,10 +123,7 @@ fn an_authentication_header_is_appended(rt: HostRuntime) {
     // Reserved bytes are cleared.
     bytes[2] = 0;
     bytes[3] = 0;
-    holds(
-        &rt,
-        is_appended(rt.alloc(), Kind::Auth, &AUTH, &bytes[..24]),
-    );
+    holds(rt, is_appended(rt.alloc(), Kind::Auth, &AUTH, &bytes[..24]));
 }
 
 // Whether a view is that of its own bytes, its copy, and that of a header with its check value.
@@ -162,7 +154,7 @@ pub fn auth_view(len: usize) -> Result<Viewed, Result<Want, HeaderError>> {
 #[test]
 fn views_of_authentication_headers(rt: HostRuntime) {
     rows(
-        &rt,
+        rt,
         Call::AuthView,
         "0..12: Err(Ok((12, 0, Slice, IpAuthHeader, 0)))
         12..24: Err(Ok((24, 0, Slice, IpAuthHeader, 0)))
@@ -186,7 +178,7 @@ pub fn auth_lens(len: usize) -> Result<(usize, usize), IcvLenError> {
 #[test]
 fn lengths_of_check_values(rt: HostRuntime) {
     rows(
-        &rt,
+        rt,
         Call::AuthLens,
         "0: Ok((0, 12))
         4: Ok((4, 16))
@@ -219,7 +211,7 @@ pub fn auth_changed(len: usize) -> Option<(bool, Result<(), IcvLenError>, bool)>
 #[test]
 fn a_check_value_is_changed(rt: HostRuntime) {
     rows(
-        &rt,
+        rt,
         Call::AuthChanged,
         "5: Some((true, Err(Unaligned(5)), true))
         1020: Some((true, Err(TooBig(1020)), true))

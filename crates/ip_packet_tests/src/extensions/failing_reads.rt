@@ -5,7 +5,7 @@ use super::kinds::Kind;
 use super::readers::limited;
 use super::reads::{Read, Refusal, read, read_limited};
 use super::rows::range;
-use crate::checks::shows;
+use crate::checks::{fail, shows};
 use fault_devices::{Fault, FaultReader, Tally};
 use std::io::ErrorKind;
 use std::process::Abort;
@@ -94,7 +94,7 @@ fn filled(len: usize, call: usize) -> (bool, bool, usize, usize) {
 
 // Fails where this is not told, and tells how many calls there are.
 fn is_told(
-    rt: &(impl Abort + AllocGlobal),
+    rt: impl Abort + AllocGlobal + Copy,
     source: Source,
     number: usize,
     call: usize,
@@ -126,7 +126,7 @@ fn is_told(
 
 // What is told where no call fails, and then where each of them does.
 fn each_call_fails(
-    rt: &(impl Abort + AllocGlobal),
+    rt: impl Abort + AllocGlobal + Copy,
     tally: &mut Tally,
     source: Source,
     number: usize,
@@ -146,7 +146,7 @@ fn each_call_fails(
 
 // Rows as those of `rows`, with several answers.
 fn each_read_fails(
-    rt: &(impl Abort + AllocGlobal + Print),
+    rt: impl Abort + AllocGlobal + Print + Copy,
     source: Source,
     call: &'static str,
     table: &str,
@@ -162,7 +162,7 @@ fn each_read_fails(
         }
     }
     if println!(rt; "{tally}").is_err() {
-        panic!(rt; "no output");
+        fail(rt, "no output");
     }
 }
 
@@ -171,7 +171,7 @@ fn each_read_fails(
 #[test]
 fn each_read_of_raw_headers_fails(rt: HostRuntime) {
     each_read_fails(
-        &rt,
+        rt,
         Source::Header(Kind::Raw),
         "Ipv6RawExtHeader::read",
         "0: ((None, 0), 1) | ((Some(Io(PermissionDenied)), 0), 1)
@@ -184,7 +184,7 @@ fn each_read_of_raw_headers_fails(rt: HostRuntime) {
 #[test]
 fn each_read_of_authentication_headers_fails(rt: HostRuntime) {
     each_read_fails(
-        &rt,
+        rt,
         Source::Header(Kind::Auth),
         "IpAuthHeader::read",
         "1: ((None, 0), 1) | ((Some(Io(PermissionDenied)), 0), 1)
@@ -197,7 +197,7 @@ fn each_read_of_authentication_headers_fails(rt: HostRuntime) {
 #[test]
 fn each_read_of_limited_raw_headers_fails(rt: HostRuntime) {
     each_read_fails(
-        &rt,
+        rt,
         Source::Limited(Kind::Raw),
         "Ipv6RawExtHeader::read_limited",
         "0: ((None, 0), 1) | ((Some(Io(PermissionDenied)), 0), 1)
@@ -209,7 +209,7 @@ fn each_read_of_limited_raw_headers_fails(rt: HostRuntime) {
 #[test]
 fn each_read_of_limited_authentication_headers_fails(rt: HostRuntime) {
     each_read_fails(
-        &rt,
+        rt,
         Source::Limited(Kind::Auth),
         "IpAuthHeader::read_limited",
         "1: ((None, 0), 1) | ((Some(Io(PermissionDenied)), 0), 1)
@@ -222,7 +222,7 @@ fn each_read_of_limited_authentication_headers_fails(rt: HostRuntime) {
 #[test]
 fn each_read_of_chains_fails(rt: HostRuntime) {
     each_read_fails(
-        &rt,
+        rt,
         Source::Chain,
         "Ipv6Extensions::read",
         "0: (Ok((true, IpNumber(17))), Some(2048), 3) | (Err(Io(PermissionDenied)), None, 1) \
@@ -238,7 +238,7 @@ fn each_read_of_chains_fails(rt: HostRuntime) {
 #[test]
 fn buffers_of_each_size(rt: HostRuntime) {
     each_read_fails(
-        &rt,
+        rt,
         Source::Buffers,
         "LimitedReader::read_exact",
         "0: (true, true, 8, 1) | (true, false, 0, 1)

@@ -87,7 +87,7 @@ pub fn greatest_raw(len: usize) -> Result<(IpNumber, usize, bool, bool, bool), W
 #[test]
 fn raw_headers_and_their_rest(rt: HostRuntime) {
     rows(
-        &rt,
+        rt,
         Call::Raw,
         "0..8: Err((8, 0, Slice, Ipv6ExtHeader, 0))
         8..16: Err((16, 0, Slice, Ipv6ExtHeader, 0))
@@ -97,9 +97,9 @@ fn raw_headers_and_their_rest(rt: HostRuntime) {
 
 #[test]
 fn the_greatest_raw_header(rt: HostRuntime) {
-    shows(&rt, "MAX_LEN", &Ipv6RawExtHeader::MAX_LEN, "2048");
+    shows(rt, "MAX_LEN", &Ipv6RawExtHeader::MAX_LEN, "2048");
     rows(
-        &rt,
+        rt,
         Call::GreatestRaw,
         "2047: Err((2048, 0, Slice, Ipv6ExtHeader, 0))
         2049: Ok((IpNumber(3), 2048, true, true, true))",
@@ -108,7 +108,7 @@ fn the_greatest_raw_header(rt: HostRuntime) {
 
 #[test]
 fn a_raw_header_is_appended(rt: HostRuntime) {
-    holds(&rt, is_appended(rt.alloc(), Kind::Raw, &RAW, &RAW[..16]));
+    holds(rt, is_appended(rt.alloc(), Kind::Raw, &RAW, &RAW[..16]));
 }
 
 // Whether a view is that of its own bytes, its copy, and that of a header with these bytes.
@@ -135,7 +135,7 @@ pub fn raw_view(len: usize) -> Result<(&'static [u8], IpNumber, &'static [u8], b
 #[test]
 fn views_of_raw_headers(rt: HostRuntime) {
     rows(
-        &rt,
+        rt,
         Call::RawView,
         "0..8: Err((8, 0, Slice, Ipv6ExtHeader, 0))
         8..16: Err((16, 0, Slice, Ipv6ExtHeader, 0))
@@ -158,7 +158,7 @@ pub fn raw_number(number: usize) -> Option<(bool, bool)> {
 #[test]
 fn numbers_of_raw_headers(rt: HostRuntime) {
     rows(
-        &rt,
+        rt,
         Call::RawNumber,
         "0: Some((true, true))
         1..43: Some((false, false))
@@ -189,7 +189,7 @@ pub fn raw_lens(len: usize) -> Result<(usize, usize), ExtPayloadLenError> {
 #[test]
 fn lengths_of_raw_payloads(rt: HostRuntime) {
     rows(
-        &rt,
+        rt,
         Call::RawLens,
         "6: Ok((6, 8))
         14: Ok((14, 16))
@@ -223,7 +223,7 @@ pub fn raw_changed(len: usize) -> Option<(bool, Result<(), ExtPayloadLenError>, 
 #[test]
 fn a_raw_payload_is_changed(rt: HostRuntime) {
     rows(
-        &rt,
+        rt,
         Call::RawChanged,
         "7: Some((true, Err(Unaligned(7)), true))
         5: Some((true, Err(TooSmall(5)), true))
@@ -260,7 +260,7 @@ pub fn fragment(len: usize) -> Result<(Fields, usize, [u8; 8], &'static [u8]), W
 #[test]
 fn fragment_headers_and_their_rest(rt: HostRuntime) {
     rows(
-        &rt,
+        rt,
         Call::Fragment,
         "0..8: Err((8, 0, Slice, Ipv6FragHeader, 0))
         10: Ok(((IpNumber(58), 5497, true, 305419896), 8, \
@@ -278,7 +278,7 @@ fn made_fragment() -> Option<Fields> {
 #[test]
 fn a_fragment_header_of_fields(rt: HostRuntime) {
     let wanted = "Some((IpNumber(58), 5497, true, 305419896))";
-    shows(&rt, "new", &made_fragment(), wanted);
+    shows(rt, "new", &made_fragment(), wanted);
 }
 
 #[test]
@@ -286,7 +286,7 @@ fn a_fragment_header_is_appended(rt: HostRuntime) {
     // Reserved bits are cleared.
     let written = [58, 0, 0xab, 0xc9, 0x12, 0x34, 0x56, 0x78];
     let is_so = is_appended(rt.alloc(), Kind::Fragment, &FRAGMENT, &written);
-    holds(&rt, is_so);
+    holds(rt, is_so);
 }
 
 // Whether a view is that of its own bytes, its copy, and that of a header with its fields.
@@ -316,7 +316,7 @@ pub fn fragment_view(len: usize) -> Result<(&'static [u8], Fields, bool), Want> 
 #[test]
 fn views_of_fragment_headers(rt: HostRuntime) {
     rows(
-        &rt,
+        rt,
         Call::FragmentView,
         "0..8: Err((8, 0, Slice, Ipv6FragHeader, 0))
         10: Ok(([58, 255, 171, 205, 18, 52, 86, 120], \
@@ -342,7 +342,7 @@ pub fn is_fragmenting(number: usize) -> Option<(bool, bool)> {
 #[test]
 fn which_fragment_headers_fragment(rt: HostRuntime) {
     rows(
-        &rt,
+        rt,
         Call::Fragmenting,
         "256: Some((true, true))
         8: Some((true, true))

@@ -55,7 +55,7 @@ pub fn auth_front(len: usize) -> (Chain<'static>, Lax) {
 #[test]
 fn an_authentication_header_and_its_fronts(rt: HostRuntime) {
     rows(
-        &rt,
+        rt,
         Call::Ipv4,
         "0..12: (Err(Ok((12, 0, Slice, IpAuthHeader, 0))), \
             (true, IpNumber(51), 0, Some(Ok((12, 0, Slice, IpAuthHeader, 0)))))
@@ -68,9 +68,9 @@ fn an_authentication_header_and_its_fronts(rt: HostRuntime) {
 // A fault keeps the number and the slice.
 #[test]
 fn a_length_field_of_zero_is_refused(rt: HostRuntime) {
-    shows(&rt, "0", &chain(&[0; 12]), "Err(Err(ZeroPayloadLen))");
+    shows(rt, "0", &chain(&[0; 12]), "Err(Err(ZeroPayloadLen))");
     let wanted = "(true, IpNumber(51), 0, Some(Err(ZeroPayloadLen)))";
-    shows(&rt, "0", &up_to_the_fault(51, &[0; 12]), wanted);
+    shows(rt, "0", &up_to_the_fault(51, &[0; 12]), wanted);
 }
 
 // The length of no headers, the number behind them, and the one that they name first where the last
@@ -88,14 +88,14 @@ fn none() -> (usize, IpNumber, IpNumber) {
 #[test]
 fn no_header_behind_udp(rt: HostRuntime) {
     let wanted = "(true, IpNumber(17), 0, None)";
-    shows(&rt, "UDP", &up_to_the_fault(17, &[0, 1, 2, 3]), wanted);
-    shows(&rt, "none", &none(), "(0, IpNumber(17), IpNumber(17))");
+    shows(rt, "UDP", &up_to_the_fault(17, &[0, 1, 2, 3]), wanted);
+    shows(rt, "none", &none(), "(0, IpNumber(17), IpNumber(17))");
 }
 
 #[test]
 fn an_authentication_header_is_appended(rt: HostRuntime) {
     let is_so = is_appended(rt.alloc(), Kind::Ipv4(51), &AUTH, &AUTH[..16]);
-    holds(&rt, is_so);
+    holds(rt, is_so);
 }
 
 // Whether headers are the same that are written over the front of these bytes and read again, and
@@ -111,7 +111,7 @@ fn read_back(headers: Ipv4Extensions, bytes: &[u8]) -> bool {
 
 #[test]
 fn what_is_written_reads_back(rt: HostRuntime) {
-    holds(&rt, read_back(auth_header(), &AUTH));
+    holds(rt, read_back(auth_header(), &AUTH));
 }
 
 // How the header is written behind a number, and how much was written.
@@ -124,12 +124,12 @@ fn written(alloc: Global, first: u8) -> (Result<(), HeaderWriteError>, usize) {
 #[test]
 fn numbers_behind_a_header(rt: HostRuntime) {
     let named = auth_header().next_header(IpNumber(51));
-    shows(&rt, "51", &named, "Ok(IpNumber(6))");
+    shows(rt, "51", &named, "Ok(IpNumber(6))");
     let missing = auth_header().next_header(IpNumber(6));
     let wanted = "Err(ExtNotReferenced { missing_ext: IpNumber(51) })";
-    shows(&rt, "6", &missing, wanted);
+    shows(rt, "6", &missing, wanted);
     let wanted = "(Err(Content(ExtNotReferenced { missing_ext: IpNumber(51) })), 0)";
-    shows(&rt, "write", &written(rt.alloc(), 6), wanted);
+    shows(rt, "write", &written(rt.alloc(), 6), wanted);
 }
 
 // What a header answers that is made to name 17, and what it names then.
@@ -142,9 +142,9 @@ fn renamed() -> (IpNumber, Option<IpNumber>) {
 #[test]
 fn a_header_that_names_another(rt: HostRuntime) {
     let wanted = "(IpNumber(51), Some(IpNumber(17)))";
-    shows(&rt, "17", &renamed(), wanted);
-    shows(&rt, "MAX_LEN", &Ipv4Extensions::MAX_LEN, "1028");
+    shows(rt, "17", &renamed(), wanted);
+    shows(rt, "MAX_LEN", &Ipv4Extensions::MAX_LEN, "1028");
     let mut none = Ipv4Extensions::default();
     let named = none.set_next_headers(IpNumber(17));
-    shows(&rt, "none", &named, "IpNumber(17)");
+    shows(rt, "none", &named, "IpNumber(17)");
 }

@@ -50,7 +50,7 @@ pub fn chain_front(len: usize) -> Chain<'static> {
 #[test]
 fn every_front_of_a_chain_is_refused(rt: HostRuntime) {
     rows(
-        &rt,
+        rt,
         Call::Ipv6,
         "0..8: Err(Ok((8, 0, Slice, Ipv6ExtHeader, 0)))
         8..16: Err(Ok((8, 8, Slice, Ipv6ExtHeader, 8)))
@@ -87,7 +87,7 @@ pub fn chain_up_to_the_fault(len: usize) -> Lax {
 #[test]
 fn every_front_of_a_chain_up_to_the_fault(rt: HostRuntime) {
     rows(
-        &rt,
+        rt,
         Call::Ipv6UpToTheFault,
         "0..8: (0, IpNumber(0), 0, \
             Some((Ok((8, 0, Slice, Ipv6ExtHeader, 0)), Ipv6HopByHopHeader)))
@@ -123,9 +123,9 @@ fn skipped(bytes: &[u8]) -> (Skipped<'_>, Skipped<'_>) {
 fn all_six_headers(rt: HostRuntime) {
     let headers = all_headers();
     let found = (headers.is_fragmenting_payload(), headers.is_empty());
-    shows(&rt, "headers", &found, "(true, false)");
+    shows(rt, "headers", &found, "(true, false)");
     let wanted = "(Ok((IpNumber(17), [170, 187])), Ok((IpNumber(17), [170, 187])))";
-    shows(&rt, "skipped", &skipped(&CHAIN), wanted);
+    shows(rt, "skipped", &skipped(&CHAIN), wanted);
 }
 
 // The length of a routing header and of the options behind it, and its payload.
@@ -162,18 +162,18 @@ fn icv_of(auth: &Option<IpAuthHeader>) -> Option<&[u8]> {
 fn each_header_at_its_place(rt: HostRuntime) {
     let headers = all_headers();
     let named = next_of(&headers.hop_by_hop_options);
-    shows(&rt, "hop by hop", &named, "Some(IpNumber(60))");
+    shows(rt, "hop by hop", &named, "Some(IpNumber(60))");
     let named = next_of(&headers.destination_options);
-    shows(&rt, "destination", &named, "Some(IpNumber(43))");
+    shows(rt, "destination", &named, "Some(IpNumber(43))");
     let payload = "Some((24, [0, 0, 1, 2, 3, 4, 5, 6, 7, 8, 9, 10, 11, 12]))";
-    shows(&rt, "routing", &routing_of(&headers), payload);
+    shows(rt, "routing", &routing_of(&headers), payload);
     let identification = identification_of(&headers.fragment);
-    shows(&rt, "fragment", &identification, "Some(7)");
+    shows(rt, "fragment", &identification, "Some(7)");
     let icv = "Some([1, 2, 3, 4, 5, 6, 7, 8, 9, 10, 11, 12])";
-    shows(&rt, "authentication", &icv_of(&headers.auth), icv);
+    shows(rt, "authentication", &icv_of(&headers.auth), icv);
 }
 
-fn ends(rt: &(impl Abort + AllocGlobal), first: u8, bytes: &[u8], wanted: &str) {
+fn ends(rt: impl Abort + AllocGlobal + Copy, first: u8, bytes: &[u8], wanted: &str) {
     shows(rt, first, &chain(first, bytes), wanted);
 }
 
@@ -184,27 +184,27 @@ fn a_second_header_of_a_kind_ends_the_chain(rt: HostRuntime) {
         0x2c, 0, 0, 1, 0, 0, 0, 7, 0x11, 0, 0, 0, 0, 0, 0, 7, 0xaa, 0xbb,
     ];
     let rest = "Ok((8, IpNumber(44), [17, 0, 0, 0, 0, 0, 0, 7, 170, 187]))";
-    ends(&rt, 44, bytes, rest);
+    ends(rt, 44, bytes, rest);
     // Routing headers, each of 8 bytes.
     let bytes = &[43, 0, 0, 0, 0, 0, 0, 0, 17, 0, 0, 0, 0, 0, 0, 0];
     let rest = "Ok((8, IpNumber(43), [17, 0, 0, 0, 0, 0, 0, 0]))";
-    ends(&rt, 43, bytes, rest);
+    ends(rt, 43, bytes, rest);
     // Destination options behind destination options.
     let bytes = &[60, 0, 0, 0, 0, 0, 0, 0, 17, 0, 0, 0, 0, 0, 0, 0];
     let rest = "Ok((8, IpNumber(60), [17, 0, 0, 0, 0, 0, 0, 0]))";
-    ends(&rt, 60, bytes, rest);
+    ends(rt, 60, bytes, rest);
     // The same behind a routing header, where one more has a place.
     let bytes = &[
         60, 0, 0, 0, 0, 0, 0, 0, 60, 0, 0, 0, 0, 0, 0, 0, 17, 0, 0, 0, 0, 0, 0, 0,
     ];
     let rest = "Ok((16, IpNumber(60), [17, 0, 0, 0, 0, 0, 0, 0]))";
-    ends(&rt, 43, bytes, rest);
+    ends(rt, 43, bytes, rest);
     // Authentication headers, each of 12 bytes.
     let bytes = &[
         51, 1, 1, 1, 1, 1, 1, 1, 1, 1, 1, 1, 1, 1, 1, 1, 1, 1, 1, 1, 1, 1, 1, 1,
     ];
     let rest = "Ok((12, IpNumber(51), [1, 1, 1, 1, 1, 1, 1, 1, 1, 1, 1, 1]))";
-    ends(&rt, 51, bytes, rest);
+    ends(rt, 51, bytes, rest);
 }
 
 #[test]
@@ -212,16 +212,16 @@ fn hop_by_hop_options_behind_a_header_are_refused(rt: HostRuntime) {
     let bytes = &[0, 0, 0, 0, 0, 0, 0, 0, 17, 0, 0, 0, 0, 0, 0, 0];
     // The options in front are there.
     let wanted = "(8, IpNumber(0), 8, Some((Err(HopByHopNotAtStart), Ipv6HopByHopHeader)))";
-    shows(&rt, "lax", &up_to_the_fault(60, bytes), wanted);
-    ends(&rt, 60, bytes, "Err(Err(HopByHopNotAtStart))");
+    shows(rt, "lax", &up_to_the_fault(60, bytes), wanted);
+    ends(rt, 60, bytes, "Err(Err(HopByHopNotAtStart))");
 }
 
 #[test]
 fn an_authentication_header_of_length_zero_is_refused(rt: HostRuntime) {
     let bytes = &[0; 12];
     let wanted = "(0, IpNumber(51), 0, Some((Err(IpAuth(ZeroPayloadLen)), IpAuthHeader)))";
-    shows(&rt, "lax", &up_to_the_fault(51, bytes), wanted);
-    ends(&rt, 51, bytes, "Err(Err(IpAuth(ZeroPayloadLen)))");
+    shows(rt, "lax", &up_to_the_fault(51, bytes), wanted);
+    ends(rt, 51, bytes, "Err(Err(IpAuth(ZeroPayloadLen)))");
 }
 
 /// Whether there is no header behind this number.
@@ -239,7 +239,7 @@ pub fn ends_at_once(number: usize) -> bool {
 #[test]
 fn numbers_without_a_place_end_the_chain(rt: HostRuntime) {
     rows(
-        &rt,
+        rt,
         Call::NoIpv6,
         "6: true
         17: true
@@ -257,12 +257,7 @@ fn numbers_without_a_place_end_the_chain(rt: HostRuntime) {
 fn an_error_seen_from_further_in_front(rt: HostRuntime) {
     let want = HeaderSliceError::Len(want_in_slice(8, 7, Layer::Ipv6ExtHeader));
     let moved = fault_of(want.add_slice_offset(40), 7);
-    shows(
-        &rt,
-        "a want",
-        &moved,
-        "Ok((8, 0, Slice, Ipv6ExtHeader, 40))",
-    );
+    shows(rt, "a want", &moved, "Ok((8, 0, Slice, Ipv6ExtHeader, 40))");
     let fault = HeaderSliceError::Content(HeaderError::HopByHopNotAtStart).add_slice_offset(40);
-    shows(&rt, "a fault", &fault, "Content(HopByHopNotAtStart)");
+    shows(rt, "a fault", &fault, "Content(HopByHopNotAtStart)");
 }

@@ -19,7 +19,7 @@ fn number_behind(headers: &Ipv6Extensions, first: u8) -> Result<u8, Option<u8>> 
     }
 }
 
-fn leads(rt: &(impl Abort + AllocGlobal), headers: &Ipv6Extensions, first: u8, wanted: &str) {
+fn leads(rt: impl Abort + AllocGlobal + Copy, headers: &Ipv6Extensions, first: u8, wanted: &str) {
     shows(rt, first, &number_behind(headers, first), wanted);
 }
 
@@ -39,7 +39,12 @@ fn written_behind_a_byte(
     (done, are_appended)
 }
 
-fn is_written(rt: &(impl Abort + AllocGlobal), headers: &Ipv6Extensions, first: u8, bytes: &[u8]) {
+fn is_written(
+    rt: impl Abort + AllocGlobal + Copy,
+    headers: &Ipv6Extensions,
+    first: u8,
+    bytes: &[u8],
+) {
     let written = written_behind_a_byte(rt.alloc(), headers, first, bytes);
     shows(rt, first, &written, "(Ok(()), true)");
 }
@@ -47,8 +52,8 @@ fn is_written(rt: &(impl Abort + AllocGlobal), headers: &Ipv6Extensions, first: 
 #[test]
 fn a_chain_is_followed_and_written(rt: HostRuntime) {
     let headers = all_headers();
-    leads(&rt, &headers, 0, "Ok(17)");
-    is_written(&rt, &headers, 0, &CHAIN[..72]);
+    leads(rt, &headers, 0, "Ok(17)");
+    is_written(rt, &headers, 0, &CHAIN[..72]);
 }
 
 // What headers are that are written over the front of these bytes and read again: whether they are
@@ -63,7 +68,7 @@ fn read_back(headers: &Ipv6Extensions, bytes: &[u8]) -> Option<(bool, IpNumber, 
 #[test]
 fn what_is_written_reads_back(rt: HostRuntime) {
     let read = read_back(&all_headers(), &CHAIN);
-    shows(&rt, "all", &read, "Some((true, IpNumber(17), 2))");
+    shows(rt, "all", &read, "Some((true, IpNumber(17), 2))");
 }
 
 fn are_their_copy(headers: Ipv6Extensions) -> bool {
@@ -73,7 +78,7 @@ fn are_their_copy(headers: Ipv6Extensions) -> bool {
 
 #[test]
 fn headers_are_their_copy(rt: HostRuntime) {
-    holds(&rt, are_their_copy(all_headers()));
+    holds(rt, are_their_copy(all_headers()));
 }
 
 fn fragment_alone() -> Ipv6Extensions {
@@ -85,10 +90,10 @@ fn fragment_alone() -> Ipv6Extensions {
 #[test]
 fn a_fragment_header_alone(rt: HostRuntime) {
     let headers = fragment_alone();
-    holds(&rt, !headers.is_fragmenting_payload());
-    leads(&rt, &headers, 17, "Err(Some(44))");
-    leads(&rt, &headers, 44, "Ok(17)");
-    is_written(&rt, &headers, 44, &[0x11, 0, 0, 0, 0, 0, 0, 0]);
+    holds(rt, !headers.is_fragmenting_payload());
+    leads(rt, &headers, 17, "Err(Some(44))");
+    leads(rt, &headers, 44, "Ok(17)");
+    is_written(rt, &headers, 44, &[0x11, 0, 0, 0, 0, 0, 0, 0]);
 }
 
 #[test]
@@ -100,9 +105,9 @@ fn no_header_at_all(rt: HostRuntime) {
         headers.header_len(),
         Ipv6Extensions::MAX_LEN,
     );
-    shows(&rt, "none", &found, "(true, false, 0, 9228)");
-    leads(&rt, &headers, 0, "Ok(0)");
-    is_written(&rt, &headers, 17, &[]);
+    shows(rt, "none", &found, "(true, false, 0, 9228)");
+    leads(rt, &headers, 0, "Ok(0)");
+    is_written(rt, &headers, 17, &[]);
 }
 
 // The headers are named in the order hop by hop, destination, routing, fragment, authentication,
@@ -110,13 +115,13 @@ fn no_header_at_all(rt: HostRuntime) {
 #[test]
 fn the_first_header_that_is_not_reached(rt: HostRuntime) {
     let mut headers = all_headers();
-    leads(&rt, &headers, 17, "Err(Some(0))");
-    leads(&rt, &headers, 60, "Err(Some(0))");
+    leads(rt, &headers, 17, "Err(Some(0))");
+    leads(rt, &headers, 60, "Err(Some(0))");
     headers.hop_by_hop_options = None;
-    leads(&rt, &headers, 17, "Err(Some(60))");
+    leads(rt, &headers, 17, "Err(Some(60))");
     headers.destination_options = None;
-    leads(&rt, &headers, 17, "Err(Some(43))");
-    leads(&rt, &headers, 51, "Err(Some(43))");
+    leads(rt, &headers, 17, "Err(Some(43))");
+    leads(rt, &headers, 51, "Err(Some(43))");
 }
 
 // Headers from a routing header on that names 17.
@@ -133,11 +138,11 @@ fn from_routing() -> Ipv6Extensions {
 #[test]
 fn the_later_headers_that_are_not_reached(rt: HostRuntime) {
     let mut headers = from_routing();
-    leads(&rt, &headers, 43, "Err(Some(44))");
+    leads(rt, &headers, 43, "Err(Some(44))");
     headers.fragment = None;
-    leads(&rt, &headers, 43, "Err(Some(51))");
+    leads(rt, &headers, 43, "Err(Some(51))");
     headers.auth = None;
-    leads(&rt, &headers, 43, "Err(Some(60))");
+    leads(rt, &headers, 43, "Err(Some(60))");
 }
 
 // Headers whose destination options name hop-by-hop options.
@@ -152,12 +157,12 @@ fn with_later_options() -> Ipv6Extensions {
 #[test]
 fn hop_by_hop_options_that_are_named_later(rt: HostRuntime) {
     let headers = with_later_options();
-    leads(&rt, &headers, 60, "Err(None)");
+    leads(rt, &headers, 60, "Err(None)");
     // Where they were taken in first place, a later 0 ends the walk.
-    leads(&rt, &headers, 0, "Err(Some(43))");
+    leads(rt, &headers, 0, "Err(Some(43))");
     let written = written_behind_a_byte(rt.alloc(), &headers, 60, &[]);
     shows(
-        &rt,
+        rt,
         "write",
         &written,
         "(Err(Content(HopByHopNotAtStart)), true)",
@@ -165,7 +170,7 @@ fn hop_by_hop_options_that_are_named_later(rt: HostRuntime) {
 }
 
 // What headers are made to name first where the last of them is to name 6.
-fn names(rt: &(impl Abort + AllocGlobal), headers: &mut Ipv6Extensions, wanted: &str) {
+fn names(rt: impl Abort + AllocGlobal + Copy, headers: &mut Ipv6Extensions, wanted: &str) {
     shows(rt, "6", &headers.set_next_headers(IpNumber(6)), wanted);
 }
 
@@ -180,13 +185,13 @@ fn options_and_auth() -> Ipv6Extensions {
 
 #[test]
 fn headers_made_to_name_one_another(rt: HostRuntime) {
-    names(&rt, &mut Ipv6Extensions::default(), "IpNumber(6)");
+    names(rt, &mut Ipv6Extensions::default(), "IpNumber(6)");
     let mut headers = options_and_auth();
-    names(&rt, &mut headers, "IpNumber(60)");
+    names(rt, &mut headers, "IpNumber(60)");
     let bytes = &[
         51, 0, 1, 4, 0, 0, 0, 0, 6, 2, 0, 0, 0, 0, 0, 1, 0, 0, 0, 2, 1, 2, 3, 4,
     ];
-    is_written(&rt, &headers, 60, bytes);
+    is_written(rt, &headers, 60, bytes);
 }
 
 #[test]
@@ -194,7 +199,7 @@ fn all_headers_made_to_name_one_another(rt: HostRuntime) {
     let mut headers = all_headers();
     let mut bytes = CHAIN;
     bytes[64] = 6;
-    names(&rt, &mut headers, "IpNumber(0)");
-    leads(&rt, &headers, 0, "Ok(6)");
-    is_written(&rt, &headers, 0, &bytes[..72]);
+    names(rt, &mut headers, "IpNumber(0)");
+    leads(rt, &headers, 0, "Ok(6)");
+    is_written(rt, &headers, 0, &bytes[..72]);
 }

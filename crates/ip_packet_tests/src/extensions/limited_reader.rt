@@ -43,9 +43,9 @@ fn taken(reader: Limited<'static>) -> (LenSource, &'static [u8]) {
 #[test]
 fn a_new_reader(rt: HostRuntime) {
     let reader = limited(false);
-    shows(&rt, "new", &told(&reader), "(5, Ipv4Packet, 20, 0)");
+    shows(rt, "new", &told(&reader), "(5, Ipv4Packet, 20, 0)");
     let left = "(Ipv4HeaderTotalLen, [1, 2, 3, 4, 5, 6])";
-    shows(&rt, "taken", &taken(reader), left);
+    shows(rt, "taken", &taken(reader), left);
 }
 
 // How a buffer of so many bytes of 9 is filled: its first four bytes then, and how many count as
@@ -60,72 +60,72 @@ fn filled(reader: &mut Limited<'_>, len: usize) -> (Result<(), Refusal>, [u8; 4]
     (done, buffer, reader.read_len())
 }
 
-fn fills(rt: &(impl Abort + AllocGlobal), reader: &mut Limited<'_>, len: usize, wanted: &str) {
+fn fills(rt: impl Abort + AllocGlobal + Copy, reader: &mut Limited<'_>, len: usize, wanted: &str) {
     shows(rt, len, &filled(reader, len), wanted);
 }
 
 #[test]
 fn reads_up_to_the_limit(rt: HostRuntime) {
     let mut reader = limited(false);
-    fills(&rt, &mut reader, 2, "(Ok(()), [1, 2, 9, 9], 2)");
+    fills(rt, &mut reader, 2, "(Ok(()), [1, 2, 9, 9], 2)");
     // At the limit, and nothing more.
-    fills(&rt, &mut reader, 3, "(Ok(()), [3, 4, 5, 9], 5)");
-    fills(&rt, &mut reader, 0, "(Ok(()), [9, 9, 9, 9], 5)");
-    shows(&rt, "taken", &taken(reader), "(Ipv4HeaderTotalLen, [6])");
+    fills(rt, &mut reader, 3, "(Ok(()), [3, 4, 5, 9], 5)");
+    fills(rt, &mut reader, 0, "(Ok(()), [9, 9, 9, 9], 5)");
+    shows(rt, "taken", &taken(reader), "(Ipv4HeaderTotalLen, [6])");
 }
 
 // One byte above the limit: nothing is read.
 #[test]
 fn no_reads_beyond_the_limit(rt: HostRuntime) {
     let mut reader = limited(false);
-    fills(&rt, &mut reader, 2, "(Ok(()), [1, 2, 9, 9], 2)");
+    fills(rt, &mut reader, 2, "(Ok(()), [1, 2, 9, 9], 2)");
     let wanted = "(Err(Len((6, 5, Ipv4HeaderTotalLen, Ipv4Packet, 20))), [9, 9, 9, 9], 2)";
-    fills(&rt, &mut reader, 4, wanted);
+    fills(rt, &mut reader, 4, wanted);
     let left = "(Ipv4HeaderTotalLen, [3, 4, 5, 6])";
-    shows(&rt, "taken", &taken(reader), left);
+    shows(rt, "taken", &taken(reader), left);
 }
 
 #[test]
 fn a_layer_begins(rt: HostRuntime) {
     let mut reader = limited(false);
-    fills(&rt, &mut reader, 2, "(Ok(()), [1, 2, 9, 9], 2)");
+    fills(rt, &mut reader, 2, "(Ok(()), [1, 2, 9, 9], 2)");
     reader.start_layer(Layer::IpAuthHeader);
-    shows(&rt, "begun", &told(&reader), "(3, IpAuthHeader, 22, 0)");
+    shows(rt, "begun", &told(&reader), "(3, IpAuthHeader, 22, 0)");
 }
 
 #[test]
 fn a_failed_read_counts_for_nothing(rt: HostRuntime) {
     let mut reader = limited(true);
-    fills(&rt, &mut reader, 2, "(Ok(()), [1, 2, 9, 9], 2)");
+    fills(rt, &mut reader, 2, "(Ok(()), [1, 2, 9, 9], 2)");
     let wanted = "(Err(Io(PermissionDenied)), [9, 9, 9, 9], 2)";
-    fills(&rt, &mut reader, 2, wanted);
-    fills(&rt, &mut reader, 2, "(Ok(()), [3, 4, 9, 9], 4)");
+    fills(rt, &mut reader, 2, wanted);
+    fills(rt, &mut reader, 2, "(Ok(()), [3, 4, 9, 9], 4)");
 }
 
 #[test]
 fn words_of_lengths(rt: HostRuntime) {
     reads_as(
-        &rt,
+        rt,
         &ExtPayloadLenError::TooSmall(5),
         "raw extension header: a payload of 5 byte(s) is too small, it has at least 6",
     );
     reads_as(
-        &rt,
+        rt,
         &ExtPayloadLenError::TooBig(2047),
         "raw extension header: a payload of 2047 bytes is too big, it has at most 2046",
     );
     reads_as(
-        &rt,
+        rt,
         &ExtPayloadLenError::Unaligned(7),
         "raw extension header: a payload of 7 bytes, which is not 6 and a multiple of 8",
     );
     reads_as(
-        &rt,
+        rt,
         &IcvLenError::TooBig(1020),
         "authentication header: a check value of 1020 bytes is too big, it has at most 1016",
     );
     reads_as(
-        &rt,
+        rt,
         &IcvLenError::Unaligned(5),
         "authentication header: a check value of 5 byte(s), which is no multiple of 4",
     );
@@ -138,7 +138,7 @@ fn words_of_faults(rt: HostRuntime) {
     let of_slice = HeaderSliceError::Content(fault);
     let read = HeaderReadError::Content(fault);
     let limited = HeaderLimitedReadError::Content(fault);
-    read_as(&rt, (&of_slice, &read, &limited), zero);
+    read_as(rt, (&of_slice, &read, &limited), zero);
 }
 
 // An error that holds a want has its words.
@@ -148,7 +148,7 @@ fn words_of_wants(rt: HostRuntime) {
     let of_slice = HeaderSliceError::Len(want);
     let limited = HeaderLimitedReadError::Len(want);
     read_alike(
-        &rt,
+        rt,
         (&of_slice, &limited, &LimitedReadError::Len(want)),
         &want,
     );
@@ -159,5 +159,5 @@ fn words_of_failed_reads(rt: HostRuntime) {
     let limit = LimitedReadError::Io(ErrorKind::PermissionDenied.into());
     let read = HeaderReadError::Io(ErrorKind::PermissionDenied.into());
     let limited = HeaderLimitedReadError::Io(ErrorKind::PermissionDenied.into());
-    read_as(&rt, (&limit, &read, &limited), "permission denied");
+    read_as(rt, (&limit, &read, &limited), "permission denied");
 }

@@ -51,7 +51,7 @@ pub fn within(kind: Kind, limit: usize) -> (Read, usize, Layer, usize) {
 #[test]
 fn a_raw_header_and_its_limit(rt: HostRuntime) {
     rows(
-        &rt,
+        rt,
         Call::ReadWithin(Kind::Raw),
         "0..8: (Err(Len((8, 0, Ipv6HeaderPayloadLen, Ipv6ExtHeader, 10))), 0, Ipv6ExtHeader, 18)
         8..16: (Err(Len((16, 0, Ipv6HeaderPayloadLen, Ipv6ExtHeader, 10))), 8, Ipv6ExtHeader, 10)
@@ -62,7 +62,7 @@ fn a_raw_header_and_its_limit(rt: HostRuntime) {
 #[test]
 fn a_fragment_header_and_its_limit(rt: HostRuntime) {
     rows(
-        &rt,
+        rt,
         Call::ReadWithin(Kind::Fragment),
         "0..8: (Err(Len((8, 0, Ipv6HeaderPayloadLen, Ipv6FragHeader, 10))), 0, Ipv6FragHeader, 10)
         8..10: (Ok((true, IpNumber(58))), 8, Ipv6FragHeader, 2)",
@@ -72,7 +72,7 @@ fn a_fragment_header_and_its_limit(rt: HostRuntime) {
 #[test]
 fn an_authentication_header_and_its_limit(rt: HostRuntime) {
     rows(
-        &rt,
+        rt,
         Call::ReadWithin(Kind::Auth),
         "0..12: (Err(Len((12, 0, Ipv6HeaderPayloadLen, IpAuthHeader, 10))), 0, IpAuthHeader, 18)
         12..16: (Err(Len((16, 0, Ipv6HeaderPayloadLen, IpAuthHeader, 10))), 12, IpAuthHeader, 6)
@@ -85,7 +85,7 @@ fn an_authentication_header_and_its_limit(rt: HostRuntime) {
 #[test]
 fn a_chain_and_its_limit(rt: HostRuntime) {
     rows(
-        &rt,
+        rt,
         Call::ReadWithin(Kind::Ipv6(0)),
         "0..8: (Err(Len((8, 0, Ipv6HeaderPayloadLen, Ipv6ExtHeader, 40))), 0, Ipv6ExtHeader, 74)
         8..16: (Err(Len((8, 8, Ipv6HeaderPayloadLen, Ipv6ExtHeader, 48))), 0, Ipv6ExtHeader, 66)
@@ -102,14 +102,14 @@ fn a_chain_and_its_limit(rt: HostRuntime) {
 #[test]
 fn the_header_of_ipv4_and_its_limit(rt: HostRuntime) {
     rows(
-        &rt,
+        rt,
         Call::ReadWithin(Kind::Ipv4(51)),
         "12..16: (Err(Len((16, 0, Ipv6HeaderPayloadLen, IpAuthHeader, 40))), 12, IpAuthHeader, 5)
         16..18: (Ok((true, IpNumber(6))), 16, IpAuthHeader, 1)",
     );
     // Another number than 51 leaves the reader.
     let wanted = "16: (Ok((true, IpNumber(6))), 0, Ipv6Packet, 17)";
-    rows(&rt, Call::ReadWithin(Kind::Ipv4(6)), wanted);
+    rows(rt, Call::ReadWithin(Kind::Ipv4(6)), wanted);
 }
 
 /// What is read byte by byte where this call fails, and how many bytes of the layer count as read.
@@ -125,25 +125,25 @@ pub fn failing(kind: Kind, call: usize) -> (Read, usize) {
 #[test]
 fn limited_headers_from_failing_readers(rt: HostRuntime) {
     rows(
-        &rt,
+        rt,
         Call::LimitedFailing(Kind::Raw),
         "0..8: (Err(Io(PermissionDenied)), 0)
         8..16: (Err(Io(PermissionDenied)), 8)",
     );
     rows(
-        &rt,
+        rt,
         Call::LimitedFailing(Kind::Auth),
         "0..12: (Err(Io(PermissionDenied)), 0)
         12..16: (Err(Io(PermissionDenied)), 12)",
     );
     let wanted = "0..8: (Err(Io(PermissionDenied)), 0)";
-    rows(&rt, Call::LimitedFailing(Kind::Fragment), wanted);
+    rows(rt, Call::LimitedFailing(Kind::Fragment), wanted);
 }
 
 #[test]
 fn each_read_of_limited_chains_fails(rt: HostRuntime) {
     rows(
-        &rt,
+        rt,
         Call::LimitedFailing(Kind::Ipv6(0)),
         "0..24: (Err(Io(ConnectionReset)), 0)
         24..32: (Err(Io(ConnectionReset)), 8)
@@ -152,7 +152,7 @@ fn each_read_of_limited_chains_fails(rt: HostRuntime) {
         64..72: (Err(Io(ConnectionReset)), 0)",
     );
     rows(
-        &rt,
+        rt,
         Call::LimitedFailing(Kind::Ipv4(51)),
         "0..12: (Err(Io(ConnectionReset)), 0)
         12..16: (Err(Io(ConnectionReset)), 12)",
@@ -171,8 +171,8 @@ fn limited_readers_that_end_within_a_chain(rt: HostRuntime) {
         "0..72: Err(Io(UnexpectedEof))",
         "0..16: Err(Io(UnexpectedEof))",
     );
-    rows(&rt, Call::LimitedOfFront(Kind::Ipv6(0)), v6);
-    rows(&rt, Call::LimitedOfFront(Kind::Ipv4(51)), v4);
+    rows(rt, Call::LimitedOfFront(Kind::Ipv6(0)), v6);
+    rows(rt, Call::LimitedOfFront(Kind::Ipv4(51)), v4);
 }
 
 // What is read of 16 bytes of zero, and how many of the layer count as read.
@@ -185,11 +185,11 @@ fn zeros(kind: Kind) -> (Read, usize) {
 #[test]
 fn faults_of_headers_within_a_limit(rt: HostRuntime) {
     let zero = "(Err(Content(IpAuth(ZeroPayloadLen))), 12)";
-    shows(&rt, "a header", &zeros(Kind::Auth), zero);
-    shows(&rt, "IPv4", &zeros(Kind::Ipv4(51)), zero);
-    shows(&rt, "IPv6", &zeros(Kind::Ipv6(51)), zero);
+    shows(rt, "a header", &zeros(Kind::Auth), zero);
+    shows(rt, "IPv4", &zeros(Kind::Ipv4(51)), zero);
+    shows(rt, "IPv6", &zeros(Kind::Ipv6(51)), zero);
     let misplaced = "(Err(Content(HopByHopNotAtStart)), 8)";
-    shows(&rt, "options", &zeros(Kind::Ipv6(60)), misplaced);
+    shows(rt, "options", &zeros(Kind::Ipv6(60)), misplaced);
 }
 
 // What is read within 23 bytes of a raw header and of the fragment header behind it.
@@ -206,5 +206,5 @@ fn in_a_row() -> (Read, Read) {
 fn headers_in_a_row_within_a_limit(rt: HostRuntime) {
     let wanted = "(Ok((true, IpNumber(17))), \
         Err(Len((8, 7, Ipv6HeaderPayloadLen, Ipv6FragHeader, 26))))";
-    shows(&rt, "in a row", &in_a_row(), wanted);
+    shows(rt, "in a row", &in_a_row(), wanted);
 }

@@ -8,16 +8,16 @@ use crate::checks::holds;
 use std::process::Abort;
 use std::test::*;
 
-fn is_so(rt: &(impl Abort + AllocGlobal), kind: Kind, bytes: &[u8], written: &[u8]) {
+fn is_so(rt: impl Abort + AllocGlobal + Copy, kind: Kind, bytes: &[u8], written: &[u8]) {
     holds(rt, is_all_or_nothing(rt.alloc(), kind, bytes, written));
 }
 
 #[test]
 fn headers_want_memory(rt: HostRuntime) {
     let fragment = &[17, 0, 0, 9, 0, 0, 0, 7];
-    is_so(&rt, Kind::Raw, &CHAIN, &CHAIN[..8]);
-    is_so(&rt, Kind::Fragment, fragment, fragment);
-    is_so(&rt, Kind::Auth, &AUTH, &AUTH[..16]);
-    is_so(&rt, Kind::Ipv6(0), &CHAIN, &CHAIN[..72]);
-    is_so(&rt, Kind::Ipv4(51), &AUTH, &AUTH[..16]);
+    is_so(rt, Kind::Raw, &CHAIN, &CHAIN[..8]);
+    is_so(rt, Kind::Fragment, fragment, fragment);
+    is_so(rt, Kind::Auth, &AUTH, &AUTH[..16]);
+    is_so(rt, Kind::Ipv6(0), &CHAIN, &CHAIN[..72]);
+    is_so(rt, Kind::Ipv4(51), &AUTH, &AUTH[..16]);
 }

@@ -15,23 +15,18 @@ fn told(place: Ipv6ExtPlace) -> (IpNumber, Layer) {
 fn numbers_and_layers_of_places(rt: HostRuntime) {
     let hop_by_hop = told(Ipv6ExtPlace::HopByHop);
     shows(
-        &rt,
+        rt,
         "hop by hop",
         &hop_by_hop,
         "(IpNumber(0), Ipv6HopByHopHeader)",
     );
     let options = "(IpNumber(60), Ipv6DestOptionsHeader)";
-    shows(
-        &rt,
-        "destination",
-        &told(Ipv6ExtPlace::Destination),
-        options,
-    );
+    shows(rt, "destination", &told(Ipv6ExtPlace::Destination), options);
     let routing = told(Ipv6ExtPlace::Routing);
-    shows(&rt, "routing", &routing, "(IpNumber(43), Ipv6RouteHeader)");
+    shows(rt, "routing", &routing, "(IpNumber(43), Ipv6RouteHeader)");
     let fragment = told(Ipv6ExtPlace::Fragment);
-    shows(&rt, "fragment", &fragment, "(IpNumber(44), Ipv6FragHeader)");
+    shows(rt, "fragment", &fragment, "(IpNumber(44), Ipv6FragHeader)");
     let auth = told(Ipv6ExtPlace::Authentication);
-    shows(&rt, "authentication", &auth, "(IpNumber(51), IpAuthHeader)");
-    shows(&rt, "final", &told(Ipv6ExtPlace::FinalDestination), options);
+    shows(rt, "authentication", &auth, "(IpNumber(51), IpAuthHeader)");
+    shows(rt, "final", &told(Ipv6ExtPlace::FinalDestination), options);
 }

@@ -56,7 +56,7 @@ pub fn in_pieces(kind: Kind, piece: usize) -> (Read, &'static [u8]) {
 #[test]
 fn headers_are_read_in_pieces(rt: HostRuntime) {
     rows(
-        &rt,
+        rt,
         Call::ReadInPieces(Kind::Raw),
         "1: (Ok((true, IpNumber(17))), [170, 187])
         3: (Ok((true, IpNumber(17))), [170, 187])
@@ -67,7 +67,7 @@ fn headers_are_read_in_pieces(rt: HostRuntime) {
 #[test]
 fn fragment_headers_are_read_in_pieces(rt: HostRuntime) {
     rows(
-        &rt,
+        rt,
         Call::ReadInPieces(Kind::Fragment),
         "1: (Ok((true, IpNumber(58))), [170, 187])
         3: (Ok((true, IpNumber(58))), [170, 187])
@@ -78,7 +78,7 @@ fn fragment_headers_are_read_in_pieces(rt: HostRuntime) {
 #[test]
 fn authentication_headers_are_read_in_pieces(rt: HostRuntime) {
     rows(
-        &rt,
+        rt,
         Call::ReadInPieces(Kind::Auth),
         "1: (Ok((true, IpNumber(6))), [170, 187])
         3: (Ok((true, IpNumber(6))), [170, 187])
@@ -89,14 +89,14 @@ fn authentication_headers_are_read_in_pieces(rt: HostRuntime) {
 #[test]
 fn chains_are_read_in_pieces(rt: HostRuntime) {
     rows(
-        &rt,
+        rt,
         Call::ReadInPieces(Kind::Ipv6(0)),
         "1: (Ok((true, IpNumber(17))), [170, 187])
         5: (Ok((true, IpNumber(17))), [170, 187])
         100: (Ok((true, IpNumber(17))), [170, 187])",
     );
     let wanted = "1: (Ok((true, IpNumber(6))), [170])";
-    rows(&rt, Call::ReadInPieces(Kind::Ipv4(51)), wanted);
+    rows(rt, Call::ReadInPieces(Kind::Ipv4(51)), wanted);
 }
 
 /// The kind of a failing read.
@@ -128,13 +128,13 @@ pub fn failing(kind: Kind, piece: usize, call: usize) -> (Read, Read, usize) {
 #[test]
 fn a_raw_header_from_a_failing_reader(rt: HostRuntime) {
     rows(
-        &rt,
+        rt,
         Call::ReadFailing(Kind::Raw, 100),
         "0..2: (Err(Io(PermissionDenied)), Ok((true, IpNumber(17))), 1)
         2: (Ok((true, IpNumber(17))), Ok((true, IpNumber(17))), 0)",
     );
     rows(
-        &rt,
+        rt,
         Call::ReadFailing(Kind::Raw, 1),
         "0..16: (Err(Io(PermissionDenied)), Ok((true, IpNumber(17))), 1)
         16: (Ok((true, IpNumber(17))), Ok((true, IpNumber(17))), 0)",
@@ -144,13 +144,13 @@ fn a_raw_header_from_a_failing_reader(rt: HostRuntime) {
 #[test]
 fn a_fragment_header_from_a_failing_reader(rt: HostRuntime) {
     rows(
-        &rt,
+        rt,
         Call::ReadFailing(Kind::Fragment, 100),
         "0: (Err(Io(PermissionDenied)), Ok((true, IpNumber(58))), 1)
         1: (Ok((true, IpNumber(58))), Ok((true, IpNumber(58))), 0)",
     );
     rows(
-        &rt,
+        rt,
         Call::ReadFailing(Kind::Fragment, 1),
         "0..8: (Err(Io(PermissionDenied)), Ok((true, IpNumber(58))), 1)
         8: (Ok((true, IpNumber(58))), Ok((true, IpNumber(58))), 0)",
@@ -160,13 +160,13 @@ fn a_fragment_header_from_a_failing_reader(rt: HostRuntime) {
 #[test]
 fn an_authentication_header_from_a_failing_reader(rt: HostRuntime) {
     rows(
-        &rt,
+        rt,
         Call::ReadFailing(Kind::Auth, 100),
         "0..2: (Err(Io(PermissionDenied)), Ok((true, IpNumber(6))), 1)
         2: (Ok((true, IpNumber(6))), Ok((true, IpNumber(6))), 0)",
     );
     rows(
-        &rt,
+        rt,
         Call::ReadFailing(Kind::Auth, 1),
         "0..16: (Err(Io(PermissionDenied)), Ok((true, IpNumber(6))), 1)
         16: (Ok((true, IpNumber(6))), Ok((true, IpNumber(6))), 0)",
@@ -176,12 +176,12 @@ fn an_authentication_header_from_a_failing_reader(rt: HostRuntime) {
 #[test]
 fn each_read_of_a_chain_fails(rt: HostRuntime) {
     rows(
-        &rt,
+        rt,
         Call::ReadFailing(Kind::Ipv6(0), 1),
         "0..72: (Err(Io(ConnectionReset)), Ok((true, IpNumber(17))), 1)",
     );
     rows(
-        &rt,
+        rt,
         Call::ReadFailing(Kind::Ipv4(51), 1),
         "0..16: (Err(Io(ConnectionReset)), Ok((true, IpNumber(6))), 1)",
     );
@@ -191,7 +191,7 @@ fn each_read_of_a_chain_fails(rt: HostRuntime) {
 #[test]
 fn another_number_than_51_leaves_a_reader(rt: HostRuntime) {
     rows(
-        &rt,
+        rt,
         Call::ReadFailing(Kind::Ipv4(6), 1),
         "0: (Ok((true, IpNumber(6))), Ok((true, IpNumber(6))), 0)",
     );
@@ -209,11 +209,11 @@ fn readers_that_end_within_a_header(rt: HostRuntime) {
         "0..8: Err(Io(UnexpectedEof))",
         "0..16: Err(Io(UnexpectedEof))",
     );
-    rows(&rt, Call::ReadOfFront(Kind::Raw, 5), long);
-    rows(&rt, Call::ReadOfFront(Kind::Auth, 5), long);
-    rows(&rt, Call::ReadOfFront(Kind::Fragment, 5), short);
+    rows(rt, Call::ReadOfFront(Kind::Raw, 5), long);
+    rows(rt, Call::ReadOfFront(Kind::Auth, 5), long);
+    rows(rt, Call::ReadOfFront(Kind::Fragment, 5), short);
     let wanted = "0..72: Err(Io(UnexpectedEof))";
-    rows(&rt, Call::ReadOfFront(Kind::Ipv6(0), 100), wanted);
+    rows(rt, Call::ReadOfFront(Kind::Ipv6(0), 100), wanted);
 }
 
 // What is read of 16 bytes of zero, and how many of them are left.
@@ -226,11 +226,11 @@ fn zeros(kind: Kind) -> (Read, usize) {
 #[test]
 fn faults_of_headers_that_are_read(rt: HostRuntime) {
     let zero = "(Err(Content(IpAuth(ZeroPayloadLen))), 4)";
-    shows(&rt, "a header", &zeros(Kind::Auth), zero);
-    shows(&rt, "IPv4", &zeros(Kind::Ipv4(51)), zero);
-    shows(&rt, "IPv6", &zeros(Kind::Ipv6(51)), zero);
+    shows(rt, "a header", &zeros(Kind::Auth), zero);
+    shows(rt, "IPv4", &zeros(Kind::Ipv4(51)), zero);
+    shows(rt, "IPv6", &zeros(Kind::Ipv6(51)), zero);
     let misplaced = "(Err(Content(HopByHopNotAtStart)), 8)";
-    shows(&rt, "options", &zeros(Kind::Ipv6(60)), misplaced);
+    shows(rt, "options", &zeros(Kind::Ipv6(60)), misplaced);
 }
 
 // The length that a header of this kind names by its second byte.
@@ -266,12 +266,12 @@ pub fn limited(inner: FaultReader<'_>, max_len: usize) -> Limited<'_> {
 #[test]
 fn headers_of_every_length_are_read(rt: HostRuntime) {
     rows(
-        &rt,
+        rt,
         Call::ReadOfEachLen(Kind::Raw),
         "0..256: (Ok((true, IpNumber(51))), 2050, Ok((true, IpNumber(51))), 0)",
     );
     rows(
-        &rt,
+        rt,
         Call::ReadOfEachLen(Kind::Auth),
         "1..256: (Ok((true, IpNumber(51))), 2050, Ok((true, IpNumber(51))), 0)",
     );

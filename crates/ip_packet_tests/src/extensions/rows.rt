@@ -38,7 +38,7 @@ pub enum Call {
     LimitedOfFront(Kind),
 }
 
-fn asked(rt: &(impl Abort + AllocGlobal), call: Call, at: usize, wanted: &str) {
+fn asked(rt: impl Abort + AllocGlobal + Copy, call: Call, at: usize, wanted: &str) {
     match call {
         Call::Raw => shows(rt, at, &headers::raw_front(at), wanted),
         Call::RawView => shows(rt, at, &headers::raw_view(at), wanted),
@@ -75,7 +75,7 @@ fn asked(rt: &(impl Abort + AllocGlobal), call: Call, at: usize, wanted: &str) {
     }
 }
 
-fn number(rt: &impl Abort, text: &str) -> usize {
+fn number(rt: impl Abort + Copy, text: &str) -> usize {
     match text.parse::<usize>() {
         Ok(number) => number,
         Err(_) => panic!(rt; "no number: {text}"),
@@ -83,7 +83,7 @@ fn number(rt: &impl Abort, text: &str) -> usize {
 }
 
 /// The numbers of a row: one, as '8', or those from one up to another, as '0..8'.
-pub fn range(rt: &impl Abort, row: &str) -> (usize, usize) {
+pub fn range(rt: impl Abort + Copy, row: &str) -> (usize, usize) {
     let (first, behind) = match row.split_once("..") {
         Some((first, behind)) => (number(rt, first), number(rt, behind)),
         None => (number(rt, row), number(rt, row).saturating_add(1)),
@@ -95,7 +95,7 @@ pub fn range(rt: &impl Abort, row: &str) -> (usize, usize) {
 }
 
 /// Asks each number of each row. A row is as '0..8: ANSWER'.
-pub fn rows(rt: &(impl Abort + AllocGlobal), call: Call, table: &str) {
+pub fn rows(rt: impl Abort + AllocGlobal + Copy, call: Call, table: &str) {
     for line in table.lines() {
         let Some((row, wanted)) = line.trim().split_once(": ") else {
             panic!(rt; "no row: {line}");

@@ -9,7 +9,7 @@ use std::test::*;
 
 // This is the text of a fault of a base header, and of the errors that hold it. It has no contract:
 // tests alone call it, and are run.
-fn is_text_of(rt: &(impl Abort + AllocGlobal), fault: ip::HeaderError, text: &str) {
+fn is_text_of(rt: impl Abort + AllocGlobal + Copy, fault: ip::HeaderError, text: &str) {
     let headers = ip::HeadersError::Ip(fault);
     let of_slice = ip::HeadersSliceError::Content(headers);
     read_as(rt, (&fault, &headers, &of_slice), text);
@@ -20,10 +20,10 @@ fn is_text_of(rt: &(impl Abort + AllocGlobal), fault: ip::HeaderError, text: &st
 fn texts_of_base_headers(rt: HostRuntime) {
     let version = ip::HeaderError::UnsupportedIpVersion { version_number: 5 };
     let text = "unsupported IP version 5, which is neither 4 nor 6";
-    is_text_of(&rt, version, text);
+    is_text_of(rt, version, text);
     let length = ip::HeaderError::Ipv4HeaderLengthSmallerThanHeader { ihl: 4 };
     let text = "an IPv4 header length of 4 words of 4 bytes, where 5 are the least";
-    is_text_of(&rt, length, text);
+    is_text_of(rt, length, text);
 }
 
 // An error that holds another one has its text.
@@ -33,8 +33,8 @@ fn texts_of_a_want(rt: HostRuntime) -> Result<(), Fail> {
     let text = format!(in rt.alloc(); "{error}")?;
     let (v4, v6) = (ipv4::SliceError::Len(error), ipv6::SliceError::Len(error));
     let of_headers = ip::HeadersSliceError::Len(error);
-    read_as(&rt, (&v4, &v6, &of_headers), text.as_str());
-    reads_as(&rt, &ip::SliceError::Len(error), text.as_str());
+    read_as(rt, (&v4, &v6, &of_headers), text.as_str());
+    reads_as(rt, &ip::SliceError::Len(error), text.as_str());
     Ok(())
 }
 
@@ -42,12 +42,12 @@ fn texts_of_a_want(rt: HostRuntime) -> Result<(), Fail> {
 fn texts_of_versions(rt: HostRuntime) {
     let v4 = ep_ip::err::ipv4::HeaderError::UnexpectedVersion { version_number: 6 };
     let text = "IPv4 header: the version number is 6 and not 4";
-    reads_as(&rt, &v4, text);
-    reads_as(&rt, &ipv4::SliceError::Header(v4), text);
+    reads_as(rt, &v4, text);
+    reads_as(rt, &ipv4::SliceError::Header(v4), text);
     let v6 = ep_ip::err::ipv6::HeaderError::UnexpectedVersion { version_number: 4 };
     let text = "IPv6 header error: unexpected version number 4";
-    reads_as(&rt, &v6, text);
-    reads_as(&rt, &ipv6::SliceError::Header(v6), text);
+    reads_as(rt, &v6, text);
+    reads_as(rt, &ipv6::SliceError::Header(v6), text);
 }
 
 #[test]
@@ -55,9 +55,9 @@ fn texts_of_extension_headers(rt: HostRuntime) {
     let v4 = ip_auth::HeaderError::ZeroPayloadLen;
     let (of_packet, of_headers) = (ipv4::SliceError::Exts(v4), ip::HeadersError::Ipv4Ext(v4));
     let text = "authentication header: the payload length is 0";
-    read_as(&rt, (&v4, &of_packet, &of_headers), text);
+    read_as(rt, (&v4, &of_packet, &of_headers), text);
     let v6 = ipv6_exts::HeaderError::HopByHopNotAtStart;
     let (of_packet, of_headers) = (ipv6::SliceError::Exts(v6), ip::HeadersError::Ipv6Ext(v6));
     let text = "IPv6 extension headers: hop-by-hop options are not at the start";
-    read_as(&rt, (&v6, &of_packet, &of_headers), text);
+    read_as(rt, (&v6, &of_packet, &of_headers), text);
 }

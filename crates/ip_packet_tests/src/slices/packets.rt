@@ -1,6 +1,6 @@
 //! IP packets in slices. The bytes are made by the RFCs' tables.
 
-use crate::checks::want_in_slice;
+use crate::checks::{fail, want_in_slice};
 use ep_base::err::{Layer, LenError};
 use ep_base::{IpNumber, LenSource};
 use ep_ext::err::{ip_auth, ipv6_exts};
@@ -31,7 +31,7 @@ pub(super) const IPV6: [u8; 87] = [
 fn ipv4_with_an_authentication_header(rt: HostRuntime) {
     let bytes = IPV4;
     let Ok(packet) = Ipv4Slice::from_slice(&bytes) else {
-        panic!(rt; "no packet");
+        fail(rt, "no packet");
     };
     let payload = packet.payload();
     let found = (
@@ -60,7 +60,7 @@ fn ipv4_with_an_authentication_header(rt: HostRuntime) {
 fn ipv6_with_all_extension_headers(rt: HostRuntime) {
     let bytes = IPV6;
     let Ok(packet) = Ipv6Slice::from_slice(&bytes) else {
-        panic!(rt; "no packet");
+        fail(rt, "no packet");
     };
     let payload = packet.payload();
     let found = (
@@ -100,7 +100,7 @@ fn kinds(extensions: &Ipv6ExtensionsSlice<'_>) -> [u8; 6] {
 fn extension_headers_in_their_order(rt: HostRuntime) {
     let bytes = IPV6;
     let Ok(packet) = Ipv6Slice::from_slice(&bytes) else {
-        panic!(rt; "no packet");
+        fail(rt, "no packet");
     };
     assert!(rt; kinds(packet.extensions()) == [0, 43, 44, 51, 60, 255]);
 }
@@ -112,7 +112,7 @@ fn repeated_fragment_headers(rt: HostRuntime) {
     ];
     let Ok((extensions, number, rest)) = Ipv6ExtensionsSlice::from_slice(IpNumber(44), &bytes)
     else {
-        panic!(rt; "refused");
+        fail(rt, "refused");
     };
     let found = (
         number,
@@ -153,7 +153,7 @@ fn no_headers(rt: HostRuntime) {
     let bytes = [1, 2, 3];
     let Ok((extensions, number, rest)) = Ipv6ExtensionsSlice::from_slice(IpNumber::TCP, &bytes)
     else {
-        panic!(rt; "refused");
+        fail(rt, "refused");
     };
     let found = (
         extensions.first_header(),
@@ -332,7 +332,7 @@ fn a_total_length_below_the_header(rt: HostRuntime) {
 fn packets_of_either_version(rt: HostRuntime) {
     let bytes = IPV4;
     let Ok(packet) = IpSlice::from_slice(&bytes) else {
-        panic!(rt; "no packet");
+        fail(rt, "no packet");
     };
     let found = (
         packet.source_addr(),
@@ -353,7 +353,7 @@ fn packets_of_either_version(rt: HostRuntime) {
 fn an_ipv6_packet_of_either_version(rt: HostRuntime) {
     let bytes = IPV6;
     let Ok(packet) = IpSlice::from_slice(&bytes) else {
-        panic!(rt; "no packet");
+        fail(rt, "no packet");
     };
     let found = (
         packet.source_addr(),

@@ -1,6 +1,7 @@
 //! What views tell of packets. The bytes are those of `packets`, or made by the RFCs' tables.
 
 use super::packets::{IPV4, IPV6};
+use crate::checks::fail;
 use ep_base::{IpNumber, LenSource};
 use ep_ipslice::{
     IpPayloadSlice, IpSlice, Ipv4ExtensionsSlice, Ipv4Slice, Ipv6ExtensionSliceIter,
@@ -45,7 +46,7 @@ fn fragment_fields_of_an_ipv4_packet(rt: HostRuntime) {
     bytes[6] = 0x20;
     bytes[7] = 5;
     let Ok(packet) = Ipv4Slice::from_slice(&bytes) else {
-        panic!(rt; "no packet");
+        fail(rt, "no packet");
     };
     let (identification, offset, more) = laws::ipv4_fragment_fields(&packet);
     assert!(rt; (identification, offset.value(), more) == (0x107, 5, true));
@@ -98,7 +99,7 @@ fn authentication_headers_behind_one_another(rt: HostRuntime) {
     let mut bytes = IPV4;
     bytes[20] = 51;
     let Ok(packet) = Ipv4Slice::from_slice(&bytes) else {
-        panic!(rt; "no packet");
+        fail(rt, "no packet");
     };
     let found = (packet.payload_ip_number(), packet.payload().payload);
     assert!(rt; found == (IpNumber::AUTHENTICATION_HEADER, &bytes[32..34]));
@@ -111,7 +112,7 @@ fn authentication_headers_behind_an_ipv6_header(rt: HostRuntime) {
     ];
     let Ok((extensions, number, rest)) = Ipv6ExtensionsSlice::from_slice(IpNumber(51), &bytes)
     else {
-        panic!(rt; "refused");
+        fail(rt, "refused");
     };
     let mut headers = extensions.into_iter();
     let there = [
@@ -126,7 +127,7 @@ fn authentication_headers_behind_an_ipv6_header(rt: HostRuntime) {
 fn packets_of_a_version_as_packets_of_either(rt: HostRuntime) {
     let bytes = IPV4;
     let Ok(packet) = Ipv4Slice::from_slice(&bytes) else {
-        panic!(rt; "no packet");
+        fail(rt, "no packet");
     };
     let either = IpSlice::from(packet);
     let found = (
@@ -141,7 +142,7 @@ fn packets_of_a_version_as_packets_of_either(rt: HostRuntime) {
 fn an_ipv6_packet_as_one_of_either(rt: HostRuntime) {
     let bytes = IPV6;
     let Ok(packet) = Ipv6Slice::from_slice(&bytes) else {
-        panic!(rt; "no packet");
+        fail(rt, "no packet");
     };
     let either = IpSlice::from(packet);
     let found = (

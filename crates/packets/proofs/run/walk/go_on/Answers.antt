@@ -4,7 +4,7 @@ use Rattle.std.specs.Io.KnownBytes.{Consumes}
 use Rattle.captures.specs.Readers.{ComesTo, skipped_by, source_of}
 use Rattle.packets.specs.Runs.{AreTaken}
 use Rattle.packets.proofs.EndLemmas.{break_ends, broken}
-use Rattle.packets.proofs.WalkLemmas.{first_given, reader_ends, unbroken_by_read}
+use Rattle.packets.proofs.WalkLemmas.{given_but_none, reader_ends, unbroken_by_read}
 use Rattle.packets.proofs.run.walk.go_on.Goals as goal
 
 pub returns-in-Err : goal.returns-in-Err
@@ -17,7 +17,7 @@ returns-in-Err g c unfit read given start seen h goes =
         break_ends g.V.Visitor.writes unfit _ left (read ++ []) given c.in-Err.error _ by
             (subst (λ (l : List ℕ). AreTaken unfit (skipped_by c.args.packets.now) l given)
             (sym (append-nil read))
-            (inl (first_given unfit c.args.packets.now read given h))),
+            (inl (given_but_none unfit c.args.packets.now read given h))),
         (broken g.V.Visitor.writes c.in-Err.error _ by).1 _ _ (broken g.V.Visitor.writes c.in-Err.error _ by).0,
       ),
     )
@@ -67,7 +67,7 @@ returns-in-Err-before_read g c unfit read given start seen h goes =
       (
         break_ends g.V.Visitor.writes unfit _ left (read ++ []) given c.in-Err-before_read.error _ by
             (subst (λ (l : List ℕ). AreTaken unfit (skipped_by new) l given)
-            (sym (append-nil read)) (inl (first_given unfit new read given front.0))),
+            (sym (append-nil read)) (inl (given_but_none unfit new read given front.0))),
         (broken g.V.Visitor.writes c.in-Err-before_read.error _ by).1 _ _ (broken g.V.Visitor.writes c.in-Err-before_read.error _ by).0,
       ),
     )

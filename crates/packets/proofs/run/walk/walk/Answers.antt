@@ -122,9 +122,9 @@ returns g c =
       i.given,
       i.told,
       i.consumed,
-      (
+      inr (
         first_given c.args.rules.now.unfit c.packets.packets i.read i.given i.has,
-        inr (omega (arith, i.counted)),
+        omega (arith, i.counted),
       ),
       i.dissected,
       i.goes,
