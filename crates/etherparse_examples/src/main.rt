@@ -30,7 +30,11 @@ fn print_frames(rt: &HostRuntime) -> anyhow::Result<()> {
     println!(rt; "{:?}", udp_ports::udp_ports(frames::UDP_OVER_IPV4)?)?;
     println!(rt; "{:?}", udp_ports::udp_ports(frames::TCP_OVER_IPV6)?)?;
     println!(rt; "A frame, sliced:")?;
-    for frame in [frames::UDP_OVER_IPV4, frames::TCP_OVER_IPV6, frames::TAGGED_ARP] {
+    for frame in [
+        frames::UDP_OVER_IPV4,
+        frames::TCP_OVER_IPV6,
+        frames::TAGGED_ARP,
+    ] {
         sliced_frame::print_parts(rt, frame)?;
     }
     Ok(())
@@ -52,7 +56,10 @@ fn print_values(rt: &HostRuntime) -> anyhow::Result<()> {
 
 fn print_checksums(rt: &HostRuntime) -> anyhow::Result<()> {
     println!(rt; "Checksums:")?;
-    println!(rt; "{}", checksums::has_its_checksum(&frames::UDP_OVER_IPV4[14..])?)?;
+    println!(rt;
+        "{}",
+        checksums::has_its_checksum(&frames::UDP_OVER_IPV4[14..])?
+    )?;
     let bytes = checksums::datagram(
         rt.alloc(),
         [10, 0, 0, 1],
