@@ -31,7 +31,7 @@ pub enum Refusal {
     },
 }
 
-/// The layers of a packet, numbered as the exports number them.
+/// The layers of a packet, numbered as the exports number them. Each is displayed by its name in etherparse.h.
 #[derive(Clone, Copy, Debug, PartialEq, Eq)]
 pub struct Layer(pub u32);
 

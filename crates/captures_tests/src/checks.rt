@@ -1,5 +1,6 @@
 //! What tests compare, and bytes that they put together. A test ends here that finds another value
 //! or no memory.
+//! Calls have no contracts: tests alone make them, and are run.
 use std::fmt::Debug;
 use std::process::Abort;
 

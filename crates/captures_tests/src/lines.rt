@@ -1,4 +1,5 @@
 //! The lines that the captures of these tests hold, and what a run gives.
+//! Calls have no contracts: tests alone make them, and are run.
 use crate::checks::equal;
 use captures::{CaptureError, Extra, Place, RunError, Skipped, Unfit, run};
 use std::alloc::Global;

@@ -1,4 +1,5 @@
 //! Packets of other links than Ethernet, laid out as tcpdump.org/linktypes.html says.
+//! Calls have no contracts: tests alone make them, and are run.
 use crate::checks::{append, joined, repeated};
 use crate::lines::{refused, tells, tells_bytes};
 use captures::CaptureError;

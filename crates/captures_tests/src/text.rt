@@ -1,4 +1,5 @@
 //! Captures that are written of lines.
+//! Calls have no contracts: tests alone make them, and are run.
 use crate::checks::{equal, joined, repeated};
 use crate::lines::{LINES, tells};
 use captures::{RunError, TimeUnit, write_capture};

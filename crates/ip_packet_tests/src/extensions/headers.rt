@@ -1,4 +1,5 @@
 //! Single extension headers in slices.
+//! Calls have no contracts: tests alone make them, and are run.
 
 use super::kinds::{Kind, is_appended, is_copy};
 use super::rows::{Call, rows};

@@ -1,4 +1,5 @@
 //! The extension headers of IPv4.
+//! Calls have no contracts: tests alone make them, and are run.
 
 use super::headers::{Want, fault_of, front};
 use super::kinds::{Kind, is_appended};

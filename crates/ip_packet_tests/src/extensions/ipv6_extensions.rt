@@ -1,4 +1,5 @@
 //! IPv6 extension headers in a row, from slices.
+//! Calls have no contracts: tests alone make them, and are run.
 
 use super::headers::{Want, fault_of, front};
 use super::rows::{Call, rows};

@@ -1,4 +1,5 @@
 //! Headers of each kind from readers with a limit.
+//! Calls have no contracts: tests alone make them, and are run.
 
 use super::headers::front;
 use super::kinds::Kind;

@@ -1,4 +1,5 @@
 //! Headers of each kind from readers.
+//! Calls have no contracts: tests alone make them, and are run.
 
 use super::headers::front;
 use super::ipv4_extensions;
