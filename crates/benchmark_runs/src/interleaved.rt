@@ -1,8 +1,6 @@
 //! Many messages on their way at once.
 
-use crate::pools::{Messages, sum_with};
-use etherparse::defrag::IpDefragPool;
-use std::hash::BuildHasher;
+use crate::pools::{Messages, Reassembly, sum_with};
 
 /// How many messages there are for each of two sources.
 const IDENTIFICATIONS: u16 = 50_000;
@@ -25,7 +23,7 @@ pub struct Interleaved;
 
 impl Messages for Interleaved {
     /// It has no contract, as the trait's.
-    fn put_together<S: BuildHasher>(&self, pool: &mut IpDefragPool<(), (), S>) -> u64 {
+    fn put_together<R: Reassembly>(&self, pool: &mut R) -> u64 {
         let mut frame = [0; FRAME_LEN];
         frame[..34].copy_from_slice(&HEADERS);
         let mut sum = 0;

@@ -180,108 +180,116 @@ fn message(alloc: Global, error: RunError, look: Look) -> Result<String, Fail> {
     Ok(format!(in alloc; "{told}")?)
 }
 
-// A refusal within a capture: of the third packet, in a block of this type if in one.
-fn refusal(error: CaptureError, block: Option<u32>) -> RunError {
-    RunError::Capture(
-        error,
-        Place {
-            packet: 3,
-            offset: 112,
-            block,
-        },
-    )
-}
+// Where a capture is refused: in its third packet, or in a block that tells it.
+const THIRD: Place = Place {
+    packet: 3,
+    offset: 112,
+    block: None,
+};
+
+const ENHANCED: Place = Place {
+    packet: 3,
+    offset: 112,
+    block: Some(6),
+};
+
+const SECTION: Place = Place {
+    packet: 3,
+    offset: 112,
+    block: Some(0x0a0d_0d0a),
+};
+
+// Each error with what is told of it, and the status.
+const ERRORS: &[(RunError, &str, u8)] = &[
+    (RunError::Read, "the input cannot be read", 4),
+    (RunError::Write, "the output cannot be written", 4),
+    (RunError::WriteZero, "the output takes no more bytes", 4),
+    (RunError::Memory, "out of memory", 5),
+    (RunError::TooManyReads, "too many reads", 5),
+    (RunError::BadLine(7), "line 7 hands in no frame", 3),
+    (
+        RunError::Capture(CaptureError::NotCapture, THIRD),
+        "no capture file",
+        3,
+    ),
+    (
+        RunError::Capture(CaptureError::LinkType(105), THIRD),
+        "packet 3, byte 112: link type 105 is not read: it is IEEE802_11, of wireless networks",
+        3,
+    ),
+    (
+        RunError::Capture(CaptureError::NoFrame, ENHANCED),
+        "packet 3, byte 112, block type 0x6 (enhanced packet): a packet has no ether type",
+        3,
+    ),
+    (
+        RunError::Capture(CaptureError::FrameTooLong(99_992), ENHANCED),
+        "packet 3, byte 112, block type 0x6 (enhanced packet): a packet of 99992 bytes is too long for a line",
+        3,
+    ),
+    (
+        RunError::Capture(CaptureError::CutOff, THIRD),
+        "packet 3, byte 112: the capture ends within a packet",
+        3,
+    ),
+    (
+        RunError::Capture(CaptureError::BadBlock, SECTION),
+        "packet 3, byte 112, block type 0xa0d0d0a (section header): a block is not well made",
+        3,
+    ),
+];
 
 #[test]
 fn errors_have_messages_and_a_status(rt: HostRuntime) -> Result<(), Fail> {
-    for (error, text, status) in [
-        (RunError::Read, "the input cannot be read", 4),
-        (RunError::Write, "the output cannot be written", 4),
-        (RunError::WriteZero, "the output takes no more bytes", 4),
-        (RunError::Memory, "out of memory", 5),
-        (RunError::TooManyReads, "too many reads", 5),
-        (RunError::BadLine(7), "line 7 hands in no frame", 3),
-        (
-            refusal(CaptureError::NotCapture, None),
-            "no capture file",
-            3,
-        ),
-        (
-            refusal(CaptureError::LinkType(105), None),
-            "packet 3, byte 112: link type 105 is not read: it is IEEE802_11, of wireless networks",
-            3,
-        ),
-        (
-            refusal(CaptureError::NoFrame, Some(6)),
-            "packet 3, byte 112, block type 0x6 (enhanced packet): a packet has no ether type",
-            3,
-        ),
-        (
-            refusal(CaptureError::FrameTooLong(99_992), Some(6)),
-            "packet 3, byte 112, block type 0x6 (enhanced packet): a packet of 99992 bytes is too long for a line",
-            3,
-        ),
-        (
-            refusal(CaptureError::CutOff, None),
-            "packet 3, byte 112: the capture ends within a packet",
-            3,
-        ),
-        (
-            refusal(CaptureError::BadBlock, Some(0x0a0d_0d0a)),
-            "packet 3, byte 112, block type 0xa0d0d0a (section header): a block is not well made",
-            3,
-        ),
-    ] {
-        assert_eq!(rt; message(rt.alloc(), error, Look::Other)?.as_str(), text);
-        assert_eq!(rt;
-            exit_code(&rt, Err(error), Look::Other),
-            ExitCode::from(status)
-        );
+    for (error, text, status) in ERRORS.iter() {
+        let told = message(rt.alloc(), *error, Look::Other)?;
+        equal(rt, told.as_str(), *text);
+        let code = exit_code(&rt, Err(*error), Look::Other);
+        equal(rt, code, ExitCode::from(*status));
     }
-    assert_eq!(rt; exit_code(&rt, Ok(()), Look::Other), ExitCode::SUCCESS);
+    equal(rt, exit_code(&rt, Ok(()), Look::Other), ExitCode::SUCCESS);
     Ok(())
 }
 
 // The first bytes that gzip 1.12, zstd 1.5, xz 5.4 and bzip2 1.0.8 write, and of other inputs.
+const FRONTS: &[(&[u8], Look, &str)] = &[
+    (b"", Look::Empty, "no capture file: the input is empty"),
+    (
+        b"\x1f\x8b\x08\x00\x00\x00\x00\x00\x00\x03",
+        Look::Gzip,
+        "no capture file: the input is compressed, `gzip -dc` opens it",
+    ),
+    (
+        b"\x28\xb5\x2f\xfd\x04\x58",
+        Look::Zstd,
+        "no capture file: the input is compressed, `zstd -dc` opens it",
+    ),
+    (
+        b"\xfd\x37\x7a\x58\x5a\x00\x00\x04",
+        Look::Xz,
+        "no capture file: the input is compressed, `xz -dc` opens it",
+    ),
+    (
+        b"\x42\x5a\x68\x39\x31\x41",
+        Look::Bzip2,
+        "no capture file: the input is compressed, `bzip2 -dc` opens it",
+    ),
+    (
+        b"frame 0 0aff\n",
+        Look::Text,
+        "no capture file: the input is text, `captures_cli capture` reads lines of frames",
+    ),
+    (b"\x7fELF", Look::Other, "no capture file"),
+    (b"\xd4\xc3\xb2\xa1\x01", Look::Capture, "no capture file"),
+];
+
 #[test]
 fn what_inputs_look_like(rt: HostRuntime) -> Result<(), Fail> {
-    for (front, seen, text) in [
-        (
-            b"".as_slice(),
-            Look::Empty,
-            "no capture file: the input is empty",
-        ),
-        (
-            b"\x1f\x8b\x08\x00\x00\x00\x00\x00\x00\x03",
-            Look::Gzip,
-            "no capture file: the input is compressed, `gzip -dc` opens it",
-        ),
-        (
-            b"\x28\xb5\x2f\xfd\x04\x58",
-            Look::Zstd,
-            "no capture file: the input is compressed, `zstd -dc` opens it",
-        ),
-        (
-            b"\xfd\x37\x7a\x58\x5a\x00\x00\x04",
-            Look::Xz,
-            "no capture file: the input is compressed, `xz -dc` opens it",
-        ),
-        (
-            b"\x42\x5a\x68\x39\x31\x41",
-            Look::Bzip2,
-            "no capture file: the input is compressed, `bzip2 -dc` opens it",
-        ),
-        (
-            b"frame 0 0aff\n",
-            Look::Text,
-            "no capture file: the input is text, `captures_cli capture` reads lines of frames",
-        ),
-        (b"\x7fELF", Look::Other, "no capture file"),
-        (b"\xd4\xc3\xb2\xa1\x01", Look::Capture, "no capture file"),
-    ] {
-        assert_eq!(rt; look_at(front), seen);
-        let error = refusal(CaptureError::NotCapture, None);
-        assert_eq!(rt; message(rt.alloc(), error, seen)?.as_str(), text);
+    let error = RunError::Capture(CaptureError::NotCapture, THIRD);
+    for (front, seen, text) in FRONTS.iter() {
+        equal(rt, look_at(*front), *seen);
+        let told = message(rt.alloc(), error, *seen)?;
+        equal(rt, told.as_str(), *text);
     }
     Ok(())
 }
@@ -309,27 +317,30 @@ fn what_first_reads_look_like(rt: HostRuntime) {
 }
 
 // The first line of what is no text of lines.
+const NO_LINES: &[(RunError, Look, &str)] = &[
+    (
+        RunError::BadLine(1),
+        Look::Capture,
+        "line 1 hands in no frame: the input is a capture, `captures_cli lines` reads it",
+    ),
+    (
+        RunError::BadLine(1),
+        Look::Gzip,
+        "line 1 hands in no frame: the input is compressed, `gzip -dc` opens it",
+    ),
+    (RunError::BadLine(1), Look::Text, "line 1 hands in no frame"),
+    (
+        RunError::Read,
+        Look::Directory,
+        "the input cannot be read: it is a directory",
+    ),
+];
+
 #[test]
 fn captures_are_no_lines(rt: HostRuntime) -> Result<(), Fail> {
-    for (error, look, text) in [
-        (
-            RunError::BadLine(1),
-            Look::Capture,
-            "line 1 hands in no frame: the input is a capture, `captures_cli lines` reads it",
-        ),
-        (
-            RunError::BadLine(1),
-            Look::Gzip,
-            "line 1 hands in no frame: the input is compressed, `gzip -dc` opens it",
-        ),
-        (RunError::BadLine(1), Look::Text, "line 1 hands in no frame"),
-        (
-            RunError::Read,
-            Look::Directory,
-            "the input cannot be read: it is a directory",
-        ),
-    ] {
-        assert_eq!(rt; message(rt.alloc(), error, look)?.as_str(), text);
+    for (error, look, text) in NO_LINES.iter() {
+        let told = message(rt.alloc(), *error, *look)?;
+        equal(rt, told.as_str(), *text);
     }
     Ok(())
 }

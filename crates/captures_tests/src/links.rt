@@ -24,84 +24,90 @@ pub fn capture(rt: impl Abort + AllocGlobal + Copy, link_type: u8, packet: &[u8]
 
 const NO_FRAME: Option<&str> = None;
 
+const IPV4: Option<&str> = Some("frame 0 000000000000000000000000080045\n");
+
+const IPV6: Option<&str> = Some("frame 0 00000000000000000000000086dd60\n");
+
+const IPV4_FROM: Option<&str> = Some("frame 0 000000000000020000000001080045\n");
+
+// The type of each link, a packet, and its line.
+const PACKETS: &[(u8, &[u8], Option<&str>)] = &[
+    // Raw IP: the version is in the first four bits.
+    (12, b"\x45", IPV4),
+    (14, b"\x60", IPV6),
+    (101, b"\x45", IPV4),
+    (228, b"\x45", IPV4),
+    (229, b"\x60", IPV6),
+    (101, b"\x55", NO_FRAME),
+    // An address family in either byte order.
+    (0, b"\x02\0\0\0\x45", IPV4),
+    (0, b"\0\0\0\x02\x45", IPV4),
+    (0, b"\x18\0\0\0\x60", IPV6),
+    (0, b"\x1c\0\0\0\x60", IPV6),
+    (0, b"\0\0\0\x1e\x60", IPV6),
+    (0, b"\x0a\0\0\0\x60", IPV6),
+    (0, b"\x07\0\0\0\x60", NO_FRAME),
+    (0, b"\x02\0\0", NO_FRAME),
+    (108, b"\0\0\0\x02\x45", IPV4),
+    (108, b"\0\0\0\x18\x60", IPV6),
+    (108, b"\x02\0\0\0\x45", NO_FRAME),
+    (108, b"\0\0\x02", NO_FRAME),
+    // Cooked captures: of an Ethernet card, of a tunnel without addresses, and of 802.2.
+    (
+        113,
+        b"\0\x04\0\x01\0\x06\x02\0\0\0\0\x01\0\0\x08\0\x45",
+        IPV4_FROM,
+    ),
+    (113, b"\0\0\xff\xfe\0\0\0\0\0\0\0\0\0\0\x86\xdd\x60", IPV6),
+    (
+        113,
+        b"\0\0\0\x01\0\x08\x01\x02\x03\x04\x05\x06\x07\x08\x08\0\x45",
+        IPV4,
+    ),
+    (
+        113,
+        b"\0\x01\0\x01\0\x06\x02\0\0\0\0\x01\0\0\0\x04\x42",
+        NO_FRAME,
+    ),
+    (113, b"\0\0\x03\x38\0\0\0\0\0\0\0\0\0\0\x08\0\x45", NO_FRAME),
+    (113, b"\0\x04\0\x01\0\x06\x02\0\0\0\0\x01\0\0\x08", NO_FRAME),
+    (
+        20,
+        b"\x08\0\0\0\0\0\0\x02\0\x01\x04\x06\x02\0\0\0\0\x01\0\0\x45",
+        IPV4_FROM,
+    ),
+    (
+        20,
+        b"\x86\xdd\0\0\0\0\0\x07\xff\xfe\x04\0\0\0\0\0\0\0\0\0\x60",
+        IPV6,
+    ),
+    (
+        20,
+        b"\0\x04\0\0\0\0\0\x02\0\x01\x01\x06\x02\0\0\0\0\x01\0\0\x42",
+        NO_FRAME,
+    ),
+    (
+        20,
+        b"\x08\0\0\0\0\0\0\x02\x03\x23\0\0\0\0\0\0\0\0\0\0\x45",
+        NO_FRAME,
+    ),
+    (
+        20,
+        b"\x08\0\0\0\0\0\0\x02\0\x01\x04\x06\x02\0\0\0\0\x01\0",
+        NO_FRAME,
+    ),
+    // Nothing was captured.
+    (113, b"", Some("")),
+];
+
 #[test]
 fn frame_of_each_link(rt: HostRuntime) {
-    let ipv4 = Some("frame 0 000000000000000000000000080045\n");
-    let ipv6 = Some("frame 0 00000000000000000000000086dd60\n");
-    let ipv4_from = Some("frame 0 000000000000020000000001080045\n");
-    for (link_type, packet, line) in [
-        // Raw IP: the version is in the first four bits.
-        (12, b"\x45".as_slice(), ipv4),
-        (14, b"\x60", ipv6),
-        (101, b"\x45", ipv4),
-        (228, b"\x45", ipv4),
-        (229, b"\x60", ipv6),
-        (101, b"\x55", NO_FRAME),
-        // An address family in either byte order.
-        (0, b"\x02\0\0\0\x45", ipv4),
-        (0, b"\0\0\0\x02\x45", ipv4),
-        (0, b"\x18\0\0\0\x60", ipv6),
-        (0, b"\x1c\0\0\0\x60", ipv6),
-        (0, b"\0\0\0\x1e\x60", ipv6),
-        (0, b"\x0a\0\0\0\x60", ipv6),
-        (0, b"\x07\0\0\0\x60", NO_FRAME),
-        (0, b"\x02\0\0", NO_FRAME),
-        (108, b"\0\0\0\x02\x45", ipv4),
-        (108, b"\0\0\0\x18\x60", ipv6),
-        (108, b"\x02\0\0\0\x45", NO_FRAME),
-        (108, b"\0\0\x02", NO_FRAME),
-        // Cooked captures: of an Ethernet card, of a tunnel without addresses, and of 802.2.
-        (
-            113,
-            b"\0\x04\0\x01\0\x06\x02\0\0\0\0\x01\0\0\x08\0\x45",
-            ipv4_from,
-        ),
-        (113, b"\0\0\xff\xfe\0\0\0\0\0\0\0\0\0\0\x86\xdd\x60", ipv6),
-        (
-            113,
-            b"\0\0\0\x01\0\x08\x01\x02\x03\x04\x05\x06\x07\x08\x08\0\x45",
-            ipv4,
-        ),
-        (
-            113,
-            b"\0\x01\0\x01\0\x06\x02\0\0\0\0\x01\0\0\0\x04\x42",
-            NO_FRAME,
-        ),
-        (113, b"\0\0\x03\x38\0\0\0\0\0\0\0\0\0\0\x08\0\x45", NO_FRAME),
-        (113, b"\0\x04\0\x01\0\x06\x02\0\0\0\0\x01\0\0\x08", NO_FRAME),
-        (
-            20,
-            b"\x08\0\0\0\0\0\0\x02\0\x01\x04\x06\x02\0\0\0\0\x01\0\0\x45",
-            ipv4_from,
-        ),
-        (
-            20,
-            b"\x86\xdd\0\0\0\0\0\x07\xff\xfe\x04\0\0\0\0\0\0\0\0\0\x60",
-            ipv6,
-        ),
-        (
-            20,
-            b"\0\x04\0\0\0\0\0\x02\0\x01\x01\x06\x02\0\0\0\0\x01\0\0\x42",
-            NO_FRAME,
-        ),
-        (
-            20,
-            b"\x08\0\0\0\0\0\0\x02\x03\x23\0\0\0\0\0\0\0\0\0\0\x45",
-            NO_FRAME,
-        ),
-        (
-            20,
-            b"\x08\0\0\0\0\0\0\x02\0\x01\x04\x06\x02\0\0\0\0\x01\0",
-            NO_FRAME,
-        ),
-        // Nothing was captured.
-        (113, b"", Some("")),
-    ] {
-        let (wanted, line) = match line {
+    for (link_type, packet, line) in PACKETS.iter() {
+        let (wanted, line) = match *line {
             Some(line) => (Ok(()), line),
             None => (refused(CaptureError::NoFrame, 1, 24, None), ""),
         };
-        let file = capture(rt, link_type, packet);
+        let file = capture(rt, *link_type, *packet);
         tells(rt, file.as_slice(), wanted, line.as_bytes());
     }
 }

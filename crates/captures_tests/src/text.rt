@@ -46,61 +46,64 @@ fn lines_come_back(rt: HostRuntime) {
     tells(rt, capture, Ok(()), LINES);
 }
 
-// Each with what follows the file header.
+const BAD: Result<(), RunError> = Err(RunError::BadLine(1));
+
+// Each with how its run ends, and what follows the file header.
+const EACH: &[(&[u8], Result<(), RunError>, &[u8])] = &[
+    (b"", Ok(()), b""),
+    // digits of either case, and a last line that nothing ends
+    (
+        b"frame 0 0aFf",
+        Ok(()),
+        b"\0\0\0\0\0\0\0\0\x02\0\0\0\x02\0\0\0\x0a\xff",
+    ),
+    // a time
+    (
+        b"frame 4294967295 01 1700000000 250000\n",
+        Ok(()),
+        b"\x00\xf1\x53\x65\x90\xd0\x03\x00\x01\0\0\0\x01\0\0\0\x01",
+    ),
+    (
+        b"frame 0 01 4294967295 999999\n",
+        Ok(()),
+        b"\xff\xff\xff\xff\x3f\x42\x0f\x00\x01\0\0\0\x01\0\0\0\x01",
+    ),
+    // a million microseconds, a second beyond 32 bits, half a time, a thousand nanoseconds
+    (b"frame 0 01 0 1000000\n", BAD, b""),
+    (b"frame 0 01 4294967296 0\n", BAD, b""),
+    (b"frame 0 01 \n", BAD, b""),
+    (b"frame 0 01 5\n", BAD, b""),
+    (b"frame 0 01 5 6 1000\n", BAD, b""),
+    // no channel, one beyond 32 bits, one of 11 digits
+    (b"frame  01\n", BAD, b""),
+    (b"frame 4294967296 01\n", BAD, b""),
+    (b"frame 00000000000 01\n", BAD, b""),
+    (b"frame +1 01\n", BAD, b""),
+    // no byte, half a byte, no digit
+    (b"frame 0 \n", BAD, b""),
+    (b"frame 0 012\n", BAD, b""),
+    (b"frame 0 0g\n", BAD, b""),
+    (b"frame 0\n", BAD, b""),
+    (b"\n", BAD, b""),
+    (b"Frame 0 01\n", BAD, b""),
+    (b"frame 0 01\r\n", BAD, b""),
+    // the packets before a bad line are written
+    (
+        b"frame 0 01\nforget\nframe 0 02\n",
+        Err(RunError::BadLine(2)),
+        b"\0\0\0\0\0\0\0\0\x01\0\0\0\x01\0\0\0\x01",
+    ),
+    (
+        b"frame 0 01\nframe 0 0",
+        Err(RunError::BadLine(2)),
+        b"\0\0\0\0\0\0\0\0\x01\0\0\0\x01\0\0\0\x01",
+    ),
+];
+
 #[test]
 fn each_line(rt: HostRuntime) {
-    let bad = Err(RunError::BadLine(1));
-    for (text, wanted, packets) in [
-        (b"".as_slice(), Ok(()), b"".as_slice()),
-        // digits of either case, and a last line that nothing ends
-        (
-            b"frame 0 0aFf",
-            Ok(()),
-            b"\0\0\0\0\0\0\0\0\x02\0\0\0\x02\0\0\0\x0a\xff",
-        ),
-        // a time
-        (
-            b"frame 4294967295 01 1700000000 250000\n",
-            Ok(()),
-            b"\x00\xf1\x53\x65\x90\xd0\x03\x00\x01\0\0\0\x01\0\0\0\x01",
-        ),
-        (
-            b"frame 0 01 4294967295 999999\n",
-            Ok(()),
-            b"\xff\xff\xff\xff\x3f\x42\x0f\x00\x01\0\0\0\x01\0\0\0\x01",
-        ),
-        // a million microseconds, a second beyond 32 bits, half a time, a thousand nanoseconds
-        (b"frame 0 01 0 1000000\n", bad, b""),
-        (b"frame 0 01 4294967296 0\n", bad, b""),
-        (b"frame 0 01 \n", bad, b""),
-        (b"frame 0 01 5\n", bad, b""),
-        (b"frame 0 01 5 6 1000\n", bad, b""),
-        // no channel, one beyond 32 bits, one of 11 digits
-        (b"frame  01\n", bad, b""),
-        (b"frame 4294967296 01\n", bad, b""),
-        (b"frame 00000000000 01\n", bad, b""),
-        (b"frame +1 01\n", bad, b""),
-        // no byte, half a byte, no digit
-        (b"frame 0 \n", bad, b""),
-        (b"frame 0 012\n", bad, b""),
-        (b"frame 0 0g\n", bad, b""),
-        (b"frame 0\n", bad, b""),
-        (b"\n", bad, b""),
-        (b"Frame 0 01\n", bad, b""),
-        (b"frame 0 01\r\n", bad, b""),
-        // the packets before a bad line are written
-        (
-            b"frame 0 01\nforget\nframe 0 02\n",
-            Err(RunError::BadLine(2)),
-            b"\0\0\0\0\0\0\0\0\x01\0\0\0\x01\0\0\0\x01",
-        ),
-        (
-            b"frame 0 01\nframe 0 0",
-            Err(RunError::BadLine(2)),
-            b"\0\0\0\0\0\0\0\0\x01\0\0\0\x01\0\0\0\x01",
-        ),
-    ] {
-        writes(rt, &mut &*text, wanted, packets);
+    for (text, wanted, packets) in EACH.iter() {
+        writes(rt, &mut &**text, *wanted, *packets);
     }
 }
 

@@ -99,93 +99,92 @@ fn add_packet(rt: impl Abort + Copy, file: &mut Vec<u8>, interface: u8, count: u
     );
 }
 
+// The options of an interface, a count of its clock's parts, and the line.
+const CLOCKS: &[(&[u8], u64, &str)] = &[
+    // Microseconds, where no option tells another unit.
+    (b"", 1_700_000_000_250_000, "frame 0 01 1700000000 250000\n"),
+    // Powers of ten: a second, a nanosecond, a picosecond, and what no count reaches.
+    (b"\x09\0\x01\0\x00\0\0\0", 5, "frame 0 01 5 0\n"),
+    (
+        b"\x09\0\x01\0\x09\0\0\0",
+        1_700_000_000_123_456_789,
+        "frame 0 01 1700000000 123456 789\n",
+    ),
+    (
+        b"\x09\0\x01\0\x0c\0\0\0",
+        1_500_000_000_999,
+        "frame 0 01 1 500000\n",
+    ),
+    (
+        b"\x09\0\x01\0\x1c\0\0\0",
+        0xffff_ffff_ffff_ffff,
+        "frame 0 01 0 0 1\n",
+    ),
+    (
+        b"\x09\0\x01\0\x1d\0\0\0",
+        0xffff_ffff_ffff_ffff,
+        "frame 0 01 0 0\n",
+    ),
+    (
+        b"\x09\0\x01\0\x7f\0\0\0",
+        0xffff_ffff_ffff_ffff,
+        "frame 0 01 0 0\n",
+    ),
+    // Powers of two: a second, a 1024th of one, and what no count reaches.
+    (b"\x09\0\x01\0\x80\0\0\0", 7, "frame 0 01 7 0\n"),
+    (
+        b"\x09\0\x01\0\x8a\0\0\0",
+        1_740_800_000_512,
+        "frame 0 01 1700000000 500000\n",
+    ),
+    (
+        b"\x09\0\x01\0\x8a\0\0\0",
+        1_740_800_000_001,
+        "frame 0 01 1700000000 976 562\n",
+    ),
+    (
+        b"\x09\0\x01\0\xff\0\0\0",
+        0xffff_ffff_ffff_ffff,
+        "frame 0 01 0 0\n",
+    ),
+    // An offset of an hour, of an hour before, and before 1970; a time after 2106.
+    (
+        b"\x0e\0\x08\0\x10\x0e\0\0\0\0\0\0",
+        1_000_000,
+        "frame 0 01 3601 0\n",
+    ),
+    (
+        b"\x0e\0\x08\0\xf0\xf1\xff\xff\xff\xff\xff\xff",
+        3_601_000_000,
+        "frame 0 01 1 0\n",
+    ),
+    (
+        b"\x0e\0\x08\0\xf0\xf1\xff\xff\xff\xff\xff\xff",
+        3_599_000_000,
+        "frame 0 01 0 0\n",
+    ),
+    (
+        b"\x09\0\x01\0\x00\0\0\0",
+        0x1_0000_0000,
+        "frame 0 01 4294967295 999999 999\n",
+    ),
+    // Behind a comment; behind the end of the options; of another length; cut off.
+    (
+        b"\x01\0\x05\0hello\0\0\0\x09\0\x01\0\x00\0\0\0\0\0\0\0",
+        5,
+        "frame 0 01 5 0\n",
+    ),
+    (b"\0\0\0\0\x09\0\x01\0\x00\0\0\0", 5, "frame 0 01 0 5\n"),
+    (b"\x09\0\x02\0\x00\0\0\0", 5, "frame 0 01 0 5\n"),
+    (b"\x0e\0\x08\0\x10\x0e\0\0", 5, "frame 0 01 0 5\n"),
+];
+
 #[test]
 fn clocks_of_interfaces(rt: HostRuntime) {
-    for (options, count, line) in [
-        // Microseconds, where no option tells another unit.
-        (
-            b"".as_slice(),
-            1_700_000_000_250_000u64,
-            "frame 0 01 1700000000 250000\n",
-        ),
-        // Powers of ten: a second, a nanosecond, a picosecond, and what no count reaches.
-        (b"\x09\0\x01\0\x00\0\0\0", 5, "frame 0 01 5 0\n"),
-        (
-            b"\x09\0\x01\0\x09\0\0\0",
-            1_700_000_000_123_456_789,
-            "frame 0 01 1700000000 123456 789\n",
-        ),
-        (
-            b"\x09\0\x01\0\x0c\0\0\0",
-            1_500_000_000_999,
-            "frame 0 01 1 500000\n",
-        ),
-        (
-            b"\x09\0\x01\0\x1c\0\0\0",
-            0xffff_ffff_ffff_ffff,
-            "frame 0 01 0 0 1\n",
-        ),
-        (
-            b"\x09\0\x01\0\x1d\0\0\0",
-            0xffff_ffff_ffff_ffff,
-            "frame 0 01 0 0\n",
-        ),
-        (
-            b"\x09\0\x01\0\x7f\0\0\0",
-            0xffff_ffff_ffff_ffff,
-            "frame 0 01 0 0\n",
-        ),
-        // Powers of two: a second, a 1024th of one, and what no count reaches.
-        (b"\x09\0\x01\0\x80\0\0\0", 7, "frame 0 01 7 0\n"),
-        (
-            b"\x09\0\x01\0\x8a\0\0\0",
-            1_740_800_000_512,
-            "frame 0 01 1700000000 500000\n",
-        ),
-        (
-            b"\x09\0\x01\0\x8a\0\0\0",
-            1_740_800_000_001,
-            "frame 0 01 1700000000 976 562\n",
-        ),
-        (
-            b"\x09\0\x01\0\xff\0\0\0",
-            0xffff_ffff_ffff_ffff,
-            "frame 0 01 0 0\n",
-        ),
-        // An offset of an hour, of an hour before, and before 1970; a time after 2106.
-        (
-            b"\x0e\0\x08\0\x10\x0e\0\0\0\0\0\0",
-            1_000_000,
-            "frame 0 01 3601 0\n",
-        ),
-        (
-            b"\x0e\0\x08\0\xf0\xf1\xff\xff\xff\xff\xff\xff",
-            3_601_000_000,
-            "frame 0 01 1 0\n",
-        ),
-        (
-            b"\x0e\0\x08\0\xf0\xf1\xff\xff\xff\xff\xff\xff",
-            3_599_000_000,
-            "frame 0 01 0 0\n",
-        ),
-        (
-            b"\x09\0\x01\0\x00\0\0\0",
-            0x1_0000_0000,
-            "frame 0 01 4294967295 999999 999\n",
-        ),
-        // Behind a comment; behind the end of the options; of another length; cut off.
-        (
-            b"\x01\0\x05\0hello\0\0\0\x09\0\x01\0\x00\0\0\0\0\0\0\0",
-            5,
-            "frame 0 01 5 0\n",
-        ),
-        (b"\0\0\0\0\x09\0\x01\0\x00\0\0\0", 5, "frame 0 01 0 5\n"),
-        (b"\x09\0\x02\0\x00\0\0\0", 5, "frame 0 01 0 5\n"),
-        (b"\x0e\0\x08\0\x10\x0e\0\0", 5, "frame 0 01 0 5\n"),
-    ] {
+    for (options, count, line) in CLOCKS.iter() {
         let mut file = joined(rt, &[SECTION]);
-        describe(rt, &mut file, options);
-        add_packet(rt, &mut file, 0, count);
+        describe(rt, &mut file, *options);
+        add_packet(rt, &mut file, 0, *count);
         tells_all(rt, Extra::Times, file.as_slice(), line.as_bytes());
     }
 }
@@ -235,41 +234,49 @@ fn clocks_behind_the_32nd(rt: HostRuntime) {
     tells_all(rt, Extra::Times, file.as_slice(), lines);
 }
 
-// What follows the file header of a capture in microseconds, and in nanoseconds.
+const BAD: Result<(), RunError> = Err(RunError::BadLine(1));
+
+// A line, how a run of it ends, and what follows the file header of a capture in microseconds, and
+// in nanoseconds.
+const LINES: &[(&str, Result<(), RunError>, &[u8], &[u8])] = &[
+    (
+        "frame 0 01 5 6 7",
+        Ok(()),
+        b"\x05\0\0\0\x06\0\0\0\x01\0\0\0\x01\0\0\0\x01",
+        b"\x05\0\0\0\x77\x17\0\0\x01\0\0\0\x01\0\0\0\x01",
+    ),
+    (
+        "frame 0 01 5 999999 0000000999\n",
+        Ok(()),
+        b"\x05\0\0\0\x3f\x42\x0f\0\x01\0\0\0\x01\0\0\0\x01",
+        b"\x05\0\0\0\xff\xc9\x9a\x3b\x01\0\0\0\x01\0\0\0\x01",
+    ),
+    ("frame 0 01 5 6 1000\n", BAD, b"", b""),
+    ("frame 0 01 5 1000000 0\n", BAD, b"", b""),
+    ("frame 0 01 5 6 \n", BAD, b"", b""),
+    ("frame 0 01 5 6 7 8\n", BAD, b"", b""),
+    ("forget 1\n", BAD, b"", b""),
+];
+
+// Such a run, and the magic number of its capture.
+fn is_captured(
+    rt: impl Abort + AllocGlobal + Copy,
+    time_unit: TimeUnit,
+    text: &str,
+    wanted: Result<(), RunError>,
+    (magic, packets): (&[u8], &[u8]),
+) {
+    let file = capture_of(rt, time_unit, &mut text.as_bytes(), wanted);
+    equal(rt, file.as_slice().get(..4), Some(magic));
+    equal(rt, file.as_slice().get(24..), Some(packets));
+}
+
 #[test]
 fn nanoseconds_of_lines(rt: HostRuntime) {
-    let bad = Err(RunError::BadLine(1));
-    let none = b"".as_slice();
-    for (text, wanted, micro, nano) in [
-        (
-            "frame 0 01 5 6 7",
-            Ok(()),
-            b"\x05\0\0\0\x06\0\0\0\x01\0\0\0\x01\0\0\0\x01".as_slice(),
-            b"\x05\0\0\0\x77\x17\0\0\x01\0\0\0\x01\0\0\0\x01".as_slice(),
-        ),
-        (
-            "frame 0 01 5 999999 0000000999\n",
-            Ok(()),
-            b"\x05\0\0\0\x3f\x42\x0f\0\x01\0\0\0\x01\0\0\0\x01",
-            b"\x05\0\0\0\xff\xc9\x9a\x3b\x01\0\0\0\x01\0\0\0\x01",
-        ),
-        ("frame 0 01 5 6 1000\n", bad, none, none),
-        ("frame 0 01 5 1000000 0\n", bad, none, none),
-        ("frame 0 01 5 6 \n", bad, none, none),
-        ("frame 0 01 5 6 7 8\n", bad, none, none),
-        ("forget 1\n", bad, none, none),
-    ] {
-        for (time_unit, magic, packets) in [
-            (
-                TimeUnit::Microseconds,
-                b"\xd4\xc3\xb2\xa1".as_slice(),
-                micro,
-            ),
-            (TimeUnit::Nanoseconds, b"\x4d\x3c\xb2\xa1", nano),
-        ] {
-            let file = capture_of(rt, time_unit, &mut text.as_bytes(), wanted);
-            equal(rt, file.as_slice().get(..4), Some(magic));
-            equal(rt, file.as_slice().get(24..), Some(packets));
-        }
+    for (text, wanted, micro, nano) in LINES.iter() {
+        let micro = (b"\xd4\xc3\xb2\xa1".as_slice(), *micro);
+        is_captured(rt, TimeUnit::Microseconds, text, *wanted, micro);
+        let nano = (b"\x4d\x3c\xb2\xa1".as_slice(), *nano);
+        is_captured(rt, TimeUnit::Nanoseconds, text, *wanted, nano);
     }
 }

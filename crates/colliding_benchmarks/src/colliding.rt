@@ -1,8 +1,6 @@
 //! Messages under names that were chosen to collide.
 
-use benchmark_runs::pools::{Messages, sum_with};
-use etherparse::defrag::IpDefragPool;
-use std::hash::BuildHasher;
+use benchmark_runs::pools::{Messages, Reassembly, sum_with};
 
 /// How many messages there are in all.
 const MESSAGES: u32 = 8000;
@@ -29,7 +27,7 @@ pub struct Colliding {
 
 impl Messages for Colliding {
     /// It has no contract, as the trait's.
-    fn put_together<S: BuildHasher>(&self, pool: &mut IpDefragPool<(), (), S>) -> u64 {
+    fn put_together<R: Reassembly>(&self, pool: &mut R) -> u64 {
         let mut frame = [0; FRAME_LEN];
         frame[..62].copy_from_slice(&HEADERS);
         let mut sum = 0;

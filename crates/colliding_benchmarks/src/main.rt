@@ -9,12 +9,26 @@ mod colliding;
 
 use crate::colliding::Colliding;
 use benchmark_runs::interleaved::Interleaved;
-use benchmark_runs::pools::{self, Messages};
+use benchmark_runs::pools::{self, Messages, Reassembly};
 use benchmark_runs::{Benchmarks, Measured, Repeats};
+use etherparse::SlicedPacket;
 use etherparse::defrag::IpDefragPool;
-use std::hash::RandomState;
+use std::hash::{BuildHasher, RandomState};
 use std::io;
 use std::process::ExitCode;
+
+/// A pool of a hasher of this kind.
+#[derive(Drop)]
+struct Pool<S: BuildHasher>(IpDefragPool<(), (), S>);
+
+impl<S: BuildHasher> Reassembly for Pool<S> {
+    /// It has no contract, as the trait's.
+    fn completed_by(&mut self, frame: &[u8]) -> Option<Vec<u8>> {
+        let packet = SlicedPacket::from_ethernet(frame).ok()?;
+        let whole = self.0.process_sliced_packet(&packet, (), ()).ok()?;
+        Some(whole?.payload)
+    }
+}
 
 /// The benchmarks of pools.
 struct CollidingBenchmarks;
@@ -41,7 +55,8 @@ impl Benchmarks for CollidingBenchmarks {
         let measured = if is_random {
             by_random_keys(rt, &messages, repeats.turns)
         } else {
-            pools::measure(rt, IpDefragPool::new(rt.alloc()), &messages, repeats.turns)
+            let pool = Pool(IpDefragPool::new(rt.alloc()));
+            pools::measure(rt, pool, &messages, repeats.turns)
         };
         measured.map(Some)
     }
@@ -49,7 +64,7 @@ impl Benchmarks for CollidingBenchmarks {
 
 /// It has no contract, as `measure`.
 fn by_random_keys<M: Messages>(rt: &HostRuntime, messages: &M, turns: u32) -> io::Result<Measured> {
-    let pool = IpDefragPool::with_hasher(rt.alloc(), RandomState::new(rt)?);
+    let pool = Pool(IpDefragPool::with_hasher(rt.alloc(), RandomState::new(rt)?));
     pools::measure(rt, pool, messages, turns)
 }
 

@@ -11,10 +11,25 @@ mod reassembly;
 
 use crate::order::Order;
 use benchmark_runs::interleaved::Interleaved;
-use benchmark_runs::{Benchmarks, Measured, Repeats, pools};
+use benchmark_runs::pools::{self, Reassembly};
+use benchmark_runs::{Benchmarks, Measured, Repeats};
+use etherparse::SlicedPacket;
 use etherparse::defrag::IpDefragPool;
 use std::io;
 use std::process::ExitCode;
+
+/// A pool.
+#[derive(Drop)]
+struct Pool(IpDefragPool<(), ()>);
+
+impl Reassembly for Pool {
+    /// It has no contract, as the trait's.
+    fn completed_by(&mut self, frame: &[u8]) -> Option<Vec<u8>> {
+        let packet = SlicedPacket::from_ethernet(frame).ok()?;
+        let whole = self.0.process_sliced_packet(&packet, (), ()).ok()?;
+        Some(whole?.payload)
+    }
+}
 
 /// The benchmarks of putting messages together.
 struct ReassemblyBenchmarks;
@@ -29,7 +44,7 @@ impl Benchmarks for ReassemblyBenchmarks {
             "even_first" => Order::EvenFirst,
             "shuffled" => Order::Shuffled,
             "interleaved" => {
-                let pool = IpDefragPool::new(rt.alloc());
+                let pool = Pool(IpDefragPool::new(rt.alloc()));
                 return pools::measure(rt, pool, &Interleaved, repeats.turns).map(Some);
             }
             _ => return Ok(None),
