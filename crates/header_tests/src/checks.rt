@@ -5,20 +5,20 @@ use std::fmt::{Debug, Display};
 use std::process::Abort;
 use std::test::*;
 
-/// Fails where a row is told otherwise than wanted, and shows all three.
-pub fn equal<T: PartialEq + Debug + Drop>(rt: impl Abort + Copy, row: &str, told: T, wanted: T) {
-    assert_eq!(rt; told, wanted, "{row}");
+/// Fails where something else is told than wanted, and shows both.
+pub fn equal<T: PartialEq + Debug + Drop>(rt: impl Abort + Copy, told: T, wanted: T) {
+    assert_eq!(rt; told, wanted);
 }
 
 /// The same of bytes.
-pub fn equal_bytes(rt: impl Abort + Copy, row: &str, told: &[u8], wanted: &[u8]) {
-    assert_eq!(rt; told, wanted, "{row}");
+pub fn equal_bytes(rt: impl Abort + Copy, told: &[u8], wanted: &[u8]) {
+    assert_eq!(rt; told, wanted);
 }
 
 /// The same of the text that a value is shown as.
-pub fn shows<T: Debug>(rt: impl Abort + AllocGlobal + Copy, row: &str, told: &T, wanted: &str) {
+pub fn shows<T: Debug>(rt: impl Abort + AllocGlobal + Copy, told: &T, wanted: &str) {
     match format!(in rt.alloc(); "{told:?}") {
-        Ok(text) => equal(rt, row, text.as_str(), wanted),
+        Ok(text) => equal(rt, text.as_str(), wanted),
         Err(_) => panic!(rt; "no memory for a text"),
     }
 }
@@ -26,7 +26,7 @@ pub fn shows<T: Debug>(rt: impl Abort + AllocGlobal + Copy, row: &str, told: &T,
 /// The same of the text that a value is printed as.
 pub fn reads<T: Display>(rt: impl Abort + AllocGlobal + Copy, told: &T, wanted: &str) {
     match format!(in rt.alloc(); "{told}") {
-        Ok(text) => equal(rt, "text", text.as_str(), wanted),
+        Ok(text) => equal(rt, text.as_str(), wanted),
         Err(_) => panic!(rt; "no memory for a text"),
     }
 }

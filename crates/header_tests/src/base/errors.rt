@@ -9,7 +9,7 @@ fn want_at_the_front(rt: HostRuntime) {
     let error = LenError::too_few_bytes(Layer::Ipv4Header, 20, 19);
     let fields = "LenError { required_len: 20, len: 19, len_source: Slice, layer: Ipv4Header, \
         layer_start_offset: 0 }";
-    shows(rt, "front", &error, fields);
+    shows(rt, &error, fields);
     let text = "IPv4 header Error: Not enough data to decode 'IPv4 header'. 20 byte(s) would be \
         required, but only 19 byte(s) are available based on the slice length.";
     reads(rt, &error, text);
@@ -19,14 +19,14 @@ fn want_at_the_front(rt: HostRuntime) {
 #[test]
 fn wants_further_on(rt: HostRuntime) {
     let error = LenError::too_few_bytes(Layer::Ipv4Header, 20, 19).add_offset(14);
-    equal(rt, "14", error.layer_start_offset, 14);
+    equal(rt, error.layer_start_offset, 14);
     let text = "IPv4 header Error: Not enough data to decode 'IPv4 header'. 20 byte(s) would be \
         required, but only 19 byte(s) are available based on the slice length, 'IPv4 header' \
         starts at overall parsed byte 14.";
     reads(rt, &error, text);
     let last = error.add_offset(0xffff_ffff_ffff_fff1);
     let found = (last.layer_start_offset, last.required_len);
-    equal(rt, "last", found, (0xffff_ffff_ffff_ffff, 20));
+    equal(rt, found, (0xffff_ffff_ffff_ffff, 20));
 }
 
 #[test]

@@ -156,7 +156,7 @@ const FROM_100: &[IpNumber] = &[
 fn are_numbered(rt: impl Abort + Copy, numbers: &[IpNumber], first: u8) {
     let mut wanted = first;
     for number in numbers.iter() {
-        equal(rt, "number", number.0, wanted);
+        equal(rt, number.0, wanted);
         wanted = wanted.wrapping_add(1);
     }
 }
@@ -180,11 +180,11 @@ fn ext_header_numbers(rt: HostRuntime) {
     for number in 0..=255u8 {
         let found = IpNumber(number).is_ipv6_ext_header_value();
         let wanted = EXT_HEADERS.contains(&number);
-        equal(rt, "number", (number, found), (number, wanted));
+        equal(rt, (number, found), (number, wanted));
     }
     let mobility = IpNumber::MOBILITY_HEADER.is_ipv6_ext_header_value();
     let icmp = IpNumber::IPV6_ICMP.is_ipv6_ext_header_value();
-    equal(rt, "mobility, ICMP", [mobility, icmp], [true, false]);
+    equal(rt, [mobility, icmp], [true, false]);
 }
 
 #[test]
@@ -194,13 +194,8 @@ fn ip_number_calls(rt: HostRuntime) {
         u8::from(ip_number::AUTH),
         ip_number::UDP,
     );
-    shows(
-        rt,
-        "conversions",
-        &found,
-        "(IpNumber(17), 51, IpNumber(17))",
-    );
-    equal(rt, "default", IpTrafficClass::default(), IpNumber(0));
-    equal(rt, "order", (IpNumber::ICMP < IpNumber::TCP), true);
+    shows(rt, &found, "(IpNumber(17), 51, IpNumber(17))");
+    equal(rt, IpTrafficClass::default(), IpNumber(0));
+    equal(rt, (IpNumber::ICMP < IpNumber::TCP), true);
     reads(rt, &IpNumber::UDP, "17");
 }

@@ -14,12 +14,7 @@ fn checksum(rt: impl Abort + Copy, text: &[u8]) -> u16 {
         u32_16bit_word::ones_complement(narrow),
         u64_16bit_word::ones_complement(wide),
     ];
-    equal(
-        rt,
-        "both widths",
-        (text.len(), found),
-        (text.len(), [sum, sum]),
-    );
+    equal(rt, (text.len(), found), (text.len(), [sum, sum]));
     sum.swap_bytes()
 }
 
@@ -45,40 +40,30 @@ fn sums_of_one_byte_repeated(rt: HostRuntime) {
         let ones = [0xff; 256];
         let (front, _) = ones.split_at((*len).min(256));
         let sum = Sum16BitWords::new().add_slice(front);
-        equal(rt, "sum", (*len, sum.ones_complement()), (*len, 0));
+        equal(rt, (*len, sum.ones_complement()), (*len, 0));
         let no_zero = sum.to_ones_complement_with_no_zero();
-        equal(rt, "no zero", (*len, no_zero), (*len, 0xffff));
+        equal(rt, (*len, no_zero), (*len, 0xffff));
     }
     let sum = Sum16BitWords::new().add_slice(&[1; 33]).ones_complement();
-    equal(rt, "33", sum, 0xefee);
+    equal(rt, sum, 0xefee);
 }
 
 #[test]
 fn checksums_of_one_byte_repeated(rt: HostRuntime) {
-    equal(rt, "64 of 0", checksum(rt, &[0; 64]), 0xffff);
-    equal(rt, "256 of 0", checksum(rt, &[0; 256]), 0xffff);
-    equal(rt, "33 of 1", checksum(rt, &[1; 33]), 0xeeef);
-    equal(rt, "289 of 1", checksum(rt, &[1; 289]), 0x6e6f);
+    equal(rt, checksum(rt, &[0; 64]), 0xffff);
+    equal(rt, checksum(rt, &[0; 256]), 0xffff);
+    equal(rt, checksum(rt, &[1; 33]), 0xeeef);
+    equal(rt, checksum(rt, &[1; 289]), 0x6e6f);
 }
 
 // A text whole, and cut at every even place.
 fn is_summed(rt: impl Abort + Copy, text: &[u8]) {
     let wanted = plain_checksum(text);
-    equal(
-        rt,
-        "whole",
-        (text.len(), checksum(rt, text)),
-        (text.len(), wanted),
-    );
+    equal(rt, (text.len(), checksum(rt, text)), (text.len(), wanted));
     for words in 0..=text.len() / 2 {
         let (front, back) = text.split_at(2 * words);
         let sum = sum_pieces(&[front, back]).swap_bytes();
-        equal(
-            rt,
-            "cut",
-            (text.len(), words, sum),
-            (text.len(), words, wanted),
-        );
+        equal(rt, (text.len(), words, sum), (text.len(), words, wanted));
     }
 }
 
@@ -108,13 +93,8 @@ fn repeated(rt: impl Abort + Copy, alloc: Global, byte: u8, len: usize) -> u16 {
 // of 32 bits would wrap in the last text.
 #[test]
 fn sums_of_long_texts(rt: HostRuntime) {
-    equal(rt, "65535", repeated(rt, rt.alloc(), 0xff, 65535), 0x00ff);
-    equal(rt, "131105", repeated(rt, rt.alloc(), 0xff, 131105), 0x00ff);
-    equal(rt, "131105", repeated(rt, rt.alloc(), 1, 131105), 0xedee);
-    equal(
-        rt,
-        "2097281",
-        repeated(rt, rt.alloc(), 0xff, 2097281),
-        0x00ff,
-    );
+    equal(rt, repeated(rt, rt.alloc(), 0xff, 65535), 0x00ff);
+    equal(rt, repeated(rt, rt.alloc(), 0xff, 131105), 0x00ff);
+    equal(rt, repeated(rt, rt.alloc(), 1, 131105), 0xedee);
+    equal(rt, repeated(rt, rt.alloc(), 0xff, 2097281), 0x00ff);
 }

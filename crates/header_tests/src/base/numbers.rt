@@ -10,14 +10,14 @@ use ep_base::{
 fn refused_numbers(rt: HostRuntime) {
     let offset =
         "Err(ValueTooBigError { actual: 8192, max_allowed: 8191, value_type: IpFragmentOffset })";
-    shows(rt, "offset", &IpFragOffset::try_new(8192), offset);
+    shows(rt, &IpFragOffset::try_new(8192), offset);
     let dscp = "Err(ValueTooBigError { actual: 64, max_allowed: 63, value_type: IpDscp })";
-    shows(rt, "code point", &IpDscp::try_from(64), dscp);
+    shows(rt, &IpDscp::try_from(64), dscp);
     let label = "Err(ValueTooBigError { actual: 1048576, max_allowed: 1048575, \
         value_type: Ipv6FlowLabel })";
-    shows(rt, "label", &Ipv6FlowLabel::try_new(1048576), label);
+    shows(rt, &Ipv6FlowLabel::try_new(1048576), label);
     let ecn = "Err(ValueTooBigError { actual: 4, max_allowed: 3, value_type: IpEcn })";
-    shows(rt, "congestion", &IpEcn::try_new(4), ecn);
+    shows(rt, &IpEcn::try_new(4), ecn);
 }
 
 fn offset(value: u16) -> IpFragOffset {
@@ -30,50 +30,39 @@ fn label(value: u32) -> Ipv6FlowLabel {
 
 #[test]
 fn accepted_numbers(rt: HostRuntime) {
+    shows(rt, &IpFragOffset::try_from(7), "Ok(IpFragOffset(7))");
+    equal(rt, offset(8191).byte_offset(), 65528);
+    shows(rt, &Ipv4Dscp::try_from(46), "Ok(IpDscp(46))");
+    equal(rt, IpDscp::try_new(63), Ok(IpDscp::MAX));
+    equal(rt, IpDscp::MAX.value(), 63);
     shows(
         rt,
-        "offset",
-        &IpFragOffset::try_from(7),
-        "Ok(IpFragOffset(7))",
-    );
-    equal(rt, "offset", offset(8191).byte_offset(), 65528);
-    shows(rt, "code point", &Ipv4Dscp::try_from(46), "Ok(IpDscp(46))");
-    equal(rt, "code point", IpDscp::try_new(63), Ok(IpDscp::MAX));
-    equal(rt, "code point", IpDscp::MAX.value(), 63);
-    shows(
-        rt,
-        "label",
         &Ipv6FlowLabel::try_from(1048575),
         "Ok(Ipv6FlowLabel(1048575))",
     );
-    equal(rt, "label", Ipv6FlowLabel::MAX_U32, 1048575);
-    equal(
-        rt,
-        "congestion",
-        IpEcn::try_from(3),
-        Ok(IpEcn::CongestionExperienced),
-    );
+    equal(rt, Ipv6FlowLabel::MAX_U32, 1048575);
+    equal(rt, IpEcn::try_from(3), Ok(IpEcn::CongestionExperienced));
 }
 
 #[test]
 fn default_numbers(rt: HostRuntime) {
-    equal(rt, "offset", IpFragOffset::default(), IpFragOffset::ZERO);
-    equal(rt, "code point", IpDscp::default(), IpDscp::CS0);
-    equal(rt, "label", Ipv6FlowLabel::default(), Ipv6FlowLabel::ZERO);
-    equal(rt, "congestion", IpEcn::default(), IpEcn::ZERO);
-    equal(rt, "label", u32::from(Ipv6FlowLabel::ZERO), 0);
-    equal(rt, "congestion", u8::from(Ipv4Ecn::Ect0), 2);
+    equal(rt, IpFragOffset::default(), IpFragOffset::ZERO);
+    equal(rt, IpDscp::default(), IpDscp::CS0);
+    equal(rt, Ipv6FlowLabel::default(), Ipv6FlowLabel::ZERO);
+    equal(rt, IpEcn::default(), IpEcn::ZERO);
+    equal(rt, u32::from(Ipv6FlowLabel::ZERO), 0);
+    equal(rt, u8::from(Ipv4Ecn::Ect0), 2);
 }
 
 #[test]
 fn middle_values(rt: HostRuntime) {
-    equal(rt, "offset", u16::from(offset(1234)), 1234);
-    equal(rt, "offset", offset(1234).byte_offset(), 9872);
-    equal(rt, "label", u32::from(label(0xabcde)), 703710);
-    equal(rt, "label", label(0xabcde).value(), 703710);
-    equal(rt, "code point", u8::from(IpDscp::EF), 46);
-    equal(rt, "congestion", u8::from(IpEcn::Ect1), 1);
-    equal(rt, "ether type", u16::from(EtherType(0x1234)), 4660);
+    equal(rt, u16::from(offset(1234)), 1234);
+    equal(rt, offset(1234).byte_offset(), 9872);
+    equal(rt, u32::from(label(0xabcde)), 703710);
+    equal(rt, label(0xabcde).value(), 703710);
+    equal(rt, u8::from(IpDscp::EF), 46);
+    equal(rt, u8::from(IpEcn::Ect1), 1);
+    equal(rt, u16::from(EtherType(0x1234)), 4660);
 }
 
 #[test]
@@ -86,15 +75,15 @@ fn texts_of_numbers(rt: HostRuntime) {
 
 #[test]
 fn orders_and_copies(rt: HostRuntime) {
-    equal(rt, "offsets", (offset(7) < offset(8)), true);
-    equal(rt, "labels", (label(256) > label(255)), true);
-    equal(rt, "ether types", (EtherType::IPV4 < EtherType::ARP), true);
-    equal(rt, "congestion", (IpEcn::Ect1 < IpEcn::Ect0), true);
-    equal(rt, "code points", (IpDscp::CS1 < IpDscp::AF11), true);
+    equal(rt, (offset(7) < offset(8)), true);
+    equal(rt, (label(256) > label(255)), true);
+    equal(rt, (EtherType::IPV4 < EtherType::ARP), true);
+    equal(rt, (IpEcn::Ect1 < IpEcn::Ect0), true);
+    equal(rt, (IpDscp::CS1 < IpDscp::AF11), true);
     let dscp: Result<_, _> = IpDscp::EF.clone();
-    equal(rt, "code point", dscp, Ok(IpDscp::EF));
+    equal(rt, dscp, Ok(IpDscp::EF));
     let len_source: Result<_, _> = LenSource::UdpHeaderLen.clone();
-    equal(rt, "source", len_source, Ok(LenSource::UdpHeaderLen));
+    equal(rt, len_source, Ok(LenSource::UdpHeaderLen));
 }
 
 // In ascending order.
@@ -111,7 +100,7 @@ const SOURCES: [LenSource; 7] = [
 #[test]
 fn order_of_sources_of_lengths(rt: HostRuntime) {
     for i in 0..6usize {
-        equal(rt, "order", (i, SOURCES[i] < SOURCES[i + 1]), (i, true));
+        equal(rt, (i, SOURCES[i] < SOURCES[i + 1]), (i, true));
     }
 }
 
@@ -144,26 +133,21 @@ const KNOWN: &[(IpDscpKnown, u8)] = &[
 #[test]
 fn known_code_points(rt: HostRuntime) {
     for (known, value) in KNOWN.iter() {
-        equal(rt, "code point", u8::from(*known), *value);
+        equal(rt, u8::from(*known), *value);
     }
 }
 
 #[test]
 fn known_code_points_of_numbers(rt: HostRuntime) {
     let forwarding = IpDscp::from(IpDscpKnown::ExpeditedForwarding);
-    equal(rt, "forwarding", forwarding, IpDscp::EF);
+    equal(rt, forwarding, IpDscp::EF);
     let known = "Ok(ExpeditedForwarding)";
-    shows(rt, "forwarding", &IpDscpKnown::try_from(forwarding), known);
+    shows(rt, &IpDscpKnown::try_from(forwarding), known);
     let unknown = "Err(IpDscpUnknownValueError { value: 63 })";
-    shows(
-        rt,
-        "greatest",
-        &IpDscpKnown::try_from_ip_dscp(IpDscp::MAX),
-        unknown,
-    );
+    shows(rt, &IpDscpKnown::try_from_ip_dscp(IpDscp::MAX), unknown);
     let first = IpDscpKnown::ClassSelector0 < IpDscpKnown::LowerEffort;
     let second = IpDscpKnown::LowerEffort < IpDscpKnown::ClassSelector1;
-    equal(rt, "orders", [first, second], [true, true]);
+    equal(rt, [first, second], [true, true]);
 }
 
 const ETHER_TYPES: &[(EtherType, u16)] = &[
@@ -180,9 +164,9 @@ const ETHER_TYPES: &[(EtherType, u16)] = &[
 #[test]
 fn ether_types(rt: HostRuntime) {
     for (ether_type, value) in ETHER_TYPES.iter() {
-        equal(rt, "ether type", u16::from(*ether_type), *value);
+        equal(rt, u16::from(*ether_type), *value);
     }
-    equal(rt, "0x86dd", EtherType::from(0x86dd), EtherType::IPV6);
-    equal(rt, "ARP", ether_type::ARP.0, 0x0806);
-    equal(rt, "default", EtherType::default().0, 0);
+    equal(rt, EtherType::from(0x86dd), EtherType::IPV6);
+    equal(rt, ether_type::ARP.0, 0x0806);
+    equal(rt, EtherType::default().0, 0);
 }

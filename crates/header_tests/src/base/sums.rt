@@ -9,10 +9,10 @@ const RFC_1071: [u8; 8] = [0x00, 0x01, 0xf2, 0x03, 0xf4, 0xf5, 0xf6, 0xf7];
 
 #[test]
 fn sums_of_pieces(rt: HostRuntime) {
-    equal(rt, "odd", sum_pieces(&[&[1, 2, 3], &[4]]), 0xfdf7);
-    equal(rt, "nothing", sum_pieces(&[]), 0xffff);
+    equal(rt, sum_pieces(&[&[1, 2, 3], &[4]]), 0xfdf7);
+    equal(rt, sum_pieces(&[]), 0xffff);
     let halves = sum_pieces(&[&RFC_1071[..4], &RFC_1071[4..]]);
-    equal(rt, "halves", halves.swap_bytes(), 0x220d);
+    equal(rt, halves.swap_bytes(), 0x220d);
 }
 
 // An IPv4 header whose checksum is b861, without its last eight bytes: once with the field as 0,
@@ -28,17 +28,12 @@ const ADDRESSES: [u8; 8] = [0xc0, 0xa8, 0x00, 0x01, 0xc0, 0xa8, 0x00, 0xc7];
 #[test]
 fn sum_of_a_header(rt: HostRuntime) {
     let without = header_sum().add_slice(&ADDRESSES);
-    equal(
-        rt,
-        "without",
-        without.ones_complement().swap_bytes(),
-        0xb861,
-    );
+    equal(rt, without.ones_complement().swap_bytes(), 0xb861);
     let whole = without.add_2bytes([0xb8, 0x61]);
-    equal(rt, "whole", whole.ones_complement(), 0);
-    equal(rt, "whole", whole.to_ones_complement_with_no_zero(), 0xffff);
+    equal(rt, whole.ones_complement(), 0);
+    equal(rt, whole.to_ones_complement_with_no_zero(), 0xffff);
     let all_ones = Sum16BitWords::default().add_2bytes([0xff, 0xff]);
-    equal(rt, "whole", (all_ones == whole), true);
+    equal(rt, (all_ones == whole), true);
 }
 
 #[test]
@@ -49,7 +44,7 @@ fn sum_of_sixteen_bytes(rt: HostRuntime) {
     ];
     // Twice ddf2 is 1bbe4, and so bbe5.
     let sum = Sum16BitWords::new().add_16bytes(twice).ones_complement();
-    equal(rt, "twice", sum.swap_bytes(), 0x441a);
+    equal(rt, sum.swap_bytes(), 0x441a);
 }
 
 // The header's checksum stays where it is not 0.
@@ -58,7 +53,7 @@ fn checksums_that_are_not_zero(rt: HostRuntime) {
     let sum = header_sum()
         .add_8bytes(ADDRESSES)
         .to_ones_complement_with_no_zero();
-    equal(rt, "header", sum.swap_bytes(), 0xb861);
+    equal(rt, sum.swap_bytes(), 0xb861);
 }
 
 fn narrow_is(rt: impl Abort + Copy, sum: u32, wanted: u16) {
@@ -66,7 +61,7 @@ fn narrow_is(rt: impl Abort + Copy, sum: u32, wanted: u16) {
         u32_16bit_word::ones_complement(sum).swap_bytes(),
         u32_16bit_word::ones_complement_with_no_zero(sum).swap_bytes(),
     ];
-    equal(rt, "narrow", (sum, found), (sum, [wanted, wanted]));
+    equal(rt, (sum, found), (sum, [wanted, wanted]));
 }
 
 fn wide_is(rt: impl Abort + Copy, sum: u64, wanted: u16) {
@@ -74,7 +69,7 @@ fn wide_is(rt: impl Abort + Copy, sum: u64, wanted: u16) {
         u64_16bit_word::ones_complement(sum).swap_bytes(),
         u64_16bit_word::ones_complement_with_no_zero(sum).swap_bytes(),
     ];
-    equal(rt, "wide", (sum, found), (sum, [wanted, wanted]));
+    equal(rt, (sum, found), (sum, [wanted, wanted]));
 }
 
 // A start of 1234 and of words in the upper halves, read low byte first, and what they sum to by
@@ -122,7 +117,7 @@ fn widths_agree(rt: impl Abort + Copy, start: u32, bytes: &[u8]) {
         u64_16bit_word::ones_complement(wide),
         u64_16bit_word::ones_complement_with_no_zero(wide),
     ];
-    equal(rt, "widths", (bytes, start, found), (bytes, start, wanted));
+    equal(rt, (bytes, start, found), (bytes, start, wanted));
 }
 
 const BYTES: [u8; 17] = [
@@ -149,5 +144,5 @@ fn sum_of_a_message(rt: HostRuntime) {
         .add_4bytes([0, 17, 0, 16]);
     let header = [0, 1, 0, 2, 0, 16, 0, 0];
     let sum = message_sum(pseudo, &header, &[1, 2, 3, 4, 5, 6, 7, 8]);
-    equal(rt, "message", sum.ones_complement().swap_bytes(), 0xdbb4);
+    equal(rt, sum.ones_complement().swap_bytes(), 0xdbb4);
 }

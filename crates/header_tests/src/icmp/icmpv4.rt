@@ -8,9 +8,9 @@ fn is_kind(rt: impl Abort + AllocGlobal + Copy, bytes: &[u8; 8], kind: &str, wri
     let Ok(message) = Icmpv4Slice::from_slice(bytes) else {
         fail(rt, "no message");
     };
-    shows(rt, kind, &message.icmp_type(), kind);
+    shows(rt, &message.icmp_type(), kind);
     let header = message.header().to_bytes();
-    equal_bytes(rt, kind, header.as_slice(), written.as_slice());
+    equal_bytes(rt, header.as_slice(), written.as_slice());
 }
 
 const UNREACHABLE: &[(u8, &str)] = &[

@@ -54,13 +54,13 @@ fn is_refused(rt: impl Abort + Copy, bytes: &[u8], required_len: usize, layer: L
         layer,
         layer_start_offset: 0,
     });
-    equal(rt, "slice", (bytes, slice_refusal(bytes)), (bytes, error));
-    equal(rt, "header", (bytes, header_refusal(bytes)), (bytes, error));
+    equal(rt, (bytes, slice_refusal(bytes)), (bytes, error));
+    equal(rt, (bytes, header_refusal(bytes)), (bytes, error));
 }
 
 fn is_taken(rt: impl Abort + Copy, bytes: &[u8]) {
-    equal(rt, "slice", (bytes, slice_refusal(bytes)), (bytes, None));
-    equal(rt, "header", (bytes, header_refusal(bytes)), (bytes, None));
+    equal(rt, (bytes, slice_refusal(bytes)), (bytes, None));
+    equal(rt, (bytes, header_refusal(bytes)), (bytes, None));
 }
 
 // Each front of these bytes: of fewer than eight it is refused, else it is taken.
@@ -146,16 +146,11 @@ fn a_view_of_an_echo_request(rt: HostRuntime) {
     let Ok(message) = Icmpv4Slice::from_slice(&PING) else {
         fail(rt, "no message");
     };
-    equal(
-        rt,
-        "ping",
-        numbers(&message),
-        (8, 0, 0x4d5a, [0, 1, 0, 1], 8),
-    );
-    equal(rt, "ping", parts(&message), [&PING, &PING[8..]]);
-    shows(rt, "ping", &message.header(), PING_HEADER);
+    equal(rt, numbers(&message), (8, 0, 0x4d5a, [0, 1, 0, 1], 8));
+    equal(rt, parts(&message), [&PING, &PING[8..]]);
+    shows(rt, &message.header(), PING_HEADER);
     let copy: Result<_, _> = message.clone();
-    equal(rt, "ping", copy, Ok(message));
+    equal(rt, copy, Ok(message));
 }
 
 #[test]
@@ -163,12 +158,12 @@ fn the_header_of_an_echo_request(rt: HostRuntime) {
     let Ok((header, rest)) = Icmpv4Header::from_slice(&PING) else {
         fail(rt, "no header");
     };
-    shows(rt, "ping", &header, PING_HEADER);
-    equal(rt, "ping", rest, &PING[8..]);
+    shows(rt, &header, PING_HEADER);
+    equal(rt, rest, &PING[8..]);
     let lengths = (header.header_len(), header.fixed_payload_size());
-    equal(rt, "ping", lengths, (8, None));
+    equal(rt, lengths, (8, None));
     let copy: Result<_, _> = header.clone();
-    equal(rt, "ping", copy, Ok(header));
+    equal(rt, copy, Ok(header));
 }
 
 #[test]
@@ -178,13 +173,13 @@ fn a_view_of_a_timestamp_request(rt: HostRuntime) {
         fail(rt, "no message");
     };
     let wanted = (13, 0, 0xbca0, [0x12, 0x34, 0, 1], 20);
-    equal(rt, "timestamp", numbers(&message), wanted);
-    equal(rt, "timestamp", parts(&message), [bytes, &[]]);
+    equal(rt, numbers(&message), wanted);
+    equal(rt, parts(&message), [bytes, &[]]);
     let header = Icmpv4Header {
         icmp_type: Icmpv4Type::TimestampRequest(timestamp_message()),
         checksum: 0xbca0,
     };
-    equal(rt, "timestamp", message.header(), header);
+    equal(rt, message.header(), header);
 }
 
 #[test]
@@ -194,8 +189,8 @@ fn the_header_of_a_timestamp_request(rt: HostRuntime) {
         checksum: 0xbca0,
     };
     let lengths = (header.header_len(), header.fixed_payload_size());
-    equal(rt, "lengths", lengths, (20, Some(0)));
-    equal_bytes(rt, "bytes", header.to_bytes().as_slice(), &TIMESTAMP[..20]);
+    equal(rt, lengths, (20, Some(0)));
+    equal_bytes(rt, header.to_bytes().as_slice(), &TIMESTAMP[..20]);
 }
 
 #[test]
@@ -205,52 +200,47 @@ fn a_timestamp_reply(rt: HostRuntime) {
     bytes[2] = 0xbb;
     let kind = Icmpv4Type::TimestampReply(timestamp_message());
     let lengths = (kind.header_len(), kind.fixed_payload_size());
-    equal(rt, "lengths", lengths, (20, Some(0)));
+    equal(rt, lengths, (20, Some(0)));
     let Ok(message) = Icmpv4Slice::from_slice(&bytes[..20]) else {
         fail(rt, "no message");
     };
     let read = message.icmp_type();
-    equal(
-        rt,
-        "read",
-        read,
-        Icmpv4Type::TimestampReply(timestamp_message()),
-    );
+    equal(rt, read, Icmpv4Type::TimestampReply(timestamp_message()));
     let written = Icmpv4Header::with_checksum(kind, &[]).to_bytes();
-    equal_bytes(rt, "written", written.as_slice(), &bytes[..20]);
+    equal_bytes(rt, written.as_slice(), &bytes[..20]);
 }
 
 #[test]
 fn fields_and_their_bytes(rt: HostRuntime) {
     let echo = IcmpEchoHeader::from_bytes([1, 2, 3, 4]);
     // 258 is 0102, 772 is 0304.
-    shows(rt, "echo", &echo, "IcmpEchoHeader { id: 258, seq: 772 }");
-    equal(rt, "echo", echo.to_bytes(), [1, 2, 3, 4]);
-    shows(rt, "timestamp", &timestamp_message(), TIMESTAMP_FIELDS);
+    shows(rt, &echo, "IcmpEchoHeader { id: 258, seq: 772 }");
+    equal(rt, echo.to_bytes(), [1, 2, 3, 4]);
+    shows(rt, &timestamp_message(), TIMESTAMP_FIELDS);
 }
 
 #[test]
 fn checksums(rt: HostRuntime) {
     let ping = echo_request().calc_checksum(&PING[8..]);
-    equal(rt, "echo request", ping, 0x4d5a);
+    equal(rt, ping, 0x4d5a);
     let request = Icmpv4Type::TimestampRequest(timestamp_message());
-    equal(rt, "timestamp request", request.calc_checksum(&[]), 0xbca0);
+    equal(rt, request.calc_checksum(&[]), 0xbca0);
     // An odd last byte is followed by a zero byte.
     let network = Icmpv4Type::DestinationUnreachable(DestUnreachableHeader::Network);
-    equal(rt, "odd", network.calc_checksum(&[0x45, 0, 1]), 0xb6ff);
+    equal(rt, network.calc_checksum(&[0x45, 0, 1]), 0xb6ff);
     // 0 stays 0.
     let zero = Icmpv4Type::EchoRequest(IcmpEchoHeader { id: 0xf7ff, seq: 0 });
-    equal(rt, "zero", zero.calc_checksum(&[]), 0);
+    equal(rt, zero.calc_checksum(&[]), 0);
 }
 
 #[test]
 fn an_echo_reply_of_zeros(rt: HostRuntime) {
     let kind = Icmpv4Type::EchoReply(IcmpEchoHeader { id: 0, seq: 0 });
     let mut header = Icmpv4Header::new(kind);
-    equal_bytes(rt, "new", header.to_bytes().as_slice(), [0; 8].as_slice());
+    equal_bytes(rt, header.to_bytes().as_slice(), [0; 8].as_slice());
     header.update_checksum(&[]);
     let bytes = [0, 0, 0xff, 0xff, 0, 0, 0, 0].as_slice();
-    equal(rt, "sealed", header.to_bytes().as_slice(), bytes);
+    equal(rt, header.to_bytes().as_slice(), bytes);
 }
 
 #[test]
@@ -259,7 +249,7 @@ fn a_header_behind_a_byte_that_is_there(rt: HostRuntime) {
     let mut buffer = Vec::new(rt.alloc());
     let done = buffer.push(9).is_ok() && header.write(&mut buffer).is_ok();
     let bytes = [9, 8, 0, 0x4d, 0x5a, 0, 1, 0, 1].as_slice();
-    equal(rt, "written", buffer.as_slice(), bytes);
+    equal(rt, buffer.as_slice(), bytes);
 }
 
 #[test]
@@ -271,12 +261,7 @@ fn unknown_with_the_numbers_of_another_variant(rt: HostRuntime) {
     });
     let bytes = header.to_bytes();
     match Icmpv4Slice::from_slice(bytes.as_slice()) {
-        Ok(message) => shows(
-            rt,
-            "kind",
-            &message.icmp_type(),
-            "DestinationUnreachable(Host)",
-        ),
+        Ok(message) => shows(rt, &message.icmp_type(), "DestinationUnreachable(Host)"),
         Err(_) => fail(rt, "no message"),
     }
 }

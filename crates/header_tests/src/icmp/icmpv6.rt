@@ -8,15 +8,10 @@ fn is_kind(rt: impl Abort + AllocGlobal + Copy, bytes: &[u8; 8], kind: &str, wri
     let Ok(message) = Icmpv6Slice::from_slice(bytes) else {
         fail(rt, "no message");
     };
-    shows(rt, kind, &message.icmp_type(), kind);
-    equal(
-        rt,
-        kind,
-        numbers(&message.icmp_type()),
-        [bytes[0], bytes[1]],
-    );
+    shows(rt, &message.icmp_type(), kind);
+    equal(rt, numbers(&message.icmp_type()), [bytes[0], bytes[1]]);
     let header = message.header().to_bytes();
-    equal_bytes(rt, kind, header.as_slice(), written.as_slice());
+    equal_bytes(rt, header.as_slice(), written.as_slice());
 }
 
 fn numbers(kind: &Icmpv6Type) -> [u8; 2] {
@@ -243,7 +238,6 @@ fn lengths_of_an_echo_request(rt: HostRuntime) {
     let kind = Icmpv6Type::EchoRequest(IcmpEchoHeader { id: 1, seq: 2 });
     equal(
         rt,
-        "lengths",
         (kind.header_len(), kind.fixed_payload_size()),
         (8, None),
     );

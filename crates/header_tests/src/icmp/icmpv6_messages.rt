@@ -49,8 +49,8 @@ fn too_short(len: usize) -> Option<LenError> {
 }
 
 fn has_refusals(rt: impl Abort + Copy, bytes: &[u8], error: Option<LenError>) {
-    equal(rt, "slice", (bytes, slice_refusal(bytes)), (bytes, error));
-    equal(rt, "header", (bytes, header_refusal(bytes)), (bytes, error));
+    equal(rt, (bytes, slice_refusal(bytes)), (bytes, error));
+    equal(rt, (bytes, header_refusal(bytes)), (bytes, error));
 }
 
 fn is_taken_from_eight_bytes_on(rt: impl Abort + Copy, bytes: &[u8; 12]) {
@@ -102,16 +102,11 @@ fn a_view_of_a_message(rt: HostRuntime) {
         fail(rt, "no message");
     };
     let wanted = (2, 0, 0x9857, [0, 0, 5, 0xdc], 8);
-    equal(rt, "packet too big", numbers(&message), wanted);
-    equal(
-        rt,
-        "packet too big",
-        parts(&message),
-        [&TOO_BIG, &[0x60, 1, 2]],
-    );
-    shows(rt, "packet too big", &message.header(), TOO_BIG_HEADER);
+    equal(rt, numbers(&message), wanted);
+    equal(rt, parts(&message), [&TOO_BIG, &[0x60, 1, 2]]);
+    shows(rt, &message.header(), TOO_BIG_HEADER);
     let copy: Result<_, _> = message.clone();
-    equal(rt, "packet too big", copy, Ok(message));
+    equal(rt, copy, Ok(message));
 }
 
 #[test]
@@ -119,12 +114,12 @@ fn the_header_of_a_message(rt: HostRuntime) {
     let Ok((header, rest)) = Icmpv6Header::from_slice(&TOO_BIG) else {
         fail(rt, "no header");
     };
-    shows(rt, "packet too big", &header, TOO_BIG_HEADER);
-    equal(rt, "packet too big", rest, [0x60, 1, 2].as_slice());
+    shows(rt, &header, TOO_BIG_HEADER);
+    equal(rt, rest, [0x60, 1, 2].as_slice());
     let lengths = (header.header_len(), header.fixed_payload_size());
-    equal(rt, "packet too big", lengths, (8, None));
+    equal(rt, lengths, (8, None));
     let copy: Result<_, _> = header.clone();
-    equal(rt, "packet too big", copy, Ok(header));
+    equal(rt, copy, Ok(header));
 }
 
 fn is_valid(
@@ -137,7 +132,7 @@ fn is_valid(
     match Icmpv6Slice::from_slice(bytes) {
         Ok(message) => {
             let found = message.is_checksum_valid(source, destination);
-            equal(rt, "checksum", (bytes, found), (bytes, wanted));
+            equal(rt, (bytes, found), (bytes, wanted));
         }
         Err(_) => fail(rt, "no message"),
     }
@@ -169,17 +164,17 @@ fn both_zeros_are_right(rt: HostRuntime) {
     );
     let kind = Icmpv6Type::EchoReply(IcmpEchoHeader { id: 0x7ebd, seq: 0 });
     let sum = kind.calc_checksum([0; 16], [0; 16], &[]);
-    equal(rt, "sum", sum, Ok(0));
+    equal(rt, sum, Ok(0));
 }
 
 #[test]
 fn checksums(rt: HostRuntime) {
     let sum = too_big().calc_checksum(SOURCE, DESTINATION, &[0x60, 1, 2]);
-    equal(rt, "too big", sum, Ok(0x9857));
+    equal(rt, sum, Ok(0x9857));
     let echo = Icmpv6Type::EchoRequest(IcmpEchoHeader { id: 1, seq: 1 });
     let payload = *b"abcdefghijklmnopqrstuvwabcdefghi";
     let sum = echo.calc_checksum(SOURCE, DESTINATION, &payload);
-    equal(rt, "echo", sum, Ok(0xd771));
+    equal(rt, sum, Ok(0xd771));
 }
 
 // The text of a header that is made.
@@ -188,18 +183,18 @@ const MADE: &str = "Ok(Icmpv6Header { icmp_type: PacketTooBig { mtu: 1500 }, che
 #[test]
 fn headers_with_a_checksum(rt: HostRuntime) {
     let sealed = Icmpv6Header::with_checksum(too_big(), SOURCE, DESTINATION, &[0x60, 1, 2]);
-    shows(rt, "sealed", &sealed, MADE);
+    shows(rt, &sealed, MADE);
     let header = too_big().to_header(SOURCE, DESTINATION, &[0x60, 1, 2]);
-    shows(rt, "of the kind", &header, MADE);
+    shows(rt, &header, MADE);
 }
 
 #[test]
 fn a_checksum_that_is_set(rt: HostRuntime) {
     let mut header = Icmpv6Header::new(too_big());
-    equal(rt, "new", header.checksum, 0);
+    equal(rt, header.checksum, 0);
     let set = header.update_checksum(SOURCE, DESTINATION, &[0x60, 1, 2]);
-    equal(rt, "set", set, Ok(()));
-    equal_bytes(rt, "set", header.to_bytes().as_slice(), &TOO_BIG[..8]);
+    equal(rt, set, Ok(()));
+    equal_bytes(rt, header.to_bytes().as_slice(), &TOO_BIG[..8]);
 }
 
 #[test]
@@ -211,7 +206,7 @@ fn a_header_behind_a_byte_that_is_there(rt: HostRuntime) {
     let mut buffer = Vec::new(rt.alloc());
     let done = buffer.push(9).is_ok() && header.write(&mut buffer).is_ok();
     let bytes = [9, 2, 0, 0x98, 0x57, 0, 0, 5, 0xdc].as_slice();
-    equal(rt, "written", buffer.as_slice(), bytes);
+    equal(rt, buffer.as_slice(), bytes);
 }
 
 #[test]
@@ -223,12 +218,7 @@ fn unknown_with_the_numbers_of_another_variant(rt: HostRuntime) {
     });
     let bytes = header.to_bytes();
     match Icmpv6Slice::from_slice(bytes.as_slice()) {
-        Ok(message) => shows(
-            rt,
-            "kind",
-            &message.icmp_type(),
-            "DestinationUnreachable(Port)",
-        ),
+        Ok(message) => shows(rt, &message.icmp_type(), "DestinationUnreachable(Port)"),
         Err(_) => fail(rt, "no message"),
     }
 }

@@ -10,7 +10,7 @@ use std::test::*;
 // Fails where this is not the text of an error.
 fn reads<E: Display>(rt: impl Abort + AllocGlobal + Copy, error: &E, text: &str) {
     match format!(in rt.alloc(); "{error}") {
-        Ok(found) => equal(rt, "text", found.as_str(), text),
+        Ok(found) => equal(rt, found.as_str(), text),
         Err(_) => fail(rt, "no memory for a text"),
     }
 }

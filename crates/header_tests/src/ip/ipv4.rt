@@ -54,17 +54,12 @@ fn flags(header: &Ipv4Header) -> [bool; 3] {
 }
 
 fn has_the_fields(rt: impl Abort + Copy, header: &Ipv4Header) {
-    equal(rt, "bytes", in_bytes(header), IN_BYTES);
-    equal(rt, "words", in_words(header), IN_WORDS);
-    equal(rt, "flags", flags(header), FLAGS);
+    equal(rt, in_bytes(header), IN_BYTES);
+    equal(rt, in_words(header), IN_WORDS);
+    equal(rt, flags(header), FLAGS);
     let addresses = [header.source, header.destination];
-    equal(rt, "addresses", addresses, [[10, 0, 0, 1], [10, 0, 0, 2]]);
-    equal_bytes(
-        rt,
-        "options",
-        header.options.as_slice(),
-        [1, 1, 1, 0].as_slice(),
-    );
+    equal(rt, addresses, [[10, 0, 0, 1], [10, 0, 0, 2]]);
+    equal_bytes(rt, header.options.as_slice(), [1, 1, 1, 0].as_slice());
 }
 
 #[test]
@@ -73,13 +68,8 @@ fn fields_by_position(rt: HostRuntime) {
         fail(rt, "no header");
     };
     has_the_fields(rt, &header);
-    equal(rt, "rest", rest, [0xaa, 0xbb].as_slice());
-    equal(
-        rt,
-        "lengths",
-        (header.header_len(), header.payload_len()),
-        (24, Ok(6)),
-    );
+    equal(rt, rest, [0xaa, 0xbb].as_slice());
+    equal(rt, (header.header_len(), header.payload_len()), (24, Ok(6)));
 }
 
 fn in_bytes_of_view(header: &Ipv4HeaderSlice<'_>) -> [u8; 5] {
@@ -114,10 +104,10 @@ fn fields_of_a_view(rt: HostRuntime) {
     let Ok(header) = Ipv4HeaderSlice::from_slice(&BYTES) else {
         fail(rt, "no header");
     };
-    equal(rt, "version", header.version(), 4);
-    equal(rt, "bytes", in_bytes_of_view(&header), IN_BYTES);
-    equal(rt, "words", in_words_of_view(&header), IN_WORDS);
-    equal(rt, "flags", flags_of_view(&header), FLAGS);
+    equal(rt, header.version(), 4);
+    equal(rt, in_bytes_of_view(&header), IN_BYTES);
+    equal(rt, in_words_of_view(&header), IN_WORDS);
+    equal(rt, flags_of_view(&header), FLAGS);
     has_the_fields(rt, &header.to_header());
 }
 
@@ -136,8 +126,8 @@ fn parts_of_a_view(rt: HostRuntime) {
     };
     let addresses = [[10, 0, 0, 1], [10, 0, 0, 2]];
     let wanted = ([&BYTES[..24], &[1, 1, 1, 0]], addresses);
-    equal(rt, "bytes", parts(&header), wanted);
-    equal(rt, "bytes", header.payload_len(), Ok(6));
+    equal(rt, parts(&header), wanted);
+    equal(rt, header.payload_len(), Ok(6));
 }
 
 // Why these bytes are no view of a header and no header.
@@ -166,8 +156,8 @@ fn too_short(required_len: usize, len: usize) -> Option<HeaderSliceError> {
 }
 
 fn is_refused(rt: impl Abort + Copy, bytes: &[u8], error: Option<HeaderSliceError>) {
-    equal(rt, "view", refusal(bytes), error);
-    equal(rt, "header", header_refusal(bytes), error);
+    equal(rt, refusal(bytes), error);
+    equal(rt, header_refusal(bytes), error);
 }
 
 #[test]
@@ -211,7 +201,7 @@ fn faults_in_order(rt: HostRuntime) {
     for (byte, len, refused) in FAULTS.iter() {
         let bytes = [*byte; 20];
         let (front, _) = bytes.split_at((*len).min(20));
-        shows(rt, "front", &refusal(front), refused);
+        shows(rt, &refusal(front), refused);
     }
 }
 
@@ -222,19 +212,14 @@ fn errors_in_later_places(rt: HostRuntime) {
     let moved = HeaderSliceError::Len(error).add_slice_offset(4);
     let wanted = "Len(LenError { required_len: 20, len: 19, len_source: Slice, \
         layer: Ipv4Header, layer_start_offset: 18 })";
-    shows(rt, "18", &moved, wanted);
+    shows(rt, &moved, wanted);
     let last = HeaderSliceError::Len(error).add_slice_offset(0xffff_ffff_ffff_fff1);
     let wanted = "Len(LenError { required_len: 20, len: 19, len_source: Slice, \
         layer: Ipv4Header, layer_start_offset: 18446744073709551615 })";
-    shows(rt, "last", &last, wanted);
+    shows(rt, &last, wanted);
     let content = HeaderSliceError::Content(HeaderError::UnexpectedVersion { version_number: 6 });
-    equal(rt, "4", content.add_slice_offset(4), content);
-    equal(
-        rt,
-        "last",
-        content.add_slice_offset(0xffff_ffff_ffff_ffff),
-        content,
-    );
+    equal(rt, content.add_slice_offset(4), content);
+    equal(rt, content.add_slice_offset(0xffff_ffff_ffff_ffff), content);
 }
 
 // More fragments and an offset, each set or not, and whether the header is a fragment's.
@@ -256,32 +241,27 @@ fn header_with(more_fragments: bool, offset: u16) -> Ipv4Header {
 fn fragments(rt: HostRuntime) {
     for (more_fragments, offset, is_fragment) in FRAGMENTS.iter() {
         let header = header_with(*more_fragments, *offset);
-        equal(rt, "offset", header.fragment_offset.value(), *offset);
+        equal(rt, header.fragment_offset.value(), *offset);
         let wanted = (*more_fragments, *offset, *is_fragment);
         let found = header.is_fragmenting_payload();
-        equal(rt, "header", (*more_fragments, *offset, found), wanted);
+        equal(rt, (*more_fragments, *offset, found), wanted);
         let bytes = header.to_bytes();
         let Ok(view) = Ipv4HeaderSlice::from_slice(bytes.as_slice()) else {
             fail(rt, "no view");
         };
         let found = view.is_fragmenting_payload();
-        equal(rt, "view", (*more_fragments, *offset, found), wanted);
+        equal(rt, (*more_fragments, *offset, found), wanted);
     }
 }
 
 #[test]
 fn default_header(rt: HostRuntime) {
     let header = Ipv4Header::default();
-    equal(rt, "bytes", in_bytes(&header), [5, 0, 0, 0, 255]);
-    equal(rt, "words", in_words(&header), [0, 0, 0, 0]);
-    equal(rt, "flags", flags(&header), [true, false, false]);
-    equal(
-        rt,
-        "addresses",
-        [header.source, header.destination],
-        [[0; 4]; 2],
-    );
-    equal_bytes(rt, "options", header.options.as_slice(), [].as_slice());
+    equal(rt, in_bytes(&header), [5, 0, 0, 0, 255]);
+    equal(rt, in_words(&header), [0, 0, 0, 0]);
+    equal(rt, flags(&header), [true, false, false]);
+    equal(rt, [header.source, header.destination], [[0; 4]; 2]);
+    equal_bytes(rt, header.options.as_slice(), [].as_slice());
 }
 
 #[test]
@@ -290,7 +270,7 @@ fn total_length_below_the_header(rt: HostRuntime) {
     header.total_len = 19;
     let error = "Err(LenError { required_len: 20, len: 19, len_source: Ipv4HeaderTotalLen, \
         layer: Ipv4Packet, layer_start_offset: 0 })";
-    shows(rt, "19", &header.payload_len(), error);
+    shows(rt, &header.payload_len(), error);
 }
 
 // A header with no options, whose checksum was summed by hand.
@@ -313,7 +293,7 @@ fn written_behind_a_byte(rt: HostRuntime) {
         9, 0x45, 0, 0, 28, 0, 0, 0x40, 0, 64, 17, 0x26, 0xcf, 10, 0, 0, 1, 10, 0, 0, 2, 0x45, 0, 0,
         28, 0, 0, 0x40, 0, 64, 17, 0, 0, 10, 0, 0, 1, 10, 0, 0, 2,
     ];
-    equal_bytes(rt, "written", buffer.as_slice(), written.as_slice());
+    equal_bytes(rt, buffer.as_slice(), written.as_slice());
 }
 
 #[test]
@@ -321,11 +301,11 @@ fn the_checksum_of_a_header_without_options(rt: HostRuntime) {
     let Ok(mut header) = header_without_options() else {
         fail(rt, "no header");
     };
-    equal(rt, "flag", header.dont_fragment, true);
-    equal(rt, "sum", header.calc_header_checksum(), 0x26cf);
-    equal(rt, "its own", header.header_checksum, 0);
+    equal(rt, header.dont_fragment, true);
+    equal(rt, header.calc_header_checksum(), 0x26cf);
+    equal(rt, header.header_checksum, 0);
     header.identification = 0x26cf;
-    equal(rt, "zero", header.calc_header_checksum(), 0);
+    equal(rt, header.calc_header_checksum(), 0);
 }
 
 #[test]
@@ -333,25 +313,24 @@ fn bytes_of_a_header_with_options(rt: HostRuntime) {
     let Ok((header, _)) = Ipv4Header::read_from_slice(&BYTES) else {
         fail(rt, "no header");
     };
-    equal_bytes(rt, "bytes", header.to_bytes().as_slice(), &BYTES[..24]);
-    equal(rt, "sum", header.calc_header_checksum(), 0x439f);
-    equal(rt, "options", header.options(), [1, 1, 1, 0].as_slice());
+    equal_bytes(rt, header.to_bytes().as_slice(), &BYTES[..24]);
+    equal(rt, header.calc_header_checksum(), 0x439f);
+    equal(rt, header.options(), [1, 1, 1, 0].as_slice());
 }
 
 #[test]
 fn payload_lengths(rt: HostRuntime) {
     let mut header = Ipv4Header::default();
-    equal(rt, "40 bytes", header.set_options(&[7; 40]), Ok(()));
+    equal(rt, header.set_options(&[7; 40]), Ok(()));
     let refused = "Err(BadOptionsLen { bad_len: 6 })";
-    shows(rt, "6 bytes", &header.set_options(&[7; 6]), refused);
-    equal(rt, "most", header.max_payload_len(), 65475);
-    equal(rt, "set", header.set_payload_len(65475), Ok(()));
+    shows(rt, &header.set_options(&[7; 6]), refused);
+    equal(rt, header.max_payload_len(), 65475);
+    equal(rt, header.set_payload_len(65475), Ok(()));
     let refused = "Err(ValueTooBigError { actual: 65476, max_allowed: 65475, \
         value_type: Ipv4PayloadLength })";
-    shows(rt, "too big", &header.set_payload_len(65476), refused);
+    shows(rt, &header.set_payload_len(65476), refused);
     equal(
         rt,
-        "set",
         (header.total_len, header.payload_len()),
         (65535, Ok(65475)),
     );
@@ -367,10 +346,10 @@ fn total_len(payload_len: u16) -> Result<u16, ValueTooBigError<u16>> {
 
 #[test]
 fn payload_lengths_of_new_headers(rt: HostRuntime) {
-    equal(rt, "65515", total_len(65515), Ok(65535));
+    equal(rt, total_len(65515), Ok(65535));
     let refused = "Err(ValueTooBigError { actual: 65516, max_allowed: 65515, \
         value_type: Ipv4PayloadLength })";
-    shows(rt, "65516", &total_len(65516), refused);
+    shows(rt, &total_len(65516), refused);
 }
 
 #[test]
@@ -380,17 +359,17 @@ fn header_lengths(rt: HostRuntime) {
         Ipv4Header::MAX_LEN,
         Ipv4Header::SERIALIZED_SIZE,
     ];
-    equal(rt, "lengths", lens, [20, 60, 20]);
+    equal(rt, lens, [20, 60, 20]);
     let others = (Ipv4Header::MIN_LEN_U16, Ipv4Options::MAX_LEN);
-    equal(rt, "others", others, (20, 40));
+    equal(rt, others, (20, 40));
 }
 
 // Options hold so many bytes, each of them 1.
 fn are_ones(rt: impl Abort + Copy, options: Ipv4Options, len: usize) {
     let ones = [1; 40];
     let (ones, _) = ones.split_at(len.min(40));
-    equal(rt, "options", options.as_slice(), ones);
-    equal(rt, "length", options.len(), len);
+    equal(rt, options.as_slice(), ones);
+    equal(rt, options.len(), len);
 }
 
 #[test]
@@ -415,9 +394,9 @@ fn options_of_long_arrays(rt: HostRuntime) {
 #[test]
 fn option_lengths(rt: HostRuntime) {
     let three = Ipv4Options::try_from([1, 2, 3].as_slice()).err();
-    shows(rt, "3", &three, "Some(BadOptionsLen { bad_len: 3 })");
+    shows(rt, &three, "Some(BadOptionsLen { bad_len: 3 })");
     let many = Ipv4Options::try_from([0; 44].as_slice()).err();
-    shows(rt, "44", &many, "Some(BadOptionsLen { bad_len: 44 })");
+    shows(rt, &many, "Some(BadOptionsLen { bad_len: 44 })");
 }
 
 #[test]
@@ -425,14 +404,14 @@ fn options_written_anew(rt: HostRuntime) {
     let Ok(mut options) = Ipv4Options::try_from([1, 2, 3, 4].as_slice()) else {
         fail(rt, "no options");
     };
-    equal_bytes(rt, "before", options.as_slice(), [1, 2, 3, 4].as_slice());
+    equal_bytes(rt, options.as_slice(), [1, 2, 3, 4].as_slice());
     let found = (options.len(), options.len_u8(), options.is_empty());
-    equal(rt, "before", found, (4, 4, false));
-    equal(rt, "new", Ipv4Options::new().is_empty(), true);
+    equal(rt, found, (4, 4, false));
+    equal(rt, Ipv4Options::new().is_empty(), true);
     for byte in options.as_mut_slice() {
         *byte = 9;
     }
-    equal_bytes(rt, "anew", options.as_slice(), [9; 4].as_slice());
+    equal_bytes(rt, options.as_slice(), [9; 4].as_slice());
 }
 
 #[test]
@@ -442,14 +421,9 @@ fn laws_are_called(rt: HostRuntime) {
     };
     laws::same_fields_from_same_bytes();
     let (of_slice, of_header) = laws::payload_lengths_agree(&slice);
-    equal(rt, "payload", of_slice, of_header);
-    equal(
-        rt,
-        "equal",
-        laws::slices_are_equal_as_bytes(&slice, &slice),
-        true,
-    );
-    equal(rt, "lengths", laws::header_lengths(), [20, 60, 20]);
+    equal(rt, of_slice, of_header);
+    equal(rt, laws::slices_are_equal_as_bytes(&slice, &slice), true);
+    equal(rt, laws::header_lengths(), [20, 60, 20]);
 }
 
 #[test]
@@ -460,15 +434,10 @@ fn laws_of_a_header_are_called(rt: HostRuntime) {
     let Ok((again, rest)) = laws::header_is_read_again(&header, &BYTES) else {
         fail(rt, "no header again");
     };
-    equal(rt, "rest", rest, [0xaa, 0xbb].as_slice());
-    equal(
-        rt,
-        "equal",
-        laws::headers_are_equal_as_fields(&header, &again),
-        true,
-    );
+    equal(rt, rest, [0xaa, 0xbb].as_slice());
+    equal(rt, laws::headers_are_equal_as_fields(&header, &again), true);
     let copy: Result<_, _> = laws::header_is_copied(&header);
-    equal(rt, "copy", copy, Ok(again));
+    equal(rt, copy, Ok(again));
 }
 
 #[test]
@@ -477,10 +446,9 @@ fn laws_of_options_are_called(rt: HostRuntime) {
     laws::options_hash_as_bytes(&options, &mut FoldHasher::default());
     equal(
         rt,
-        "equal",
         laws::options_are_equal_as_bytes(&options, &options),
         true,
     );
     let order = laws::options_are_ordered_as_bytes(&options, &Ipv4Options::new());
-    equal(rt, "order", order, Ordering::Greater);
+    equal(rt, order, Ordering::Greater);
 }

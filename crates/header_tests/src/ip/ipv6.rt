@@ -41,13 +41,13 @@ fn fields_by_position(rt: HostRuntime) {
     let Ok((header, rest)) = Ipv6Header::from_slice(&BYTES) else {
         fail(rt, "no header");
     };
-    shows(rt, "bytes", &header, FIELDS);
-    equal(rt, "bytes", rest, [0xaa, 0xbb].as_slice());
+    shows(rt, &header, FIELDS);
+    equal(rt, rest, [0xaa, 0xbb].as_slice());
     let Ok((header, rest)) = Ipv6Header::read_from_slice(&BYTES) else {
         fail(rt, "no header is read");
     };
-    shows(rt, "bytes", &header, FIELDS);
-    equal(rt, "bytes", rest, [0xaa, 0xbb].as_slice());
+    shows(rt, &header, FIELDS);
+    equal(rt, rest, [0xaa, 0xbb].as_slice());
 }
 
 // Code point, congestion and the length of the header.
@@ -60,13 +60,8 @@ fn a_header_of_fields(rt: HostRuntime) {
     let Ok((header, _)) = Ipv6Header::from_slice(&BYTES) else {
         fail(rt, "no header");
     };
-    shows(
-        rt,
-        "bytes",
-        &parts(&header),
-        "(42, CongestionExperienced, 40)",
-    );
-    equal_bytes(rt, "bytes", header.to_bytes().as_slice(), &BYTES[..40]);
+    shows(rt, &parts(&header), "(42, CongestionExperienced, 40)");
+    equal_bytes(rt, header.to_bytes().as_slice(), &BYTES[..40]);
 }
 
 // The view's numbers before the addresses.
@@ -91,16 +86,11 @@ fn fields_of_a_view(rt: HostRuntime) {
         fail(rt, "no header");
     };
     let wanted = (6, 0xab, 0xcdef1, 0x1234, 17, 64);
-    equal(rt, "bytes", numbers(&view), wanted);
-    shows(
-        rt,
-        "bytes",
-        &parts_of_view(&view),
-        "(42, CongestionExperienced, 40)",
-    );
+    equal(rt, numbers(&view), wanted);
+    shows(rt, &parts_of_view(&view), "(42, CongestionExperienced, 40)");
     let addresses = [view.source(), view.destination()];
-    equal(rt, "bytes", addresses, [SOURCE, DESTINATION]);
-    shows(rt, "bytes", &view.to_header(), FIELDS);
+    equal(rt, addresses, [SOURCE, DESTINATION]);
+    shows(rt, &view.to_header(), FIELDS);
 }
 
 #[test]
@@ -108,9 +98,9 @@ fn a_view_is_its_bytes(rt: HostRuntime) {
     let Ok(view) = Ipv6HeaderSlice::from_slice(&BYTES) else {
         fail(rt, "no header");
     };
-    equal(rt, "bytes", view.slice(), &BYTES[..40]);
+    equal(rt, view.slice(), &BYTES[..40]);
     let copy: Result<_, _> = view.clone();
-    equal(rt, "bytes", copy, Ok(view));
+    equal(rt, copy, Ok(view));
 }
 
 // Why these bytes are no header and no view of one.
@@ -133,19 +123,19 @@ fn every_front_of_a_header(rt: HostRuntime) {
     for len in 0..40usize {
         let front = &BYTES[..len];
         let error = HeaderSliceError::Len(too_short(40, len, Layer::Ipv6Header, 0));
-        equal(rt, "front", header_refusal(front), Some(error));
-        equal(rt, "front", refusal(front), Some(error));
+        equal(rt, header_refusal(front), Some(error));
+        equal(rt, refusal(front), Some(error));
     }
     for len in 40..43usize {
         let front = &BYTES[..len];
-        equal(rt, "front", header_refusal(front), None);
+        equal(rt, header_refusal(front), None);
     }
 }
 
 #[test]
 fn the_length_is_tested_before_the_version(rt: HostRuntime) {
     let short = HeaderSliceError::Len(too_short(40, 39, Layer::Ipv6Header, 0));
-    equal(rt, "39", header_refusal(&[0x45; 39]), Some(short));
+    equal(rt, header_refusal(&[0x45; 39]), Some(short));
     for version_number in 0..16u8 {
         let bytes = [version_number * 16 + 15; 40];
         let error = HeaderError::UnexpectedVersion { version_number };
@@ -154,7 +144,7 @@ fn the_length_is_tested_before_the_version(rt: HostRuntime) {
             _ => Some(HeaderSliceError::Content(error)),
         };
         let found = (version_number, header_refusal(&bytes));
-        equal(rt, "version", found, (version_number, refused));
+        equal(rt, found, (version_number, refused));
     }
 }
 
@@ -164,18 +154,13 @@ fn errors_further_on(rt: HostRuntime) {
     let error = LenError::too_few_bytes(Layer::Ipv6Header, 40, 3).add_offset(5);
     let moved = HeaderSliceError::Len(error).add_slice_offset(14);
     let wanted = too_short(40, 3, Layer::Ipv6Header, 19);
-    equal(rt, "19", moved, HeaderSliceError::Len(wanted));
+    equal(rt, moved, HeaderSliceError::Len(wanted));
     let last = HeaderSliceError::Len(error).add_slice_offset(0xffff_ffff_ffff_fffa);
     let wanted = too_short(40, 3, Layer::Ipv6Header, 0xffff_ffff_ffff_ffff);
-    equal(rt, "last", last, HeaderSliceError::Len(wanted));
+    equal(rt, last, HeaderSliceError::Len(wanted));
     let content = HeaderSliceError::Content(HeaderError::UnexpectedVersion { version_number: 4 });
-    equal(rt, "14", content.add_slice_offset(14), content);
-    equal(
-        rt,
-        "last",
-        content.add_slice_offset(0xffff_ffff_ffff_ffff),
-        content,
-    );
+    equal(rt, content.add_slice_offset(14), content);
+    equal(rt, content.add_slice_offset(0xffff_ffff_ffff_ffff), content);
 }
 
 #[test]
@@ -187,7 +172,7 @@ fn a_header_behind_a_byte_that_is_there(rt: HostRuntime) {
     let done = buffer.push(0xbb).is_ok() && header.write(&mut buffer).is_ok();
     let mut written = BYTES;
     written.rotate_right(1);
-    equal_bytes(rt, "written", buffer.as_slice(), &written[..41]);
+    equal_bytes(rt, buffer.as_slice(), &written[..41]);
 }
 
 #[test]
@@ -196,23 +181,23 @@ fn fields_set(rt: HostRuntime) {
     let mut bytes = [0; 40];
     bytes[0] = 0x60;
     bytes[6] = 255;
-    equal(rt, "default", header.to_bytes(), bytes);
-    equal(rt, "default", header.flow_label, Ipv6FlowLabel::ZERO);
+    equal(rt, header.to_bytes(), bytes);
+    equal(rt, header.flow_label, Ipv6FlowLabel::ZERO);
     header.traffic_class = 0xab;
     header.set_ecn(IpEcn::Ect1);
-    equal(rt, "congestion", header.traffic_class, 0xa9);
+    equal(rt, header.traffic_class, 0xa9);
     header.set_dscp(IpDscp::EF);
-    equal(rt, "code point", header.traffic_class, 0xb9);
+    equal(rt, header.traffic_class, 0xb9);
 }
 
 #[test]
 fn payload_lengths_set(rt: HostRuntime) {
     let mut header = Ipv6Header::default();
-    equal(rt, "65535", header.set_payload_length(65535), Ok(()));
+    equal(rt, header.set_payload_length(65535), Ok(()));
     let refused = "Err(ValueTooBigError { actual: 65536, max_allowed: 65535, \
         value_type: Ipv6PayloadLength })";
-    shows(rt, "65536", &header.set_payload_length(65536), refused);
-    equal(rt, "set", header.payload_length, 65535);
+    shows(rt, &header.set_payload_length(65536), refused);
+    equal(rt, header.payload_length, 65535);
 }
 
 #[test]
@@ -224,24 +209,21 @@ fn laws_at_two_headers(rt: HostRuntime) {
     laws::headers_are_their_bytes(&header);
     equal(
         rt,
-        "again",
         laws::header_is_read_again(&header, &BYTES).is_ok(),
         true,
     );
     equal(
         rt,
-        "itself",
         laws::headers_are_equal_as_fields(&header, &header),
         true,
     );
     equal(
         rt,
-        "another",
         laws::headers_are_equal_as_fields(&header, &other),
         false,
     );
     let copy: Result<_, _> = laws::header_is_copied(&header);
-    equal(rt, "copy", copy, Ok(header));
+    equal(rt, copy, Ok(header));
 }
 
 #[test]
@@ -252,13 +234,8 @@ fn laws_of_no_header(rt: HostRuntime) {
     laws::traffic_class_has_two_parts();
     laws::skip_follows_every_walk();
     laws::skipped_numbers_are_ext_headers();
-    equal(rt, "lengths", laws::header_lengths(), [40, 40]);
-    equal(
-        rt,
-        "equal",
-        laws::slices_are_equal_as_bytes(&view, &view),
-        true,
-    );
+    equal(rt, laws::header_lengths(), [40, 40]);
+    equal(rt, laws::slices_are_equal_as_bytes(&view, &view), true);
 }
 
 fn walk(bytes: &[u8], first: u8) -> Result<(IpNumber, &[u8]), LenError> {
@@ -268,20 +245,15 @@ fn walk(bytes: &[u8], first: u8) -> Result<(IpNumber, &[u8]), LenError> {
 #[test]
 fn walks(rt: HostRuntime) {
     let bytes = [60, 0, 0, 0, 0, 0, 0, 0, 17, 0, 0, 0, 0, 0, 0, 0, 0xaa, 0xbb];
-    shows(
-        rt,
-        "two",
-        &walk(&bytes, 0),
-        "Ok((IpNumber(17), [170, 187]))",
-    );
+    shows(rt, &walk(&bytes, 0), "Ok((IpNumber(17), [170, 187]))");
     let (_, turns) = Ipv6Header::skip_counted(&bytes, IpNumber(0));
-    equal(rt, "turns", turns, 3);
+    equal(rt, turns, 3);
     // To the end of the slice.
     let bytes = [0, 0, 0, 0, 0, 0, 0, 0, 17, 0, 0, 0, 0, 0, 0, 0];
-    shows(rt, "end", &walk(&bytes, 60), "Ok((IpNumber(17), []))");
+    shows(rt, &walk(&bytes, 60), "Ok((IpNumber(17), []))");
     let want = "Err(LenError { required_len: 2, len: 1, len_source: Slice, \
         layer: Ipv6ExtHeader, layer_start_offset: 0 })";
-    shows(rt, "want", &walk(&[6], 43), want);
+    shows(rt, &walk(&[6], 43), want);
 }
 
 // Hop-by-hop options of 16 bytes, an authentication header of 12, a fragment header of 8 whose
@@ -294,14 +266,14 @@ const ROW: [u8; 54] = [
 #[test]
 fn headers_in_a_row(rt: HostRuntime) {
     let found = Ipv6Header::skip_counted(&ROW, IpNumber(0));
-    shows(rt, "row", &found, "(Ok((IpNumber(6), [7, 8])), 5)");
+    shows(rt, &found, "(Ok((IpNumber(6), [7, 8])), 5)");
 }
 
 // A front of `ROW` that ends within a header: what is wanted there, and the turns of the walk.
 fn front_wants(rt: impl Abort + Copy, len: usize, want: LenError, turns: usize) {
     let (front, _) = ROW.split_at(len.min(54));
     let found = Ipv6Header::skip_counted(front, IpNumber(0));
-    equal(rt, "front", found, (Err(want), turns));
+    equal(rt, found, (Err(want), turns));
 }
 
 // The headers' places and lengths.
@@ -337,15 +309,10 @@ fn is_skipped(rt: impl Abort + Copy, number: u8, bytes: &[u8; 32], len: usize) {
     let (whole, rest) = bytes.split_at(len.min(32));
     let (cut, _) = whole.split_at(len.min(32).saturating_sub(1));
     let next = Ipv6Header::skip_header_extension_in_slice(bytes, IpNumber(number));
-    equal(
-        rt,
-        "whole",
-        (number, next),
-        (number, Ok((IpNumber(99), rest))),
-    );
+    equal(rt, (number, next), (number, Ok((IpNumber(99), rest))));
     let want = too_short(len, cut.len(), Layer::Ipv6ExtHeader, 0);
     let refused = Ipv6Header::skip_header_extension_in_slice(cut, IpNumber(number));
-    equal(rt, "cut", (number, refused), (number, Err(want)));
+    equal(rt, (number, refused), (number, Err(want)));
 }
 
 #[test]
@@ -364,12 +331,7 @@ fn numbers_that_are_skipped(rt: HostRuntime) {
         let skipped = matches!(n, 0 | 43 | 44 | 51 | 60 | 135 | 139 | 140);
         let (number, behind) = if skipped { (253, 8) } else { (n, 0) };
         let (_, rest) = bytes.split_at(behind);
-        equal(
-            rt,
-            "walk",
-            (n, walk(&bytes, n)),
-            (n, Ok((IpNumber(number), rest))),
-        );
+        equal(rt, (n, walk(&bytes, n)), (n, Ok((IpNumber(number), rest))));
     }
 }
 
@@ -387,7 +349,7 @@ fn has_turns(rt: impl Abort + AllocGlobal + Copy, before_the_last: usize, told: 
     match row_of(rt.alloc(), before_the_last) {
         Ok(bytes) => {
             let found = Ipv6Header::skip_counted(&bytes, IpNumber(60));
-            shows(rt, "turns", &found, told);
+            shows(rt, &found, told);
         }
         Err(_) => fail(rt, "no memory"),
     }

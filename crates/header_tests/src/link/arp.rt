@@ -56,12 +56,12 @@ fn a_packet_both_ways(rt: HostRuntime) {
     let Ok(packet) = ArpPacket::from_slice(&BYTES) else {
         fail(rt, "no packet");
     };
-    shows(rt, "bytes", &types(&packet), TYPES);
-    equal(rt, "bytes", lengths(&packet), (28, 6, 4));
+    shows(rt, &types(&packet), TYPES);
+    equal(rt, lengths(&packet), (28, 6, 4));
     for (told, wanted) in addresses(&packet).into_iter().zip(ADDRESSES) {
-        equal_bytes(rt, "bytes", told, wanted);
+        equal_bytes(rt, told, wanted);
     }
-    equal_bytes(rt, "bytes", packet.to_bytes().as_slice(), &BYTES[..28]);
+    equal_bytes(rt, packet.to_bytes().as_slice(), &BYTES[..28]);
 }
 
 fn types_of_slice(packet: &ArpPacketSlice<'_>) -> Types {
@@ -95,12 +95,12 @@ fn a_view_of_a_packet(rt: HostRuntime) {
     let Ok(packet) = ArpPacketSlice::from_slice(&BYTES) else {
         fail(rt, "no packet");
     };
-    shows(rt, "bytes", &types_of_slice(&packet), TYPES);
-    equal(rt, "bytes", addresses_of_slice(&packet), ADDRESSES);
-    equal(rt, "bytes", parts_of_slice(&packet), (&BYTES[..28], 6, 4));
+    shows(rt, &types_of_slice(&packet), TYPES);
+    equal(rt, addresses_of_slice(&packet), ADDRESSES);
+    equal(rt, parts_of_slice(&packet), (&BYTES[..28], 6, 4));
     let fields = packet.to_packet();
-    equal_bytes(rt, "bytes", fields.to_bytes().as_slice(), &BYTES[..28]);
-    equal(rt, "bytes", ArpPacket::from_slice(&BYTES), Ok(fields));
+    equal_bytes(rt, fields.to_bytes().as_slice(), &BYTES[..28]);
+    equal(rt, ArpPacket::from_slice(&BYTES), Ok(fields));
 }
 
 // Why these bytes are no packet and no view of one.
@@ -130,8 +130,8 @@ fn too_short(required_len: usize, len: usize, len_source: LenSource) -> Option<L
 
 fn is_refused(rt: impl Abort + Copy, front: &[u8], required_len: usize, len_source: LenSource) {
     let error = too_short(required_len, front.len(), len_source);
-    equal(rt, "front", packet_refusal(front), error);
-    equal(rt, "front", refusal(front), error);
+    equal(rt, packet_refusal(front), error);
+    equal(rt, refusal(front), error);
 }
 
 #[test]
@@ -142,7 +142,7 @@ fn every_front_of_a_packet(rt: HostRuntime) {
     for len in 8..28usize {
         is_refused(rt, &BYTES[..len], 28, LenSource::ArpAddrLengths);
     }
-    equal(rt, "whole", refusal(&BYTES[..28]), None);
+    equal(rt, refusal(&BYTES[..28]), None);
 }
 
 // A packet with a sender's and a target's addresses, each by its number of bytes, which are 7.
@@ -184,7 +184,7 @@ fn is_written_with(rt: impl Abort + Copy, hw_len: usize, proto_len: usize) {
         Ok(packet) => {
             let whole = 8 + 2 * hw_len.min(255) + 2 * proto_len.min(255);
             let wanted = Some((whole, hw_len, proto_len, true));
-            equal(rt, "addresses", spelled(&packet), wanted);
+            equal(rt, spelled(&packet), wanted);
         }
         Err(_) => fail(rt, "no packet"),
     }
@@ -219,7 +219,7 @@ fn why_unmade(lens: &[usize; 4]) -> Option<ArpNewError> {
 #[test]
 fn addresses_that_make_no_packet(rt: HostRuntime) {
     for (lens, wanted) in REFUSED.iter() {
-        shows(rt, wanted, &why_unmade(lens), wanted);
+        shows(rt, &why_unmade(lens), wanted);
     }
 }
 
@@ -245,15 +245,10 @@ fn a_packet_in_a_frame(rt: HostRuntime) {
     ) else {
         fail(rt, "no frames");
     };
-    equal(
-        rt,
-        "whole",
-        packet_in(&whole),
-        Ok((EtherType::ARP, &BYTES[..28])),
-    );
+    equal(rt, packet_in(&whole), Ok((EtherType::ARP, &BYTES[..28])));
     let want = "Err(LenError { required_len: 28, len: 27, len_source: ArpAddrLengths, layer: Arp, \
         layer_start_offset: 14 })";
-    shows(rt, "cut", &packet_in(&cut), want);
+    shows(rt, &packet_in(&cut), want);
 }
 
 #[test]
@@ -278,7 +273,7 @@ fn a_packet_behind_a_byte_that_is_there(rt: HostRuntime) {
     let done = buffer.push(0xff).is_ok() && packet.write(&mut buffer).is_ok();
     let mut written = BYTES;
     written.rotate_right(1);
-    equal_bytes(rt, "written", buffer.as_slice(), written.as_slice());
+    equal_bytes(rt, buffer.as_slice(), written.as_slice());
 }
 
 #[test]
@@ -286,12 +281,11 @@ fn numbers(rt: HostRuntime) {
     let hardware = ArpHardwareId::from(824);
     equal(
         rt,
-        "hardware",
         (hardware, u16::from(hardware)),
         (ArpHardwareId::NETLINK, 824),
     );
-    equal(rt, "reply", ArpOperation::from(2), ArpOperation::REPLY);
-    equal(rt, "request", u16::from(ArpOperation::REQUEST), 1);
+    equal(rt, ArpOperation::from(2), ArpOperation::REPLY);
+    equal(rt, u16::from(ArpOperation::REQUEST), 1);
     reads(rt, &ArpHardwareId::FRAD, "770");
 }
 
@@ -303,11 +297,6 @@ fn laws(rt: HostRuntime) {
     arp_constants();
     packets_are_their_bytes(&packet);
     fields_by_hand();
-    equal(rt, "lengths", packet_lengths(), [1028]);
-    equal(
-        rt,
-        "read again",
-        packet_is_read_again(&packet, &BYTES),
-        Ok(packet),
-    );
+    equal(rt, packet_lengths(), [1028]);
+    equal(rt, packet_is_read_again(&packet, &BYTES), Ok(packet));
 }

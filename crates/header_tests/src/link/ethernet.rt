@@ -25,24 +25,19 @@ fn a_header_both_ways(rt: HostRuntime) {
     let Ok((header, rest)) = Ethernet2Header::from_slice(&BYTES) else {
         fail(rt, "no header");
     };
-    shows(rt, "bytes", &header, FIELDS);
-    equal(rt, "bytes", rest, [21, 22].as_slice());
-    equal(
-        rt,
-        "bytes",
-        (header.to_bytes(), header.header_len()),
-        (FRONT, 14),
-    );
-    shows(rt, "front", &Ethernet2Header::from_bytes(FRONT), FIELDS);
-    equal(rt, "zeros", Ethernet2Header::default().to_bytes(), [0; 14]);
+    shows(rt, &header, FIELDS);
+    equal(rt, rest, [21, 22].as_slice());
+    equal(rt, (header.to_bytes(), header.header_len()), (FRONT, 14));
+    shows(rt, &Ethernet2Header::from_bytes(FRONT), FIELDS);
+    equal(rt, Ethernet2Header::default().to_bytes(), [0; 14]);
 }
 
 // Destination, source and ether type, and the header's fields.
 fn is_header(rt: impl Abort + AllocGlobal + Copy, slice: &Ethernet2HeaderSlice<'_>) {
-    equal(rt, "to", slice.destination(), [1, 2, 3, 4, 5, 6]);
-    equal(rt, "from", slice.source(), [7, 8, 9, 10, 11, 12]);
-    equal(rt, "ether type", slice.ether_type().0, 0x0800);
-    shows(rt, "fields", &slice.to_header(), FIELDS);
+    equal(rt, slice.destination(), [1, 2, 3, 4, 5, 6]);
+    equal(rt, slice.source(), [7, 8, 9, 10, 11, 12]);
+    equal(rt, slice.ether_type().0, 0x0800);
+    shows(rt, &slice.to_header(), FIELDS);
 }
 
 #[test]
@@ -50,16 +45,16 @@ fn fields_of_a_view(rt: HostRuntime) {
     let Ok(slice) = Ethernet2HeaderSlice::from_slice(&BYTES) else {
         fail(rt, "no header");
     };
-    equal(rt, "bytes", slice.slice(), FRONT.as_slice());
+    equal(rt, slice.slice(), FRONT.as_slice());
     is_header(rt, &slice);
 }
 
 // The same of a frame.
 fn is_frame(rt: impl Abort + AllocGlobal + Copy, frame: &Ethernet2Slice<'_>) {
-    equal(rt, "to", frame.destination(), [1, 2, 3, 4, 5, 6]);
-    equal(rt, "from", frame.source(), [7, 8, 9, 10, 11, 12]);
-    equal(rt, "ether type", frame.ether_type().0, 0x0800);
-    shows(rt, "fields", &frame.to_header(), FIELDS);
+    equal(rt, frame.destination(), [1, 2, 3, 4, 5, 6]);
+    equal(rt, frame.source(), [7, 8, 9, 10, 11, 12]);
+    equal(rt, frame.ether_type().0, 0x0800);
+    shows(rt, &frame.to_header(), FIELDS);
 }
 
 // All bytes, the header and what stands behind it.
@@ -73,11 +68,11 @@ fn fields_and_parts_of_a_frame(rt: HostRuntime) {
         fail(rt, "no header");
     };
     is_frame(rt, &frame);
-    equal(rt, "bytes", frame.header_len(), 14);
-    equal(rt, "bytes", parts(&frame), [&BYTES, &FRONT, &[21, 22]]);
+    equal(rt, frame.header_len(), 14);
+    equal(rt, parts(&frame), [&BYTES, &FRONT, &[21, 22]]);
     let payload =
         "EtherPayloadSlice { ether_type: EtherType(2048), len_source: Slice, payload: [21, 22] }";
-    shows(rt, "bytes", &frame.payload(), payload);
+    shows(rt, &frame.payload(), payload);
 }
 
 // Why these bytes are no header, no view of one and no frame.
@@ -116,11 +111,11 @@ fn too_short(len: usize) -> Option<LenError> {
 fn every_front_of_a_header(rt: HostRuntime) {
     for len in 0..14usize {
         let front = &BYTES[..len];
-        equal(rt, "front", header_refusal(front), too_short(len));
-        equal(rt, "front", header_slice_refusal(front), too_short(len));
-        equal(rt, "front", refusal(front), too_short(len));
+        equal(rt, header_refusal(front), too_short(len));
+        equal(rt, header_slice_refusal(front), too_short(len));
+        equal(rt, refusal(front), too_short(len));
     }
-    equal(rt, "front", refusal(&FRONT), None);
+    equal(rt, refusal(&FRONT), None);
 }
 
 // The ether type 1234, which is 4660, and nothing behind it.
@@ -132,20 +127,20 @@ fn a_frame_of_few_bytes(rt: HostRuntime) {
     };
     let payload =
         "EtherPayloadSlice { ether_type: EtherType(4660), len_source: Slice, payload: [] }";
-    shows(rt, "few bytes", &frame.payload(), payload);
+    shows(rt, &frame.payload(), payload);
 }
 
 #[test]
 fn a_header_written_over_a_slice(rt: HostRuntime) {
     let mut bytes = [9; 16];
-    shows(rt, "16", &header().write_to_slice(&mut bytes), "Ok(())");
+    shows(rt, &header().write_to_slice(&mut bytes), "Ok(())");
     let written = [1, 2, 3, 4, 5, 6, 7, 8, 9, 10, 11, 12, 8, 0, 9, 9];
-    equal(rt, "16", bytes, written);
+    equal(rt, bytes, written);
     let mut few = [9; 13];
     let error = "Err(SliceWriteSpaceError { required_len: 14, len: 13, layer: Ethernet2Header, \
         layer_start_offset: 0 })";
-    shows(rt, "13", &header().write_to_slice(&mut few), error);
-    equal(rt, "13", few, [9; 13]);
+    shows(rt, &header().write_to_slice(&mut few), error);
+    equal(rt, few, [9; 13]);
 }
 
 #[test]
@@ -153,13 +148,13 @@ fn a_header_behind_a_byte_that_is_there(rt: HostRuntime) {
     let mut buffer = Vec::new(rt.alloc());
     let done = buffer.push(9).is_ok() && header().write(&mut buffer).is_ok();
     let written = [9, 1, 2, 3, 4, 5, 6, 7, 8, 9, 10, 11, 12, 8, 0];
-    equal_bytes(rt, "written", buffer.as_slice(), written.as_slice());
+    equal_bytes(rt, buffer.as_slice(), written.as_slice());
 }
 
 #[test]
 fn laws(rt: HostRuntime) {
     let is_read_again = header_is_read_again(&header(), &BYTES).is_ok();
-    equal(rt, "laws", (header_lengths(), is_read_again), ([14], true));
+    equal(rt, (header_lengths(), is_read_again), ([14], true));
     headers_are_their_bytes(&header());
 }
 

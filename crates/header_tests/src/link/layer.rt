@@ -34,52 +34,47 @@ fn linux_sll(rt: impl Abort + Copy) -> LinkHeader {
 
 #[test]
 fn one_kind_or_the_other(rt: HostRuntime) {
-    shows(rt, "Ethernet", &ethernet2().linux_sll(), "None");
+    shows(rt, &ethernet2().linux_sll(), "None");
     let Some(header) = ethernet2().ethernet2() else {
         fail(rt, "no Ethernet header");
     };
-    shows(rt, "Ethernet", &header, ETHERNET_FIELDS);
-    equal(
-        rt,
-        "Ethernet",
-        LinkHeader::Ethernet2(header).header_len(),
-        14,
-    );
+    shows(rt, &header, ETHERNET_FIELDS);
+    equal(rt, LinkHeader::Ethernet2(header).header_len(), 14);
 }
 
 #[test]
 fn the_other_kind_or_the_one(rt: HostRuntime) {
-    shows(rt, "cooked", &linux_sll(rt).ethernet2(), "None");
+    shows(rt, &linux_sll(rt).ethernet2(), "None");
     let Some(header) = linux_sll(rt).linux_sll() else {
         fail(rt, "no header of a cooked capture");
     };
-    shows(rt, "cooked", &header, SLL_FIELDS);
-    equal(rt, "cooked", LinkHeader::LinuxSll(header).header_len(), 16);
+    shows(rt, &header, SLL_FIELDS);
+    equal(rt, LinkHeader::LinuxSll(header).header_len(), 16);
 }
 
 #[test]
 fn an_ethernet_header_written_anew(rt: HostRuntime) {
     let mut header = ethernet2();
-    equal(rt, "Ethernet", header.mut_linux_sll().is_some(), false);
+    equal(rt, header.mut_linux_sll().is_some(), false);
     if let Some(ethernet2) = header.mut_ethernet2() {
         ethernet2.ether_type = EtherType::ARP;
     }
     let changed = "Ethernet2(Ethernet2Header { source: [7, 8, 9, 10, 11, 12], \
         destination: [1, 2, 3, 4, 5, 6], ether_type: EtherType(2054) })";
-    shows(rt, "Ethernet", &header, changed);
+    shows(rt, &header, changed);
 }
 
 #[test]
 fn a_cooked_header_written_anew(rt: HostRuntime) {
     let mut header = linux_sll(rt);
-    equal(rt, "cooked", header.mut_ethernet2().is_some(), false);
+    equal(rt, header.mut_ethernet2().is_some(), false);
     if let Some(linux_sll) = header.mut_linux_sll() {
         linux_sll.sender_address_valid_length = 8;
     }
     let changed = "LinuxSll(LinuxSllHeader { packet_type: LinuxSllPacketType(4), \
         arp_hrd_type: ArpHardwareId(1), sender_address_valid_length: 8, \
         sender_address: [1, 2, 3, 4, 5, 6, 0, 0], protocol_type: EtherType(EtherType(2054)) })";
-    shows(rt, "cooked", &header, changed);
+    shows(rt, &header, changed);
 }
 
 #[test]
@@ -93,13 +88,13 @@ fn headers_behind_a_byte_that_is_there(rt: HostRuntime) {
         9, 1, 2, 3, 4, 5, 6, 7, 8, 9, 10, 11, 12, 8, 0, 0, 4, 0, 1, 0, 6, 1, 2, 3, 4, 5, 6, 0, 0,
         8, 6,
     ];
-    equal_bytes(rt, "written", buffer.as_slice(), written.as_slice());
+    equal_bytes(rt, buffer.as_slice(), written.as_slice());
 }
 
 // The header and what an ether type names behind it, if there are such, as texts.
 fn is_link(rt: impl Abort + AllocGlobal + Copy, link: &LinkSlice<'_>, header: &str, payload: &str) {
-    shows(rt, header, &link.to_header(), header);
-    shows(rt, header, &link.ether_payload(), payload);
+    shows(rt, &link.to_header(), header);
+    shows(rt, &link.ether_payload(), payload);
 }
 
 #[test]

@@ -31,10 +31,10 @@ fn a_header_both_ways(rt: HostRuntime) {
     let Ok((header, rest)) = LinuxSllHeader::from_slice(&BYTES) else {
         fail(rt, "no header");
     };
-    shows(rt, "bytes", &header, FIELDS);
-    equal(rt, "bytes", rest, [21, 22].as_slice());
-    equal_bytes(rt, "bytes", header.to_bytes().as_slice(), &BYTES[..16]);
-    equal(rt, "bytes", header.header_len(), 16);
+    shows(rt, &header, FIELDS);
+    equal(rt, rest, [21, 22].as_slice());
+    equal_bytes(rt, header.to_bytes().as_slice(), &BYTES[..16]);
+    equal(rt, header.header_len(), 16);
 }
 
 fn numbers_of_view(slice: &LinuxSllHeaderSlice<'_>) -> Numbers {
@@ -51,10 +51,10 @@ fn fields_of_a_view(rt: HostRuntime) {
     let Ok(slice) = LinuxSllHeaderSlice::from_slice(&BYTES) else {
         fail(rt, "no header");
     };
-    equal(rt, "bytes", slice.slice(), &BYTES[..16]);
-    shows(rt, "bytes", &numbers_of_view(&slice), NUMBERS);
-    shows(rt, "bytes", &slice.protocol_type(), PROTOCOL);
-    shows(rt, "bytes", &slice.to_header(), FIELDS);
+    equal(rt, slice.slice(), &BYTES[..16]);
+    shows(rt, &numbers_of_view(&slice), NUMBERS);
+    shows(rt, &slice.protocol_type(), PROTOCOL);
+    shows(rt, &slice.to_header(), FIELDS);
 }
 
 fn numbers(slice: &LinuxSllSlice<'_>) -> Numbers {
@@ -71,9 +71,9 @@ fn fields_of_a_packet(rt: HostRuntime) {
     let Ok(slice) = LinuxSllSlice::from_slice(&BYTES) else {
         fail(rt, "no packet");
     };
-    shows(rt, "bytes", &numbers(&slice), NUMBERS);
-    shows(rt, "bytes", &slice.protocol_type(), PROTOCOL);
-    shows(rt, "bytes", &slice.to_header(), FIELDS);
+    shows(rt, &numbers(&slice), NUMBERS);
+    shows(rt, &slice.protocol_type(), PROTOCOL);
+    shows(rt, &slice.to_header(), FIELDS);
 }
 
 // All bytes and those behind the header, and the header's length.
@@ -86,10 +86,10 @@ fn parts_of_a_packet(rt: HostRuntime) {
     let Ok(slice) = LinuxSllSlice::from_slice(&BYTES) else {
         fail(rt, "no packet");
     };
-    equal(rt, "bytes", parts(&slice), ([&BYTES, &[21, 22]], 16));
+    equal(rt, parts(&slice), ([&BYTES, &[21, 22]], 16));
     let payload =
         "LinuxSllPayloadSlice { protocol_type: EtherType(EtherType(2048)), payload: [21, 22] }";
-    shows(rt, "bytes", &slice.payload(), payload);
+    shows(rt, &slice.payload(), payload);
 }
 
 // A payload as one that an ether type names, as a text, and that one back.
@@ -99,15 +99,10 @@ fn is_named(rt: impl Abort + AllocGlobal + Copy, payload: LinuxSllPayloadSlice<'
     };
     let named =
         "EtherPayloadSlice { ether_type: EtherType(2048), len_source: Slice, payload: [21, 22] }";
-    shows(rt, "named", &ether_payload, named);
+    shows(rt, &ether_payload, named);
     let again =
         "LinuxSllPayloadSlice { protocol_type: EtherType(EtherType(2048)), payload: [21, 22] }";
-    shows(
-        rt,
-        "again",
-        &LinuxSllPayloadSlice::from(ether_payload),
-        again,
-    );
+    shows(rt, &LinuxSllPayloadSlice::from(ether_payload), again);
 }
 
 #[test]
@@ -134,7 +129,7 @@ fn payloads_behind_no_ether_type(rt: HostRuntime) {
         };
         let is_refused = EtherPayloadSlice::try_from(payload).is_err();
         let found = (*protocol_type, is_refused);
-        equal(rt, "payload", found, (*protocol_type, true));
+        equal(rt, found, (*protocol_type, true));
     }
 }
 
@@ -161,9 +156,9 @@ fn refusal(bytes: &[u8]) -> Option<HeaderSliceError> {
 }
 
 fn is_refused(rt: impl Abort + Copy, bytes: &[u8], error: HeaderSliceError) {
-    equal(rt, "header", header_refusal(bytes), Some(error));
-    equal(rt, "view", header_slice_refusal(bytes), Some(error));
-    equal(rt, "packet", refusal(bytes), Some(error));
+    equal(rt, header_refusal(bytes), Some(error));
+    equal(rt, header_slice_refusal(bytes), Some(error));
+    equal(rt, refusal(bytes), Some(error));
 }
 
 fn too_short(len: usize) -> HeaderSliceError {
@@ -181,7 +176,7 @@ fn every_front_of_a_header(rt: HostRuntime) {
     for len in 0..16usize {
         is_refused(rt, &BYTES[..len], too_short(len));
     }
-    equal(rt, "whole", refusal(&BYTES[..16]), None);
+    equal(rt, refusal(&BYTES[..16]), None);
 }
 
 #[test]
@@ -202,30 +197,24 @@ fn packet_type(number: u16) -> Option<u16> {
 #[test]
 fn packet_types(rt: HostRuntime) {
     for number in 0..5u16 {
-        equal(rt, "packet type", packet_type(number), Some(number));
+        equal(rt, packet_type(number), Some(number));
     }
     let unsupported = "Err(UnsupportedPacketTypeField { packet_type: 5 })";
-    shows(rt, "5", &LinuxSllPacketType::try_from(5), unsupported);
-    shows(
-        rt,
-        "default",
-        &LinuxSllPacketType::default(),
-        "LinuxSllPacketType(0)",
-    );
-    equal(rt, "outgoing", LinuxSllPacketType::OUTGOING.value(), 4);
+    shows(rt, &LinuxSllPacketType::try_from(5), unsupported);
+    shows(rt, &LinuxSllPacketType::default(), "LinuxSllPacketType(0)");
+    equal(rt, LinuxSllPacketType::OUTGOING.value(), 4);
 }
 
 #[test]
 fn errors_further_on(rt: HostRuntime) {
     let unsupported = HeaderError::UnsupportedPacketTypeField { packet_type: 5 };
     let content = HeaderSliceError::from(unsupported);
-    equal(rt, "content", content.add_slice_offset(3), content);
+    equal(rt, content.add_slice_offset(3), content);
     let want = LenError::too_few_bytes(Layer::LinuxSllHeader, 16, 7).add_offset(4);
     let further = "Len(LenError { required_len: 16, len: 7, len_source: Slice, \
         layer: LinuxSllHeader, layer_start_offset: 7 })";
     shows(
         rt,
-        "want",
         &HeaderSliceError::Len(want).add_slice_offset(3),
         further,
     );
@@ -262,8 +251,8 @@ const PROTOCOLS: &[(u16, u16, LinuxSllProtocolType)] = &[
 fn protocols_by_hardware_type(rt: HostRuntime) {
     for (hardware_type, number, protocol) in PROTOCOLS.iter() {
         let read = LinuxSllProtocolType::from((ArpHardwareId(*hardware_type), *number));
-        equal(rt, "protocol", read, *protocol);
-        equal(rt, "number", u16::from(*protocol), *number);
+        equal(rt, read, *protocol);
+        equal(rt, u16::from(*protocol), *number);
     }
 }
 
@@ -301,7 +290,7 @@ fn numbers_set_anew(rt: HostRuntime) {
     for (before, number, wanted) in CHANGED_PROTOCOLS.iter() {
         let mut protocol = *before;
         protocol.change_value(*number);
-        equal(rt, "changed", protocol, *wanted);
+        equal(rt, protocol, *wanted);
     }
 }
 
@@ -323,13 +312,8 @@ fn laws(rt: HostRuntime) {
         fail(rt, "no header");
     };
     let is_read_again = header_is_read_again(&header, &BYTES).is_ok();
-    equal(
-        rt,
-        "lengths",
-        (header_lengths(), is_read_again),
-        ([16], true),
-    );
-    equal(rt, "constants", packet_type_constants().len(), 5);
+    equal(rt, (header_lengths(), is_read_again), ([16], true));
+    equal(rt, packet_type_constants().len(), 5);
     headers_are_their_bytes(&header);
     number_stays();
     protocols_by_hand();

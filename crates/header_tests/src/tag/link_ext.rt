@@ -26,17 +26,12 @@ fn is_tag(
     payload: &str,
 ) {
     let header = tag.to_header();
-    equal(rt, payload, tag.header_len(), bytes.len());
-    equal(
-        rt,
-        payload,
-        length_and_type(&header),
-        (bytes.len(), ether_type),
-    );
-    shows(rt, payload, &tag.ether_payload(), payload);
+    equal(rt, tag.header_len(), bytes.len());
+    equal(rt, length_and_type(&header), (bytes.len(), ether_type));
+    shows(rt, &tag.ether_payload(), payload);
     let mut buffer = Vec::new(rt.alloc());
     let done = header.write(&mut buffer).is_ok();
-    equal(rt, "written", buffer.as_slice(), bytes);
+    equal(rt, buffer.as_slice(), bytes);
 }
 
 // 33024 is 8100.
@@ -86,12 +81,7 @@ fn tags_of_zeros(rt: HostRuntime) {
     let Ok(tag) = SingleVlanSlice::from_slice(&[0; 4]) else {
         fail(rt, "no tag");
     };
-    equal(
-        rt,
-        "slice",
-        LinkExtSlice::default(),
-        LinkExtSlice::Vlan(tag),
-    );
+    equal(rt, LinkExtSlice::default(), LinkExtSlice::Vlan(tag));
     let header = LinkExtHeader::Vlan(SingleVlanHeader::default());
-    equal(rt, "header", LinkExtHeader::default(), header);
+    equal(rt, LinkExtHeader::default(), header);
 }

@@ -77,15 +77,10 @@ fn fields_by_position(rt: HostRuntime) {
     let Ok((header, rest)) = MacsecHeader::from_slice(&BYTES) else {
         fail(rt, "no header");
     };
-    shows(rt, "bytes", &header, FIELDS);
-    equal(rt, "bytes", rest, [21, 22, 23, 24].as_slice());
-    equal(rt, "bytes", lengths(&header), (14, None, Some(3)));
-    equal_bytes(
-        rt,
-        "bytes",
-        header.to_bytes().as_slice(),
-        WRITTEN.as_slice(),
-    );
+    shows(rt, &header, FIELDS);
+    equal(rt, rest, [21, 22, 23, 24].as_slice());
+    equal(rt, lengths(&header), (14, None, Some(3)));
+    equal_bytes(rt, header.to_bytes().as_slice(), WRITTEN.as_slice());
 }
 
 // ES, SC, SCB by both names, E, C, and whether neither E nor C is set.
@@ -125,11 +120,11 @@ fn a_view_of_a_header(rt: HostRuntime) {
         fail(rt, "no header");
     };
     let sci = Some(0x0a0b0c0d0e0f1011);
-    equal(rt, "bytes", numbers(&header), (2, 3, 0x01020304, sci));
-    equal(rt, "bytes", slice_lengths(&header), (14, None, Some(3)));
-    equal(rt, "bytes", header.slice(), &BYTES[..14]);
-    shows(rt, "bytes", &header.ptype(), "EncryptedUnmodified");
-    shows(rt, "bytes", &header.to_header(), FIELDS);
+    equal(rt, numbers(&header), (2, 3, 0x01020304, sci));
+    equal(rt, slice_lengths(&header), (14, None, Some(3)));
+    equal(rt, header.slice(), &BYTES[..14]);
+    shows(rt, &header.ptype(), "EncryptedUnmodified");
+    shows(rt, &header.to_header(), FIELDS);
 }
 
 // The first byte of a header, and its flags and association: as above, the flag of an end station
@@ -168,7 +163,8 @@ fn flags_of_a_header(rt: HostRuntime) {
         let mut bytes = BYTES;
         bytes[0] = *first;
         bytes[1] = 0;
-        equal(rt, name, flags_in(&bytes), Some((*wanted, *association)));
+        let wanted = (*name, Some((*wanted, *association)));
+        equal(rt, (*name, flags_in(&bytes)), wanted);
     }
 }
 
@@ -207,10 +203,10 @@ const PAYLOADS: &[(&[u8], [&str; 4])] = &[
 
 fn is_behind(rt: impl Abort + AllocGlobal + Copy, macsec: &MacsecSlice<'_>, wanted: &[&str; 4]) {
     let [header_len, ether_type, payload, ether_payload] = *wanted;
-    shows(rt, payload, &macsec.header_len(), header_len);
-    shows(rt, payload, &macsec.next_ether_type(), ether_type);
-    shows(rt, payload, &macsec.payload, payload);
-    shows(rt, payload, &macsec.ether_payload(), ether_payload);
+    shows(rt, &macsec.header_len(), header_len);
+    shows(rt, &macsec.next_ether_type(), ether_type);
+    shows(rt, &macsec.payload, payload);
+    shows(rt, &macsec.ether_payload(), ether_payload);
 }
 
 #[test]
@@ -230,8 +226,8 @@ fn the_header_of_an_unmodified_payload(rt: HostRuntime) {
     };
     let header = macsec.to_header();
     let tag = Some(EtherType::VLAN_TAGGED_FRAME);
-    equal(rt, "cut tag", lengths(&header), (8, tag, Some(2)));
-    equal_bytes(rt, "cut tag", header.to_bytes().as_slice(), &CUT_TAG[..8]);
+    equal(rt, lengths(&header), (8, tag, Some(2)));
+    equal_bytes(rt, header.to_bytes().as_slice(), &CUT_TAG[..8]);
 }
 
 // The refusal of a VLAN tag behind a MACsec header that stands behind 14 bytes of Ethernet II.
@@ -246,50 +242,47 @@ fn refusal_behind(bytes: &[u8]) -> Option<LenError> {
 fn a_tag_cut_by_a_short_length(rt: HostRuntime) {
     let error = "Some(LenError { required_len: 4, len: 2, len_source: Slice, layer: VlanHeader, \
         layer_start_offset: 22 })";
-    shows(rt, "cut tag", &refusal_behind(&CUT_TAG), error);
+    shows(rt, &refusal_behind(&CUT_TAG), error);
 }
 
 // Version 1 and a short length of 1: in too few bytes, in too few for the identifier, and the
 // latter alone; and each in front of a packet.
-const REFUSED: &[(&str, &[u8], &str)] = &[
+const REFUSED: &[(&[u8], &str)] = &[
+    // Too few bytes.
     (
-        "too few bytes",
         &[0xa0, 1, 0, 0, 0],
         "Some(Len(LenError { required_len: 6, len: 5, len_source: Slice, layer: MacsecHeader, \
             layer_start_offset: 0 }))",
     ),
+    // Version 1.
+    (&[0xa0, 1, 0, 0, 0, 1], "Some(Content(UnexpectedVersion))"),
+    // Short length 1.
     (
-        "version 1",
-        &[0xa0, 1, 0, 0, 0, 1],
-        "Some(Content(UnexpectedVersion))",
-    ),
-    (
-        "short length 1",
         &[0x20, 1, 0, 0, 0, 1],
         "Some(Content(InvalidUnmodifiedShortLen))",
     ),
+    // Version 1 before a packet.
     (
-        "version 1 before a packet",
         &[0x80, 0, 0, 0, 0, 1, 8, 0, 0x45, 0, 0, 0x24],
         "Some(Content(UnexpectedVersion))",
     ),
+    // Short length 1 before a packet.
     (
-        "short length 1 before a packet",
         &[0, 1, 0, 0, 0, 1, 8, 0, 0x45, 0, 0, 0x24],
         "Some(Content(InvalidUnmodifiedShortLen))",
     ),
 ];
 
-fn is_refused(rt: impl Abort + AllocGlobal + Copy, name: &str, bytes: &[u8], wanted: &str) {
-    shows(rt, name, &header_refusal(bytes), wanted);
-    shows(rt, name, &header_slice_refusal(bytes), wanted);
-    shows(rt, name, &refusal(bytes), wanted);
+fn is_refused(rt: impl Abort + AllocGlobal + Copy, bytes: &[u8], wanted: &str) {
+    shows(rt, &header_refusal(bytes), wanted);
+    shows(rt, &header_slice_refusal(bytes), wanted);
+    shows(rt, &refusal(bytes), wanted);
 }
 
 #[test]
 fn the_order_of_refusals(rt: HostRuntime) {
-    for (name, bytes, wanted) in REFUSED.iter() {
-        is_refused(rt, name, bytes, wanted);
+    for (bytes, wanted) in REFUSED.iter() {
+        is_refused(rt, bytes, wanted);
     }
 }
 
@@ -299,10 +292,10 @@ fn errors_further_on(rt: HostRuntime) {
     let moved = "Len(LenError { required_len: 6, len: 2, len_source: Slice, layer: MacsecHeader, \
         layer_start_offset: 14 })";
     let error = HeaderSliceError::Len(short);
-    equal(rt, "from", HeaderSliceError::from(short), error);
-    shows(rt, "short", &error.add_slice_offset(14), moved);
+    equal(rt, HeaderSliceError::from(short), error);
+    shows(rt, &error.add_slice_offset(14), moved);
     let content = HeaderSliceError::from(HeaderError::UnexpectedVersion);
-    equal(rt, "content", content.add_slice_offset(14), content);
+    equal(rt, content.add_slice_offset(14), content);
 }
 
 #[test]
@@ -324,7 +317,7 @@ fn a_header_behind_a_byte_that_is_there(rt: HostRuntime) {
     let written = [
         9, 0x7a, 3, 1, 2, 3, 4, 0xa, 0xb, 0xc, 0xd, 0xe, 0xf, 0x10, 0x11,
     ];
-    equal_bytes(rt, "written", buffer.as_slice(), written.as_slice());
+    equal_bytes(rt, buffer.as_slice(), written.as_slice());
 }
 
 #[test]
@@ -334,7 +327,7 @@ fn laws(rt: HostRuntime) {
     };
     headers_are_their_bytes(&header);
     let read = header_is_read_again(&header, &BYTES).is_ok();
-    equal(rt, "laws", (header_lengths(), read), ([6, 16], true));
+    equal(rt, (header_lengths(), read), ([6, 16], true));
 }
 
 #[test]

@@ -129,7 +129,7 @@ fn is_told(rt: impl Abort + Copy, row: &Row, short_len: u8, payload_len: Option<
         None => Err(HeaderSliceError::Content(HeaderError::InvalidUnmodifiedShortLen)),
     };
     let flags = [row.0, short_len];
-    equal(rt, "flags", (flags, read(&bytes)), (flags, wanted));
+    equal(rt, (flags, read(&bytes)), (flags, wanted));
 }
 
 #[test]
@@ -148,7 +148,7 @@ fn every_flag_and_short_length_of_version_1(rt: HostRuntime) {
         for short_len in SHORT_LENS.iter() {
             let bytes = numbered(0x80 | row.0, *short_len);
             let flags = [row.0, *short_len];
-            equal(rt, "flags", (flags, refusal(&bytes)), (flags, error));
+            equal(rt, (flags, refusal(&bytes)), (flags, error));
         }
     }
 }
@@ -171,15 +171,10 @@ fn front_is_refused(
     };
     let error = Some(want(required_len, len, layer));
     let (front, _) = bytes.split_at(len.min(bytes.len()));
-    equal(
-        rt,
-        "payload",
-        (bytes.first(), refusal(front)),
-        (bytes.first(), error),
-    );
+    equal(rt, (bytes.first(), refusal(front)), (bytes.first(), error));
     if len < header_len {
-        equal(rt, "front", header_refusal(front), error);
-        equal(rt, "front", header_slice_refusal(front), error);
+        equal(rt, header_refusal(front), error);
+        equal(rt, header_slice_refusal(front), error);
     }
 }
 
@@ -213,7 +208,7 @@ fn fronts_are_refused(
         front_is_refused(rt, bytes, len, header_len, whole_len);
     }
     let (whole, _) = bytes.split_at(whole_len.min(80));
-    equal(rt, "whole", refusal(whole), None);
+    equal(rt, refusal(whole), None);
 }
 
 #[test]

@@ -89,10 +89,10 @@ fn slice_read(bytes: &[u8]) -> Result<([Fields; 2], &[u8]), LenError> {
 fn fields_by_position(rt: HostRuntime) {
     for (bytes, fields) in TAGS.iter() {
         let (front, rest) = bytes.split_at(4);
-        equal(rt, "header", header_read(bytes), Ok((*fields, rest)));
+        equal(rt, header_read(bytes), Ok((*fields, rest)));
         let twice = [*fields, *fields];
-        equal(rt, "view", header_slice_read(bytes), Ok((twice, front)));
-        equal(rt, "tag", slice_read(bytes), Ok((twice, bytes)));
+        equal(rt, header_slice_read(bytes), Ok((twice, front)));
+        equal(rt, slice_read(bytes), Ok((twice, bytes)));
     }
 }
 
@@ -119,7 +119,7 @@ fn too_short(len: usize) -> LenError {
 fn every_front_of_a_tag(rt: HostRuntime) {
     for len in 0..4usize {
         let front = &BYTES[..len];
-        equal(rt, "front", refusals(front), [Some(too_short(len)); 3]);
+        equal(rt, refusals(front), [Some(too_short(len)); 3]);
     }
 }
 
@@ -127,11 +127,11 @@ fn every_front_of_a_tag(rt: HostRuntime) {
 fn a_header_both_ways(rt: HostRuntime) {
     let bytes = [0xb1, 0x23, 0x86, 0xdd];
     let header = SingleVlanHeader::from_bytes(bytes);
-    equal(rt, "fields", of_header(&header), [5, 1, 0x123, 0x86dd]);
-    equal(rt, "bytes", header.to_bytes(), bytes);
-    equal(rt, "length", header.header_len(), 4);
+    equal(rt, of_header(&header), [5, 1, 0x123, 0x86dd]);
+    equal(rt, header.to_bytes(), bytes);
+    equal(rt, header.header_len(), 4);
     let zeros = SingleVlanHeader::default().to_bytes();
-    equal(rt, "zeros", zeros, [0; 4]);
+    equal(rt, zeros, [0; 4]);
 }
 
 // The bytes of a tag's header and those behind them, and how many the former are.
@@ -148,8 +148,8 @@ fn parts_of_a_tag(rt: HostRuntime) {
     let Ok(tag) = SingleVlanSlice::from_slice(&BYTES) else {
         fail(rt, "no tag");
     };
-    equal(rt, "bytes", parts(&tag), ([&BYTES[..4], &[7, 8]], 4));
-    shows(rt, "bytes", &tag.payload(), BEHIND);
+    equal(rt, parts(&tag), ([&BYTES[..4], &[7, 8]], 4));
+    shows(rt, &tag.payload(), BEHIND);
 }
 
 #[test]
@@ -187,10 +187,10 @@ fn four_tags(rt: HostRuntime) {
             fail(rt, "no tag");
         };
         let (_, behind) = rest.split_at(4);
-        equal(rt, "tag", next_tag(&tag), (id, next, behind));
+        equal(rt, next_tag(&tag), (id, next, behind));
         rest = behind;
     }
-    equal(rt, "rest", rest.len(), 0);
+    equal(rt, rest.len(), 0);
 }
 
 fn two_tags(bytes: &[u8]) -> Option<DoubleVlanSlice<'_>> {
@@ -224,11 +224,11 @@ fn two_tags_and_what_is_behind(rt: HostRuntime) {
     let Some(tags) = two_tags(&TWO_TAGS) else {
         fail(rt, "no tags");
     };
-    equal(rt, "two", tags.header_len(), 8);
-    equal(rt, "two", tags.payload_slice(), [7, 8].as_slice());
-    shows(rt, "two", &tags.payload(), BEHIND);
+    equal(rt, tags.header_len(), 8);
+    equal(rt, tags.payload_slice(), [7, 8].as_slice());
+    shows(rt, &tags.payload(), BEHIND);
     let bytes = [0, 5, 0x81, 0, 0xb1, 0x23, 0x86, 0xdd];
-    equal(rt, "two", spelled(&tags.to_header()), (8, bytes));
+    equal(rt, spelled(&tags.to_header()), (8, bytes));
 }
 
 #[test]
@@ -239,19 +239,17 @@ fn one_tag_or_two(rt: HostRuntime) {
     let tag = VlanSlice::SingleVlan(tag);
     equal(
         rt,
-        "one",
         of_either(&tag),
         (4, [0xb1, 0x23, 0x86, 0xdd, 0, 0, 0, 0]),
     );
-    shows(rt, "one", &tag.payload(), BEHIND);
+    shows(rt, &tag.payload(), BEHIND);
     let tags = VlanSlice::DoubleVlan(tags);
     equal(
         rt,
-        "two",
         of_either(&tags),
         (8, [0, 5, 0x81, 0, 0xb1, 0x23, 0x86, 0xdd]),
     );
-    shows(rt, "two", &tags.payload(), BEHIND);
+    shows(rt, &tags.payload(), BEHIND);
 }
 
 fn header() -> SingleVlanHeader {
@@ -274,7 +272,7 @@ fn length_and_type(header: &VlanHeader) -> (usize, u16) {
 fn headers_of_one_tag_or_two(rt: HostRuntime) {
     let one = length_and_type(&VlanHeader::Single(header()));
     let two = length_and_type(&VlanHeader::Double(double_header()));
-    equal(rt, "one, two", [one, two], [(4, 0x86dd), (8, 0x86dd)]);
+    equal(rt, [one, two], [(4, 0x86dd), (8, 0x86dd)]);
 }
 
 // Whether one tag, two, and one of either kind are written.
@@ -291,7 +289,7 @@ fn tags_behind_a_byte_that_is_there(rt: HostRuntime) {
     let written = [
         9, 0xb1, 0x23, 0x86, 0xdd, 0, 0, 0, 0, 0xb1, 0x23, 0x86, 0xdd, 0xb1, 0x23, 0x86, 0xdd,
     ];
-    equal_bytes(rt, "written", buffer.as_slice(), written.as_slice());
+    equal_bytes(rt, buffer.as_slice(), written.as_slice());
 }
 
 #[test]
@@ -299,7 +297,7 @@ fn laws(rt: HostRuntime) {
     let header = header();
     headers_are_their_bytes(&header);
     let read = header_is_read_again(&header, &BYTES).is_ok();
-    equal(rt, "laws", (header_lengths(), read), ([4, 8], true));
+    equal(rt, (header_lengths(), read), ([4, 8], true));
 }
 
 #[test]

@@ -85,9 +85,9 @@ fn sealed(payload: &[u8]) -> [Result<UdpHeader, ValueTooBigError<usize>>; 2] {
 #[test]
 fn udp_checksums(rt: HostRuntime) {
     let headers = [Ok(udp_header(16, 0xdbb4)), Ok(udp_header(16, 0xf5b2))];
-    equal(rt, "sealed", sealed(&PAYLOAD), headers);
-    equal(rt, "IPv4", udp_over_ipv4(16, &PAYLOAD), [Ok(0xdbb4); 2]);
-    equal(rt, "IPv6", udp_over_ipv6(16, &PAYLOAD), [Ok(0xf5b2); 2]);
+    equal(rt, sealed(&PAYLOAD), headers);
+    equal(rt, udp_over_ipv4(16, &PAYLOAD), [Ok(0xdbb4); 2]);
+    equal(rt, udp_over_ipv6(16, &PAYLOAD), [Ok(0xf5b2); 2]);
 }
 
 // A sum of ffff gives 0, in whose place stands ffff.
@@ -103,7 +103,7 @@ fn udp_zero_checksum(rt: HostRuntime) {
         header.calc_checksum_ipv4_raw([0; 4], [0; 4], &[]),
         header.calc_checksum_ipv6_raw([0; 16], [0; 16], &[]),
     ];
-    equal(rt, "zero", sums, [Ok(0xffff); 2]);
+    equal(rt, sums, [Ok(0xffff); 2]);
 }
 
 fn udp_too_long(value_type: ValueType) -> ValueTooBigError<usize> {
@@ -119,9 +119,9 @@ fn udp_too_long(value_type: ValueType) -> ValueTooBigError<usize> {
 fn udp_greatest_payload(rt: HostRuntime) {
     let payload = filled(rt.alloc(), &[], 0, 65527);
     let headers = [Ok(udp_header(65535, 0xebe8)), Ok(udp_header(65535, 0x05e7))];
-    equal(rt, "sealed", sealed(&payload), headers);
-    equal(rt, "IPv4", udp_over_ipv4(65535, &payload), [Ok(0xebe8); 2]);
-    equal(rt, "IPv6", udp_over_ipv6(65535, &payload), [Ok(0x05e7); 2]);
+    equal(rt, sealed(&payload), headers);
+    equal(rt, udp_over_ipv4(65535, &payload), [Ok(0xebe8); 2]);
+    equal(rt, udp_over_ipv6(65535, &payload), [Ok(0x05e7); 2]);
 }
 
 // One byte more, with which a header has a checksum over IPv6 alone.
@@ -130,15 +130,10 @@ fn udp_payload_too_long(rt: HostRuntime) {
     let payload = filled(rt.alloc(), &[], 0, 65528);
     let over_v4 = udp_too_long(ValueType::UdpPayloadLengthIpv4);
     let over_v6 = udp_too_long(ValueType::UdpPayloadLengthIpv6);
-    equal(rt, "sealed", sealed(&payload), [Err(over_v4), Err(over_v6)]);
-    equal(
-        rt,
-        "IPv4",
-        udp_over_ipv4(65535, &payload),
-        [Err(over_v4); 2],
-    );
+    equal(rt, sealed(&payload), [Err(over_v4), Err(over_v6)]);
+    equal(rt, udp_over_ipv4(65535, &payload), [Err(over_v4); 2]);
     let [in_packet, raw] = udp_over_ipv6(65535, &payload);
-    equal(rt, "IPv6", [in_packet.is_ok(), raw.is_ok()], [true; 2]);
+    equal(rt, [in_packet.is_ok(), raw.is_ok()], [true; 2]);
 }
 
 // The checksums of a segment as a whole, of the bytes of its header and a payload, and of its
@@ -214,8 +209,8 @@ const SYN: [u8; 20] = [
 
 #[test]
 fn tcp_checksums_between_addresses(rt: HostRuntime) {
-    equal(rt, "IPv4", over_ipv4(&SYN, V4), [sum(0x97da); 3]);
-    equal(rt, "IPv6", over_ipv6(&SYN, V6), [sum(0xb1d8); 3]);
+    equal(rt, over_ipv4(&SYN, V4), [sum(0x97da); 3]);
+    equal(rt, over_ipv6(&SYN, V6), [sum(0xb1d8); 3]);
 }
 
 // The same with its three reserved bits set: slices sum them as they stand, which gives 89da over
@@ -225,9 +220,9 @@ fn tcp_reserved_bits_are_summed(rt: HostRuntime) {
     let mut bytes = SYN;
     bytes[12] = 0x5e;
     let wanted = [sum(0x89da), sum(0x89da), sum(0x97da)];
-    equal(rt, "IPv4", over_ipv4(&bytes, V4), wanted);
+    equal(rt, over_ipv4(&bytes, V4), wanted);
     let wanted = [sum(0xa3d8), sum(0xa3d8), sum(0xb1d8)];
-    equal(rt, "IPv6", over_ipv6(&bytes, V6), wanted);
+    equal(rt, over_ipv6(&bytes, V6), wanted);
 }
 
 // No port but for the number 40905, and the payload 1 to 8.
@@ -237,28 +232,13 @@ const SUM_OF_ZERO: [u8; 28] = [
 
 #[test]
 fn tcp_zero_checksum(rt: HostRuntime) {
-    equal(
-        rt,
-        "IPv4",
-        over_ipv4(&SUM_OF_ZERO, [[0; 4]; 2]),
-        [sum(0); 3],
-    );
-    equal(
-        rt,
-        "IPv6",
-        over_ipv6(&SUM_OF_ZERO, [[0; 16]; 2]),
-        [sum(0); 3],
-    );
+    equal(rt, over_ipv4(&SUM_OF_ZERO, [[0; 4]; 2]), [sum(0); 3]);
+    equal(rt, over_ipv6(&SUM_OF_ZERO, [[0; 16]; 2]), [sum(0); 3]);
 }
 
 // The checksums over IPv4 of a segment of so many bytes, of which all behind this front are 1.
 fn of_ones(rt: impl Abort + Copy, alloc: Global, front: &[u8], len: usize, wanted: Checksums) {
-    equal(
-        rt,
-        "ones",
-        over_ipv4(&filled(alloc, front, 1, len), V4),
-        wanted,
-    );
+    equal(rt, over_ipv4(&filled(alloc, front, 1, len), V4), wanted);
 }
 
 // From port 1 to port 2 with the number 3 and the window 1024.
@@ -300,7 +280,7 @@ fn tcp_greatest_payload_with_options(rt: HostRuntime) {
 #[test]
 fn tcp_greater_payload_over_ipv6(rt: HostRuntime) {
     let bytes = filled(rt.alloc(), &HEADER_OF_OPTIONS, 1, 60 + 65516);
-    equal(rt, "IPv6", over_ipv6(&bytes, V6), [sum(0x873a); 3]);
+    equal(rt, over_ipv6(&bytes, V6), [sum(0x873a); 3]);
 }
 
 // Segments of ones, but for the data offset, of 65534 and 65535 bytes, and one byte more: a program
@@ -364,14 +344,9 @@ fn in_ipv6(bytes: &[u8], packet: &[u8]) -> Option<[Checksum; 2]> {
 #[test]
 fn tcp_checksums_in_packets(rt: HostRuntime) {
     let packet = ipv4_header(IpNumber::TCP).to_bytes();
-    equal(
-        rt,
-        "IPv4",
-        in_ipv4(&SYN, packet.as_slice()),
-        Some([Ok(0x97da); 2]),
-    );
+    equal(rt, in_ipv4(&SYN, packet.as_slice()), Some([Ok(0x97da); 2]));
     let packet = ipv6_header(IpNumber::TCP).to_bytes();
-    equal(rt, "IPv6", in_ipv6(&SYN, &packet), Some([Ok(0xb1d8); 2]));
+    equal(rt, in_ipv6(&SYN, &packet), Some([Ok(0xb1d8); 2]));
 }
 
 #[test]

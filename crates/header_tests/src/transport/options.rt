@@ -28,13 +28,11 @@ fn option_lengths(rt: HostRuntime) {
     let options = options_of(&[WindowScale(123), Noop, Noop]);
     equal_bytes(
         rt,
-        "bytes",
         options.as_slice(),
         [3, 3, 0x7b, 1, 1, 0, 0, 0].as_slice(),
     );
     equal(
         rt,
-        "lengths",
         (options.len(), options.len_u8(), options.is_empty()),
         (8, 8, false),
     );
@@ -61,7 +59,6 @@ fn kinds_and_lengths(rt: HostRuntime) {
     ];
     equal(
         rt,
-        "numbers",
         (kinds, lengths),
         ([0, 1, 2, 3, 4, 5, 8], [1, 1, 4, 3, 2, 10]),
     );
@@ -86,8 +83,8 @@ fn first_elements() -> [TcpOptionElement; 5] {
 #[test]
 fn elements_of_a_first_segment(rt: HostRuntime) {
     let mut header = TcpHeader::new(1, 2, 3, 4);
-    equal(rt, "set", header.set_options(&first_elements()), Ok(()));
-    equal(rt, "bytes", header.options(), FIRST_SEGMENT.as_slice());
+    equal(rt, header.set_options(&first_elements()), Ok(()));
+    equal(rt, header.options(), FIRST_SEGMENT.as_slice());
 }
 
 #[test]
@@ -95,26 +92,21 @@ fn elements_come_back(rt: HostRuntime) {
     let mut items = TcpOptionsIterator::from_slice(&FIRST_SEGMENT);
     for element in first_elements() {
         if element == Noop {
-            equal(rt, "rest", items.rest(), [1, 3, 3, 7].as_slice());
+            equal(rt, items.rest(), [1, 3, 3, 7].as_slice());
         }
-        equal(rt, "element", items.next(), Some(Ok(element)));
+        equal(rt, items.next(), Some(Ok(element)));
     }
-    equal(rt, "end", items.next(), None);
+    equal(rt, items.next(), None);
 }
 
 #[test]
 fn blocks_are_packed(rt: HostRuntime) {
     let options = options_of(&[SelectiveAcknowledgement((1, 2), [None, Some((3, 4)), None])]);
     let bytes = [5, 18, 0, 0, 0, 1, 0, 0, 0, 2, 0, 0, 0, 3, 0, 0, 0, 4, 0, 0];
-    equal_bytes(rt, "bytes", options.as_slice(), bytes.as_slice());
+    equal_bytes(rt, options.as_slice(), bytes.as_slice());
     let mut items = options.elements_iter();
     let packed = SelectiveAcknowledgement((1, 2), [Some((3, 4)), None, None]);
-    equal(
-        rt,
-        "packed",
-        [items.next(), items.next()],
-        [Some(Ok(packed)), None],
-    );
+    equal(rt, [items.next(), items.next()], [Some(Ok(packed)), None]);
 }
 
 #[test]
@@ -123,7 +115,6 @@ fn four_blocks(rt: HostRuntime) {
     let options = options_of(&[element, Noop, Noop]);
     equal(
         rt,
-        "four",
         (options.len(), options.elements_iter().next()),
         (36, Some(Ok(element))),
     );
@@ -132,11 +123,10 @@ fn four_blocks(rt: HostRuntime) {
 #[test]
 fn room_for_forty_bytes(rt: HostRuntime) {
     let four = Timestamp(1, 2);
-    equal(rt, "four times ten", options_of(&[four; 4]).len(), 40);
+    equal(rt, options_of(&[four; 4]).len(), 40);
     let refused = Err(TcpOptionWriteError::NotEnoughSpace(41));
     equal(
         rt,
-        "one more",
         TcpOptions::try_from_elements(&[four, four, four, four, Noop]),
         refused,
     );
@@ -146,47 +136,31 @@ fn room_for_forty_bytes(rt: HostRuntime) {
 fn refused_options_change_nothing(rt: HostRuntime) {
     let mut header = TcpHeader::new(1, 2, 3, 4);
     let refused = Err(TcpOptionWriteError::NotEnoughSpace(41));
-    equal(rt, "refused", header.set_options(&[Noop; 41]), refused);
-    equal(rt, "unchanged", header, TcpHeader::new(1, 2, 3, 4));
+    equal(rt, header.set_options(&[Noop; 41]), refused);
+    equal(rt, header, TcpHeader::new(1, 2, 3, 4));
 }
 
 #[test]
 fn options_of_bytes(rt: HostRuntime) {
-    equal(
-        rt,
-        "no bytes",
-        TcpOptions::try_from_slice(&[]),
-        Ok(TcpOptions::new()),
-    );
+    equal(rt, TcpOptions::try_from_slice(&[]), Ok(TcpOptions::new()));
     let padded = Ok(TcpOptions::from([1, 0, 0, 0]));
-    equal(rt, "one byte", &TcpOptions::try_from_slice(&[1]), &padded);
-    equal(
-        rt,
-        "one element",
-        TcpOptions::try_from([Noop].as_slice()),
-        padded,
-    );
+    equal(rt, &TcpOptions::try_from_slice(&[1]), &padded);
+    equal(rt, TcpOptions::try_from([Noop].as_slice()), padded);
     let refused = Err(TcpOptionWriteError::NotEnoughSpace(41));
-    equal(
-        rt,
-        "41 bytes",
-        TcpOptions::try_from_slice(&[1; 41]),
-        refused,
-    );
+    equal(rt, TcpOptions::try_from_slice(&[1; 41]), refused);
 }
 
 #[test]
 fn options_changed_in_place(rt: HostRuntime) {
     let mut options = TcpOptions::from([1, 1, 1, 1]);
     options.as_mut_slice()[3] = 0;
-    equal(rt, "changed", &options, &TcpOptions::from([1, 1, 1, 0]));
+    equal(rt, &options, &TcpOptions::from([1, 1, 1, 0]));
     equal(
         rt,
-        "bytes",
         TcpOptions::try_from([1, 1, 1, 0].as_slice()),
         Ok(options),
     );
-    equal(rt, "default", TcpOptions::default().is_empty(), true);
+    equal(rt, TcpOptions::default().is_empty(), true);
 }
 
 // The first two items, and how many bytes are left then.
@@ -198,14 +172,9 @@ fn two(bytes: &[u8]) -> ([Item; 2], usize) {
 // Nothing comes behind the end of the list, nor behind a fault.
 #[test]
 fn nothing_behind_the_end(rt: HostRuntime) {
-    equal(rt, "end", two(&[1, 0, 1, 1]), ([Some(Ok(Noop)), None], 0));
+    equal(rt, two(&[1, 0, 1, 1]), ([Some(Ok(Noop)), None], 0));
     let unknown = TcpOptionReadError::UnknownId(6);
-    equal(
-        rt,
-        "unknown",
-        two(&[6, 1, 1, 1]),
-        ([Some(Err(unknown)), None], 0),
-    );
+    equal(rt, two(&[6, 1, 1, 1]), ([Some(Err(unknown)), None], 0));
 }
 
 // The option of this kind and size at the front of so many bytes.
@@ -231,16 +200,11 @@ fn wrong(option_id: u8, size: u8) -> Item {
 // A kind that has one size: with each number of bytes too few, and with each wrong size.
 fn one_size(rt: impl Abort + Copy, kind: u8, size: u8) {
     for len in 1..usize::from(size) {
-        equal(
-            rt,
-            "too few bytes",
-            option(kind, size, len),
-            end(kind, size, len),
-        );
+        equal(rt, option(kind, size, len), end(kind, size, len));
     }
     for other in 0..=255u8 {
         if other != size {
-            equal(rt, "size", option(kind, other, 10), wrong(kind, other));
+            equal(rt, option(kind, other, 10), wrong(kind, other));
         }
     }
 }
@@ -257,7 +221,7 @@ fn sizes_of_kinds(rt: HostRuntime) {
 // With each number of bytes too few.
 fn size_of_acknowledgement(rt: impl Abort + Copy, size: u8) {
     for len in 2..usize::from(size) {
-        equal(rt, "too few bytes", option(5, size, len), end(5, size, len));
+        equal(rt, option(5, size, len), end(5, size, len));
     }
 }
 
@@ -265,12 +229,12 @@ fn size_of_acknowledgement(rt: impl Abort + Copy, size: u8) {
 // (RFC 2018, section 3).
 #[test]
 fn sizes_of_acknowledgements(rt: HostRuntime) {
-    equal(rt, "no size", first(&[5]), end(5, 2, 1));
+    equal(rt, first(&[5]), end(5, 2, 1));
     for size in 0..=255u8 {
         if size == 10 || size == 18 || size == 26 || size == 34 {
             size_of_acknowledgement(rt, size);
         } else {
-            equal(rt, "size", option(5, size, 2), wrong(5, size));
+            equal(rt, option(5, size, 2), wrong(5, size));
         }
     }
 }
@@ -281,12 +245,7 @@ fn unknown_kinds(rt: HostRuntime) {
     for kind in 6..=255u8 {
         if kind != 8 {
             let unknown = Some(Err(TcpOptionReadError::UnknownId(kind)));
-            equal(
-                rt,
-                "unknown",
-                [first(&[kind, 2, 0, 0]), first(&[kind])],
-                [unknown; 2],
-            );
+            equal(rt, [first(&[kind, 2, 0, 0]), first(&[kind])], [unknown; 2]);
         }
     }
 }
@@ -306,7 +265,7 @@ fn counted<const N: usize>() -> [u8; N] {
 }
 
 fn are_counted(rt: impl Abort + Copy, options: TcpOptions, len: usize) {
-    equal(rt, "counted", Some(options.as_slice()), COUNTED.get(..len));
+    equal(rt, Some(options.as_slice()), COUNTED.get(..len));
 }
 
 // Options of one to ten words by value are these bytes.
@@ -330,7 +289,7 @@ fn iterators_are_equal_by_what_is_left(rt: HostRuntime) {
     let shorter = TcpOptionsIterator::from_slice(&[1, 0]);
     let at_first = items == shorter;
     items.next();
-    equal(rt, "equal", [at_first, items == shorter], [false, true]);
+    equal(rt, [at_first, items == shorter], [false, true]);
 }
 
 #[test]

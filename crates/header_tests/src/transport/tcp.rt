@@ -64,27 +64,21 @@ fn options_left(bytes: &[u8]) -> Option<usize> {
 fn header_by_position(rt: HostRuntime) {
     equal(
         rt,
-        "header",
         TcpHeader::from_slice(&BYTES),
         Ok((fields(), &BYTES[24..])),
     );
-    equal(rt, "options", options_left(&BYTES), Some(4));
+    equal(rt, options_left(&BYTES), Some(4));
 }
 
 #[test]
 fn bytes_by_position(rt: HostRuntime) {
     let header = fields();
-    equal(
-        rt,
-        "lengths",
-        (header.data_offset(), header.header_len()),
-        (6, 24),
-    );
-    equal(rt, "options", header.options(), OPTIONS);
+    equal(rt, (header.data_offset(), header.header_len()), (6, 24));
+    equal(rt, header.options(), OPTIONS);
     // The reserved bits are 0.
     let mut bytes = BYTES;
     bytes[12] = 0x61;
-    equal_bytes(rt, "bytes", header.to_bytes().as_slice(), &bytes[..24]);
+    equal_bytes(rt, header.to_bytes().as_slice(), &bytes[..24]);
 }
 
 #[test]
@@ -94,22 +88,12 @@ fn header_appended(rt: HostRuntime) {
     let bytes = [
         9, 0, 1, 0, 2, 0, 0, 0, 3, 0, 0, 0, 0, 0x50, 0, 0, 4, 0, 0, 0, 0,
     ];
-    equal(
-        rt,
-        "written",
-        (written, buffer.as_slice()),
-        (true, bytes.as_slice()),
-    );
+    equal(rt, (written, buffer.as_slice()), (true, bytes.as_slice()));
 }
 
 #[test]
 fn a_header_of_zeros(rt: HostRuntime) {
-    equal(
-        rt,
-        "default",
-        TcpHeader::default(),
-        TcpHeader::new(0, 0, 0, 0),
-    );
+    equal(rt, TcpHeader::default(), TcpHeader::new(0, 0, 0, 0));
 }
 
 // The flags of a header in their order, also of a segment below.
@@ -182,7 +166,7 @@ fn is_written_again(bytes: &[u8]) -> bool {
 
 fn has_flags(rt: impl Abort + Copy, bytes: &[u8], wanted: [bool; 9]) {
     match TcpHeaderSlice::from_slice(bytes) {
-        Ok(header) => equal(rt, "flags", flags_of(&header), wanted),
+        Ok(header) => equal(rt, flags_of(&header), wanted),
         Err(_) => fail(rt, "no header"),
     }
 }
@@ -198,12 +182,7 @@ fn flags_at_their_bits(rt: HostRuntime) {
         let mut wanted = [false; 9];
         wanted[place] = true;
         has_flags(rt, &bytes, wanted);
-        equal(
-            rt,
-            "written again",
-            (place, is_written_again(&bytes)),
-            (place, true),
-        );
+        equal(rt, (place, is_written_again(&bytes)), (place, true));
     }
 }
 
@@ -211,16 +190,11 @@ fn flags_at_their_bits(rt: HostRuntime) {
 fn getters_of_the_header_slice(rt: HostRuntime) {
     match TcpHeaderSlice::from_slice(&BYTES) {
         Ok(header) => {
-            equal(rt, "numbers", numbers_of(&header), NUMBERS);
-            equal(rt, "bytes", header.slice(), &BYTES[..24]);
-            equal(rt, "options", header.options(), OPTIONS);
-            equal(
-                rt,
-                "options left",
-                header.options_iterator().rest().len(),
-                4,
-            );
-            equal(rt, "fields", header.to_header(), fields());
+            equal(rt, numbers_of(&header), NUMBERS);
+            equal(rt, header.slice(), &BYTES[..24]);
+            equal(rt, header.options(), OPTIONS);
+            equal(rt, header.options_iterator().rest().len(), 4);
+            equal(rt, header.to_header(), fields());
         }
         Err(_) => fail(rt, "no header"),
     }
@@ -230,17 +204,12 @@ fn getters_of_the_header_slice(rt: HostRuntime) {
 fn getters_of_the_segment(rt: HostRuntime) {
     match TcpSlice::from_slice(&BYTES) {
         Ok(segment) => {
-            equal(rt, "numbers", numbers_of_segment(&segment), NUMBERS);
+            equal(rt, numbers_of_segment(&segment), NUMBERS);
             let flags = [true, true, false, false, true, false, false, false, true];
-            equal(rt, "flags", flags_of_segment(&segment), flags);
-            equal(rt, "options", segment.options(), OPTIONS);
-            equal(
-                rt,
-                "options left",
-                segment.options_iterator().rest().len(),
-                4,
-            );
-            equal(rt, "fields", segment.to_header(), fields());
+            equal(rt, flags_of_segment(&segment), flags);
+            equal(rt, segment.options(), OPTIONS);
+            equal(rt, segment.options_iterator().rest().len(), 4);
+            equal(rt, segment.to_header(), fields());
         }
         Err(_) => fail(rt, "no segment"),
     }
@@ -250,10 +219,10 @@ fn getters_of_the_segment(rt: HostRuntime) {
 fn parts_of_the_segment(rt: HostRuntime) {
     match TcpSlice::from_slice(&BYTES) {
         Ok(segment) => {
-            equal(rt, "bytes", segment.slice(), BYTES.as_slice());
-            equal(rt, "header", segment.header_slice(), &BYTES[..24]);
-            equal(rt, "payload", segment.payload(), &BYTES[24..]);
-            equal(rt, "length", segment.header_len(), 24);
+            equal(rt, segment.slice(), BYTES.as_slice());
+            equal(rt, segment.header_slice(), &BYTES[..24]);
+            equal(rt, segment.payload(), &BYTES[24..]);
+            equal(rt, segment.header_len(), 24);
         }
         Err(_) => fail(rt, "no segment"),
     }
@@ -270,18 +239,8 @@ fn refusals(bytes: &[u8]) -> [Option<HeaderSliceError>; 3] {
 
 #[test]
 fn faults_in_order(rt: HostRuntime) {
-    equal(
-        rt,
-        "19 bytes",
-        refusals(&BYTES[..19]),
-        [Some(too_short(20, 19, 0)); 3],
-    );
-    equal(
-        rt,
-        "23 bytes",
-        refusals(&BYTES[..23]),
-        [Some(too_short(24, 23, 0)); 3],
-    );
+    equal(rt, refusals(&BYTES[..19]), [Some(too_short(20, 19, 0)); 3]);
+    equal(rt, refusals(&BYTES[..23]), [Some(too_short(24, 23, 0)); 3]);
 }
 
 fn too_small(data_offset: u8) -> HeaderSliceError {
@@ -295,24 +254,14 @@ fn faulty_data_offsets(rt: HostRuntime) {
     let mut bytes = BYTES;
     for data_offset in 0..5u8 {
         bytes[12] = data_offset * 16 + 15;
-        equal(
-            rt,
-            "ns and reserved bits",
-            refusals(&bytes),
-            [Some(too_small(data_offset)); 3],
-        );
+        equal(rt, refusals(&bytes), [Some(too_small(data_offset)); 3]);
         bytes[12] = data_offset * 16;
-        equal(
-            rt,
-            "no other bit",
-            refusals(&bytes),
-            [Some(too_small(data_offset)); 3],
-        );
+        equal(rt, refusals(&bytes), [Some(too_small(data_offset)); 3]);
     }
     for data_offset in 7..16u8 {
         bytes[12] = data_offset * 16;
         let short = too_short(4 * usize::from(data_offset), 26, 0);
-        equal(rt, "too few bytes", refusals(&bytes), [Some(short); 3]);
+        equal(rt, refusals(&bytes), [Some(short); 3]);
     }
 }
 
@@ -326,14 +275,9 @@ fn errors_seen_from_further_out(rt: HostRuntime) {
         layer: Layer::TcpHeader,
         layer_start_offset: 0,
     });
-    equal(
-        rt,
-        "moved",
-        short.add_slice_offset(34),
-        too_short(20, 19, 34),
-    );
+    equal(rt, short.add_slice_offset(34), too_short(20, 19, 34));
     let small = HeaderSliceError::Content(HeaderError::DataOffsetTooSmall { data_offset: 4 });
-    equal(rt, "not moved", small.add_slice_offset(34), small);
+    equal(rt, small.add_slice_offset(34), small);
 }
 
 #[test]
@@ -355,37 +299,22 @@ fn views_as_text(rt: HostRuntime) {
     bytes[12] = 0x50;
     let header =
         "Ok(TcpHeaderSlice { slice: [0, 0, 0, 0, 0, 0, 0, 0, 0, 0, 0, 0, 80, 0, 0, 0, 0, 0, 0, 0] })";
-    shows(rt, "header", &TcpHeaderSlice::from_slice(&bytes), header);
+    shows(rt, &TcpHeaderSlice::from_slice(&bytes), header);
     let segment =
         "Ok(TcpSlice { slice: [0, 0, 0, 0, 0, 0, 0, 0, 0, 0, 0, 0, 80, 0, 0, 0, 0, 0, 0, 0, 0] })";
-    shows(rt, "segment", &TcpSlice::from_slice(&bytes), segment);
+    shows(rt, &TcpSlice::from_slice(&bytes), segment);
 }
 
 #[test]
 fn raw_options(rt: HostRuntime) {
     let mut header = TcpHeader::new(1, 2, 3, 4);
-    equal(
-        rt,
-        "five bytes",
-        header.set_options_raw(&[1, 1, 1, 1, 1]),
-        Ok(()),
-    );
-    equal(
-        rt,
-        "padded",
-        header.options(),
-        [1, 1, 1, 1, 1, 0, 0, 0].as_slice(),
-    );
+    equal(rt, header.set_options_raw(&[1, 1, 1, 1, 1]), Ok(()));
+    equal(rt, header.options(), [1, 1, 1, 1, 1, 0, 0, 0].as_slice());
     let refused = Err(TcpOptionWriteError::NotEnoughSpace(41));
-    equal(rt, "41 bytes", header.set_options_raw(&[1; 41]), refused);
-    equal(rt, "length", header.header_len(), 28);
-    equal(rt, "40 bytes", header.set_options_raw(&[1; 40]), Ok(()));
-    equal(
-        rt,
-        "data offset",
-        header.data_offset(),
-        TcpHeader::MAX_DATA_OFFSET,
-    );
+    equal(rt, header.set_options_raw(&[1; 41]), refused);
+    equal(rt, header.header_len(), 28);
+    equal(rt, header.set_options_raw(&[1; 40]), Ok(()));
+    equal(rt, header.data_offset(), TcpHeader::MAX_DATA_OFFSET);
 }
 
 #[test]
@@ -393,7 +322,7 @@ fn laws_are_called(rt: HostRuntime) {
     laws::tcp::sealed_sums_to_all_ones();
     laws::tcp::headers_are_their_bytes(&fields());
     let again = laws::tcp::header_is_read_again(&fields(), &BYTES);
-    equal(rt, "read again", again, Ok((fields(), &BYTES[24..])));
+    equal(rt, again, Ok((fields(), &BYTES[24..])));
 }
 
 #[test]
@@ -405,7 +334,6 @@ fn laws_of_options_are_called(rt: HostRuntime) {
     laws::tcp::options_hash_as_bytes(&a, &mut FoldHasher::default());
     equal(
         rt,
-        "order",
         laws::tcp::options_are_ordered_as_bytes(&a, &b),
         Ordering::Less,
     );

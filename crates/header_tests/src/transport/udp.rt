@@ -38,25 +38,19 @@ fn header_by_position(rt: HostRuntime) {
     let short = want(8, 7, LenSource::Slice, Layer::UdpHeader);
     equal(
         rt,
-        "header",
         UdpHeader::from_slice(&BYTES),
         Ok((fields(), &BYTES[8..])),
     );
-    equal(rt, "short", UdpHeader::from_slice(&BYTES[..7]), Err(short));
+    equal(rt, UdpHeader::from_slice(&BYTES[..7]), Err(short));
 }
 
 #[test]
 fn bytes_by_position(rt: HostRuntime) {
     let bytes = [0, 1, 0, 2, 0, 16, 0xdb, 0xb4];
     let written = [fields().to_bytes(), UdpHeader::default().to_bytes()];
-    equal(rt, "bytes", written, [bytes, [0; 8]]);
-    equal(rt, "header", UdpHeader::from_bytes(bytes), fields());
-    equal(
-        rt,
-        "lengths",
-        (fields().header_len(), UdpHeader::LEN_U16),
-        (8, 8),
-    );
+    equal(rt, written, [bytes, [0; 8]]);
+    equal(rt, UdpHeader::from_bytes(bytes), fields());
+    equal(rt, (fields().header_len(), UdpHeader::LEN_U16), (8, 8));
 }
 
 #[test]
@@ -64,7 +58,7 @@ fn header_appended(rt: HostRuntime) {
     let mut buffer = Vec::new(rt.alloc());
     let written = buffer.push(9).is_ok() && fields().write(&mut buffer).is_ok();
     let wanted = (true, [9, 0, 1, 0, 2, 0, 16, 0xdb, 0xb4].as_slice());
-    equal(rt, "written", (written, buffer.as_slice()), wanted);
+    equal(rt, (written, buffer.as_slice()), wanted);
 }
 
 // Both ports, the length and the checksum.
@@ -90,9 +84,9 @@ fn numbers_of_datagram(datagram: &UdpSlice<'_>) -> [u16; 4] {
 fn getters_of_the_header_slice(rt: HostRuntime) {
     match UdpHeaderSlice::from_slice(&BYTES) {
         Ok(header) => {
-            equal(rt, "numbers", numbers_of(&header), [1, 2, 16, 0xdbb4]);
-            equal(rt, "bytes", header.slice(), &BYTES[..8]);
-            equal(rt, "fields", header.to_header(), fields());
+            equal(rt, numbers_of(&header), [1, 2, 16, 0xdbb4]);
+            equal(rt, header.slice(), &BYTES[..8]);
+            equal(rt, header.to_header(), fields());
         }
         Err(_) => fail(rt, "no header"),
     }
@@ -102,16 +96,11 @@ fn getters_of_the_header_slice(rt: HostRuntime) {
 fn getters_of_the_datagram(rt: HostRuntime) {
     match UdpSlice::from_slice(&BYTES) {
         Ok(datagram) => {
-            equal(
-                rt,
-                "numbers",
-                numbers_of_datagram(&datagram),
-                [1, 2, 16, 0xdbb4],
-            );
-            equal(rt, "fields", datagram.to_header(), fields());
-            equal(rt, "bytes", datagram.slice(), &BYTES[..16]);
-            equal(rt, "header", datagram.header_slice(), &BYTES[..8]);
-            equal(rt, "length", datagram.header_len(), 8);
+            equal(rt, numbers_of_datagram(&datagram), [1, 2, 16, 0xdbb4]);
+            equal(rt, datagram.to_header(), fields());
+            equal(rt, datagram.slice(), &BYTES[..16]);
+            equal(rt, datagram.header_slice(), &BYTES[..8]);
+            equal(rt, datagram.header_len(), 8);
         }
         Err(_) => fail(rt, "no datagram"),
     }
@@ -131,7 +120,7 @@ fn payload(bytes: &[u8]) -> Result<(&[u8], LenSource), LenError> {
 }
 
 fn has_payload(rt: impl Abort + Copy, bytes: &[u8], wanted: &[u8], bound: LenSource) {
-    equal(rt, "payload", payload(bytes), Ok((wanted, bound)));
+    equal(rt, payload(bytes), Ok((wanted, bound)));
 }
 
 #[test]
@@ -146,15 +135,15 @@ fn lengths_of_datagrams(rt: HostRuntime) {
 fn lengths_of_no_datagrams(rt: HostRuntime) {
     let beyond = want(11, 10, LenSource::Slice, Layer::UdpPayload);
     let short = want(8, 7, LenSource::Slice, Layer::UdpHeader);
-    equal(rt, "11 of 10", payload(&datagram_of(11)), Err(beyond));
-    equal(rt, "7 bytes", payload(&[0; 7]), Err(short));
+    equal(rt, payload(&datagram_of(11)), Err(beyond));
+    equal(rt, payload(&[0; 7]), Err(short));
 }
 
 #[test]
 fn lengths_below_eight(rt: HostRuntime) {
     for length in 1..8u8 {
         let below = want(8, length.into(), LenSource::UdpHeaderLen, Layer::UdpHeader);
-        equal(rt, "below 8", payload(&datagram_of(length)), Err(below));
+        equal(rt, payload(&datagram_of(length)), Err(below));
     }
 }
 
@@ -172,13 +161,11 @@ fn headers_of_payload_lengths(rt: HostRuntime) {
     };
     equal(
         rt,
-        "greatest",
         UdpHeader::without_ipv4_checksum(1, 2, 65527),
         Ok(header),
     );
     equal(
         rt,
-        "one more",
         UdpHeader::without_ipv4_checksum(1, 2, 65528),
         Err(refused),
     );
@@ -189,9 +176,9 @@ fn headers_of_payload_lengths(rt: HostRuntime) {
 fn views_as_text(rt: HostRuntime) {
     let bytes = [0, 1, 0, 2, 0, 9, 0, 0, 7];
     let header = "Ok(UdpHeaderSlice { slice: [0, 1, 0, 2, 0, 9, 0, 0] })";
-    shows(rt, "header", &UdpHeaderSlice::from_slice(&bytes), header);
+    shows(rt, &UdpHeaderSlice::from_slice(&bytes), header);
     let datagram = "Ok(UdpSlice { slice: [0, 1, 0, 2, 0, 9, 0, 0, 7] })";
-    shows(rt, "datagram", &UdpSlice::from_slice(&bytes), datagram);
+    shows(rt, &UdpSlice::from_slice(&bytes), datagram);
 }
 
 #[test]
@@ -199,7 +186,7 @@ fn laws_are_called(rt: HostRuntime) {
     laws::udp::sealed_sums_to_all_ones();
     laws::udp::headers_are_their_bytes(&fields());
     let again = laws::udp::header_is_read_again(&fields(), &BYTES);
-    equal(rt, "read again", again, Ok((fields(), &BYTES[8..])));
+    equal(rt, again, Ok((fields(), &BYTES[8..])));
 }
 
 #[test]

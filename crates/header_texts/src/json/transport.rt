@@ -18,13 +18,17 @@ pub(crate) fn member<S: Serializer>(
         return Ok(());
     };
     begin(out, "transport")?;
-    match transport {
-        TransportSlice::Icmpv4(message) => icmp::over_ipv4(out, message)?,
-        TransportSlice::Icmpv6(message) => icmp::over_ipv6(out, message)?,
-        TransportSlice::Udp(datagram) => udp(out, datagram)?,
-        TransportSlice::Tcp(segment) => tcp(out, segment)?,
-    }
+    slice(out, transport)?;
     out.end_map()
+}
+
+fn slice<S: Serializer>(out: &mut S, transport: &TransportSlice<'_>) -> Result<(), S::Error> {
+    match transport {
+        TransportSlice::Icmpv4(message) => icmp::over_ipv4(out, message),
+        TransportSlice::Icmpv6(message) => icmp::over_ipv6(out, message),
+        TransportSlice::Udp(datagram) => udp(out, datagram),
+        TransportSlice::Tcp(segment) => tcp(out, segment),
+    }
 }
 
 /// A message that was put together of parts: its protocol, its length, and its header or why it is
@@ -48,14 +52,18 @@ fn message<S: Serializer>(out: &mut S, message: &Message<'_>) -> Result<(), S::E
         return Ok(());
     }
     begin(out, "transport")?;
-    match message {
-        Message::Icmpv4(message) => icmp::over_ipv4(out, message)?,
-        Message::Icmpv6(message) => icmp::over_ipv6(out, message)?,
-        Message::Udp(datagram) => udp(out, datagram)?,
-        Message::Tcp(segment) => tcp(out, segment)?,
-        Message::Raw(_) => {}
-    }
+    header(out, message)?;
     out.end_map()
+}
+
+fn header<S: Serializer>(out: &mut S, message: &Message<'_>) -> Result<(), S::Error> {
+    match message {
+        Message::Icmpv4(message) => icmp::over_ipv4(out, message),
+        Message::Icmpv6(message) => icmp::over_ipv6(out, message),
+        Message::Udp(datagram) => udp(out, datagram),
+        Message::Tcp(segment) => tcp(out, segment),
+        Message::Raw(_) => Ok(()),
+    }
 }
 
 fn udp<S: Serializer>(out: &mut S, datagram: &UdpSlice<'_>) -> Result<(), S::Error> {
@@ -135,28 +143,23 @@ fn next_option<S: Serializer>(
 
 fn option<S: Serializer>(out: &mut S, element: &TcpOptionElement) -> Result<(), S::Error> {
     match element {
-        TcpOptionElement::Noop => return out.str("Noop"),
+        TcpOptionElement::Noop => out.str("Noop"),
         TcpOptionElement::SelectiveAcknowledgementPermitted => {
-            return out.str("SelectiveAcknowledgementPermitted");
+            out.str("SelectiveAcknowledgementPermitted")
         }
-        _ => {}
-    }
-    out.begin_map(None)?;
-    match element {
         TcpOptionElement::MaximumSegmentSize(size) => {
-            number(out, "MaximumSegmentSize", u64::from(*size))?;
+            only_number(out, "MaximumSegmentSize", u64::from(*size))
         }
-        TcpOptionElement::WindowScale(shift) => number(out, "WindowScale", u64::from(*shift))?,
-        TcpOptionElement::SelectiveAcknowledgement(first, rest) => {
-            out.key("SelectiveAcknowledgement")?;
-            blocks(out, *first, rest)?;
-        }
-        TcpOptionElement::Timestamp(value, reply) => {
-            out.key("Timestamp")?;
-            pair(out, *value, *reply)?;
-        }
-        _ => {}
+        TcpOptionElement::WindowScale(shift) => only_number(out, "WindowScale", u64::from(*shift)),
+        TcpOptionElement::SelectiveAcknowledgement(first, rest) => blocks(out, *first, rest),
+        TcpOptionElement::Timestamp(value, reply) => timestamp(out, *value, *reply),
     }
+}
+
+// An object whose one member is a number.
+fn only_number<S: Serializer>(out: &mut S, name: &str, n: u64) -> Result<(), S::Error> {
+    out.begin_map(None)?;
+    number(out, name, n)?;
     out.end_map()
 }
 
@@ -165,6 +168,8 @@ fn blocks<S: Serializer>(
     first: (u32, u32),
     rest: &[Option<(u32, u32)>; 3],
 ) -> Result<(), S::Error> {
+    out.begin_map(None)?;
+    out.key("SelectiveAcknowledgement")?;
     out.begin_seq(None)?;
     pair(out, first.0, first.1)?;
     for block in rest {
@@ -172,7 +177,15 @@ fn blocks<S: Serializer>(
             pair(out, block.0, block.1)?;
         }
     }
-    out.end_seq()
+    out.end_seq()?;
+    out.end_map()
+}
+
+fn timestamp<S: Serializer>(out: &mut S, value: u32, reply: u32) -> Result<(), S::Error> {
+    out.begin_map(None)?;
+    out.key("Timestamp")?;
+    pair(out, value, reply)?;
+    out.end_map()
 }
 
 fn pair<S: Serializer>(out: &mut S, first: u32, second: u32) -> Result<(), S::Error> {
@@ -183,26 +196,39 @@ fn pair<S: Serializer>(out: &mut S, first: u32, second: u32) -> Result<(), S::Er
 }
 
 fn unread<S: Serializer>(out: &mut S, error: &TcpOptionReadError) -> Result<(), S::Error> {
-    out.begin_map(None)?;
     match error {
         TcpOptionReadError::UnexpectedEndOfSlice {
             option_id,
             expected_len,
             actual_len,
         } => {
-            begin(out, "UnexpectedEndOfSlice")?;
-            number(out, "option_id", u64::from(*option_id))?;
-            number(out, "expected_len", u64::from(*expected_len))?;
-            number(out, "actual_len", *actual_len as u64)?;
-            out.end_map()?;
+            let members = [
+                ("option_id", u64::from(*option_id)),
+                ("expected_len", u64::from(*expected_len)),
+                ("actual_len", *actual_len as u64),
+            ];
+            only_object(out, "UnexpectedEndOfSlice", &members)
         }
         TcpOptionReadError::UnexpectedSize { option_id, size } => {
-            begin(out, "UnexpectedSize")?;
-            number(out, "option_id", u64::from(*option_id))?;
-            number(out, "size", u64::from(*size))?;
-            out.end_map()?;
+            let members = [
+                ("option_id", u64::from(*option_id)),
+                ("size", u64::from(*size)),
+            ];
+            only_object(out, "UnexpectedSize", &members)
         }
-        TcpOptionReadError::UnknownId(id) => number(out, "UnknownId", u64::from(*id))?,
+        TcpOptionReadError::UnknownId(id) => only_number(out, "UnknownId", u64::from(*id)),
     }
+}
+
+// An object whose one member is an object of numbers.
+fn only_object<S: Serializer>(
+    out: &mut S,
+    name: &str,
+    members: &[(&str, u64)],
+) -> Result<(), S::Error> {
+    out.begin_map(None)?;
+    begin(out, name)?;
+    numbers(out, members)?;
+    out.end_map()?;
     out.end_map()
 }

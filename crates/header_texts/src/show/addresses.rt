@@ -20,27 +20,24 @@ pub(crate) fn endpoints(
     addresses: &Addresses,
     ports: Option<Ports>,
 ) -> Result<(), AllocError> {
+    source(line, addresses)?;
+    port(line, ports.map(|ports| ports.source))?;
+    line.text(" > ")?;
+    destination(line, addresses)?;
+    port(line, ports.map(|ports| ports.destination))
+}
+
+fn source(line: &mut Line<'_>, addresses: &Addresses) -> Result<(), AllocError> {
     match addresses {
-        Addresses::V4 {
-            source,
-            destination,
-        } => {
-            ipv4(line, source)?;
-            port(line, ports.map(|ports| ports.source))?;
-            line.text(" > ")?;
-            ipv4(line, destination)?;
-            port(line, ports.map(|ports| ports.destination))
-        }
-        Addresses::V6 {
-            source,
-            destination,
-        } => {
-            ipv6(line, source)?;
-            port(line, ports.map(|ports| ports.source))?;
-            line.text(" > ")?;
-            ipv6(line, destination)?;
-            port(line, ports.map(|ports| ports.destination))
-        }
+        Addresses::V4 { source, .. } => ipv4(line, source),
+        Addresses::V6 { source, .. } => ipv6(line, source),
+    }
+}
+
+fn destination(line: &mut Line<'_>, addresses: &Addresses) -> Result<(), AllocError> {
+    match addresses {
+        Addresses::V4 { destination, .. } => ipv4(line, destination),
+        Addresses::V6 { destination, .. } => ipv6(line, destination),
     }
 }
 

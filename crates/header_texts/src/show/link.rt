@@ -50,20 +50,24 @@ pub fn arp(line: &mut Line<'_>, packet: &ArpPacketSlice<'_>) -> Result<(), Alloc
         return other_arp(line, packet);
     };
     match packet.operation() {
-        ArpOperation::REQUEST => {
-            line.text(" who has ")?;
-            addresses::ipv4(line, &target)?;
-            line.text("? tell ")?;
-            addresses::ipv4(line, &sender)
-        }
-        ArpOperation::REPLY => {
-            line.text(" ")?;
-            addresses::ipv4(line, &sender)?;
-            line.text(" is at ")?;
-            addresses::hardware(line, packet.sender_hw_addr())
-        }
+        ArpOperation::REQUEST => request(line, &target, &sender),
+        ArpOperation::REPLY => reply(line, &sender, packet.sender_hw_addr()),
         _ => other_arp(line, packet),
     }
+}
+
+fn request(line: &mut Line<'_>, target: &[u8; 4], sender: &[u8; 4]) -> Result<(), AllocError> {
+    line.text(" who has ")?;
+    addresses::ipv4(line, target)?;
+    line.text("? tell ")?;
+    addresses::ipv4(line, sender)
+}
+
+fn reply(line: &mut Line<'_>, sender: &[u8; 4], hardware: &[u8]) -> Result<(), AllocError> {
+    line.text(" ")?;
+    addresses::ipv4(line, sender)?;
+    line.text(" is at ")?;
+    addresses::hardware(line, hardware)
 }
 
 fn other_arp(line: &mut Line<'_>, packet: &ArpPacketSlice<'_>) -> Result<(), AllocError> {
@@ -116,21 +120,36 @@ pub fn other(
     layers: &SlicedPacket<'_>,
     made: Option<&Header>,
 ) -> Result<(), AllocError> {
-    if let Some(LinkSlice::Ethernet2(frame)) = &layers.link {
-        addresses::hardware(line, &frame.source())?;
-        line.text(" > ")?;
-        addresses::hardware(line, &frame.destination())?;
-        line.text(" ")?;
-    }
-    if let Some(header) = made {
-        addresses::hardware(line, &header.source)?;
-        line.text(" ")?;
-    }
-    match layers.payload_ether_type() {
-        Some(EtherType(number)) => names::ether_type(line, EtherType(number))?,
-        None => line.text(hidden(layers))?,
-    }
+    ethernet(line, layers.link.as_ref())?;
+    source_of(line, made)?;
+    content(line, layers)?;
     line.counted(" len ", payload_of(layers).len() as u64)
+}
+
+// The addresses of an Ethernet frame, if it is one.
+fn ethernet(line: &mut Line<'_>, link: Option<&LinkSlice<'_>>) -> Result<(), AllocError> {
+    let Some(LinkSlice::Ethernet2(frame)) = link else {
+        return Ok(());
+    };
+    addresses::hardware(line, &frame.source())?;
+    line.text(" > ")?;
+    addresses::hardware(line, &frame.destination())?;
+    line.text(" ")
+}
+
+fn source_of(line: &mut Line<'_>, made: Option<&Header>) -> Result<(), AllocError> {
+    let Some(header) = made else {
+        return Ok(());
+    };
+    addresses::hardware(line, &header.source)?;
+    line.text(" ")
+}
+
+fn content(line: &mut Line<'_>, layers: &SlicedPacket<'_>) -> Result<(), AllocError> {
+    match layers.payload_ether_type() {
+        Some(ether_type) => names::ether_type(line, ether_type),
+        None => line.text(hidden(layers)),
+    }
 }
 
 // What stands behind tags that hide it.

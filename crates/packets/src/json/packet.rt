@@ -47,25 +47,40 @@ impl Described for PacketObject<'_, '_> {}
 
 impl Serialize for PacketObject<'_, '_> {
     fn serialize<S: Serializer>(&self, out: &mut S) -> Result<(), S::Error> {
-        let packet = self.packet;
         out.begin_map(None)?;
-        number(out, "number", packet.number)?;
-        number(out, "time", packet.time)?;
-        number(out, "interface", packet.interface.into())?;
-        named(out, "link_type", packet.link)?;
-        number(out, "len", packet.len as u64)?;
-        match &packet.layers {
-            Ok(layers) => self.layers(layers, out)?,
-            Err(error) => errors::member(out, "error", error)?,
-        }
-        if let Some(verdict) = packet.verdict {
-            named(out, "verdict", verdict)?;
-        }
+        self.record(out)?;
+        self.content(out)?;
+        self.verdict(out)?;
         out.end_map()
     }
 }
 
 impl PacketObject<'_, '_> {
+    // What its capture tells of it.
+    fn record<S: Serializer>(&self, out: &mut S) -> Result<(), S::Error> {
+        let packet = self.packet;
+        number(out, "number", packet.number)?;
+        number(out, "time", packet.time)?;
+        number(out, "interface", packet.interface.into())?;
+        named(out, "link_type", packet.link)?;
+        number(out, "len", packet.len as u64)
+    }
+
+    // Its layers, or why it is refused.
+    fn content<S: Serializer>(&self, out: &mut S) -> Result<(), S::Error> {
+        match &self.packet.layers {
+            Ok(layers) => self.layers(layers, out),
+            Err(error) => errors::member(out, "error", error),
+        }
+    }
+
+    fn verdict<S: Serializer>(&self, out: &mut S) -> Result<(), S::Error> {
+        match self.packet.verdict {
+            Some(verdict) => named(out, "verdict", verdict),
+            None => Ok(()),
+        }
+    }
+
     fn layers<S: Serializer>(
         &self,
         layers: &SlicedPacket<'_>,

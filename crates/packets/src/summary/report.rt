@@ -36,31 +36,37 @@ pub struct Report<'s, S: BuildHasher> {
 
 impl<S: BuildHasher> fmt::Display for Report<'_, S> {
     fn fmt<W: fmt::Write>(&self, f: &mut fmt::Formatter<W>) -> fmt::Result {
-        let summary = self.summary;
-        if summary.all.packets == 0 {
-            writeln!(f, "no packets")?;
-            self.write_parts(f)?;
-        } else {
-            write_kinds(f, summary)?;
-            self.write_parts(f)?;
-            write_talkers(f, &summary.talkers, &summary.all)?;
-            write_sizes(f, &summary.sizes, summary.all.packets)?;
-            write_rate(f, &summary.rate)?;
-        }
+        self.write_counts(f)?;
         self.write_skipped(f)
     }
 }
 
 impl<S: BuildHasher> Report<'_, S> {
+    fn write_counts<W: fmt::Write>(&self, f: &mut fmt::Formatter<W>) -> fmt::Result {
+        let summary = self.summary;
+        if summary.all.packets == 0 {
+            writeln!(f, "no packets")?;
+            return self.write_parts(f);
+        }
+        write_kinds(f, summary)?;
+        self.write_parts(f)?;
+        write_talkers(f, &summary.talkers, &summary.all)?;
+        write_sizes(f, &summary.sizes, summary.all.packets)?;
+        write_rate(f, &summary.rate)
+    }
+
     fn write_parts<W: fmt::Write>(&self, f: &mut fmt::Formatter<W>) -> fmt::Result {
         let parts = &self.summary.parts;
         let all = &self.summary.all;
         let open = self.open;
         if parts.all.packets > 0 {
+            let rows = [
+                (&parts.all, "all fragments"),
+                (&parts.completing, "completing a message"),
+                (&parts.refused, "refused"),
+            ];
             write_title(f, "fragments")?;
-            write_row(f, &parts.all, all, "all fragments")?;
-            write_row(f, &parts.completing, all, "completing a message")?;
-            write_row(f, &parts.refused, all, "refused")?;
+            write_rows(f, &rows, all)?;
         } else if open > 0 {
             // Of fragments that aren't among the packets told.
             writeln!(f)?;
@@ -106,13 +112,22 @@ fn write_checksums<W: fmt::Write>(
         return Ok(());
     }
     write_title(f, "checksum")?;
-    write_row(f, good, all, "good")?;
-    write_row(f, bad, all, "bad")?;
-    write_row(f, none, all, "none")
+    write_rows(f, &[(good, "good"), (bad, "bad"), (none, "none")], all)
 }
 
 fn write_title<W: fmt::Write>(f: &mut fmt::Formatter<W>, title: &str) -> fmt::Result {
     writeln!(f, "\n{TITLES}{title}")
+}
+
+fn write_rows<W: fmt::Write, N: fmt::Display + Copy + Drop>(
+    f: &mut fmt::Formatter<W>,
+    rows: &[(&Tally, N)],
+    all: &Tally,
+) -> fmt::Result {
+    for (tally, name) in rows {
+        write_row(f, tally, all, *name)?;
+    }
+    Ok(())
 }
 
 // A row of a table, if there is such a packet.
@@ -127,21 +142,36 @@ fn write_row<W: fmt::Write>(
     };
     let packets = tally.packets;
     let bytes = tally.bytes;
-    write!(f, "{packets:>10} ")?;
-    write_share(f, packets, all.packets)?;
-    write!(f, " {bytes:>15} ")?;
-    write_share(f, bytes, all.bytes)?;
-    writeln!(f, " {first:>9}  {name}")
+    let of_packets = Share {
+        part: packets,
+        whole: all.packets,
+    };
+    let of_bytes = Share {
+        part: bytes,
+        whole: all.bytes,
+    };
+    writeln!(
+        f,
+        "{packets:>10} {of_packets} {bytes:>15} {of_bytes} {first:>9}  {name}"
+    )
 }
 
-// A part of a whole in tenths of a percent, rounded. No part is more than its whole, and one that
-// is less has less than 100 percent.
-fn write_share<W: fmt::Write>(f: &mut fmt::Formatter<W>, part: u64, whole: u64) -> fmt::Result {
-    let greatest = if part < whole { 999 } else { 1000 };
-    let whole = u128::from(whole.max(1));
-    let tenths = ((u128::from(part) * 1000 + whole / 2) / whole).min(greatest) as u64;
-    let (percent, rest) = (tenths / 10, tenths % 10);
-    write!(f, "{percent:>3}.{rest} %")
+// A part of a whole. It is told in tenths of a percent, rounded. No part is more than its whole,
+// and one that is less has less than 100 percent.
+#[derive(Clone, Copy)]
+struct Share {
+    part: u64,
+    whole: u64,
+}
+
+impl fmt::Display for Share {
+    fn fmt<W: fmt::Write>(&self, f: &mut fmt::Formatter<W>) -> fmt::Result {
+        let greatest = if self.part < self.whole { 999 } else { 1000 };
+        let whole = u128::from(self.whole.max(1));
+        let tenths = ((u128::from(self.part) * 1000 + whole / 2) / whole).min(greatest) as u64;
+        let (percent, rest) = (tenths / 10, tenths % 10);
+        write!(f, "{percent:>3}.{rest} %")
+    }
 }
 
 fn write_protocols<W: fmt::Write>(
@@ -149,12 +179,15 @@ fn write_protocols<W: fmt::Write>(
     tallies: &ProtocolTallies,
     all: &Tally,
 ) -> fmt::Result {
-    write_row(f, &tallies.ethernet, all, Protocol::Ethernet)?;
-    write_row(f, &tallies.vlan, all, Protocol::Vlan)?;
-    write_row(f, &tallies.macsec, all, Protocol::Macsec)?;
-    write_row(f, &tallies.arp, all, Protocol::Arp)?;
-    write_row(f, &tallies.ipv4, all, Protocol::Ipv4)?;
-    write_row(f, &tallies.ipv6, all, Protocol::Ipv6)?;
+    let rows = [
+        (&tallies.ethernet, Protocol::Ethernet),
+        (&tallies.vlan, Protocol::Vlan),
+        (&tallies.macsec, Protocol::Macsec),
+        (&tallies.arp, Protocol::Arp),
+        (&tallies.ipv4, Protocol::Ipv4),
+        (&tallies.ipv6, Protocol::Ipv6),
+    ];
+    write_rows(f, &rows, all)?;
     for number in 0..=u8::MAX {
         let number = IpNumber(number);
         write_row(
@@ -278,12 +311,14 @@ fn write_sizes<W: fmt::Write>(
     for digits in 0..sizes.counts.len() {
         let count = sizes.counts[digits];
         if count > 0 {
-            write!(f, "{count:>10} ")?;
-            write_share(f, count, packets)?;
+            let share = Share {
+                part: count,
+                whole: packets,
+            };
             let eighths = steps_of(count, most, 8 * BAR_COLUMNS);
             let (least, greatest) = ends_of(digits as u32);
             let bar = Bar { eighths };
-            writeln!(f, "  {least:>6} to {greatest:<6} {bar}")?;
+            writeln!(f, "{count:>10} {share}  {least:>6} to {greatest:<6} {bar}")?;
         }
     }
     Ok(())
@@ -308,6 +343,11 @@ fn write_rate<W: fmt::Write>(f: &mut fmt::Formatter<W>, rate: &Rate) -> fmt::Res
     f.write_str("\npackets a second, by spans of ")?;
     write_seconds(f, rate.span)?;
     writeln!(f, ": {a_second} at most")?;
+    write_columns(f, rate, most)
+}
+
+// A column for each span up to the last that has a packet.
+fn write_columns<W: fmt::Write>(f: &mut fmt::Formatter<W>, rate: &Rate, most: u64) -> fmt::Result {
     let used = match rate.counts.iter().rposition(|count| *count > 0) {
         Some(last) => last.saturating_add(1),
         None => 0,
