@@ -15,6 +15,11 @@ pub fn equal_bytes(rt: impl Abort + Copy, told: &[u8], wanted: &[u8]) {
     assert_eq!(rt; told, wanted);
 }
 
+/// Fails where a write failed, or what stands there is other than wanted.
+pub fn is_written(rt: impl Abort + Copy, done: bool, there: &[u8], wanted: &[u8]) {
+    equal(rt, (done, there), (true, wanted));
+}
+
 /// The same of the text that a value is shown as.
 pub fn shows<T: Debug>(rt: impl Abort + AllocGlobal + Copy, told: &T, wanted: &str) {
     match format!(in rt.alloc(); "{told:?}") {

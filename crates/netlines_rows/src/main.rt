@@ -22,41 +22,56 @@ use std::{env, fs};
 
 fn main(rt: HostRuntime) -> Result<ExitCode> {
     let names: Vec<String> = env::args(&rt)?.skip(1).collect(rt.alloc())?;
-    let fixed = BuildHasherDefault::<FoldHasher>::new();
     let random = RandomState::new(&rt).context("taking random keys")?;
     let mut differing = 0usize;
     let mut frames = Frames::new(rt.alloc());
     for name in &names {
         let input = read(&rt, name.as_str(), "in")?;
-        let wanted = read(&rt, name.as_str(), "out")?;
-        if !agrees(rt.alloc(), input.as_slice(), wanted.as_slice())? {
-            println!(rt; "{name} differs")?;
-            differing += 1;
-        } else if !agrees_in_pieces(rt.alloc(), fixed, input.as_slice(), wanted.as_slice())? {
-            println!(rt; "{name} differs where reads give few bytes")?;
-            differing += 1;
-        } else if !agrees_in_pieces(rt.alloc(), random, input.as_slice(), wanted.as_slice())? {
-            println!(rt; "{name} differs where names are hashed by random keys")?;
+        if !is_answered(&rt, random, name.as_str(), input.as_slice())? {
             differing += 1;
         }
         count_frames(rt.alloc(), name.as_str(), input.as_slice(), &mut frames)?;
     }
     println!(rt; "{} rows compared, {differing} of them differ", names.len())?;
-    println!(rt;
-        "{} frames have the same headers as slices, {} are refused alike, {} are read otherwise",
-        frames.same, frames.refused, frames.apart,
-    )?;
-    let refusals = fs::read(&rt, "refusals").context("reading refusals")?;
-    let agrees = frames.refusals.as_bytes() == refusals.as_slice();
-    println!(rt;
-        "the layers and offsets of refused frames {}",
-        if agrees { "agree" } else { "differ" }
-    )?;
+    let agrees = tell_frames(&rt, &frames)?;
     Ok(if differing == 0 && agrees {
         ExitCode::SUCCESS
     } else {
         ExitCode::FAILURE
     })
+}
+
+// Whether a row agrees. Where it differs is told.
+fn is_answered(rt: &HostRuntime, random: RandomState, name: &str, input: &[u8]) -> Result<bool> {
+    let wanted = read(rt, name, "out")?;
+    let wanted = wanted.as_slice();
+    let fixed = BuildHasherDefault::<FoldHasher>::new();
+    let told = if !agrees(rt.alloc(), input, wanted)? {
+        "differs"
+    } else if !agrees_in_pieces(rt.alloc(), fixed, input, wanted)? {
+        "differs where reads give few bytes"
+    } else if !agrees_in_pieces(rt.alloc(), random, input, wanted)? {
+        "differs where names are hashed by random keys"
+    } else {
+        return Ok(true);
+    };
+    println!(rt; "{name} {told}")?;
+    Ok(false)
+}
+
+// Tells how many frames are read alike. Whether the refusals are those that are stored.
+fn tell_frames(rt: &HostRuntime, frames: &Frames) -> Result<bool> {
+    println!(rt;
+        "{} frames have the same headers as slices, {} are refused alike, {} are read otherwise",
+        frames.same, frames.refused, frames.apart,
+    )?;
+    let refusals = fs::read(rt, "refusals").context("reading refusals")?;
+    let agrees = frames.refusals.as_bytes() == refusals.as_slice();
+    println!(rt;
+        "the layers and offsets of refused frames {}",
+        if agrees { "agree" } else { "differ" }
+    )?;
+    Ok(agrees)
 }
 
 // The bytes of one file of a row.

@@ -1,6 +1,6 @@
 //! IPv4 headers and their options against values from outside.
 
-use crate::checks::{equal, equal_bytes, fail, shows};
+use crate::checks::{equal, equal_bytes, fail, is_written, shows};
 use ep_base::err::{Layer, LenError, ValueTooBigError};
 use ep_base::{IpFragOffset, IpNumber, LenSource};
 use ep_ip::err::ipv4::{HeaderError, HeaderSliceError};
@@ -293,7 +293,7 @@ fn written_behind_a_byte(rt: HostRuntime) {
         9, 0x45, 0, 0, 28, 0, 0, 0x40, 0, 64, 17, 0x26, 0xcf, 10, 0, 0, 1, 10, 0, 0, 2, 0x45, 0, 0,
         28, 0, 0, 0x40, 0, 64, 17, 0, 0, 10, 0, 0, 1, 10, 0, 0, 2,
     ];
-    equal_bytes(rt, buffer.as_slice(), written.as_slice());
+    is_written(rt, done, buffer.as_slice(), written.as_slice());
 }
 
 #[test]

@@ -1,5 +1,5 @@
 //! ARP packets (RFC 826).
-use crate::checks::{equal, equal_bytes, fail, reads, shows};
+use crate::checks::{equal, equal_bytes, fail, is_written, reads, shows};
 use ep_base::err::{Layer, LenError};
 use ep_base::{EtherType, LenSource};
 use ep_link::err::arp::{ArpHwAddrError, ArpNewError, ArpProtoAddrError};
@@ -273,7 +273,7 @@ fn a_packet_behind_a_byte_that_is_there(rt: HostRuntime) {
     let done = buffer.push(0xff).is_ok() && packet.write(&mut buffer).is_ok();
     let mut written = BYTES;
     written.rotate_right(1);
-    equal_bytes(rt, buffer.as_slice(), written.as_slice());
+    is_written(rt, done, buffer.as_slice(), written.as_slice());
 }
 
 #[test]

@@ -1,5 +1,5 @@
 //! Ethernet II headers (RFC 894).
-use crate::checks::{equal, equal_bytes, fail, shows};
+use crate::checks::{equal, fail, is_written, shows};
 use ep_base::LenSource;
 use ep_base::err::{Layer, LenError};
 use ep_link::laws::ethernet::*;
@@ -148,7 +148,7 @@ fn a_header_behind_a_byte_that_is_there(rt: HostRuntime) {
     let mut buffer = Vec::new(rt.alloc());
     let done = buffer.push(9).is_ok() && header().write(&mut buffer).is_ok();
     let written = [9, 1, 2, 3, 4, 5, 6, 7, 8, 9, 10, 11, 12, 8, 0];
-    equal_bytes(rt, buffer.as_slice(), written.as_slice());
+    is_written(rt, done, buffer.as_slice(), written.as_slice());
 }
 
 #[test]

@@ -1,5 +1,5 @@
 //! Link headers of either kind.
-use crate::checks::{equal, equal_bytes, fail, shows};
+use crate::checks::{equal, fail, is_written, shows};
 use ep_base::{EtherType, LenSource};
 use ep_link::{
     Ethernet2Header, Ethernet2Slice, LinkHeader, LinkSlice, LinuxSllHeader, LinuxSllPayloadSlice,
@@ -88,7 +88,7 @@ fn headers_behind_a_byte_that_is_there(rt: HostRuntime) {
         9, 1, 2, 3, 4, 5, 6, 7, 8, 9, 10, 11, 12, 8, 0, 0, 4, 0, 1, 0, 6, 1, 2, 3, 4, 5, 6, 0, 0,
         8, 6,
     ];
-    equal_bytes(rt, buffer.as_slice(), written.as_slice());
+    is_written(rt, done, buffer.as_slice(), written.as_slice());
 }
 
 // The header and what an ether type names behind it, if there are such, as texts.

@@ -1,5 +1,5 @@
 //! Tags of either kind.
-use crate::checks::{equal, fail, shows};
+use crate::checks::{equal, fail, is_written, shows};
 use ep_base::EtherType;
 use ep_tag::{LinkExtHeader, LinkExtSlice, MacsecSlice, SingleVlanHeader, SingleVlanSlice};
 use std::process::Abort;
@@ -31,7 +31,7 @@ fn is_tag(
     shows(rt, &tag.ether_payload(), payload);
     let mut buffer = Vec::new(rt.alloc());
     let done = header.write(&mut buffer).is_ok();
-    equal(rt, buffer.as_slice(), bytes);
+    is_written(rt, done, buffer.as_slice(), bytes);
 }
 
 // 33024 is 8100.

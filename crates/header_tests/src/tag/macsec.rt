@@ -1,5 +1,5 @@
 //! MACsec headers (IEEE 802.1AE, clause 9).
-use crate::checks::{equal, equal_bytes, fail, reads, shows};
+use crate::checks::{equal, equal_bytes, fail, is_written, reads, shows};
 use ep_base::err::{Layer, LenError};
 use ep_base::{EtherType, LenSource};
 use ep_tag::err::macsec::{HeaderError, HeaderSliceError};
@@ -317,7 +317,7 @@ fn a_header_behind_a_byte_that_is_there(rt: HostRuntime) {
     let written = [
         9, 0x7a, 3, 1, 2, 3, 4, 0xa, 0xb, 0xc, 0xd, 0xe, 0xf, 0x10, 0x11,
     ];
-    equal_bytes(rt, buffer.as_slice(), written.as_slice());
+    is_written(rt, done, buffer.as_slice(), written.as_slice());
 }
 
 #[test]

@@ -1,5 +1,5 @@
 //! VLAN tags (IEEE 802.1Q, section 9.6).
-use crate::checks::{equal, equal_bytes, fail, shows};
+use crate::checks::{equal, fail, is_written, shows};
 use ep_base::err::{Layer, LenError};
 use ep_base::{EtherType, LenSource};
 use ep_tag::laws::front::front_is_taken;
@@ -289,7 +289,7 @@ fn tags_behind_a_byte_that_is_there(rt: HostRuntime) {
     let written = [
         9, 0xb1, 0x23, 0x86, 0xdd, 0, 0, 0, 0, 0xb1, 0x23, 0x86, 0xdd, 0xb1, 0x23, 0x86, 0xdd,
     ];
-    equal_bytes(rt, buffer.as_slice(), written.as_slice());
+    is_written(rt, done, buffer.as_slice(), written.as_slice());
 }
 
 #[test]
