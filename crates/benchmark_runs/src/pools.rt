@@ -6,8 +6,9 @@ use std::time::{Duration, Instant};
 
 /// What puts messages together.
 pub trait Reassembly {
-    /// The payload of the message that is complete with this frame, if one is. It has no contract:
-    /// sums of payloads are compared with those of a plain program.
+    /// The payload of the message that is complete with this frame, if one is: a frame that is
+    /// refused completes none. It has no contract: sums of payloads are compared with those of a
+    /// plain program.
     fn completed_by(&mut self, frame: &[u8]) -> Option<Vec<u8>>;
 }
 

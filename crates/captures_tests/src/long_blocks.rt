@@ -1,5 +1,6 @@
 //! Blocks that are skipped and longer than what a run holds, in a section with one Ethernet
 //! interface. The files are made by hand from the format's description.
+//! Calls have no contracts: tests alone make them, and are run.
 use crate::checks::{append, joined, repeated};
 use crate::lines::{refused, tells_read};
 use captures::CaptureError;

@@ -49,7 +49,7 @@ fn lines_come_back(rt: HostRuntime) {
 const BAD: Result<(), RunError> = Err(RunError::BadLine(1));
 
 // Each with how its run ends, and what follows the file header.
-const EACH: &[(&[u8], Result<(), RunError>, &[u8])] = &[
+const TEXTS: &[(&[u8], Result<(), RunError>, &[u8])] = &[
     (b"", Ok(()), b""),
     // digits of either case, and a last line that nothing ends
     (
@@ -102,7 +102,7 @@ const EACH: &[(&[u8], Result<(), RunError>, &[u8])] = &[
 
 #[test]
 fn each_line(rt: HostRuntime) {
-    for (text, wanted, packets) in EACH.iter() {
+    for (text, wanted, packets) in TEXTS.iter() {
         writes(rt, &mut &**text, *wanted, *packets);
     }
 }

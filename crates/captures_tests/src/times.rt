@@ -1,5 +1,6 @@
 //! The times of packets, in lines and in captures that are written of them. The files are made by
 //! hand from the formats' descriptions.
+//! Calls have no contracts: tests alone make them, and are run.
 use crate::checks::{append, equal, joined};
 use crate::classic::{BIG_MICROSECONDS, BIG_NANOSECONDS, LITTLE_MICROSECONDS, LITTLE_NANOSECONDS};
 use crate::lines::tells_all;
@@ -238,7 +239,7 @@ const BAD: Result<(), RunError> = Err(RunError::BadLine(1));
 
 // A line, how a run of it ends, and what follows the file header of a capture in microseconds, and
 // in nanoseconds.
-const LINES: &[(&str, Result<(), RunError>, &[u8], &[u8])] = &[
+const CAPTURED: &[(&str, Result<(), RunError>, &[u8], &[u8])] = &[
     (
         "frame 0 01 5 6 7",
         Ok(()),
@@ -273,7 +274,7 @@ fn is_captured(
 
 #[test]
 fn nanoseconds_of_lines(rt: HostRuntime) {
-    for (text, wanted, micro, nano) in LINES.iter() {
+    for (text, wanted, micro, nano) in CAPTURED.iter() {
         let micro = (b"\xd4\xc3\xb2\xa1".as_slice(), *micro);
         is_captured(rt, TimeUnit::Microseconds, text, *wanted, micro);
         let nano = (b"\x4d\x3c\xb2\xa1".as_slice(), *nano);

@@ -1,5 +1,6 @@
 //! Runs over readers and writers that give and take little, and fail, some of them while a
 //! message is on its way.
+//! Calls have no contracts: tests alone make them, and are run.
 use crate::checks::{ended_lines, equal, equal_bytes, holds, print_tally, repeated};
 use crate::texts::{BAD_ANSWERS, BAD_LINES, ON_THEIR_WAY, ON_THEIR_WAY_ANSWERS};
 use fault_devices::{Fault, FaultReader, FaultWriter, Tally};

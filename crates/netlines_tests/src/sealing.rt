@@ -1,5 +1,6 @@
 //! Messages that are sealed, and that are not. Bytes and checksums were worked out by hand and by a
 //! separate program after RFC 768, 792, 1071, 4443 and 9293.
+//! Calls have no contracts: tests alone make them, and are run.
 use crate::checks::equal;
 use crate::post::stream;
 use ep_icmp::{IcmpEchoHeader, Icmpv4Header, Icmpv4Type, Icmpv6Header, Icmpv6Type};

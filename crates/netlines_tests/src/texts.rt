@@ -1,4 +1,5 @@
 //! Texts with their answers, by each call that answers a whole text.
+//! Calls have no contracts: tests alone make them, and are run.
 use crate::checks::{equal, repeated};
 use fault_devices::{FaultReader, FaultWriter};
 use netlines::{answers, run};

@@ -18,7 +18,7 @@ use etherparse::defrag::IpDefragPool;
 use std::io;
 use std::process::ExitCode;
 
-/// A pool.
+/// A pool of the hasher of a fixed seed.
 #[derive(Drop)]
 struct Pool(IpDefragPool<(), ()>);
 

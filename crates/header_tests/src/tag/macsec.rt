@@ -1,4 +1,5 @@
 //! MACsec headers (IEEE 802.1AE, clause 9).
+//! Calls have no contracts: tests alone make them, and are run.
 use crate::checks::{equal, equal_bytes, fail, is_written, reads, shows};
 use ep_base::err::{Layer, LenError};
 use ep_base::{EtherType, LenSource};

@@ -1,4 +1,5 @@
 //! IP packets in slices. The bytes are made by the RFCs' tables.
+//! Calls have no contracts: tests alone make them, and are run.
 
 use crate::checks::{fail, want_in_slice};
 use ep_base::err::{Layer, LenError};
