@@ -1,5 +1,6 @@
 //! Each header that is read from bytes is appended as these bytes, or leaves the buffer as it was.
 
+use crate::checks::{are_joined, fail, held, holds};
 use etherparse::{
     ArpPacket, DoubleVlanHeader, Ethernet2Header, Icmpv4Header, Icmpv6Header, IpHeaders,
     Ipv4Header, Ipv6Header, LinkExtHeader, LinkHeader, LinuxSllHeader, MacsecHeader,
@@ -8,28 +9,16 @@ use etherparse::{
 use std::process::Abort;
 use std::test::*;
 
-// A buffer of one byte, for which memory is asked for twice. These calls have no contracts: tests
-// alone make them, and are run.
-fn begun(rt: impl Abort + AllocGlobal + Copy) -> Vec<u8> {
-    let mut buffer = Vec::new(rt.alloc());
-    if buffer.push(0xaa).is_err() && buffer.push(0xaa).is_err() {
-        panic!(rt; "no memory for a byte");
-    }
-    buffer
-}
-
-// Whether a call that found no memory left the buffer as it was, so that it may be made again.
+// Whether a call that found no memory left the buffer as it was, so that it may be made again. These
+// calls have no contracts: tests alone make them, and are run.
 fn is_as_begun(buffer: &Vec<u8>) -> bool {
     buffer.as_slice() == [0xaa].as_slice()
 }
 
 // Fails where a call was not made, or did not put exactly these bytes behind the first one.
-fn is_appended(rt: impl Abort + Copy, is_made: bool, buffer: &Vec<u8>, bytes: &[u8]) {
-    assert!(rt; is_made);
-    match buffer.as_slice() {
-        [0xaa, behind @ ..] => assert_eq!(rt; behind, bytes),
-        _ => panic!(rt; "the first byte is not there"),
-    }
+fn is_appended(rt: impl Abort + Copy, is_made: bool, buffer: &[u8], bytes: &[u8]) {
+    holds(rt, is_made);
+    are_joined(rt, buffer, &[0xaa], bytes);
 }
 
 // RFC 826 over Ethernet: who has 10.0.0.2?
@@ -40,9 +29,9 @@ const ARP: [u8; 28] = [
 #[test]
 fn an_arp_packet_wants_memory(rt: HostRuntime) {
     let Ok(arp) = ArpPacket::from_slice(&ARP) else {
-        panic!(rt; "no ARP packet");
+        fail(rt, "no ARP packet");
     };
-    let mut buffer = begun(rt);
+    let mut buffer = held(rt, rt.alloc());
     let is_made = arp.write(&mut buffer).is_ok()
         || is_as_begun(&buffer) && arp.write(&mut buffer).is_ok();
     is_appended(rt, is_made, &buffer, &ARP);
@@ -53,9 +42,9 @@ const ETHERNET: [u8; 14] = [2, 0, 0, 0, 0, 2, 2, 0, 0, 0, 0, 1, 8, 0];
 #[test]
 fn an_ethernet_header_wants_memory(rt: HostRuntime) {
     let Ok((ethernet, _)) = Ethernet2Header::from_slice(&ETHERNET) else {
-        panic!(rt; "no Ethernet header");
+        fail(rt, "no Ethernet header");
     };
-    let mut buffer = begun(rt);
+    let mut buffer = held(rt, rt.alloc());
     let is_made = ethernet.write(&mut buffer).is_ok()
         || is_as_begun(&buffer) && ethernet.write(&mut buffer).is_ok();
     is_appended(rt, is_made, &buffer, &ETHERNET);
@@ -66,9 +55,9 @@ const COOKED: [u8; 16] = [0, 0, 0, 1, 0, 6, 1, 2, 3, 4, 5, 6, 0, 0, 8, 0];
 #[test]
 fn a_header_of_a_cooked_capture_wants_memory(rt: HostRuntime) {
     let Ok((cooked, _)) = LinuxSllHeader::from_slice(&COOKED) else {
-        panic!(rt; "no header of a cooked capture");
+        fail(rt, "no header of a cooked capture");
     };
-    let mut buffer = begun(rt);
+    let mut buffer = held(rt, rt.alloc());
     let is_made = cooked.write(&mut buffer).is_ok()
         || is_as_begun(&buffer) && cooked.write(&mut buffer).is_ok();
     is_appended(rt, is_made, &buffer, &COOKED);
@@ -77,10 +66,10 @@ fn a_header_of_a_cooked_capture_wants_memory(rt: HostRuntime) {
 #[test]
 fn a_link_header_wants_memory(rt: HostRuntime) {
     let Ok((cooked, _)) = LinuxSllHeader::from_slice(&COOKED) else {
-        panic!(rt; "no header of a cooked capture");
+        fail(rt, "no header of a cooked capture");
     };
     let link = LinkHeader::LinuxSll(cooked);
-    let mut buffer = begun(rt);
+    let mut buffer = held(rt, rt.alloc());
     let is_made = link.write(&mut buffer).is_ok()
         || is_as_begun(&buffer) && link.write(&mut buffer).is_ok();
     is_appended(rt, is_made, &buffer, &COOKED);
@@ -94,7 +83,7 @@ const TAGS: [u8; 8] = [0x20, 5, 8, 0, 0x20, 5, 8, 0];
 #[test]
 fn a_tag_wants_memory(rt: HostRuntime) {
     let tag = tag();
-    let mut buffer = begun(rt);
+    let mut buffer = held(rt, rt.alloc());
     let is_made = tag.write(&mut buffer).is_ok()
         || is_as_begun(&buffer) && tag.write(&mut buffer).is_ok();
     is_appended(rt, is_made, &buffer, &TAG);
@@ -114,7 +103,7 @@ fn tags() -> DoubleVlanHeader {
 #[test]
 fn two_tags_want_memory(rt: HostRuntime) {
     let tags = tags();
-    let mut buffer = begun(rt);
+    let mut buffer = held(rt, rt.alloc());
     let is_made = tags.write(&mut buffer).is_ok()
         || is_as_begun(&buffer) && tags.write(&mut buffer).is_ok();
     is_appended(rt, is_made, &buffer, &TAGS);
@@ -123,7 +112,7 @@ fn two_tags_want_memory(rt: HostRuntime) {
 #[test]
 fn tags_of_either_number_want_memory(rt: HostRuntime) {
     let vlan = VlanHeader::Double(tags());
-    let mut buffer = begun(rt);
+    let mut buffer = held(rt, rt.alloc());
     let is_made = vlan.write(&mut buffer).is_ok()
         || is_as_begun(&buffer) && vlan.write(&mut buffer).is_ok();
     is_appended(rt, is_made, &buffer, &TAGS);
@@ -135,9 +124,9 @@ const MACSEC: [u8; 8] = [0, 12, 0, 0, 0, 1, 8, 0];
 #[test]
 fn a_macsec_header_wants_memory(rt: HostRuntime) {
     let Ok((macsec, _)) = MacsecHeader::from_slice(&MACSEC) else {
-        panic!(rt; "no MACsec header");
+        fail(rt, "no MACsec header");
     };
-    let mut buffer = begun(rt);
+    let mut buffer = held(rt, rt.alloc());
     let is_made = macsec.write(&mut buffer).is_ok()
         || is_as_begun(&buffer) && macsec.write(&mut buffer).is_ok();
     is_appended(rt, is_made, &buffer, &MACSEC);
@@ -146,10 +135,10 @@ fn a_macsec_header_wants_memory(rt: HostRuntime) {
 #[test]
 fn a_tag_of_either_kind_wants_memory(rt: HostRuntime) {
     let Ok((macsec, _)) = MacsecHeader::from_slice(&MACSEC) else {
-        panic!(rt; "no MACsec header");
+        fail(rt, "no MACsec header");
     };
     let extension = LinkExtHeader::Macsec(macsec);
-    let mut buffer = begun(rt);
+    let mut buffer = held(rt, rt.alloc());
     let is_made = extension.write(&mut buffer).is_ok()
         || is_as_begun(&buffer) && extension.write(&mut buffer).is_ok();
     is_appended(rt, is_made, &buffer, &MACSEC);
@@ -164,9 +153,9 @@ const IPV4: [u8; 36] = [
 #[test]
 fn an_ipv4_header_wants_memory(rt: HostRuntime) {
     let Ok((ipv4, _)) = Ipv4Header::from_slice(&IPV4) else {
-        panic!(rt; "no IPv4 header");
+        fail(rt, "no IPv4 header");
     };
-    let mut buffer = begun(rt);
+    let mut buffer = held(rt, rt.alloc());
     let is_made = ipv4.write(&mut buffer).is_ok()
         || is_as_begun(&buffer) && ipv4.write(&mut buffer).is_ok();
     is_appended(rt, is_made, &buffer, &IPV4[..20]);
@@ -175,9 +164,9 @@ fn an_ipv4_header_wants_memory(rt: HostRuntime) {
 #[test]
 fn an_ipv4_header_as_it_stands_wants_memory(rt: HostRuntime) {
     let Ok((ipv4, _)) = Ipv4Header::from_slice(&IPV4) else {
-        panic!(rt; "no IPv4 header");
+        fail(rt, "no IPv4 header");
     };
-    let mut buffer = begun(rt);
+    let mut buffer = held(rt, rt.alloc());
     let is_made = ipv4.write_raw(&mut buffer).is_ok()
         || is_as_begun(&buffer) && ipv4.write_raw(&mut buffer).is_ok();
     is_appended(rt, is_made, &buffer, &IPV4[..20]);
@@ -191,9 +180,9 @@ const IPV6: [u8; 40] = [
 #[test]
 fn an_ipv6_header_wants_memory(rt: HostRuntime) {
     let Ok((ipv6, _)) = Ipv6Header::from_slice(&IPV6) else {
-        panic!(rt; "no IPv6 header");
+        fail(rt, "no IPv6 header");
     };
-    let mut buffer = begun(rt);
+    let mut buffer = held(rt, rt.alloc());
     let is_made = ipv6.write(&mut buffer).is_ok()
         || is_as_begun(&buffer) && ipv6.write(&mut buffer).is_ok();
     is_appended(rt, is_made, &buffer, &IPV6);
@@ -202,9 +191,9 @@ fn an_ipv6_header_wants_memory(rt: HostRuntime) {
 #[test]
 fn headers_of_either_version_want_memory(rt: HostRuntime) {
     let Ok((headers, _)) = IpHeaders::from_slice(&IPV4) else {
-        panic!(rt; "no IP headers");
+        fail(rt, "no IP headers");
     };
-    let mut buffer = begun(rt);
+    let mut buffer = held(rt, rt.alloc());
     let is_made = headers.write(&mut buffer).is_ok()
         || is_as_begun(&buffer) && headers.write(&mut buffer).is_ok();
     is_appended(rt, is_made, &buffer, &IPV4[..20]);
@@ -213,9 +202,9 @@ fn headers_of_either_version_want_memory(rt: HostRuntime) {
 #[test]
 fn a_udp_header_wants_memory(rt: HostRuntime) {
     let Ok((udp, _)) = UdpHeader::from_slice(&IPV4[20..]) else {
-        panic!(rt; "no UDP header");
+        fail(rt, "no UDP header");
     };
-    let mut buffer = begun(rt);
+    let mut buffer = held(rt, rt.alloc());
     let is_made = udp.write(&mut buffer).is_ok()
         || is_as_begun(&buffer) && udp.write(&mut buffer).is_ok();
     is_appended(rt, is_made, &buffer, &IPV4[20..28]);
@@ -224,10 +213,10 @@ fn a_udp_header_wants_memory(rt: HostRuntime) {
 #[test]
 fn a_transport_header_wants_memory(rt: HostRuntime) {
     let Ok((udp, _)) = UdpHeader::from_slice(&IPV4[20..]) else {
-        panic!(rt; "no UDP header");
+        fail(rt, "no UDP header");
     };
     let header = TransportHeader::Udp(udp);
-    let mut buffer = begun(rt);
+    let mut buffer = held(rt, rt.alloc());
     let is_made = header.write(&mut buffer).is_ok()
         || is_as_begun(&buffer) && header.write(&mut buffer).is_ok();
     is_appended(rt, is_made, &buffer, &IPV4[20..28]);
@@ -240,9 +229,9 @@ const TCP: [u8; 20] = [
 #[test]
 fn a_tcp_header_wants_memory(rt: HostRuntime) {
     let Ok((tcp, _)) = TcpHeader::from_slice(&TCP) else {
-        panic!(rt; "no TCP header");
+        fail(rt, "no TCP header");
     };
-    let mut buffer = begun(rt);
+    let mut buffer = held(rt, rt.alloc());
     let is_made = tcp.write(&mut buffer).is_ok()
         || is_as_begun(&buffer) && tcp.write(&mut buffer).is_ok();
     is_appended(rt, is_made, &buffer, &TCP);
@@ -254,9 +243,9 @@ const ICMPV4: [u8; 8] = [0, 0, 0xff, 0xf0, 0, 7, 0, 8];
 #[test]
 fn an_icmpv4_header_wants_memory(rt: HostRuntime) {
     let Ok((icmpv4, _)) = Icmpv4Header::from_slice(&ICMPV4) else {
-        panic!(rt; "no ICMPv4 header");
+        fail(rt, "no ICMPv4 header");
     };
-    let mut buffer = begun(rt);
+    let mut buffer = held(rt, rt.alloc());
     let is_made = icmpv4.write(&mut buffer).is_ok()
         || is_as_begun(&buffer) && icmpv4.write(&mut buffer).is_ok();
     is_appended(rt, is_made, &buffer, &ICMPV4);
@@ -267,9 +256,9 @@ const ICMPV6: [u8; 8] = [129, 0, 0x7e, 0xf0, 0, 7, 0, 8];
 #[test]
 fn an_icmpv6_header_wants_memory(rt: HostRuntime) {
     let Ok((icmpv6, _)) = Icmpv6Header::from_slice(&ICMPV6) else {
-        panic!(rt; "no ICMPv6 header");
+        fail(rt, "no ICMPv6 header");
     };
-    let mut buffer = begun(rt);
+    let mut buffer = held(rt, rt.alloc());
     let is_made = icmpv6.write(&mut buffer).is_ok()
         || is_as_begun(&buffer) && icmpv6.write(&mut buffer).is_ok();
     is_appended(rt, is_made, &buffer, &ICMPV6);

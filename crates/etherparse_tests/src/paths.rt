@@ -248,11 +248,14 @@ fn pseudo_sums(rt: HostRuntime) {
     assert!(rt; found == [0xebdbu16.swap_bytes(), 0xffdeu16.swap_bytes()]);
 }
 
-/// The laws of each crate below.
+/// A law of each crate below, by its path.
 #[test]
 fn laws_of_members() {
     laws::base::fold_of_pieces();
+    laws::build::traits::types_are_plain_data();
+    laws::defrag::traits::names_hash_all_fields::<u32>();
     laws::ext::chain_is_alone();
+    laws::fragments::traits::types_are_plain_data();
     laws::icmp::traits::types_are_plain_data();
     laws::ip::traits::types_are_plain_data();
     laws::ipslice::traits::types_are_plain_data();
@@ -260,27 +263,4 @@ fn laws_of_members() {
     laws::packet::traits::types_are_plain_data();
     laws::tag::traits::types_are_plain_data();
     laws::tcpudp::traits::types_are_plain_data();
-}
-
-/// Those of the traits of the builder.
-#[test]
-fn laws_of_the_builder() {
-    laws::build::traits::types_are_plain_data();
-    laws::build::traits::write_errors_hash_all_fields();
-}
-
-/// Those of the traits of reassembly.
-#[test]
-fn laws_of_reassembly() {
-    laws::fragments::traits::types_are_plain_data();
-    laws::fragments::traits::equals_are_same();
-    laws::fragments::traits::errors_by_kind_and_fields();
-    laws::fragments::traits::ranges_by_start_and_end();
-    laws::defrag::traits::types_are_plain_data();
-    laws::defrag::traits::copies_are_values();
-    laws::defrag::traits::copies_never_fail();
-    laws::defrag::traits::equal_payloads_are_told_alike();
-    laws::defrag::traits::equal_calls_are_told_alike();
-    laws::defrag::traits::names_by_addresses_and_identification();
-    laws::defrag::traits::names_hash_all_fields::<u32>();
 }

@@ -4,4 +4,3 @@ mod checksum;
 mod errors;
 mod ipv4;
 mod ipv6;
-mod laws;

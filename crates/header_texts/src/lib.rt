@@ -5,12 +5,8 @@
 mod ip_names;
 pub mod json;
 pub mod laws;
-mod payload;
 mod protocol;
-mod reason;
 pub mod show;
 
 pub use ip_names::{ip_number_name, ip_number_named};
-pub use payload::payload_of;
 pub use protocol::Protocol;
-pub use reason::Reason;

@@ -1,17 +1,15 @@
-//! Words of the line of a packet, for people. The functions have no contracts: tests compare the
-//! texts.
+//! Words of a line, for people. The functions have no contracts: tests compare the texts.
 
-mod addresses;
-mod icmp;
+pub mod addresses;
+pub mod arp;
+pub mod faults;
+pub mod icmp;
 mod line;
-pub mod link;
-pub mod message;
-mod names;
-pub mod part;
-pub mod refusal;
+pub mod names;
 mod style;
-mod tcp;
+pub mod tags;
+pub mod tcp;
 pub mod time;
 
 pub use line::Line;
-pub use style::{Style, TimeForm};
+pub use style::{Style, TimeForm, Tone};

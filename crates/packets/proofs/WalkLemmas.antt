@@ -18,7 +18,7 @@ use Rattle.captures.specs.declared.translation.run_error.RunError.TheVariants.{T
 use Rattle.captures.specs.declared.translation.run_error.RunError.TheVariants.{Capture, BadLine}
 use Rattle.captures.specs.declared.unfit.Unfit.{Unfit}
 use Rattle.ep_packet.specs.declared.addresses.Addresses.{Addresses}
-use Rattle.header_texts.specs.declared.reason.Reason.{Reason}
+use Rattle.packets.specs.declared.reason.Reason.{Reason}
 use Rattle.packets.specs.Conditions.{lets_through}
 use Rattle.packets.specs.Courses.{AreDissected, Course, IsDissected, course_after, forgotten}
 use Rattle.packets.specs.Courses.{next_course, shown}

@@ -4,7 +4,7 @@ use Rattle.ep_packet.specs.declared.addresses.Addresses.{Addresses}
 use Rattle.header_texts.specs.declared.protocol.Protocol.{Protocol}
 use Rattle.header_texts.specs.declared.protocol.Protocol.TheVariants.{Ethernet, Vlan, Macsec, Arp, Ipv4}
 use Rattle.header_texts.specs.declared.protocol.Protocol.TheVariants.{Ipv6}
-use Rattle.header_texts.specs.declared.reason.Reason.{Reason}
+use Rattle.packets.specs.declared.reason.Reason.{Reason}
 use Rattle.packets.specs.Headers.{has_header, net_addresses}
 use Rattle.packets.specs.Numbers.{CountsNumbers}
 use Rattle.packets.specs.Rate.{CountsSpans}

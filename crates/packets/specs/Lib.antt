@@ -9,6 +9,7 @@ pub mod Layers
 pub mod Numbers
 pub mod Outlines
 pub mod Rate
+pub mod Reasons
 pub mod Runs
 pub mod Sizes
 pub mod Table

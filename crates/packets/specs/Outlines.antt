@@ -13,8 +13,8 @@ use Rattle.ep_packet.specs.declared.net.net_slice.NetSlice.TheVariants as slice
 use Rattle.ep_packet.specs.declared.sliced_packet.SlicedPacket.{SlicedPacket}
 use Rattle.ep_tag.specs.declared.link.link_ext_slice.LinkExtSlice.{LinkExtSlice}
 use Rattle.ep_tag.specs.declared.link.link_ext_slice.LinkExtSlice.TheVariants.{Vlan, Macsec}
-use Rattle.header_texts.specs.Reasons.{part_reason, reason_of}
-use Rattle.header_texts.specs.declared.reason.Reason.{Reason}
+use Rattle.packets.specs.Reasons.{part_reason, reason_of}
+use Rattle.packets.specs.declared.reason.Reason.{Reason}
 use Rattle.packets.specs.declared.dissection.Dissection.{Dissection}
 use Rattle.packets.specs.declared.dissection.Fragment.{Fragment}
 use Rattle.packets.specs.declared.dissection.Fragment.TheVariants as fragment

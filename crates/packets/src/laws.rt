@@ -1,8 +1,9 @@
-//! What `Clone` and `PartialEq` of the types here mean, and what runs drop and count.
-ghost use Rattle.std.specs.Prelude.{◌≡◌, ◌≤◌, ◌<◌, ◌+◌, ◌-◌, ◌*◌, ◌^◌, ℕ, true, not, is_some};
+//! What `Clone`, `PartialEq` and `Hash` of the types here mean, and what runs drop and count.
+ghost use Rattle.std.specs.Prelude.{◌≡◌, ◌≤◌, ◌<◌, ◌+◌, ◌-◌, ◌*◌, ◌^◌, ℕ, true, not, is_some, pos};
 ghost use Rattle.std.specs.Prelude.{List, [], ◌∷◌, Some, None};
+ghost use Rattle.std.specs.Hash as fed;
 ghost use Rattle.captures.specs.declared.packet.Packet.{Packet};
-ghost use Rattle.ep_base.specs.Traits.{IsPlainData};
+ghost use Rattle.ep_base.specs.Traits.{IsPlainData, VariantFeeds};
 ghost use Rattle.ep_defrag.specs.PoolCalls.{Lists};
 ghost use Rattle.ep_fragments.specs.Fragments.{Fragment};
 ghost use Rattle.ep_packet.specs.Class.{FragmentName};
@@ -10,14 +11,16 @@ ghost use Rattle.packets.specs.Courses.{Course, course_after, lists_at, no_cours
 ghost use Rattle.packets.specs.Forgetting.{ComeWithin, ForgetDrops};
 ghost use Rattle.packets.specs.Tally.{tally_of};
 ghost use Rattle.packets.specs.declared.outline.Outline.{Outline};
+ghost use Rattle.packets.specs.declared.reason.Reason.TheVariants as reason;
 
 use crate::commands::Coloring;
 use crate::{
     ChecksumTallies, Condition, Ending, Headers, Net, NoProgress, Outline, PartState, PartTallies,
-    ShowOptions, Sizes, Tally, WordError,
+    Reason, ShowOptions, Sizes, Tally, WordError,
 };
+use ep_base::err::Layer;
 use ep_base::laws::traits::Value;
-pub use header_texts::laws::reasons_hash_all_fields;
+use std::hash::Hash;
 
 /// A copy is the value and takes no memory. Equal are the values that are the same.
 pub fn types_are_plain_data()
@@ -26,6 +29,7 @@ pub fn types_are_plain_data()
     ensures word_error { IsPlainData ⟦<WordError as Value>⟧ }
     ensures net { IsPlainData ⟦<Net as Value>⟧ }
     ensures part_state { IsPlainData ⟦<PartState as Value>⟧ }
+    ensures reason { IsPlainData ⟦<Reason as Value>⟧ }
     ensures no_progress { IsPlainData ⟦<NoProgress as Value>⟧ }
     ensures show_options { IsPlainData ⟦<ShowOptions as Value>⟧ }
     ensures sizes { IsPlainData ⟦<Sizes as Value>⟧ }
@@ -49,9 +53,17 @@ pub fn outlines_are_plain_data()
 {
     types_are_plain_data();
     holders_are_plain_data();
-    header_texts::laws::types_are_plain_data();
     verdicts::laws::verdicts_are_plain_data();
 }
+
+/// A reason feeds a hasher its place, as it is declared, and then the layer that it names.
+pub fn reasons_hash_all_fields()
+    ensures cut_off { VariantFeeds ⟦<Reason as Hash>⟧.hash_input
+        0 reason.CutOff ⟦<Layer as Hash>⟧.hash_input }
+    ensures packet_type { ⟦<Reason as Hash>⟧.hash_input reason.CookedPacketType
+        ≡ fed.isize (pos 1) }
+    ensures memory { ⟦<Reason as Hash>⟧.hash_input reason.FragmentMemory ≡ fed.isize (pos 14) }
+{}
 
 /// While each packet comes less than so many seconds after the last fragment of a message that was
 /// accepted, the message is as if nothing were dropped.

@@ -1,5 +1,5 @@
-//! Tests of `packets` and `header_texts` over the public calls of `packets`. What is told of whole
-//! captures are rows of `tools/packets_rows`.
+//! Tests of `packets` over its public calls. What is told of whole captures are rows of
+//! `tools/packets_rows`.
 #![tactic(auto)]
 
 #[cfg(test)]

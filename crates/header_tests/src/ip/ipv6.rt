@@ -231,9 +231,6 @@ fn laws_of_no_header(rt: HostRuntime) {
     let Ok(view) = Ipv6HeaderSlice::from_slice(&BYTES) else {
         fail(rt, "no header");
     };
-    laws::traffic_class_has_two_parts();
-    laws::skip_follows_every_walk();
-    laws::skipped_numbers_are_ext_headers();
     equal(rt, laws::header_lengths(), [40, 40]);
     equal(rt, laws::slices_are_equal_as_bytes(&view, &view), true);
 }

@@ -294,9 +294,7 @@ fn laws(rt: HostRuntime) {
     let Ok(packet) = ArpPacket::from_slice(&BYTES) else {
         fail(rt, "no packet");
     };
-    arp_constants();
     packets_are_their_bytes(&packet);
-    fields_by_hand();
     equal(rt, packet_lengths(), [1028]);
     equal(rt, packet_is_read_again(&packet, &BYTES), Ok(packet));
 }

@@ -3,7 +3,6 @@ use crate::checks::{equal, fail, is_written, shows};
 use ep_base::LenSource;
 use ep_base::err::{Layer, LenError};
 use ep_link::laws::ethernet::*;
-use ep_link::laws::traits::*;
 use ep_link::{Ethernet2Header, Ethernet2HeaderSlice, Ethernet2Slice};
 use std::process::Abort;
 
@@ -156,15 +155,4 @@ fn laws(rt: HostRuntime) {
     let is_read_again = header_is_read_again(&header(), &BYTES).is_ok();
     equal(rt, (header_lengths(), is_read_again), ([14], true));
     headers_are_their_bytes(&header());
-}
-
-#[test]
-fn laws_without_a_result() {
-    fields_by_hand();
-    types_are_plain_data();
-    orders_are_of_numbers();
-    protocols_by_kind_and_number();
-    hashes_are_of_numbers();
-    defaults_are_zero();
-    errors_hash_all_fields();
 }

@@ -315,6 +315,4 @@ fn laws(rt: HostRuntime) {
     equal(rt, (header_lengths(), is_read_again), ([16], true));
     equal(rt, packet_type_constants().len(), 5);
     headers_are_their_bytes(&header);
-    number_stays();
-    protocols_by_hand();
 }

@@ -330,12 +330,3 @@ fn laws(rt: HostRuntime) {
     let read = header_is_read_again(&header, &BYTES).is_ok();
     equal(rt, (header_lengths(), read), ([6, 16], true));
 }
-
-#[test]
-fn laws_without_a_result() {
-    fields_by_hand();
-    payload_lengths_agree();
-    payload_lengths_by_hand();
-    short_lengths_by_hand();
-    payloads_by_hand();
-}

@@ -1,7 +1,6 @@
 //! Bounded numbers.
 use crate::checks::{equal, reads, shows};
 use ep_tag::laws::numbers::*;
-use ep_tag::laws::traits::*;
 use ep_tag::{MacsecAn, MacsecShortLen, VlanId, VlanPcp};
 
 #[test]
@@ -72,17 +71,4 @@ fn laws(rt: HostRuntime) {
     shows(rt, &vlan_pcp_constants(), "[VlanPcp(0)]");
     shows(rt, &macsec_an_constants(), "[MacsecAn(0)]");
     shows(rt, &macsec_short_len_constants(), "[MacsecShortLen(0)]");
-}
-
-#[test]
-fn laws_without_a_result() {
-    types_are_plain_data();
-    copies_are_values();
-    copies_never_fail();
-    macsec_payloads_are_equal_as_told();
-    orders_are_of_numbers();
-    macsec_p_types_by_kind();
-    errors_hash_as_places();
-    hashes_are_of_numbers();
-    ether_payloads_by_all_fields();
 }

@@ -2,7 +2,6 @@
 use crate::checks::{equal, fail, is_written, shows};
 use ep_base::err::{Layer, LenError};
 use ep_base::{EtherType, LenSource};
-use ep_tag::laws::front::front_is_taken;
 use ep_tag::laws::vlan::*;
 use ep_tag::{
     DoubleVlanHeader, DoubleVlanSlice, EtherPayloadSlice, SingleVlanHeader, SingleVlanHeaderSlice,
@@ -298,10 +297,4 @@ fn laws(rt: HostRuntime) {
     headers_are_their_bytes(&header);
     let read = header_is_read_again(&header, &BYTES).is_ok();
     equal(rt, (header_lengths(), read), ([4, 8], true));
-}
-
-#[test]
-fn laws_without_a_result() {
-    fields_by_hand();
-    front_is_taken();
 }

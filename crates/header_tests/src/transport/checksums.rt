@@ -5,7 +5,7 @@ use crate::payloads::filled;
 use ep_base::err::{ValueTooBigError, ValueType};
 use ep_base::{IpNumber, Ipv6FlowLabel};
 use ep_ip::{Ipv4Header, Ipv4HeaderSlice, Ipv6Header, Ipv6HeaderSlice};
-use ep_tcpudp::{TcpHeader, TcpHeaderSlice, TcpSlice, UdpHeader, laws};
+use ep_tcpudp::{TcpHeader, TcpHeaderSlice, TcpSlice, UdpHeader};
 use std::alloc::Global;
 use std::process::Abort;
 use std::test::*;
@@ -347,10 +347,4 @@ fn tcp_checksums_in_packets(rt: HostRuntime) {
     equal(rt, in_ipv4(&SYN, packet.as_slice()), Some([Ok(0x97da); 2]));
     let packet = ipv6_header(IpNumber::TCP).to_bytes();
     equal(rt, in_ipv6(&SYN, &packet), Some([Ok(0xb1d8); 2]));
-}
-
-#[test]
-fn laws_are_called() {
-    laws::examples::checksums();
-    laws::examples::greatest_lengths();
 }

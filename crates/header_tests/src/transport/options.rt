@@ -4,7 +4,7 @@ use crate::checks::{equal, equal_bytes, reads};
 use ep_tcpudp::TcpOptionElement::*;
 use ep_tcpudp::{
     TcpHeader, TcpOptionElement, TcpOptionReadError, TcpOptionWriteError, TcpOptions,
-    TcpOptionsIterator, laws, tcp_option,
+    TcpOptionsIterator, tcp_option,
 };
 use std::process::Abort;
 use std::test::*;
@@ -290,15 +290,6 @@ fn iterators_are_equal_by_what_is_left(rt: HostRuntime) {
     let at_first = items == shorter;
     items.next();
     equal(rt, [at_first, items == shorter], [false, true]);
-}
-
-#[test]
-fn laws_are_called() {
-    laws::tcp::elements_come_back();
-    laws::tcp::items_are_elements();
-    laws::examples::options_read();
-    laws::examples::options_refused();
-    laws::examples::options_written();
 }
 
 #[test]

@@ -319,7 +319,6 @@ fn raw_options(rt: HostRuntime) {
 
 #[test]
 fn laws_are_called(rt: HostRuntime) {
-    laws::tcp::sealed_sums_to_all_ones();
     laws::tcp::headers_are_their_bytes(&fields());
     let again = laws::tcp::header_is_read_again(&fields(), &BYTES);
     equal(rt, again, Ok((fields(), &BYTES[24..])));
@@ -337,11 +336,4 @@ fn laws_of_options_are_called(rt: HostRuntime) {
         laws::tcp::options_are_ordered_as_bytes(&a, &b),
         Ordering::Less,
     );
-}
-
-#[test]
-fn lengths_and_examples_are_called() {
-    laws::tcp::header_lengths();
-    laws::examples::tcp_fields();
-    laws::examples::tcp_headers_found();
 }

@@ -183,17 +183,7 @@ fn views_as_text(rt: HostRuntime) {
 
 #[test]
 fn laws_are_called(rt: HostRuntime) {
-    laws::udp::sealed_sums_to_all_ones();
     laws::udp::headers_are_their_bytes(&fields());
     let again = laws::udp::header_is_read_again(&fields(), &BYTES);
     equal(rt, again, Ok((fields(), &BYTES[8..])));
-}
-
-#[test]
-fn traits_and_examples_are_called() {
-    laws::traits::types_are_plain_data();
-    laws::traits::errors_hash_all_fields();
-    laws::udp::header_lengths();
-    laws::examples::udp_datagrams();
-    laws::examples::udp_refused();
 }

@@ -5,8 +5,9 @@ use ep_ext::{IpAuthHeaderSlice, Ipv6FragmentHeaderSlice, Ipv6RawExtHeaderSlice};
 use ep_ipslice::{Ipv6ExtensionSlice, Ipv6ExtensionsSlice};
 use serde::Serializer;
 
-/// The extension headers of an IPv6 packet, in their order.
-pub(crate) fn list<S: Serializer>(
+/// The extension headers of an IPv6 packet, in their order. It has no contract: tests compare the
+/// texts.
+pub fn list<S: Serializer>(
     out: &mut S,
     extensions: &Ipv6ExtensionsSlice<'_>,
 ) -> Result<(), S::Error> {
@@ -61,11 +62,8 @@ fn fragment<S: Serializer>(
     out.end_map()
 }
 
-/// The members of an authentication header.
-pub(crate) fn auth<S: Serializer>(
-    out: &mut S,
-    header: &IpAuthHeaderSlice<'_>,
-) -> Result<(), S::Error> {
+/// The members of an authentication header. It has no contract: tests compare the texts.
+pub fn auth<S: Serializer>(out: &mut S, header: &IpAuthHeaderSlice<'_>) -> Result<(), S::Error> {
     number(out, "next_header", header.next_header().0.into())?;
     number(out, "spi", header.spi().into())?;
     number(out, "sequence_number", header.sequence_number().into())?;

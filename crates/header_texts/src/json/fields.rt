@@ -16,20 +16,23 @@ pub fn number<S: Serializer>(out: &mut S, name: &str, n: u64) -> Result<(), S::E
     out.u64(n)
 }
 
-/// Members that are numbers, one behind the other.
-pub(crate) fn numbers<S: Serializer>(out: &mut S, members: &[(&str, u64)]) -> Result<(), S::Error> {
+/// Members that are numbers, one behind the other. It has no contract: tests compare the texts.
+pub fn numbers<S: Serializer>(out: &mut S, members: &[(&str, u64)]) -> Result<(), S::Error> {
     for &(name, n) in members {
         number(out, name, n)?;
     }
     Ok(())
 }
 
-pub(crate) fn flag<S: Serializer>(out: &mut S, name: &str, is_set: bool) -> Result<(), S::Error> {
+/// A member that is true or false. It has no contract: tests compare the texts.
+pub fn flag<S: Serializer>(out: &mut S, name: &str, is_set: bool) -> Result<(), S::Error> {
     out.key(name)?;
     out.bool(is_set)
 }
 
-pub(crate) fn flags<S: Serializer>(out: &mut S, members: &[(&str, bool)]) -> Result<(), S::Error> {
+/// Members that are true or false, one behind the other. It has no contract: tests compare the
+/// texts.
+pub fn flags<S: Serializer>(out: &mut S, members: &[(&str, bool)]) -> Result<(), S::Error> {
     for &(name, is_set) in members {
         flag(out, name, is_set)?;
     }
@@ -42,8 +45,8 @@ pub fn text<S: Serializer>(out: &mut S, name: &str, text: &str) -> Result<(), S:
     out.str(text)
 }
 
-/// A member that is the text of a value.
-pub(crate) fn printed<S: Serializer, T: Display>(
+/// A member that is the text of a value. It has no contract: tests compare the texts.
+pub fn printed<S: Serializer, T: Display>(
     out: &mut S,
     name: &str,
     value: &T,
@@ -86,11 +89,16 @@ impl Display for Hex<'_> {
     }
 }
 
-/// A hardware address by its bytes in hex, with colons between them.
-#[derive(Clone, Copy)]
-pub(crate) struct Hardware<'a>(pub &'a [u8]);
+/// A member that is a hardware address, by its bytes in hex with colons between them. It has no
+/// contract: tests compare the texts.
+pub fn hardware<S: Serializer>(out: &mut S, name: &str, address: &[u8]) -> Result<(), S::Error> {
+    printed(out, name, &HardwareAddress(address))
+}
 
-impl Display for Hardware<'_> {
+#[derive(Clone, Copy)]
+struct HardwareAddress<'a>(&'a [u8]);
+
+impl Display for HardwareAddress<'_> {
     fn fmt<W: fmt::Write>(&self, f: &mut fmt::Formatter<W>) -> fmt::Result {
         let mut between = "";
         for byte in self.0 {

@@ -6,11 +6,9 @@ use ep_icmp::{IcmpEchoHeader, Icmpv4Slice, Icmpv4Type, Icmpv6Slice, Icmpv6Type};
 use serde::Serializer;
 use std::net::Ipv4Addr;
 
-/// The header of a message over IPv4, with the fields that its kind has.
-pub(crate) fn over_ipv4<S: Serializer>(
-    out: &mut S,
-    message: &Icmpv4Slice<'_>,
-) -> Result<(), S::Error> {
+/// The header of a message over IPv4, with the fields that its kind has. It has no contract: tests
+/// compare the texts.
+pub fn over_ipv4<S: Serializer>(out: &mut S, message: &Icmpv4Slice<'_>) -> Result<(), S::Error> {
     begin(out, "Icmpv4")?;
     let members = [
         ("type_u8", message.type_u8().into()),
@@ -44,11 +42,9 @@ fn fields_of_icmpv4<S: Serializer>(out: &mut S, icmp_type: Icmpv4Type) -> Result
     }
 }
 
-/// The header of a message over IPv6, with the fields that its kind has.
-pub(crate) fn over_ipv6<S: Serializer>(
-    out: &mut S,
-    message: &Icmpv6Slice<'_>,
-) -> Result<(), S::Error> {
+/// The header of a message over IPv6, with the fields that its kind has. It has no contract: tests
+/// compare the texts.
+pub fn over_ipv6<S: Serializer>(out: &mut S, message: &Icmpv6Slice<'_>) -> Result<(), S::Error> {
     begin(out, "Icmpv6")?;
     let members = [
         ("type_u8", message.type_u8().into()),

@@ -40,7 +40,8 @@ impl<'o> Line<'o> {
         self.out.extend_from_slice(shown)
     }
 
-    pub(crate) fn number(&mut self, n: u64) -> Result<(), AllocError> {
+    /// A number in decimal. It has no contract: tests compare the texts.
+    pub fn number(&mut self, n: u64) -> Result<(), AllocError> {
         self.text(Buffer::new().format(n))
     }
 
@@ -50,8 +51,9 @@ impl<'o> Line<'o> {
         self.number(n)
     }
 
-    /// A number of 16 bits in hex, as ether types and identifications stand.
-    pub(crate) fn hex16(&mut self, n: u16) -> Result<(), AllocError> {
+    /// A number of 16 bits in hex, as ether types and identifications stand. It has no contract:
+    /// tests compare the texts.
+    pub fn hex16(&mut self, n: u16) -> Result<(), AllocError> {
         self.text("0x")?;
         for byte in n.to_be_bytes() {
             self.hex(byte)?;
@@ -59,36 +61,39 @@ impl<'o> Line<'o> {
         Ok(())
     }
 
-    /// The two hex digits of a byte.
-    pub(crate) fn hex(&mut self, byte: u8) -> Result<(), AllocError> {
+    /// The two hex digits of a byte. It has no contract: tests compare the texts.
+    pub fn hex(&mut self, byte: u8) -> Result<(), AllocError> {
         self.text(digit(byte / 16))?;
         self.text(digit(byte % 16))
     }
 
-    /// So many columns of nothing.
-    pub(crate) fn spaces(&mut self, count: usize) -> Result<(), AllocError> {
+    /// So many columns of nothing. It has no contract: tests compare the texts.
+    pub fn spaces(&mut self, count: usize) -> Result<(), AllocError> {
         for _ in 0..count {
             self.text(" ")?;
         }
         Ok(())
     }
 
-    pub(crate) fn begin_tone(&mut self, tone: Tone) -> Result<(), AllocError> {
+    /// What follows is in a tone, where the line has colours. It has no contract: tests compare the
+    /// texts.
+    pub fn begin_tone(&mut self, tone: Tone) -> Result<(), AllocError> {
         match self.style {
             Style::Plain => Ok(()),
             Style::Ansi => self.out.extend_from_slice(tone.sequence()),
         }
     }
 
-    pub(crate) fn end_tone(&mut self) -> Result<(), AllocError> {
+    /// What follows is in no tone. It has no contract: tests compare the texts.
+    pub fn end_tone(&mut self) -> Result<(), AllocError> {
         match self.style {
             Style::Plain => Ok(()),
             Style::Ansi => self.out.extend_from_slice(RESET),
         }
     }
 
-    /// A text in a tone.
-    pub(crate) fn toned(&mut self, tone: Tone, text: &str) -> Result<(), AllocError> {
+    /// A text in a tone. It has no contract: tests compare the texts.
+    pub fn toned(&mut self, tone: Tone, text: &str) -> Result<(), AllocError> {
         self.begin_tone(tone)?;
         self.text(text)?;
         self.end_tone()

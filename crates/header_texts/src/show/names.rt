@@ -6,8 +6,9 @@ use crate::show::style::Tone;
 use ep_base::{EtherType, IpNumber};
 use std::alloc::AllocError;
 
-/// The name of what stands behind an IP header, or its number.
-pub(crate) fn protocol(line: &mut Line<'_>, number: IpNumber) -> Result<(), AllocError> {
+/// The name of what stands behind an IP header, or its number. It has no contract: tests compare
+/// the texts.
+pub fn protocol(line: &mut Line<'_>, number: IpNumber) -> Result<(), AllocError> {
     line.begin_tone(Tone::Protocol)?;
     match ip_number_name(number) {
         Some(name) => line.text(name)?,
@@ -17,8 +18,8 @@ pub(crate) fn protocol(line: &mut Line<'_>, number: IpNumber) -> Result<(), Allo
 }
 
 /// The name of what an ether type names, or its number; up to 1500 it is a length, and what follows
-/// is of IEEE 802.2.
-pub(crate) fn ether_type(line: &mut Line<'_>, ether_type: EtherType) -> Result<(), AllocError> {
+/// is of IEEE 802.2. It has no contract: tests compare the texts.
+pub fn ether_type(line: &mut Line<'_>, ether_type: EtherType) -> Result<(), AllocError> {
     line.begin_tone(Tone::Protocol)?;
     match ether_type_name(ether_type) {
         Some(name) => line.text(name)?,

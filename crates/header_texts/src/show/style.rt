@@ -18,9 +18,9 @@ pub enum TimeForm {
     Utc,
 }
 
-// What a part of a line is, by which its colour is chosen.
-#[derive(Clone, Copy)]
-pub(crate) enum Tone {
+/// What a part of a line is, by which its colour is chosen.
+#[derive(Clone, Copy, Debug, PartialEq, Eq)]
+pub enum Tone {
     /// Less than the rest, as the number and the time.
     Faint,
     /// The name of a protocol.
@@ -34,8 +34,9 @@ pub(crate) enum Tone {
 }
 
 impl Tone {
-    /// The sequence that begins this tone on a terminal.
-    pub(crate) fn sequence(self) -> &'static [u8] {
+    /// The sequence that begins this tone on a terminal. It has no contract: tests compare the
+    /// texts.
+    pub fn sequence(self) -> &'static [u8] {
         match self {
             Tone::Faint => b"\x1b[2m",
             Tone::Protocol => b"\x1b[36m",

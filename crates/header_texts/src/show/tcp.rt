@@ -4,8 +4,8 @@ use crate::show::line::Line;
 use ep_tcpudp::{TcpOptionElement, TcpOptionReadError, TcpSlice};
 use std::alloc::AllocError;
 
-/// Flags, numbers, window and length of a segment.
-pub(crate) fn segment(line: &mut Line<'_>, segment: &TcpSlice<'_>) -> Result<(), AllocError> {
+/// Flags, numbers, window and length of a segment. It has no contract: tests compare the texts.
+pub fn segment(line: &mut Line<'_>, segment: &TcpSlice<'_>) -> Result<(), AllocError> {
     line.text(" ")?;
     flags(line, segment)?;
     line.counted(" seq ", segment.sequence_number().into())?;

@@ -1,7 +1,7 @@
 //! What became of a part of a message.
 
 use crate::Fragment;
-use header_texts::json::errors;
+use crate::json::errors;
 use header_texts::json::fields::{begin as begin_object, number};
 use serde::Serializer;
 

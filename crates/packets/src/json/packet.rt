@@ -1,11 +1,11 @@
 //! The object of a packet.
 
-use crate::json::fragment;
+use crate::json::transport::completed;
+use crate::json::{errors, fragment, headers};
+use crate::payload::payload_of;
 use crate::{Dissection, Fragment};
 use ep_packet::SlicedPacket;
 use header_texts::json::fields::{named, number, text};
-use header_texts::json::{completed, errors, headers};
-use header_texts::payload_of;
 use serde::{Described, Serialize, Serializer};
 use std::alloc::{AllocError, Global};
 
@@ -86,7 +86,7 @@ impl PacketObject<'_, '_> {
         layers: &SlicedPacket<'_>,
         out: &mut S,
     ) -> Result<(), S::Error> {
-        headers(out, layers, self.packet.header.as_ref())?;
+        headers::members(out, layers, self.packet.header.as_ref())?;
         let payload = payload_of(layers);
         number(out, "payload_len", payload.len() as u64)?;
         if self.lines.payload {

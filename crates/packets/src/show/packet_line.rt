@@ -1,12 +1,14 @@
 //! The line of a packet.
 
+use crate::show::fragment_headers::two_fragment_headers;
 use crate::show::options::ShowOptions;
-use crate::show::part;
+use crate::show::{link, message, part, refusal};
 use crate::{Dissection, Headers};
 use ep_packet::{Class, NetSlice, SlicedPacket};
-use header_texts::show::part::two_fragment_headers;
+use header_texts::show::Line;
+use header_texts::show::arp::arp;
+use header_texts::show::tags::tags;
 use header_texts::show::time::number_and_time;
-use header_texts::show::{Line, link, message, refusal};
 use std::alloc::AllocError;
 
 impl ShowOptions {
@@ -35,7 +37,7 @@ fn body(
     packet: &Dissection<'_>,
     layers: &SlicedPacket<'_>,
 ) -> Result<(), AllocError> {
-    link::tags(line, layers.link_exts.as_slice())?;
+    tags(line, layers.link_exts.as_slice())?;
     match layers.class() {
         Class::Whole(whole) => message::whole(line, &whole, packet.verdict),
         Class::Cut(cut) => part::part(
@@ -56,7 +58,7 @@ fn other(
     layers: &SlicedPacket<'_>,
 ) -> Result<(), AllocError> {
     match &layers.net {
-        Some(NetSlice::Arp(packet)) => link::arp(line, packet),
+        Some(NetSlice::Arp(packet)) => arp(line, packet),
         Some(NetSlice::Ipv4(_)) | Some(NetSlice::Ipv6(_)) => {
             let headers = Headers::of(packet);
             two_fragment_headers(line, headers.addresses(), headers.carried())

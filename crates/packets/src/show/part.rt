@@ -1,9 +1,10 @@
 //! Parts of messages.
 
 use crate::Fragment;
+use crate::show::{fragment_headers, message, refusal};
 use ep_defrag::defrag::IpDefragPayloadVec;
 use ep_packet::CutMessage;
-use header_texts::show::{Line, message, part, refusal};
+use header_texts::show::Line;
 use std::alloc::AllocError;
 use verdicts::Verdict;
 
@@ -15,7 +16,7 @@ pub(crate) fn part(
     fragment: Option<&Fragment>,
     checked: Option<Verdict>,
 ) -> Result<(), AllocError> {
-    part::part(line, cut)?;
+    fragment_headers::part(line, cut)?;
     match fragment {
         Some(Fragment::Waits { begun }) => {
             begun_before(line, number, *begun)?;

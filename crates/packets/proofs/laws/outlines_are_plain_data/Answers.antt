@@ -13,7 +13,7 @@ returns c = record {
       (field Decides-eqb (λ outline. outline.time)
       (field Decides-eqb (λ outline. outline.len)
       (field c.holders_are_plain_data.ensures.headers.equals (λ outline. outline.headers)
-      (field (options_same c.types_are_plain_data-2.ensures.reason.equals)
+      (field (options_same c.types_are_plain_data.ensures.reason.equals)
       (λ outline. outline.refusal)
       (field (options_same c.types_are_plain_data.ensures.part_state.equals)
       (λ outline. outline.part)

@@ -1,0 +1,24 @@
+//! Messages that are put together, by a buffer and by a pool.
+
+mod buffer_scripts;
+mod buffers;
+mod errors;
+mod fragments;
+mod frames;
+mod hasher_states;
+mod memory;
+mod names;
+mod overlaps;
+mod pool_kinds;
+mod pool_memory;
+mod pool_orders;
+mod pool_overlaps;
+mod pool_refusals;
+mod pool_retain;
+mod pool_reuse;
+mod pool_scripts;
+mod pools;
+mod ranges;
+mod refusals;
+mod rules;
+mod streams;

@@ -1,0 +1,20 @@
+//! The members that tell the headers of a packet.
+
+use crate::json::{link, net, transport};
+use captures::Header;
+use ep_packet::SlicedPacket;
+use header_texts::json::link::tags;
+use serde::Serializer;
+
+/// The headers of a packet, the outer one first. One may have been made in place of the link's own.
+/// It has no contract: tests compare the texts.
+pub(crate) fn members<S: Serializer>(
+    out: &mut S,
+    layers: &SlicedPacket<'_>,
+    made: Option<&Header>,
+) -> Result<(), S::Error> {
+    link::header(out, layers, made)?;
+    tags(out, layers.link_exts.as_slice())?;
+    net::member(out, layers)?;
+    transport::member(out, layers)
+}

@@ -1,0 +1,28 @@
+//! Link headers.
+
+use captures::Header;
+use ep_link::LinkSlice;
+use ep_packet::SlicedPacket;
+use header_texts::json::fields::{begin, hardware, number};
+use header_texts::json::link::ethernet2;
+use serde::Serializer;
+
+/// The link header of a packet, or that which was made in its place. It has no contract: tests
+/// compare the texts.
+pub(crate) fn header<S: Serializer>(
+    out: &mut S,
+    layers: &SlicedPacket<'_>,
+    made: Option<&Header>,
+) -> Result<(), S::Error> {
+    begin(out, "link")?;
+    if let Some(LinkSlice::Ethernet2(frame)) = &layers.link {
+        ethernet2(out, frame)?;
+    }
+    if let Some(header) = made {
+        begin(out, "Made")?;
+        hardware(out, "source", &header.source)?;
+        number(out, "ether_type", header.ether_type.into())?;
+        out.end_map()?;
+    }
+    out.end_map()
+}

@@ -1,0 +1,68 @@
+//! Messages of the transport layer.
+
+use crate::json::errors;
+use ep_base::IpNumber;
+use ep_packet::{Message, SlicedPacket, TransportSlice, read_message};
+use header_texts::json::fields::{begin, number};
+use header_texts::json::icmp;
+use header_texts::json::tcp::tcp;
+use header_texts::json::udp::udp;
+use serde::Serializer;
+
+/// The message of a packet, if there is one that is read. It has no contract: tests compare the
+/// texts.
+pub(crate) fn member<S: Serializer>(
+    out: &mut S,
+    layers: &SlicedPacket<'_>,
+) -> Result<(), S::Error> {
+    let Some(transport) = &layers.transport else {
+        return Ok(());
+    };
+    begin(out, "transport")?;
+    slice(out, transport)?;
+    out.end_map()
+}
+
+fn slice<S: Serializer>(out: &mut S, transport: &TransportSlice<'_>) -> Result<(), S::Error> {
+    match transport {
+        TransportSlice::Icmpv4(message) => icmp::over_ipv4(out, message),
+        TransportSlice::Icmpv6(message) => icmp::over_ipv6(out, message),
+        TransportSlice::Udp(datagram) => udp(out, datagram),
+        TransportSlice::Tcp(segment) => tcp(out, segment),
+    }
+}
+
+/// A message that was put together of parts: its protocol, its length, and its header or why it is
+/// refused. It has no contract: tests compare the texts.
+pub(crate) fn completed<S: Serializer>(
+    out: &mut S,
+    ip_number: IpNumber,
+    bytes: &[u8],
+) -> Result<(), S::Error> {
+    number(out, "ip_number", ip_number.0.into())?;
+    number(out, "len", bytes.len() as u64)?;
+    match read_message(ip_number, bytes) {
+        Ok(read) => message(out, &read),
+        Err(error) => errors::member(out, "error", &error),
+    }
+}
+
+// Its header, if its protocol is one that is read.
+fn message<S: Serializer>(out: &mut S, message: &Message<'_>) -> Result<(), S::Error> {
+    if let Message::Raw(_) = message {
+        return Ok(());
+    }
+    begin(out, "transport")?;
+    header(out, message)?;
+    out.end_map()
+}
+
+fn header<S: Serializer>(out: &mut S, message: &Message<'_>) -> Result<(), S::Error> {
+    match message {
+        Message::Icmpv4(message) => icmp::over_ipv4(out, message),
+        Message::Icmpv6(message) => icmp::over_ipv6(out, message),
+        Message::Udp(datagram) => udp(out, datagram),
+        Message::Tcp(segment) => tcp(out, segment),
+        Message::Raw(_) => Ok(()),
+    }
+}

@@ -1,0 +1,95 @@
+//! Messages of the transport layer.
+
+use crate::show::endpoints::{Ports, endpoints};
+use crate::show::refusal;
+use ep_base::IpNumber;
+use ep_packet::{Message, WholeMessage, read_message};
+use header_texts::show::{Line, Tone, icmp, names, tcp};
+use std::alloc::AllocError;
+use verdicts::Verdict;
+
+/// A message that stands whole in a packet: where it came from and went to, its protocol, what its
+/// header says, and what its checksum tells. It has no contract: tests compare the texts.
+pub(crate) fn whole(
+    line: &mut Line<'_>,
+    whole: &WholeMessage<'_>,
+    checked: Option<Verdict>,
+) -> Result<(), AllocError> {
+    endpoints(line, &whole.addresses, ports_of(&whole.message))?;
+    line.text(" ")?;
+    message(line, whole.ip_number, &whole.message)?;
+    verdict(line, checked, &whole.message)
+}
+
+/// A message that was put together of parts: its ports, its protocol, what its header says and its
+/// checksum tells, or why it is refused. It has no contract: tests compare the texts.
+pub(crate) fn completed(
+    line: &mut Line<'_>,
+    ip_number: IpNumber,
+    bytes: &[u8],
+    checked: Option<Verdict>,
+) -> Result<(), AllocError> {
+    match read_message(ip_number, bytes) {
+        Ok(read) => {
+            if let Some(ports) = ports_of(&read) {
+                line.number(ports.source.into())?;
+                line.counted(" > ", ports.destination.into())?;
+                line.text(" ")?;
+            }
+            message(line, ip_number, &read)?;
+            verdict(line, checked, &read)
+        }
+        Err(error) => refusal::message(line, &error),
+    }
+}
+
+// The ports between which a message goes.
+fn ports_of(message: &Message<'_>) -> Option<Ports> {
+    match message {
+        Message::Tcp(segment) => Some(Ports {
+            source: segment.source_port(),
+            destination: segment.destination_port(),
+        }),
+        Message::Udp(datagram) => Some(Ports {
+            source: datagram.source_port(),
+            destination: datagram.destination_port(),
+        }),
+        _ => None,
+    }
+}
+
+// The protocol of a message, what its header says, and the length of its payload.
+fn message(line: &mut Line<'_>, number: IpNumber, message: &Message<'_>) -> Result<(), AllocError> {
+    names::protocol(line, number)?;
+    match message {
+        Message::Tcp(segment) => tcp::segment(line, segment),
+        Message::Udp(datagram) => line.counted(" len ", datagram.payload().len() as u64),
+        Message::Icmpv4(message) => icmp::over_ipv4(line, message),
+        Message::Icmpv6(message) => icmp::over_ipv6(line, message),
+        Message::Raw(bytes) => line.counted(" len ", bytes.len() as u64),
+    }
+}
+
+// What the checksum of a message tells. Only UDP can be sent without one: that of ICMP over the
+// other IP version is not read.
+fn verdict(
+    line: &mut Line<'_>,
+    verdict: Option<Verdict>,
+    message: &Message<'_>,
+) -> Result<(), AllocError> {
+    match verdict {
+        Some(Verdict::Good) => {
+            line.text("  ")?;
+            line.toned(Tone::Good, "good")
+        }
+        Some(Verdict::Bad) => {
+            line.text("  ")?;
+            line.toned(Tone::Bad, "bad checksum")
+        }
+        Some(Verdict::None) => match message {
+            Message::Udp(_) => line.text("  no checksum"),
+            _ => Ok(()),
+        },
+        None => Ok(()),
+    }
+}
