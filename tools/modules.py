@@ -105,7 +105,7 @@ def is_tests(crate):
 
 
 # What the programs of benchmarks share, and the tests: like them they have no contract, law or test.
-SHARED = ("benchmark_runs", "fault_devices", "test_captures")
+SHARED = ("benchmark_runs", "fault_devices")
 
 
 def libraries():

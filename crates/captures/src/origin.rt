@@ -1,7 +1,7 @@
 //! Where and when a packet was captured.
 
 /// Where and when a packet was captured.
-#[derive(Clone, Copy, Debug, PartialEq, Eq)]
+#[derive(Clone, Copy)]
 pub(crate) struct Origin {
     /// The number of its interface.
     pub channel: u32,

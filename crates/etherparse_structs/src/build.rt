@@ -28,7 +28,7 @@ pub struct EpBuilt {
     pub len: usize,
 }
 
-#[derive(Clone, Copy, Debug, PartialEq, Eq)]
+#[derive(Clone, Copy)]
 pub(crate) enum BuildError {
     Memory,
     Field(PlanField),

@@ -2,17 +2,12 @@
 //! them, and are run.
 
 use crate::checks::fail;
+use crate::classic_captures::capture_of;
+use crate::frames::FRAMES;
 use captures::{Packet, Packets, Unfit};
 use packets::{Dissection, Dissector};
 use std::alloc::Global;
 use std::process::Abort;
-use test_captures::capture_of;
-
-/// The frames of `test_captures`, by reference: a proof has no table of them then.
-pub(super) const FRAMES: &[&str] = &test_captures::FRAMES;
-
-/// Those that are refused once they are put together.
-pub(super) const REFUSED_WHOLE: &[&str] = &test_captures::REFUSED_WHOLE;
 
 /// A capture of the first so many frames.
 pub(super) fn captured_front(rt: impl Abort + Copy, alloc: Global, count: usize) -> Vec<u8> {

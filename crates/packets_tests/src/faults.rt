@@ -1,7 +1,9 @@
 //! Runs that fail on the way or tell how far they are, and when lines are written.
 
-use crate::captured::{FRAMES, captured, captured_front};
+use crate::captured::{captured, captured_front};
 use crate::checks::{equal, fail, holds};
+use crate::classic_captures::capture_of;
+use crate::frames::FRAMES;
 use crate::outcomes::{LINES, are_counted, are_written, end_of_lines, every_packet};
 use captures::{RunError, Skipped, Unfit};
 use fault_devices::{Fault, FaultReader, FaultWriter};
@@ -11,7 +13,6 @@ use std::alloc::{AllocError, Global};
 use std::cell::Cell;
 use std::io::{self, ErrorKind, Read, Write};
 use std::process::Abort;
-use test_captures::capture_of;
 
 // The file header, and the first record: its header and a frame of 54 bytes.
 const FIRST_END: usize = 24 + 16 + 54;

@@ -7,7 +7,11 @@ mod captured;
 #[cfg(test)]
 mod checks;
 #[cfg(test)]
+mod classic_captures;
+#[cfg(test)]
 mod faults;
+#[cfg(test)]
+mod frames;
 #[cfg(test)]
 mod memory;
 #[cfg(test)]

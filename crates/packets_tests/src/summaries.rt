@@ -1,8 +1,8 @@
-//! What is taken of packets and counted. The frames are those of `test_captures`; what is taken of
-//! them was counted by hand.
+//! What is taken of packets and counted, by hand.
 
-use crate::captured::{FRAMES, REFUSED_WHOLE, captured, dissected, first};
+use crate::captured::{captured, dissected, first};
 use crate::checks::{equal, fail, holds};
+use crate::frames::{FRAMES, REFUSED_WHOLE};
 use crate::outcomes::{every_packet, packets_of};
 use captures::{Packets, Skipped, Unfit};
 use etherparse::err::Layer;

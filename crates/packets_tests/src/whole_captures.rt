@@ -1,7 +1,8 @@
 //! Runs over whole captures by reads of one byte, and over packets that are passed over.
 
-use crate::captured::{FRAMES, captured};
+use crate::captured::captured;
 use crate::checks::equal;
+use crate::frames::FRAMES;
 use crate::outcomes::{LINES, are_counted, are_written, end_of_lines, every_packet, packets_of};
 use captures::{CaptureError, Place, RunError, Skipped, Unfit};
 use fault_devices::FaultReader;

@@ -14,7 +14,7 @@ use crate::translation::state::State;
 const SECOND_LEN: usize = 4;
 
 /// Such a block, after a front of it.
-#[derive(Clone, Copy, Debug, PartialEq, Eq)]
+#[derive(Clone, Copy)]
 pub(crate) struct LongBlock {
     pub order: ByteOrder,
     pub kind: u32,
@@ -24,7 +24,7 @@ pub(crate) struct LongBlock {
 }
 
 /// What becomes of the bytes that come behind the front of a long block.
-#[derive(Clone, Copy, Debug, PartialEq, Eq)]
+#[derive(Clone, Copy)]
 pub(crate) enum Behind {
     /// It isn't whole yet. So many of them are held, of its second length.
     Held(LongBlock, usize),

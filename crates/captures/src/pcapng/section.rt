@@ -18,7 +18,7 @@ pub(crate) const LINKED_INTERFACES: usize = 32;
 pub(crate) const CLOCK_COUNT: usize = LINKED_INTERFACES + 1;
 
 /// What is known of a section after some of its blocks.
-#[derive(Clone, Copy, Debug, PartialEq, Eq)]
+#[derive(Clone, Copy)]
 pub(crate) struct Section {
     pub order: ByteOrder,
     /// The number of its first interface, over the whole file.

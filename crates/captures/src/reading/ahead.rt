@@ -8,7 +8,7 @@ use crate::reading::front::{Front, front_packet};
 use crate::translation::state::State;
 
 /// A packet but for the bytes behind its header.
-#[derive(Clone, Copy, Debug, PartialEq, Eq)]
+#[derive(Clone, Copy)]
 pub(crate) struct Found {
     pub interface: u32,
     pub time: u64,
@@ -17,7 +17,7 @@ pub(crate) struct Found {
 }
 
 /// What stands at the front of some bytes.
-#[derive(Clone, Copy, Debug, PartialEq, Eq)]
+#[derive(Clone, Copy)]
 pub(crate) struct Ahead {
     /// The first packet, if it is whole.
     pub found: Option<Found>,

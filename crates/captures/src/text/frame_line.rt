@@ -11,7 +11,7 @@ ghost use Rattle.captures.specs.FrameLines.{frame_in, frame_of};
 const FRAME: &[u8; 6] = b"frame ";
 
 /// When a frame was captured, since the year 1970 began.
-#[derive(Clone, Copy, Debug, PartialEq, Eq)]
+#[derive(Clone, Copy)]
 pub(crate) struct Time {
     pub seconds: u32,
     /// The parts of a second, less than one.

@@ -13,7 +13,7 @@ use crate::text::line::{append_forget_line, append_line, append_timed_line};
 const NANOSECONDS: u64 = 1_000_000_000;
 
 /// How far the lines of a run have come. Lines are counted where spans of time are.
-#[derive(Clone, Copy, Debug, PartialEq, Eq)]
+#[derive(Clone, Copy)]
 pub(crate) struct Ledger {
     pub extra: Extra,
     /// How many lines there are.

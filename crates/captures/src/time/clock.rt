@@ -12,7 +12,7 @@ const RESOLUTION: u16 = 9;
 const OFFSET: u16 = 14;
 
 /// How an interface tells times.
-#[derive(Clone, Copy, Debug, PartialEq, Eq)]
+#[derive(Clone, Copy)]
 pub(crate) struct Clock {
     /// A second has so many parts: a power of ten with this exponent, or of two, where 128 is added
     /// to the exponent.

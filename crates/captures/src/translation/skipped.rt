@@ -30,7 +30,7 @@ impl fmt::Display for Skipped {
 }
 
 /// Why a packet is passed over.
-#[derive(Clone, Copy, Debug, PartialEq, Eq)]
+#[derive(Clone, Copy)]
 pub(crate) enum Reason {
     OtherLink,
     TooLong,
@@ -70,7 +70,7 @@ impl Skipped {
 }
 
 /// What becomes of packets that can't be told, and how many were passed over so far.
-#[derive(Clone, Copy, Debug, PartialEq, Eq)]
+#[derive(Clone, Copy)]
 pub(crate) struct Passing {
     pub unfit: Unfit,
     pub skipped: Skipped,

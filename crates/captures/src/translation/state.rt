@@ -10,7 +10,7 @@ use crate::translation::skipped::{Passing, Skipped};
 use crate::unfit::Unfit;
 
 /// What a capture is known to be.
-#[derive(Clone, Copy, Debug, PartialEq, Eq)]
+#[derive(Clone, Copy)]
 pub(crate) enum State {
     /// Nothing yet.
     Start(Unfit),

@@ -3,7 +3,7 @@
 use std::fmt;
 
 /// A bar that is so many eighths of a column long.
-#[derive(Clone, Copy, Debug, PartialEq, Eq)]
+#[derive(Clone, Copy)]
 pub(crate) struct Bar {
     pub eighths: u32,
 }
