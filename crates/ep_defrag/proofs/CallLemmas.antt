@@ -14,7 +14,7 @@ use Rattle.ep_fragments.specs.declared.defrag.ip_defrag_error.IpDefragError.{IpD
 use Rattle.ep_defrag.specs.declared.defrag.ip_defrag_payload_vec.IpDefragPayloadVec.{IpDefragPayloadVec}
 use Rattle.ep_defrag.specs.declared.defrag.ip_frag_id.IpFragId.{IpFragId}
 use Rattle.ep_fragments.specs.declared.defrag.overlap_rule.OverlapRule.{OverlapRule}
-use Rattle.ep_fragments.specs.declared.defrag.stream.Stream.{Stream}
+use Rattle.ep_streams.specs.declared.defrag.stream.Stream.{Stream}
 use Rattle.ep_fragments.specs.Fragments.{Fragment, fragment, named_end, overlap_of}
 use Rattle.ep_fragments.specs.IpDefragError.{is_overlap}
 use Rattle.ep_defrag.specs.IpDefragPool.{Accepts, Refuses, payload_of, payload_told}
@@ -26,11 +26,11 @@ use Rattle.ep_defrag.specs.PoolCalls.{FrameAnswered, Lists, ShowsHeld, ShowsList
 use Rattle.ep_defrag.specs.PoolCalls.{outcome_at, told_of, told_outcome}
 use Rattle.ep_defrag.specs.PoolCalls.Told.{Delivered, Nothing, Refused}
 use Rattle.ep_defrag.specs.Processed.{Processed}
-use Rattle.ep_fragments.specs.Streams.{Becomes, IsErrorOf, IsStreamOf, OthersStay, Pool, ShowsStream}
-use Rattle.ep_fragments.specs.Streams.{Stays, stream_at}
+use Rattle.ep_streams.specs.Streams.{Becomes, IsErrorOf, IsStreamOf, OthersStay, Pool, ShowsStream}
+use Rattle.ep_streams.specs.Streams.{Stays, stream_at}
 use Rattle.ep_fragments.proofs.Found.{no_overlap_at}
 use Rattle.ep_fragments.proofs.OutcomeLemmas.{by_outcome}
-use Rattle.ep_fragments.proofs.Retaining.{some_same}
+use Rattle.ep_streams.proofs.Retaining.{some_same}
 
 abbrev same_id : IpFragId ℕ → IpFragId ℕ → Bool
 same_id = same_by nat_eq

@@ -2,12 +2,12 @@
 use Rattle.std.proofs.Common.{◌≡◌, ◌∙◌, ap, refl, ℕ, Option, Some, None, List}
 use Rattle.ep_defrag.specs.declared.defrag.ip_frag_id.IpFragId.{IpFragId}
 use Rattle.ep_fragments.specs.declared.defrag.overlap_rule.OverlapRule.{OverlapRule}
-use Rattle.ep_fragments.specs.declared.defrag.stream.Stream.{Stream}
+use Rattle.ep_streams.specs.declared.defrag.stream.Stream.{Stream}
 use Rattle.ep_defrag.specs.IpDefragPool.{Payload, payload_of}
 use Rattle.ep_fragments.specs.Outcome.{Outcome}
 use Rattle.ep_fragments.specs.Outcome.Outcome.{Clash, Completed, Refusal, Waiting}
-use Rattle.ep_fragments.specs.Streams.{Becomes}
-use Rattle.ep_fragments.proofs.Retaining.{some_same}
+use Rattle.ep_streams.specs.Streams.{Becomes}
+use Rattle.ep_streams.proofs.Retaining.{some_same}
 
 module _ {C T : Type 0} (rule : OverlapRule) (id : IpFragId C) (time : T) (s : Option (Stream T)) where
   pub whole_told : (o : Outcome) (bytes : List ℕ) (whole : Payload)

@@ -24,14 +24,14 @@ use Rattle.ep_defrag.specs.declared.defrag.ip_frag_version_spec_id.IpFragVersion
 use Rattle.ep_defrag.specs.declared.defrag.ip_frag_version_spec_id.IpFragVersionSpecId.TheVariants.{Ipv4}
 use Rattle.ep_defrag.specs.declared.defrag.ip_frag_version_spec_id.IpFragVersionSpecId.TheVariants.{Ipv6}
 use Rattle.ep_fragments.specs.declared.defrag.overlap_rule.OverlapRule.{OverlapRule}
-use Rattle.ep_fragments.specs.declared.defrag.stream.Stream.{Stream}
-use Rattle.ep_fragments.specs.Counts.{open_in}
+use Rattle.ep_streams.specs.declared.defrag.stream.Stream.{Stream}
+use Rattle.ep_streams.specs.Counts.{open_in}
 use Rattle.ep_defrag.specs.IpDefragPool.{same_id as same_by}
 use Rattle.ep_defrag.specs.IpFragId.{id_named, rule_over, same_name, spec_id}
 use Rattle.ep_defrag.specs.OpenMessages.{AreOpen, IsOpenCount}
 use Rattle.ep_fragments.specs.Outcome.{Held}
 use Rattle.ep_defrag.specs.PoolCalls.{Lists, ShowsHeld, ShowsLists}
-use Rattle.ep_fragments.specs.Streams.{Pool}
+use Rattle.ep_streams.specs.Streams.{Pool}
 
 abbrev same_id : IpFragId ℕ → IpFragId ℕ → Bool
 same_id = same_by nat_eq

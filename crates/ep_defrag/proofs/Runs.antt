@@ -19,7 +19,7 @@ use Rattle.ep_defrag.specs.declared.defrag.pool_calls.PoolCall.{PoolCall}
 use Rattle.ep_defrag.specs.declared.defrag.pool_calls.PoolCall.TheVariants.{Frame, RetainFrom}
 use Rattle.ep_defrag.specs.declared.defrag.pool_calls.PoolReply.{PoolReply}
 use Rattle.ep_defrag.specs.declared.defrag.ip_frag_id.IpFragId.{IpFragId}
-use Rattle.ep_fragments.specs.Counts.{Bounded, open_in}
+use Rattle.ep_streams.specs.Counts.{Bounded, open_in}
 use Rattle.ep_fragments.specs.Fragments.{Fragment, end_conflict, end_of, fragment, named_end}
 use Rattle.ep_fragments.specs.Fragments.{refusal_at}
 use Rattle.ep_defrag.specs.IpFragId.{fragment_in, id_named, rule_over}
@@ -32,9 +32,9 @@ use Rattle.ep_defrag.specs.PoolCalls.{outcome_at, as_told, told_of, want_at, wan
 use Rattle.ep_defrag.specs.PoolCalls.{want_at_frame}
 use Rattle.ep_defrag.specs.PoolCalls.Told.{Refused}
 use Rattle.ep_defrag.specs.Processed.{WantsAreTold}
-use Rattle.ep_fragments.specs.Streams.{Pool}
+use Rattle.ep_streams.specs.Streams.{Pool}
 use Rattle.ep_fragments.proofs.OutcomeLemmas.{by_outcome}
-use Rattle.ep_fragments.proofs.Retaining.{some_same}
+use Rattle.ep_streams.proofs.Retaining.{some_same}
 
 -- one reply more, where each list of names that the ones before may end at goes on by it
 pub Replies-push : (ends more : Lists → Type 0) (lists : Lists) (calls : List PoolCall)

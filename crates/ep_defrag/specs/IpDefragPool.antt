@@ -11,7 +11,7 @@ use Rattle.ep_fragments.specs.declared.defrag.overlap_rule.OverlapRule.{OverlapR
 use Rattle.ep_fragments.specs.Fragments.{Fragment}
 use Rattle.ep_defrag.specs.IpFragId.{len_source_of, overlap_rule_of}
 use Rattle.ep_fragments.specs.Outcome.{outcome}
-use Rattle.ep_fragments.specs.Streams.{Becomes, Pool, RefusesBy, ShowsStream, stream_at}
+use Rattle.ep_streams.specs.Streams.{Becomes, Pool, RefusesBy, ShowsStream, stream_at}
 
 -- a message that was put together: its protocol, what the lengths of its fragments came from, and
 -- its bytes

@@ -16,13 +16,13 @@ use Rattle.ep_defrag.specs.declared.defrag.pool_calls.PoolCall.{PoolCall}
 use Rattle.ep_defrag.specs.declared.defrag.pool_calls.PoolCall.TheVariants.{Frame, RetainFrom}
 use Rattle.ep_defrag.specs.declared.defrag.pool_calls.PoolReply.{PoolReply}
 use Rattle.ep_defrag.specs.declared.defrag.pool_calls.PoolReply.TheVariants as reply
-use Rattle.ep_fragments.specs.declared.defrag.stream.Stream.{Stream}
+use Rattle.ep_streams.specs.declared.defrag.stream.Stream.{Stream}
 use Rattle.ep_fragments.specs.Fragments.{Fragment, fragment}
 use Rattle.ep_defrag.specs.IpDefragPool.{Payload, payload_of, payload_told, same_id}
 use Rattle.ep_defrag.specs.IpFragId.{fragment_in, id_named, rule_over, same_name}
 use Rattle.ep_fragments.specs.Outcome.{Held, Outcome, held_after, memory_error, outcome}
 use Rattle.ep_fragments.specs.Outcome.Outcome.{Clash, Completed, Refusal, Waiting}
-use Rattle.ep_fragments.specs.Streams.{Pool, ShowsStream, stream_at}
+use Rattle.ep_streams.specs.Streams.{Pool, ShowsStream, stream_at}
 
 -- the list of each name and channel
 abbrev pub Lists : Type 0

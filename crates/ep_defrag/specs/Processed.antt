@@ -10,7 +10,7 @@ use Rattle.ep_defrag.specs.IpDefragPool.{Accepts, Refuses, same_id}
 use Rattle.ep_defrag.specs.IpFragId.{fragment_in, id_named}
 use Rattle.ep_defrag.specs.PoolCalls.{FrameAnswered, HasMemory, Lists, ShowsLists, Told}
 use Rattle.ep_defrag.specs.PoolCalls.{answer_to_frame, told_outcome, want_at_frame}
-use Rattle.ep_fragments.specs.Streams.{OthersStay, Pool, Stays}
+use Rattle.ep_streams.specs.Streams.{OthersStay, Pool, Stays}
 
 -- a packet of this class was processed, which came at this time on this channel: the clauses of
 -- `process_sliced_packet`

@@ -9,8 +9,9 @@ mod pool_calls;
 
 pub use ep_fragments::defrag::{
     IpDefragBuf, IpDefragError, IpFragRange, MAX_IP_DEFRAG_LEN, MAX_IP_DEFRAG_LEN_U16, OverlapRule,
-    Piece, Stream, Streams, checked_end,
+    checked_end,
 };
+pub use ep_streams::defrag::{Piece, Stream, Streams};
 pub use ip_defrag_payload_vec::IpDefragPayloadVec;
 pub use ip_defrag_pool::IpDefragPool;
 pub use ip_frag_id::IpFragId;

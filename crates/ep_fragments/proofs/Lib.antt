@@ -6,7 +6,6 @@ pub mod Found
 pub mod Members
 pub mod OutcomeLemmas
 pub mod Push
-pub mod Retaining
 mod Accepted
 mod AcceptedLists
 mod Added
@@ -17,7 +16,6 @@ mod Kept
 mod Lengths
 mod MemberOrder
 mod Ordered
-mod Places
 mod SameBuffers
 mod Sharing
 mod Written

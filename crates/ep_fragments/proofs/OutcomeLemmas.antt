@@ -1,18 +1,15 @@
 -- What becomes of a fragment, by whether it is refused and whether its message is complete with it.
-use Rattle.std.proofs.Common.{◌≡◌, ◌∙◌, ◌⊎◌, inl, inr, ap, refl, sym, cond, Bool, true, false, Option}
-use Rattle.std.proofs.Common.{Some, None, List, [], ◌∷◌, ◌++◌, ℕ, IsSomeAnd, subst}
+use Rattle.std.proofs.Common.{◌≡◌, ◌∙◌, ap, refl, cond, Bool, true, false, Option}
+use Rattle.std.proofs.Common.{Some, None, List, [], ◌∷◌, ◌++◌}
 use Rattle.std.specs.Option.{option_or}
 use Rattle.ep_fragments.specs.declared.defrag.ip_defrag_error.IpDefragError.{IpDefragError}
-use Rattle.ep_fragments.specs.declared.defrag.ip_defrag_error.IpDefragError.TheVariants.{AllocationFailure}
 use Rattle.ep_fragments.specs.declared.defrag.overlap_rule.OverlapRule.{OverlapRule}
-use Rattle.ep_fragments.specs.Fragments.{Fragment, end_of, is_complete, named_end, overlap_of, overlaps}
+use Rattle.ep_fragments.specs.Fragments.{Fragment, is_complete, named_end, overlap_of, overlaps}
 use Rattle.ep_fragments.specs.Fragments.{refusal_at, refusal_of}
-use Rattle.ep_fragments.specs.Outcome.{Outcome, error_of, memory_error, outcome, outcome_accepted}
+use Rattle.ep_fragments.specs.Outcome.{Outcome, outcome, outcome_accepted}
 use Rattle.ep_fragments.specs.Outcome.{outcome_unless}
 use Rattle.ep_fragments.specs.Outcome.Outcome.{Clash, Completed, Refusal, Waiting}
 use Rattle.ep_fragments.specs.Picture.{text_of}
-use Rattle.ep_fragments.specs.declared.defrag.stream.Stream.{Stream}
-use Rattle.ep_fragments.specs.Streams.{Becomes, IsErrorOf, IsStreamOf, ShowsStream}
 
 none_or : {X : Type 0} (o n : Option X) → option_or o n ≡ None → (o ≡ None) × (n ≡ None)
 none_or (Some x) n h = cc
@@ -79,45 +76,3 @@ module _ (rule : OverlapRule) (fs : List Fragment) (f : Fragment) where
                   ] refl
             ] refl
       ] refl
-
-  -- the error that a refusal is told by
-  pub error_is : (e : IpDefragError) → refusal_of rule fs f ≡ Some e
-      → error_of (outcome rule fs f) ≡ Some e
-  error_is e is =
-      elim (refusal_at (named_end fs) f) as (λ (o : Option IpDefragError).
-      option_or o (cond (overlaps rule fs f) (Some (overlap_of f)) None) ≡ Some e
-      → error_of (outcome_unless o (overlaps rule fs f) f all) ≡ Some e) [
-        | Some error ↦ λ same. same
-        | None ↦ λ same. elim (overlaps rule fs f) as (λ (b : Bool).
-            cond b (Some (overlap_of f)) None ≡ Some e
-            → error_of (cond b (Clash (overlap_of f)) (outcome_accepted all)) ≡ Some e)
-            [ true ↦ λ told. told | false ↦ λ told. cc ] same
-      ] is
-
-  memory_accepted : memory_error f (outcome_accepted all) ≡ Some (AllocationFailure (end_of f))
-  memory_accepted = elim (is_complete all) as (λ (b : Bool). memory_error f
-      (cond b (Completed (text_of all)) (Waiting all)) ≡ Some (AllocationFailure (end_of f)))
-      [ true ↦ refl | false ↦ refl ]
-
-  pub told_error : (e : IpDefragError) → (refusal_of rule fs f ≡ Some e)
-      ⊎ (refusal_of rule fs f ≡ None) × (e ≡ AllocationFailure (end_of f))
-      → IsErrorOf f (outcome rule fs f) e
-  told_error e (inl h) = inl (error_is e h)
-  told_error e (inr h) =
-      inr (ap (λ (o : Outcome). memory_error f o) (is_accepted h.0) ∙ memory_accepted
-      ∙ ap Some (sym h.1))
-
--- the first fragment of a message, which waits for others
-pub first_waits : {T : Type 0} (kept rule : OverlapRule) (f : Fragment) (time : T)
-    (old new : Option (Stream T)) (fs : List Fragment) → old ≡ None → ShowsStream kept old fs
-    → (fs ≡ [] → kept ≡ rule) → refusal_of rule [] f ≡ None → is_complete (f ∷ []) ≡ false
-    → IsSomeAnd new (IsStreamOf rule (f ∷ []) time)
-    → Becomes {X = List ℕ} kept (λ text. text) (outcome kept fs f) time new None
-first_waits {T} kept rule f time old new fs none shows begins taken open_end stream =
-    let empty : fs ≡ [] = subst (λ (o : Option (Stream T)). ShowsStream kept o fs) none shows in
-    subst (λ (r : OverlapRule).
-    Becomes {X = List ℕ} r (λ text. text) (outcome r fs f) time new None) (sym (begins empty))
-    (subst (λ (gs : List Fragment).
-    Becomes {X = List ℕ} rule (λ text. text) (outcome rule gs f) time new None) (sym empty)
-    (subst (λ (o : Outcome). Becomes {X = List ℕ} rule (λ text. text) o time new None)
-    (sym (is_waiting rule [] f taken open_end)) (refl, stream)))

@@ -1,4 +1,3 @@
-pub mod Counts
 pub mod Fragments
 pub mod IpDefragBuf
 pub mod IpDefragError
@@ -7,6 +6,3 @@ pub mod Joined
 pub mod Member
 pub mod Outcome
 pub mod Picture
-pub mod Refused
-pub mod SpareBuffers
-pub mod Streams

@@ -1,24 +1,16 @@
-//! One fragmented message, and messages that are on their way.
+//! One fragmented message.
 
 pub(crate) mod ip_defrag_buf;
 mod ip_defrag_error;
 mod ip_frag_range;
 mod member;
 mod overlap_rule;
-mod piece;
-mod retain_streams;
 mod sections;
-mod spare_buffers;
-mod stream;
-mod streams;
 
 pub use ip_defrag_buf::{IpDefragBuf, checked_end};
 pub use ip_defrag_error::IpDefragError;
 pub use ip_frag_range::IpFragRange;
 pub use overlap_rule::OverlapRule;
-pub use piece::Piece;
-pub use stream::Stream;
-pub use streams::Streams;
 
 /// The greatest length of a message, in bytes.
 pub const MAX_IP_DEFRAG_LEN: usize = 65535;

@@ -8,5 +8,6 @@ pub use Rattle.ep_ip.specs as ip
 pub use Rattle.ep_ipslice.specs as ipslice
 pub use Rattle.ep_link.specs as link
 pub use Rattle.ep_packet.specs as packet
+pub use Rattle.ep_streams.specs as streams
 pub use Rattle.ep_tag.specs as tag
 pub use Rattle.ep_tcpudp.specs as tcpudp

@@ -6,7 +6,7 @@ use Rattle.etherparse.specs.packet.Class.{FragmentName}
 use Rattle.etherparse.specs.defrag.declared.defrag.ip_frag_id.IpFragId.{IpFragId}
 use Rattle.etherparse.specs.fragments.Outcome.{Held}
 use Rattle.etherparse.specs.defrag.PoolCalls.{Lists, ShowsLists, no_lists}
-use Rattle.etherparse.specs.fragments.Streams.{Pool}
+use Rattle.etherparse.specs.streams.Streams.{Pool}
 use Rattle.netlines.specs.Answers.{answer_after, command_answer, command_takes_memory}
 use Rattle.netlines.specs.Answers.{reply_after, takes_memory}
 use Rattle.netlines.specs.Arrivals.{held_behind, held_with_line, lists_after_lines, lists_with_line}

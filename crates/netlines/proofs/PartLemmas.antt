@@ -10,7 +10,7 @@ use Rattle.etherparse.specs.defrag.declared.defrag.ip_defrag_payload_vec.IpDefra
 use Rattle.etherparse.specs.defrag.declared.defrag.ip_frag_id.IpFragId.{IpFragId}
 use Rattle.etherparse.specs.defrag.IpFragId.{id_named}
 use Rattle.etherparse.specs.defrag.Processed.{PacketsAreAnswered, Processed, WantsAreTold}
-use Rattle.etherparse.specs.fragments.Streams.{Pool}
+use Rattle.etherparse.specs.streams.Streams.{Pool}
 use Rattle.etherparse.specs.defrag.PoolCalls.{FrameAnswered, HasMemory, Lists, ShowsLists, Told}
 use Rattle.etherparse.specs.defrag.PoolCalls.{answer_to_frame, lists_with_frame, outcome_at, told_of}
 use Rattle.etherparse.specs.defrag.PoolCalls.{told_outcome}

@@ -1,7 +1,7 @@
 -- What the code writes in answer to a line, and what its pool shows then.
 use Rattle.std.specs.Prelude.{◌≡◌, ℕ, true, MatchResult, Result, List, take}
 use Rattle.etherparse.specs.defrag.PoolCalls.{Lists, ShowsLists, lists_with_frame}
-use Rattle.etherparse.specs.fragments.Streams.{Pool}
+use Rattle.etherparse.specs.streams.Streams.{Pool}
 use Rattle.etherparse.specs.defrag.declared.defrag.ip_frag_id.IpFragId.{IpFragId}
 use Rattle.etherparse.specs.packet.Class.{Class}
 use Rattle.netlines.specs.Answers.{class_answer, class_takes_memory, command_answer}

@@ -8,7 +8,7 @@ use Rattle.ep_defrag.specs.PoolCalls.{FrameAnswered, HasMemory, Lists, ShowsList
 use Rattle.ep_defrag.specs.PoolCalls.{answer_to_frame, lists_with_frame, told_outcome}
 use Rattle.ep_defrag.specs.PoolCalls.Told.{Refused}
 use Rattle.ep_defrag.specs.Processed.{PacketsAreAnswered, WantsAreTold}
-use Rattle.ep_fragments.specs.Streams.{OthersStay, Pool, Stays}
+use Rattle.ep_streams.specs.Streams.{OthersStay, Pool, Stays}
 use Rattle.ep_defrag.specs.declared.defrag.ip_defrag_payload_vec.IpDefragPayloadVec.{IpDefragPayloadVec}
 use Rattle.ep_defrag.specs.declared.defrag.ip_frag_id.IpFragId.{IpFragId}
 use Rattle.ep_fragments.specs.declared.defrag.ip_defrag_error.IpDefragError.{IpDefragError}

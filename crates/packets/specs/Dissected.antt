@@ -8,7 +8,7 @@ use Rattle.ep_defrag.specs.PoolCalls.{answer_to_frame}
 use Rattle.ep_defrag.specs.PoolCalls.{lists_with_frame}
 use Rattle.ep_defrag.specs.PoolCalls.Told.{Delivered, NoMemory, NotSliced, Nothing}
 use Rattle.ep_defrag.specs.PoolCalls.Told.{Refused as PartRefused, Retained}
-use Rattle.ep_fragments.specs.Streams.{Pool}
+use Rattle.ep_streams.specs.Streams.{Pool}
 use Rattle.ep_defrag.specs.declared.defrag.ip_frag_id.IpFragId.{IpFragId}
 use Rattle.ep_fragments.specs.declared.defrag.ip_defrag_error.IpDefragError.{IpDefragError}
 use Rattle.ep_fragments.specs.declared.defrag.ip_defrag_error.IpDefragError.TheVariants.{UnalignedFragmentPayloadLen}

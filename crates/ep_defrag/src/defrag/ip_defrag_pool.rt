@@ -7,11 +7,11 @@ ghost use Rattle.std.specs.List.{IsDistinct};
 ghost use Rattle.std.specs.Map.{keys_of};
 ghost use Rattle.ep_packet.specs.Class.{IdentificationFits, as_class, packet_told};
 ghost use Rattle.ep_packet.specs.declared.class.Class.TheVariants as told;
-ghost use Rattle.ep_fragments.specs.Counts.{Bounded, Counts, open_in};
+ghost use Rattle.ep_streams.specs.Counts.{Bounded, Counts, open_in};
 ghost use Rattle.ep_defrag.specs.IpDefragPool.{Accepts, AcceptsBy, Refuses, same_id};
 ghost use Rattle.ep_defrag.specs.IpFragId.{fragment_in, id_named};
-ghost use Rattle.ep_fragments.specs.Streams.{MayAsk, OthersStay, RefusesBy, Retained, Stays};
-ghost use Rattle.ep_fragments.specs.Streams.{fragment_of, stream_at};
+ghost use Rattle.ep_streams.specs.Streams.{MayAsk, OthersStay, RefusesBy, Retained, Stays};
+ghost use Rattle.ep_streams.specs.Streams.{fragment_of, stream_at};
 
 use super::part::spec_id;
 use super::{IpDefragError, IpDefragPayloadVec, IpFragId, OverlapRule, Piece, Streams};
@@ -38,7 +38,7 @@ pub struct IpDefragPool<
 impl<Timestamp, CustomChannelId: Eq + Hash, S: BuildHasher> Model
     for IpDefragPool<Timestamp, CustomChannelId, S> {
     ghost use Rattle.ep_defrag.specs.declared.defrag.ip_frag_id.IpFragId.{IpFragId};
-    ghost use Rattle.ep_fragments.specs.Streams.{Pool};
+    ghost use Rattle.ep_streams.specs.Streams.{Pool};
 
     ghost Value = { Pool (IpFragId CustomChannelId) Timestamp };
 

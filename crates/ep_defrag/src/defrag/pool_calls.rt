@@ -6,7 +6,7 @@ ghost use Rattle.ep_packet.specs.Class.{class_of, packet_told};
 ghost use Rattle.ep_packet.specs.Class.Class.{Refused};
 ghost use Rattle.ep_packet.specs.Sliced.{sliced_ethernet};
 ghost use Rattle.ep_packet.specs.declared.err.packet.slice_error.SliceError.{SliceError};
-ghost use Rattle.ep_fragments.specs.Counts.{Bounded, open_in};
+ghost use Rattle.ep_streams.specs.Counts.{Bounded, open_in};
 ghost use Rattle.ep_defrag.specs.OpenMessages.{NeverMore};
 ghost use Rattle.ep_defrag.specs.PoolCalls.{Answered, FrameAnswered, HasMemory, Lists, Replies};
 ghost use Rattle.ep_defrag.specs.PoolCalls.{ShowsLists, answers, fault_in, lists_after};

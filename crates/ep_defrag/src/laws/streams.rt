@@ -13,7 +13,7 @@ ghost use Rattle.ep_packet.specs.Readable.{ReadMessage};
 ghost use Rattle.ep_packet.specs.declared.addresses.Addresses.{Addresses};
 ghost use Rattle.ep_packet.specs.declared.addresses.Addresses.TheVariants.{V4, V6};
 ghost use Rattle.ep_packet.specs.declared.err.packet.slice_error.SliceError.{SliceError};
-ghost use Rattle.ep_fragments.specs.Counts.{open_in};
+ghost use Rattle.ep_streams.specs.Counts.{open_in};
 ghost use Rattle.ep_fragments.specs.Fragments.{Fragment, fragment};
 ghost use Rattle.ep_fragments.specs.IpDefragBuf.{Shows};
 ghost use Rattle.ep_defrag.specs.IpDefragPool.{same_id};
@@ -23,7 +23,7 @@ ghost use Rattle.ep_defrag.specs.PoolCalls.{FrameAnswered, HasMemory, Lists, Rep
 ghost use Rattle.ep_defrag.specs.PoolCalls.{after_frame, answer_to_frame, no_lists, retained_from};
 ghost use Rattle.ep_defrag.specs.PoolCalls.{want_at, want_at_frame};
 ghost use Rattle.ep_defrag.specs.Processed.{PacketsAreAnswered, WantsAreTold};
-ghost use Rattle.ep_fragments.specs.Streams.{Pool};
+ghost use Rattle.ep_streams.specs.Streams.{Pool};
 ghost use Rattle.ep_defrag.specs.PoolCalls.Told.{Delivered, NoMemory, NotSliced, Nothing, Refused};
 ghost use Rattle.ep_defrag.specs.PoolCalls.Told.{Retained};
 ghost use Rattle.ep_fragments.specs.declared.defrag.ip_defrag_error.IpDefragError.TheVariants.{AllocationFailure};

@@ -1,7 +1,8 @@
 //! Messages on their way with numbers as their names.
 use crate::checks::{equal, equal_bytes, equal_in, fail};
 use ep_base::IpFragOffset;
-use ep_fragments::defrag::{IpDefragError, OverlapRule, Piece, Streams};
+use ep_fragments::defrag::{IpDefragError, OverlapRule};
+use ep_streams::defrag::{Piece, Streams};
 use std::hash::{BuildHasherDefault, FoldHasher};
 use std::process::Abort;
 use std::test::*;

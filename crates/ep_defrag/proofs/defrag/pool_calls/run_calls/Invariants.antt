@@ -1,7 +1,7 @@
 use Rattle.std.proofs.Common.{◌≡◌, ◌≤◌, ◌+◌, ℕ, map, take, length}
 use Rattle.std.specs.List.{AllByRecursion}
 use Rattle.std.specs.Prelude.{vec_len, vec_capacity}
-use Rattle.ep_fragments.specs.Counts.{open_in}
+use Rattle.ep_streams.specs.Counts.{open_in}
 use Rattle.ep_defrag.specs.OpenMessages.{NeverMore}
 use Rattle.ep_defrag.specs.PoolCalls.{HasMemory, Lists, Replies, ShowsLists, as_told}
 use Rattle.ep_defrag.proofs.defrag.pool_calls.run_calls.Given as goal

@@ -5,7 +5,7 @@ use Rattle.ep_defrag.specs.IpDefragPool.{same_id}
 use Rattle.ep_defrag.specs.IpFragId.{id_named, rule_over}
 use Rattle.ep_defrag.specs.PoolCalls.{ShowsHeld}
 use Rattle.ep_defrag.specs.declared.defrag.ip_frag_id.IpFragId.{IpFragId}
-use Rattle.ep_fragments.specs.declared.defrag.stream.Stream.{Stream}
+use Rattle.ep_streams.specs.declared.defrag.stream.Stream.{Stream}
 use Rattle.ep_defrag.proofs.laws.streams.spare_buffers_show_nothing.Goals as goal
 
 pub returns : goal.returns

@@ -1,9 +1,9 @@
 use Rattle.std.proofs.Common.{subst}
 use Rattle.std.specs.Prelude.{IfErr}
 use Rattle.ep_packet.specs.declared.class.CutMessage.{CutMessage}
-use Rattle.ep_fragments.specs.Counts.{Counts}
+use Rattle.ep_streams.specs.Counts.{Counts}
 use Rattle.ep_fragments.specs.Fragments.{Fragment, fragment}
-use Rattle.ep_fragments.specs.Streams.{RefusesBy, Stays}
+use Rattle.ep_streams.specs.Streams.{RefusesBy, Stays}
 use Rattle.ep_fragments.specs.declared.defrag.overlap_rule.OverlapRule.{OverlapRule}
 use Rattle.ep_defrag.specs.IpDefragPool.{Accepts, AcceptsBy, Refuses, same_id}
 use Rattle.ep_defrag.specs.declared.defrag.ip_frag_id.IpFragId.{IpFragId}

@@ -4,7 +4,7 @@ use Rattle.std.specs.Prelude.{IfErr}
 use Rattle.ep_packet.specs.Class.{Class, as_class}
 use Rattle.ep_defrag.specs.IpDefragPool.{Accepts, Refuses, same_id}
 use Rattle.ep_defrag.specs.IpFragId.{fragment_in, id_named}
-use Rattle.ep_fragments.specs.Streams.{OthersStay, Stays}
+use Rattle.ep_streams.specs.Streams.{OthersStay, Stays}
 use Rattle.ep_defrag.proofs.defrag.ip_defrag_pool.IpDefragPool.process_sliced_packet.Goals as goal
 
 pub returns-in-Cut-clause-accepted : goal.returns-in-Cut-clause-accepted

@@ -3,7 +3,7 @@ use Rattle.std.specs.Prelude.{◌≡◌, ◌+◌, ◌-◌, ◌≤◌, ◌⊎◌,
 use Rattle.std.specs.Prelude.{length, if◌then◌else◌}
 use Rattle.ep_fragments.specs.declared.defrag.ip_defrag_error.IpDefragError.{IpDefragError}
 use Rattle.ep_fragments.specs.IpDefragError.{is_overlap}
-use Rattle.ep_fragments.specs.Streams.{Pool, stream_at}
+use Rattle.ep_streams.specs.Streams.{Pool, stream_at}
 
 -- the messages that are on their way
 abbrev pub open_in : {K T : Type 0} → Pool K T → ℕ

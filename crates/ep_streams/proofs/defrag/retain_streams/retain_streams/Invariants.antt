@@ -1,9 +1,9 @@
 use Rattle.std.proofs.Common.{◌≡◌, ℕ, ◌+◌, ◌-◌, ◌<◌, ◌≤◌, true, get_or, vec_len}
 use Rattle.std.specs.Fn.{FnReturnsAt}
 use Rattle.indexmap.specs.IndexMap.{get, index_map_len}
-use Rattle.ep_fragments.specs.SpareBuffers.{HasPlaces}
-use Rattle.ep_fragments.proofs.Retaining.{MayStay}
-use Rattle.ep_fragments.proofs.defrag.retain_streams.retain_streams.Given as goal
+use Rattle.ep_streams.specs.SpareBuffers.{HasPlaces}
+use Rattle.ep_streams.proofs.Retaining.{MayStay}
+use Rattle.ep_streams.proofs.defrag.retain_streams.retain_streams.Given as goal
 
 abbrev pub invariant-loop-at : goal.invariant-loop-at
 invariant-loop-at g l = record {

@@ -1,9 +1,9 @@
 use Rattle.std.proofs.Common.{true, false, arith, Some, sym, ◌∙◌, subst, ◌≡◌}
 use Rattle.std.specs.Fn.{FnReturnsAt}
 use Rattle.std.specs.Map.{lookup}
-use Rattle.ep_fragments.specs.declared.defrag.stream.Stream.{Stream}
-use Rattle.ep_fragments.proofs.Retaining.{asked_more, asked_same, one_goes, all_asked, some_same}
-use Rattle.ep_fragments.proofs.defrag.retain_streams.retain_streams.Goals as goal
+use Rattle.ep_streams.specs.declared.defrag.stream.Stream.{Stream}
+use Rattle.ep_streams.proofs.Retaining.{asked_more, asked_same, one_goes, all_asked, some_same}
+use Rattle.ep_streams.proofs.defrag.retain_streams.retain_streams.Goals as goal
 
 pub loop-at-preserved-then-answer : goal.loop-at-preserved-then-answer
 loop-at-preserved-then-answer g c =

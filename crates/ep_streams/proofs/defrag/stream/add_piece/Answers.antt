@@ -1,8 +1,8 @@
 use Rattle.std.proofs.Common.{rules, arith}
-use Rattle.ep_fragments.specs.Streams.{fragment_of}
-use Rattle.ep_fragments.proofs.OutcomeLemmas.{first_waits}
-use Rattle.ep_fragments.proofs.Places.{ended_places, fewer_places, same_places}
-use Rattle.ep_fragments.proofs.defrag.stream.add_piece.Goals as goal
+use Rattle.ep_streams.specs.Streams.{fragment_of}
+use Rattle.ep_streams.proofs.Waiting.{first_waits}
+use Rattle.ep_streams.proofs.Places.{ended_places, fewer_places, same_places}
+use Rattle.ep_streams.proofs.defrag.stream.add_piece.Goals as goal
 
 pub finish-requires-in-Ok-add : goal.finish-requires-in-Ok-add
 finish-requires-in-Ok-add g c =

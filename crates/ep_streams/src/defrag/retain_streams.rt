@@ -3,8 +3,8 @@
 ghost use Rattle.std.specs.Prelude.{◌≡◌, ◌+◌, ◌≤◌, vec_len};
 ghost use Rattle.std.specs.Fn.{FnReturnsAt};
 ghost use Rattle.indexmap.specs.IndexMap.{get, index_map_len};
-ghost use Rattle.ep_fragments.specs.SpareBuffers.{HasPlaces};
-ghost use Rattle.ep_fragments.specs.Streams.{MayAsk, Retained};
+ghost use Rattle.ep_streams.specs.SpareBuffers.{HasPlaces};
+ghost use Rattle.ep_streams.specs.Streams.{MayAsk, Retained};
 ghost use denote.Ref.{Bor};
 
 use super::spare_buffers::SpareBuffers;

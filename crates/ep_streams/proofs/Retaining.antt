@@ -9,8 +9,8 @@ use Rattle.std.specs.Cmp.{IsEquivalence}
 use Rattle.std.specs.List.{slice_get, swap_remove}
 use Rattle.std.specs.HashMap.Eq.{lookup_congr}
 use Rattle.std.specs.Map.{lookup}
-use Rattle.ep_fragments.specs.declared.defrag.stream.Stream.{Stream}
-use Rattle.ep_fragments.specs.Streams.{Retained}
+use Rattle.ep_streams.specs.declared.defrag.stream.Stream.{Stream}
+use Rattle.ep_streams.specs.Streams.{Retained}
 
 -- what is left of a stream before all are asked
 abbrev pub MayStay : {T : Type 0} → (T → Bool → Type 0) → Option (Stream T)

@@ -3,19 +3,20 @@
 ghost use Rattle.std.specs.Prelude.{◌≡◌, ◌++◌, ◌∷◌, ◌+◌, ◌≤◌, ℕ, [], List, None, false, OnOk};
 ghost use Rattle.std.specs.Prelude.{IfErr, IfOk, IfSome, if◌then◌else◌, length, option_map, vec_len};
 ghost use Rattle.indexmap.specs.IndexMap.{get, index_map_len};
-ghost use Rattle.ep_fragments.specs.Counts.{held_after, sections_after, spare_after};
+ghost use Rattle.ep_streams.specs.Counts.{held_after, sections_after, spare_after};
 ghost use Rattle.ep_fragments.specs.Fragments.{Fragment, refusal_of};
 ghost use Rattle.ep_fragments.specs.IpDefragBuf.{Shows, rule_of};
 ghost use Rattle.ep_fragments.specs.IpDefragError.{is_overlap};
 ghost use Rattle.ep_fragments.specs.Outcome.{outcome};
 ghost use Rattle.ep_fragments.specs.declared.defrag.overlap_rule.OverlapRule.{OverlapRule};
-ghost use Rattle.ep_fragments.specs.SpareBuffers.{HasPlaces};
-ghost use Rattle.ep_fragments.specs.Streams.{Becomes, IsErrorOf, IsStreamOf, ShowsStream};
-ghost use Rattle.ep_fragments.specs.Streams.{fragment_of};
-ghost use Rattle.ep_fragments.specs.Refused.{error_in, refused_by};
+ghost use Rattle.ep_streams.specs.SpareBuffers.{HasPlaces};
+ghost use Rattle.ep_streams.specs.Streams.{Becomes, IsErrorOf, IsStreamOf, ShowsStream};
+ghost use Rattle.ep_streams.specs.Streams.{fragment_of};
+ghost use Rattle.ep_streams.specs.Refused.{error_in, refused_by};
 
+use super::Piece;
 use super::spare_buffers::SpareBuffers;
-use super::{IpDefragBuf, IpDefragError, OverlapRule, Piece, checked_end};
+use ep_fragments::defrag::{IpDefragBuf, IpDefragError, OverlapRule, checked_end};
 use indexmap::IndexMap;
 use indexmap::map::Entry;
 use std::alloc::Global;

@@ -1,6 +1,6 @@
 -- Memory of messages that ended, for those that begin.
 use Rattle.std.specs.Prelude.{◌≡◌, ◌+◌, ◌≤◌, ℕ, vec_len, vec_capacity}
-use Rattle.ep_fragments.specs.declared.defrag.spare_buffers.SpareBuffers.{SpareBuffers}
+use Rattle.ep_streams.specs.declared.defrag.spare_buffers.SpareBuffers.{SpareBuffers}
 
 -- there are places for the buffers of so many messages more
 pub record HasPlaces (spare : SpareBuffers) (count : ℕ) : Type 0 where

@@ -1,6 +1,6 @@
 use Rattle.std.proofs.Common.{ap}
-use Rattle.ep_fragments.specs.Streams.{Pool}
-use Rattle.ep_fragments.proofs.defrag.streams.Streams.retain.Goals as goal
+use Rattle.ep_streams.specs.Streams.{Pool}
+use Rattle.ep_streams.proofs.defrag.streams.Streams.retain.Goals as goal
 
 pub retain_streams-requires-clause-asked : goal.retain_streams-requires-clause-asked
 retain_streams-requires-clause-asked g c =

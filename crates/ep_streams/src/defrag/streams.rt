@@ -5,17 +5,18 @@ ghost use Rattle.std.specs.Prelude.{length, option_map};
 ghost use Rattle.std.specs.Fn.{FnReturnsAt};
 ghost use Rattle.std.specs.List.{IsDistinct};
 ghost use Rattle.std.specs.Map.{keys_of};
-ghost use Rattle.ep_fragments.specs.Counts.{Counts, open_in};
+ghost use Rattle.ep_streams.specs.Counts.{Counts, open_in};
 ghost use Rattle.ep_fragments.specs.Fragments.{Fragment};
 ghost use Rattle.ep_fragments.specs.Outcome.{outcome};
-ghost use Rattle.ep_fragments.specs.Streams.{Becomes, IsErrorOf, MayAsk, OthersStay, Retained};
-ghost use Rattle.ep_fragments.specs.Streams.{ShowsStream, Stays, fragment_of, stream_at};
+ghost use Rattle.ep_streams.specs.Streams.{Becomes, IsErrorOf, MayAsk, OthersStay, Retained};
+ghost use Rattle.ep_streams.specs.Streams.{ShowsStream, Stays, fragment_of, stream_at};
 ghost use Rattle.ep_fragments.specs.declared.defrag.overlap_rule.OverlapRule.{OverlapRule};
 
+use super::Piece;
 use super::retain_streams::retain_streams;
 use super::spare_buffers::SpareBuffers;
 use super::stream::{Stream, add_piece};
-use super::{IpDefragError, OverlapRule, Piece};
+use ep_fragments::defrag::{IpDefragError, OverlapRule};
 use indexmap::IndexMap;
 use std::alloc::Global;
 use std::hash::{BuildHasher, Hash};
@@ -33,8 +34,8 @@ pub struct Streams<K: Eq + Hash, T, S: BuildHasher> {
 impl<K: Eq + Hash, T, S: BuildHasher> Model for Streams<K, T, S> {
     ghost use Rattle.std.specs.Prelude.{vec_len};
     ghost use Rattle.indexmap.specs.IndexMap.{index_map_len};
-    ghost use Rattle.ep_fragments.specs.SpareBuffers.{HasPlaces};
-    ghost use Rattle.ep_fragments.specs.Streams.{Pool};
+    ghost use Rattle.ep_streams.specs.SpareBuffers.{HasPlaces};
+    ghost use Rattle.ep_streams.specs.Streams.{Pool};
 
     ghost Value = { Pool K T };
 
@@ -95,7 +96,7 @@ impl<K: Eq + Hash + Drop, T: Drop, S: BuildHasher> Streams<K, T, S> {
     /// them came with. One that completes it hands its bytes out, and ends the stream. So does one
     /// that overlaps where that is refused, and hands nothing out.
     ///
-    /// It is refused as by [`IpDefragBuf::add`](super::IpDefragBuf::add): then the stream has the
+    /// It is refused as by [`IpDefragBuf::add`](ep_fragments::defrag::IpDefragBuf::add): then the stream has the
     /// pieces and the timestamp that it had. A piece that begins a message wants memory for its name
     /// and for the places of spare buffers, too.
     pub fn add(

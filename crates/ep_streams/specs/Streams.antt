@@ -4,10 +4,10 @@ use denote.Ref.{Bor}
 use Rattle.std.specs.Prelude.{◌≡◌, ◌≢◌, ◌⊎◌, ℕ, Bool, true, false, if◌then◌else◌, Option, Some, None}
 use Rattle.std.specs.Prelude.{Result, List, [], IfErr, IsSomeAnd}
 use Rattle.std.specs.Map.{lookup}
-use Rattle.ep_fragments.specs.declared.defrag.piece.Piece.{Piece}
+use Rattle.ep_streams.specs.declared.defrag.piece.Piece.{Piece}
 use Rattle.ep_fragments.specs.declared.defrag.ip_defrag_error.IpDefragError.{IpDefragError}
 use Rattle.ep_fragments.specs.declared.defrag.overlap_rule.OverlapRule.{OverlapRule}
-use Rattle.ep_fragments.specs.declared.defrag.stream.Stream.{Stream}
+use Rattle.ep_streams.specs.declared.defrag.stream.Stream.{Stream}
 use Rattle.ep_fragments.specs.Fragments.{Fragment, fragment}
 use Rattle.ep_fragments.specs.IpDefragBuf.{Shows, rule_of}
 use Rattle.ep_fragments.specs.IpDefragError.{is_overlap}

@@ -1,8 +1,8 @@
 -- Places for buffers, as messages begin and end.
 use Rattle.std.proofs.Common.{◌≡◌, ℕ, ◌+◌, ◌-◌, ◌≤◌, arith, inl, inr}
 use Rattle.std.proofs.lemmas.Bool.{cases_lt}
-use Rattle.ep_fragments.specs.declared.defrag.spare_buffers.SpareBuffers.{SpareBuffers}
-use Rattle.ep_fragments.specs.SpareBuffers.{HasPlaces}
+use Rattle.ep_streams.specs.declared.defrag.spare_buffers.SpareBuffers.{SpareBuffers}
+use Rattle.ep_streams.specs.SpareBuffers.{HasPlaces}
 
 -- where there are places for so many, there are for fewer
 pub fewer_places : (spare : SpareBuffers) (m n : ℕ) → n ≤ m → HasPlaces spare m → HasPlaces spare n

@@ -1,9 +1,9 @@
 //! The memory of messages that ended, for those that begin.
 
 ghost use Rattle.std.specs.Prelude.{◌≡◌, ◌+◌, ◌-◌, ◌<◌, ◌≤◌, ℕ, true, if◌then◌else◌, vec_len, vec_capacity};
-ghost use Rattle.ep_fragments.specs.SpareBuffers.{HasPlaces, NoFewerPlaces, SameCounts};
+ghost use Rattle.ep_streams.specs.SpareBuffers.{HasPlaces, NoFewerPlaces, SameCounts};
 
-use super::{IpDefragBuf, IpFragRange};
+use ep_fragments::defrag::{IpDefragBuf, IpFragRange};
 use std::alloc::Global;
 
 /// Buffers whose message ended, each kind in a list of its own: the bytes of a message are handed

@@ -1,0 +1,4 @@
+-- for the crates above, beside what is proved of each function
+pub mod Retaining
+mod Places
+mod Waiting

@@ -1,0 +1,4 @@
+pub mod Counts
+pub mod Refused
+pub mod SpareBuffers
+pub mod Streams
