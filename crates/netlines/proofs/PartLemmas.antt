@@ -19,8 +19,8 @@ use Rattle.etherparse.specs.defrag.PoolCalls.Told.{NoMemory}
 use Rattle.etherparse.specs.packet.Class.{Class, FragmentName, as_class}
 use Rattle.etherparse.specs.packet.Class.Class.{Cut, Refused as Faulty}
 use Rattle.etherparse.specs.packet.Readable.{message_at}
-use Rattle.netlines.specs.Answers.{class_answer, class_takes_memory, completed_answer}
-use Rattle.netlines.specs.Answers.{outcome_answer, refusal_answer}
+use Rattle.line_answers.specs.Answers.{class_answer, class_takes_memory, completed_answer}
+use Rattle.line_answers.specs.Answers.{outcome_answer, refusal_answer}
 use Rattle.etherparse.specs.packet.declared.addresses.Addresses.{Addresses}
 use Rattle.etherparse.specs.packet.declared.class.Class.TheVariants as class_told
 use Rattle.etherparse.specs.packet.declared.class.CutMessage.{CutMessage}

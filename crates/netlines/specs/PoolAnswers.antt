@@ -4,9 +4,9 @@ use Rattle.etherparse.specs.defrag.PoolCalls.{Lists, ShowsLists, lists_with_fram
 use Rattle.etherparse.specs.streams.Streams.{Pool}
 use Rattle.etherparse.specs.defrag.declared.defrag.ip_frag_id.IpFragId.{IpFragId}
 use Rattle.etherparse.specs.packet.Class.{Class}
-use Rattle.netlines.specs.Answers.{class_answer, class_takes_memory, command_answer}
-use Rattle.netlines.specs.Answers.{command_takes_memory}
-use Rattle.netlines.specs.Arrivals.{lists_with_line}
+use Rattle.line_answers.specs.Answers.{class_answer, class_takes_memory, command_answer}
+use Rattle.line_answers.specs.Answers.{command_takes_memory}
+use Rattle.line_answers.specs.Arrivals.{lists_with_line}
 use Rattle.commands.specs.Commands.{Command}
 
 -- a frame of a class that came on a channel, in the line of this number, is answered by the front

@@ -5,7 +5,7 @@ use Rattle.runs.specs.Known as known
 use Rattle.lines.specs.Endings.{ending_of}
 use Rattle.lines.specs.Runs.{RunsBy, reply_task}
 use Rattle.lines.specs.declared.run_error.RunError.{RunError}
-use Rattle.netlines.specs.Answers.{frame_meaning}
+use Rattle.line_answers.specs.Answers.{frame_meaning}
 
 -- a run of at most so many reads took a device from old to new, and ended by this result
 abbrev pub Runs : {D : Type 0} → (D → Call → D → Type 0) → ℕ → D → D → Result Unit RunError → Type 0

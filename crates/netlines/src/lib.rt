@@ -13,13 +13,11 @@ pub use frames::frame_answerer::FrameAnswerer;
 pub use frames::run_frames::{
     answers, run, run_bounded, run_over, run_over_with_hasher, run_with_hasher,
 };
+pub use line_answers::{Letter, PostError, SealError};
 pub use lines::{
     Answerer, LINE_LIMIT, READ_COUNT_LIMIT, READ_SIZE_LIMIT, REPLY_ROOM, RunError, run_with,
 };
-pub use messages::letter::Letter;
-pub use messages::post_error::PostError;
 pub use messages::post_message::post;
-pub use messages::seal_error::SealError;
 pub use messages::sealed_message::seal_message;
 pub use program::{answer_input, exit_code, fault_name};
 pub use runs::device;

@@ -1,8 +1,5 @@
 //! Messages that are sealed by their checksum and made into frames.
 
-pub(crate) mod letter;
-pub(crate) mod post_error;
 pub(crate) mod post_message;
 pub(crate) mod posted_frame;
-pub(crate) mod seal_error;
 pub(crate) mod sealed_message;

@@ -7,7 +7,7 @@ ghost use Rattle.std.specs.Process.{exit_status};
 ghost use Rattle.lines.specs.declared.run_error.RunError.{RunError};
 ghost use Rattle.runs.specs.Endings.{EndsFlushed};
 ghost use Rattle.runs.specs.Known.{KnownCall, known_of};
-ghost use Rattle.netlines.specs.Answers.{answers_of};
+ghost use Rattle.line_answers.specs.Answers.{answers_of};
 ghost use Rattle.netlines.specs.Runs.{Runs, Transfers};
 
 use crate::frames::run_frames::run;

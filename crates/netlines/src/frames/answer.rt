@@ -3,7 +3,7 @@ ghost use Rattle.std.specs.Prelude.{◌≡◌, ◌+◌, ◌*◌, ◌≤◌, ◌<
 ghost use Rattle.std.specs.Prelude.{MatchOption};
 ghost use Rattle.etherparse.specs.defrag.PoolCalls.{HasMemory};
 ghost use Rattle.etherparse.specs.defrag.PoolCalls.Told.{Refused};
-ghost use Rattle.netlines.specs.Answers.{message_answer, refusal_answer, verdict_word};
+ghost use Rattle.line_answers.specs.Answers.{message_answer, refusal_answer, verdict_word};
 
 use crate::Verdict;
 use crate::frames::output::{append, append_decimal, append_hex};

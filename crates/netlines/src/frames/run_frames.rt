@@ -2,7 +2,7 @@
 ghost use Rattle.std.specs.Prelude.{◌≡◌, ◌≤◌, length, OnOk, IfOk, IfSome, IsErrOf};
 ghost use Rattle.std.specs.Io.KnownBytes.{Appends, IsAtEnd};
 ghost use Rattle.runs.specs.Known.{KnownCall, known_of};
-ghost use Rattle.netlines.specs.Answers.{answers_of};
+ghost use Rattle.line_answers.specs.Answers.{answers_of};
 ghost use Rattle.netlines.specs.Runs.{Runs, Transfers};
 
 use crate::frames::frame_answerer::FrameAnswerer;

@@ -1,10 +1,10 @@
 //! The message that becomes frames.
 ghost use Rattle.std.specs.Prelude.{◌≡◌, ◌≤◌, ◌/◌, length, map, None, IfOk, IsOk, IsOkUnless};
 ghost use Rattle.std.specs.Prelude.{MatchOption, OnOk};
-ghost use Rattle.netlines.specs.Posted.{is_cut, pieces_from, posted_frames};
-ghost use Rattle.netlines.specs.PostRefusal.{bad_cut, is_good_cut, is_icmp_of_other_version};
-ghost use Rattle.netlines.specs.PostRefusal.{long_piece, long_piece_from, names_extension};
-ghost use Rattle.netlines.specs.PostRefusal.{post_refusal, room};
+ghost use Rattle.line_answers.specs.Posted.{is_cut, pieces_from, posted_frames};
+ghost use Rattle.line_answers.specs.PostRefusal.{bad_cut, is_good_cut, is_icmp_of_other_version};
+ghost use Rattle.line_answers.specs.PostRefusal.{long_piece, long_piece_from, names_extension};
+ghost use Rattle.line_answers.specs.PostRefusal.{post_refusal, room};
 
 use crate::messages::posted_frame::frame;
 use crate::{IpFragVersionSpecId, Letter, PostError};

@@ -1,9 +1,9 @@
 //! The frame with a piece of a message.
 ghost use Rattle.std.specs.Prelude.{◌≡◌, ◌≤◌, ◌<◌, ◌^◌, length, IfOk, None};
 ghost use Rattle.etherparse.specs.build.Built.{packet_with_number, refusal_of, size_of};
-ghost use Rattle.netlines.specs.PostRefusal.{room};
-ghost use Rattle.netlines.specs.Posted.{frame};
-ghost use Rattle.netlines.specs.PostedHeaders.{fragment_of, headers_of, ip_headers_of};
+ghost use Rattle.line_answers.specs.PostRefusal.{room};
+ghost use Rattle.line_answers.specs.Posted.{frame};
+ghost use Rattle.line_answers.specs.PostedHeaders.{fragment_of, headers_of, ip_headers_of};
 
 use crate::{IpFragVersionSpecId, Letter};
 use etherparse::{

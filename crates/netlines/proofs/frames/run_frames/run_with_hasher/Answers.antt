@@ -1,6 +1,6 @@
 use Rattle.std.proofs.Common.{rules}
 use Rattle.runs.proofs.KnownLemmas.{Goes-reader_writer, goes_end, goes_transfer, goes_too_many}
-use Rattle.netlines.specs.Answers.{frame_meaning}
+use Rattle.line_answers.specs.Answers.{frame_meaning}
 use Rattle.lines.specs.Endings.{cause}
 use Rattle.lines.specs.Runs.{reply_task}
 use Rattle.lines.proofs.Going.{runs_ok}

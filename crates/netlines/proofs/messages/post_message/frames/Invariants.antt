@@ -1,7 +1,7 @@
 use Rattle.std.proofs.Common.{◌≡◌, ◌+◌, ◌≤◌, ◌++◌, drop, length, map, None}
 use Rattle.std.specs.Prelude.{vec_len, vec_capacity}
-use Rattle.netlines.specs.Posted.{frame, pieces_from, posted_frames}
-use Rattle.netlines.specs.PostRefusal.{bad_cut_from, long_piece_from, room}
+use Rattle.line_answers.specs.Posted.{frame, pieces_from, posted_frames}
+use Rattle.line_answers.specs.PostRefusal.{bad_cut_from, long_piece_from, room}
 use Rattle.netlines.proofs.messages.post_message.frames.Given as goal
 
 abbrev pub invariant-loop-cut : goal.invariant-loop-cut

@@ -1,6 +1,6 @@
 use Rattle.std.proofs.Common.{◌≡◌, ◌+◌, drop, length, None}
-use Rattle.netlines.specs.Posted.{pieces_from}
-use Rattle.netlines.specs.PostRefusal.{bad_cut_from, long_piece_from}
+use Rattle.line_answers.specs.Posted.{pieces_from}
+use Rattle.line_answers.specs.PostRefusal.{bad_cut_from, long_piece_from}
 use Rattle.netlines.proofs.messages.post_message.long_piece.Given as goal
 
 abbrev pub invariant-loop-cut : goal.invariant-loop-cut

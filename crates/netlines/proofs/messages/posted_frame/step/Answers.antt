@@ -1,9 +1,9 @@
 use Rattle.std.proofs.Common.{◌≡◌, ◌∙◌, ◌<◌, ◌^◌, sym, ap, subst, length, None}
 use Rattle.etherparse.specs.build.Built.{packet_with_number, refusal_of, size_of}
 use Rattle.etherparse.specs.build.PacketImpl.{PacketImpl}
-use Rattle.netlines.specs.Posted.{Piece, frame}
-use Rattle.netlines.specs.PostedHeaders.{headers_of}
-use Rattle.netlines.proofs.PostLemmas.{framed, small_frame, unrefused_piece}
+use Rattle.line_answers.specs.Posted.{Piece, frame}
+use Rattle.line_answers.specs.PostedHeaders.{headers_of}
+use Rattle.line_answers.proofs.PostLemmas.{framed, small_frame, unrefused_piece}
 use Rattle.netlines.proofs.messages.posted_frame.step.Goals as goal
 
 pub returns-clause-frame : goal.returns-clause-frame

@@ -1,4 +1,4 @@
-use Rattle.netlines.proofs.AnswerLemmas.{new_shows}
+use Rattle.line_answers.proofs.AnswerLemmas.{new_shows}
 use Rattle.netlines.proofs.frames.frame_answerer.FrameAnswerer.with_hasher.Goals as goal
 
 pub returns-clause-pool : goal.returns-clause-pool

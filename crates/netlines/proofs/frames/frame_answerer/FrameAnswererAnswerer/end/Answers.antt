@@ -1,6 +1,6 @@
 use Rattle.std.proofs.Common.{◌∙◌}
 use Rattle.std.proofs.lemmas.Result.{err_from_is_err_and}
-use Rattle.netlines.proofs.AnswerLemmas.{answered_lists, answered_memory, answered_reply}
+use Rattle.line_answers.proofs.AnswerLemmas.{answered_lists, answered_memory, answered_reply}
 use Rattle.netlines.proofs.frames.frame_answerer.FrameAnswererAnswerer.end.Goals as goal
 
 pub returns-in_err-end-clause-replies : goal.returns-in_err-end-clause-replies

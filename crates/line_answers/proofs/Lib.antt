@@ -1,0 +1,32 @@
+-- for the crate above, beside what is proved of each function
+pub mod AnswerLemmas
+pub mod PostLemmas
+pub mod WrittenLines
+mod AcceptedWaiting
+mod AllPosted
+mod AloneLemmas
+mod ArrivalLemmas
+mod ChangedFragment
+mod ChangedMessage
+mod ChangedReplay
+mod ChangedWordLemmas
+mod ChannelLemmas
+mod CoverLemmas
+mod FirstCover
+mod InOrder
+mod InertLemmas
+mod JoinedLemmas
+mod LetterLemmas
+mod OnlyPosted
+mod PieceLemmas
+mod PostedAnswer
+mod PostedCut
+mod PostedFrames
+mod PostedPieces
+mod ReadLemmas
+mod Reassembled
+mod ReplayLemmas
+mod SealedLemmas
+mod ShapeLemmas
+mod UnrefusedLemmas
+mod WaitingLemmas

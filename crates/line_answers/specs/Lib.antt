@@ -1,0 +1,12 @@
+pub mod Alone
+pub mod Answers
+pub mod Arrivals
+pub mod ChangedWord
+pub mod Letter
+pub mod PostRefusal
+pub mod Posted
+pub mod PostedHeaders
+pub mod PostedInput
+pub mod Sealed
+pub mod TwoRuns
+pub mod Waiting
