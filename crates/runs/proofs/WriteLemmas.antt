@@ -49,6 +49,8 @@ module _ {D : Type 0} (transition : D → Call → D → Type 0) where
     mid = b;
     before = before;
     handed = rest;
+    later = [];
+    next = sym (append-nil rest);
     taken = taken;
     some = some;
     stop = stop;
@@ -64,6 +66,8 @@ module _ {D : Type 0} (transition : D → Call → D → Type 0) where
     mid = s.mid;
     before = Written-append a b s.mid xs s.front p s.before;
     handed = s.handed;
+    later = s.later;
+    next = s.next;
     taken = s.taken;
     some = s.some;
     stop = s.stop;
@@ -80,6 +84,8 @@ module _ {D : Type 0} (transition : D → Call → D → Type 0) where
     mid = s.mid;
     before = s.before;
     handed = s.handed;
+    later = s.later ++ ys;
+    next = ap (λ l. l ++ ys) s.next ∙ append_assoc s.handed s.later ys;
     taken = s.taken;
     some = s.some;
     stop = s.stop;

@@ -19,7 +19,8 @@ pub record Written {D : Type 0} (transition : D → Call → D → Type 0) (old 
   pub made : Makes transition old calls new
   pub whole : bytes_written calls ≡ bytes
 
--- from old to new, writes that took a front of these bytes, and then one that is this fault
+-- from old to new, writes that took a front of these bytes, and then one that is this fault, which
+-- was handed bytes that come next
 pub record Stops {D : Type 0} (transition : D → Call → D → Type 0) (fault : Fault) (old : D)
     (bytes : List ℕ) (new : D)
     : Type 0 where
@@ -29,6 +30,8 @@ pub record Stops {D : Type 0} (transition : D → Call → D → Type 0) (fault 
   pub mid : D
   pub before : Written transition old front mid
   pub handed : List ℕ
+  pub later : List ℕ
+  pub next : missing ≡ handed ++ later
   pub taken : Option ℕ
   pub some : 0 < length handed
   pub stop : transition mid (Writes handed taken) new

@@ -1,7 +1,8 @@
 //! Lines that come in pieces.
 ghost use Rattle.std.specs.Prelude.{◌≡◌, ◌≤◌, ◌<◌, ◌+◌, ◌++◌, ℕ, List, [], true, false, length};
-ghost use Rattle.std.specs.Prelude.{drop, take, IfOk, OnOk};
-ghost use Rattle.sessions.specs.Sessions.{IsWrittenOut, Took, Waits, replies};
+ghost use Rattle.std.specs.Prelude.{drop, take, IfOk, OnOk, OnErr};
+ghost use Rattle.lines.specs.Lines.{ended_lines_of, last_line, split};
+ghost use Rattle.sessions.specs.Sessions.{IsWrittenOut, RunsOut, Took, Waits, replies};
 
 use lines::laws::text_goes_on;
 use lines::{Answerer, LineAnswerer};
@@ -16,7 +17,7 @@ pub struct Waiting {
 }
 
 impl Device for Waiting {
-    ghost transition = { λ s call t. Waits s.output.items call t.output.items };
+    ghost transition = { λ s call t. Waits s.output call t.output };
 
     fn read_some(&mut self, _buf: &mut [u8]) -> io::Result<usize> {
         Ok(0)
@@ -61,12 +62,17 @@ impl<A: Answerer + Drop> Session<A> {
     }
 
     /// Goes on with a piece. The only error is out of memory, and nothing is told of the session
-    /// after it; that lines can't be counted any more is one, too.
+    /// after it but that it goes on; that lines can't be counted any more is one, too.
     pub fn take(&mut self, piece: &[u8]) -> Result<(), AllocError>
         requires going { self.old.has_ended ≡ false }
         requires written { IsWrittenOut self.old }
         ensures took { (text told : List ℕ) → Took A.meaning A.shows self.old text told
             → OnOk result (Took A.meaning A.shows self.new (text ++ piece.now) told) }
+        // Where the lines can be counted, it is out of memory only where memory may be wanting for
+        // one of them, or for their replies.
+        ensures err { (text told : List ℕ) → Took A.meaning A.shows self.old text told
+            → OnErr result (RunsOut A.meaning self.old (ended_lines_of text)
+            (ended_lines_of ((split text).rest ++ piece.now)) (length piece.now)) }
         ensures going { self.new.has_ended ≡ false }
         ensures written { OnOk result (IsWrittenOut self.new) }
     {
@@ -86,6 +92,9 @@ impl<A: Answerer + Drop> Session<A> {
         requires written { IsWrittenOut self.old }
         ensures took { (text told : List ℕ) → Took A.meaning A.shows self.old text told
             → OnOk result (Took A.meaning A.shows self.new text told) }
+        ensures err { (text told : List ℕ) → Took A.meaning A.shows self.old text told
+            → OnErr result (RunsOut A.meaning self.old (ended_lines_of text)
+            (last_line (split text).rest) 0) }
         ensures ended { self.new.has_ended ≡ true }
         ensures written { IsWrittenOut self.new }
     {
