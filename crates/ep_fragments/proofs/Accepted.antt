@@ -8,7 +8,8 @@ use Rattle.ep_fragments.specs.declared.defrag.ip_defrag_error.IpDefragError.TheV
 use Rattle.ep_fragments.specs.declared.defrag.overlap_rule.OverlapRule.{OverlapRule}
 use Rattle.ep_fragments.specs.Fragments.{Fragment, accepted_count, end_of, refusal_of, with_accepted}
 use Rattle.ep_fragments.specs.Fragments.{with_all_accepted}
-use Rattle.ep_fragments.specs.IpDefragBuf.{Contents, Shows, Stops}
+use Rattle.ep_fragments.specs.IpDefragBuf.{Contents, SameButRoom, Shows, Stops}
+use Rattle.ep_fragments.proofs.Rooms.{still_shows}
 
 module _ (rule : OverlapRule) where
   -- 1 for a fragment that is accepted
@@ -60,7 +61,7 @@ module _ (rule : OverlapRule) where
       (x : P) (old buf : Contents N) (error : IpDefragError) → i < length pieces
       → x ≡ get_or pieces i x
       → let before = with_all_accepted rule fs (map piece (take i pieces)) in Shows old before
-      → buf ≡ old → refusal_of rule before (piece x) ≡ None
+      → SameButRoom old buf → refusal_of rule before (piece x) ≡ None
       → error ≡ AllocationFailure (end_of (piece x))
       → Stops rule fs (map piece pieces) buf error
   stops {P} {N} piece fs pieces i x old buf error lt is shown same unrefused memory =
@@ -74,9 +75,7 @@ module _ (rule : OverlapRule) where
         behind = map piece (drop (i + 1) pieces);
         in_order = ap (map piece) parts
             ∙ map-append piece (take i pieces) (x ∷ drop (i + 1) pieces);
-        shown = subst
-            (λ (b : Contents N). Shows b (with_all_accepted rule fs (map piece (take i pieces))))
-            (sym same) shown;
+        shown = still_shows old buf _ same shown;
         unrefused = unrefused;
         memory = memory;
       }

@@ -19,10 +19,12 @@ use Rattle.ep_fragments.specs.declared.defrag.overlap_rule.OverlapRule.TheVarian
 use Rattle.ep_fragments.specs.Fragments.{Fragment, named_end, refusal_at, refusal_of, overlaps, overlap_of}
 use Rattle.ep_fragments.specs.Fragments.{IsRepeat, start_of, end_of, end_conflict, with_accepted}
 use Rattle.ep_fragments.specs.IpDefragBuf.{AnswersAdd, Contents, FindsAmong, FindsPlace, IsPicture, Shows}
-use Rattle.ep_fragments.specs.IpDefragBuf.{Writes, empty_of, left_after, rule_by, rule_of, unless_refused}
+use Rattle.ep_fragments.specs.IpDefragBuf.{SameButRoom, Writes, empty_of, left_after, rule_by, rule_of}
+use Rattle.ep_fragments.specs.IpDefragBuf.{unless_refused}
 use Rattle.ep_fragments.specs.IpDefragError.{is_overlap, wants_memory}
 use Rattle.ep_fragments.specs.IpFragRange.{AddsRange}
 use Rattle.ep_fragments.specs.Member.{Keeps, member_of}
+use Rattle.ep_fragments.proofs.Rooms.{still_shows}
 use Rattle.ep_fragments.proofs.Clash.{clashes_Decides, no_clash}
 use Rattle.ep_fragments.proofs.Disjoint.{repeat_is_no_clash}
 use Rattle.ep_fragments.proofs.Kept.{clash_found, gap_found, keeps_push, repeat_found, repeat_is_listed}
@@ -264,7 +266,7 @@ no_want rule fs f =
 -- what is left after a refusal shows the members that are left
 pub left_shows : {N : Type 0} (old new : Contents N) (fs : List Fragment) (f : Fragment)
     (e : IpDefragError) → Shows old fs → refusal_of (rule_of old) fs f ≡ Some e
-    → new ≡ left_after e old → Shows new (with_accepted (rule_of old) fs f)
+    → SameButRoom (left_after e old) new → Shows new (with_accepted (rule_of old) fs f)
 left_shows old new fs f e shows is left =
     elim (refusal_at (named_end fs) f) as (λ (o : Option IpDefragError).
     refusal_at (named_end fs) f ≡ o
@@ -276,17 +278,17 @@ left_shows old new fs f e shows is left =
           subst (λ (x : IpDefragError). is_overlap x ≡ false) one
           (subst (λ (o : Option IpDefragError). IfSome o (λ x. is_overlap x ≡ false)) at
           (no_overlap_at (named_end fs) f)) in
-          let all : new ≡ old = left ∙ rw stays refl in
-          subst (λ (b : Contents _). Shows b fs) (sym all) shows
+          let all : SameButRoom old new = rw stays at left in
+          still_shows old new fs all shows
       | None ↦ λ at same.
           elim (overlaps (rule_of old) fs f) as (λ (b : Bool). cond b (Some (overlap_of f)) None
           ≡ Some e → Shows new (cond b [] (fs ++ f ∷ []))) [
             | true ↦ λ is.
                 let one : overlap_of f ≡ e = cc in
-                let gone : new ≡ empty_of old.ip_number (Some []) =
+                let gone : new ≡ empty_of old.ip_number (Some []) new.room =
                 left ∙ rw (← one) refl in
                 subst (λ (b : Contents _). Shows b []) (sym gone)
-                (shows_none (empty_of old.ip_number (Some [])) refl refl refl refl)
+                (shows_none (empty_of old.ip_number (Some []) new.room) refl refl refl refl)
             | false ↦ λ is. cc
           ] same
     ] refl is

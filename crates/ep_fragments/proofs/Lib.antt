@@ -16,6 +16,7 @@ mod Kept
 mod Lengths
 mod MemberOrder
 mod Ordered
+pub mod Rooms
 mod SameBuffers
 mod Sharing
 mod Written

@@ -26,6 +26,7 @@ use Rattle.ep_fragments.specs.Picture.{byte_of, byte_at, kept_bytes}
 use Rattle.ep_fragments.specs.IpDefragBuf.{Contents, IsPicture, IsSound, Shows, Writes, rule_of}
 use Rattle.ep_fragments.specs.Member.{Keeps, emptied, member_of}
 use Rattle.ep_fragments.proofs.Accepted.{with_all_accepted-push}
+use Rattle.ep_fragments.proofs.Rooms.{sound_with_room}
 use Rattle.ep_fragments.proofs.Members.{AnyOf-from_Any, Any-from_AnyOf, AnyOf-push, push-AnyOf}
 
 -- from its first place to behind its last
@@ -140,7 +141,7 @@ sound_none buf bytes sections end members = record {
 pub sound_same : {N : Type 0} (old new : Contents N) → new.ip_number ≡ old.ip_number
     → new.bytes ≡ old.bytes → new.sections ≡ old.sections → new.end ≡ old.end
     → new.members ≡ old.members → IsSound old → IsSound new
-sound_same old new number bytes sections end members =
+sound_same old new number bytes sections end members sound =
     subst IsSound
     (λ i. record {
       ip_number = sym number i;
@@ -148,7 +149,8 @@ sound_same old new number bytes sections end members =
       sections = sym sections i;
       end = sym end i;
       members = sym members i;
-    })
+      room = new.room;
+    }) (sound_with_room old new.room sound)
 
 -- ---- what a fragment that is not refused meets
 

@@ -1,13 +1,14 @@
 -- Buffers that are compared as the same are the same.
-use Rattle.std.proofs.Common.{◌&&◌, IsTrue, ◌↔◌, ◌≡◌, nat_eq, ap}
+use Rattle.std.proofs.Common.{◌&&◌, IsTrue, ◌↔◌, ◌≡◌, nat_eq, ap, refl, sym}
 use Rattle.std.proofs.lemmas.Bool.Decides.{Decides-eqb}
+use Rattle.std.specs.Bool.{Decides}
 use Rattle.std.specs.Cmp.{booleans_Decides}
 use Rattle.std.specs.Cmp.Lexicographic.{pointwise, pointwise_decides, bytes_decides}
 use Rattle.std.specs.Option.{option_eq}
 use Rattle.ep_base.specs.Traits.{EqualIsSame}
 use Rattle.ep_base.specs.declared.net.ip_number.IpNumber.{IpNumber}
 use Rattle.ep_base.proofs.Same.{field, last_field, one_part, options_same, record_same}
-use Rattle.ep_fragments.specs.IpDefragBuf.{Contents}
+use Rattle.ep_fragments.specs.IpDefragBuf.{Contents, SameButRoom, with_room}
 use Rattle.ep_fragments.specs.IpFragRange.{same_range}
 use Rattle.ep_fragments.specs.Member.{same_member}
 
@@ -29,12 +30,12 @@ members_same a b = record_same
       more_fragments = more_fragments i;
     })
 
-pub contents_same : (a b : Contents IpNumber)
-    → IsTrue (nat_eq a.ip_number.0 b.ip_number.0
+contents_alike : (a b : Contents IpNumber) → a.room ≡ b.room
+    → Decides (nat_eq a.ip_number.0 b.ip_number.0
     && (pointwise nat_eq a.bytes b.bytes
     && (pointwise same_range a.sections b.sections && (option_eq nat_eq a.end b.end
-    && option_eq (pointwise same_member) a.members b.members)))) ↔ (a ≡ b)
-contents_same a b = record_same
+    && option_eq (pointwise same_member) a.members b.members)))) (a ≡ b)
+contents_alike a b room = record_same
     (field numbers_same (λ c. c.ip_number)
     (field bytes_decides (λ c. c.bytes)
     (field (pointwise_decides ranges_same) (λ c. c.sections)
@@ -46,4 +47,14 @@ contents_same a b = record_same
       sections = sections i;
       end = end i;
       members = members i;
+      room = room i;
     })
+
+pub contents_same : (a b : Contents IpNumber)
+    → IsTrue (nat_eq a.ip_number.0 b.ip_number.0
+    && (pointwise nat_eq a.bytes b.bytes
+    && (pointwise same_range a.sections b.sections && (option_eq nat_eq a.end b.end
+    && option_eq (pointwise same_member) a.members b.members)))) ↔ SameButRoom a b
+contents_same a b =
+    let same = contents_alike (with_room a b.room) b refl in
+    ((λ test. sym (same.0 test)), (λ is. same.1 (sym is)))

@@ -16,34 +16,61 @@ use Rattle.ep_fragments.specs.Fragments.{IsAccepted, Covered, Complete}
 use Rattle.ep_fragments.specs.IpDefragError.{is_overlap}
 use Rattle.ep_fragments.specs.IpFragRange.{AreApart, AreOrdered, HasNumber, HasPlace}
 use Rattle.ep_fragments.specs.IpFragRange.{is_one_from_zero}
-use Rattle.ep_fragments.specs.Member.{Keeps, IsPlace}
+use Rattle.ep_fragments.specs.Member.{Keeps, IsPlace, member_of}
 use Rattle.ep_fragments.specs.Picture.{kept_bytes, Touched}
+use Rattle.ep_fragments.specs.Room.{HasMemberRoom, Room, wanted_end}
 
 -- what a buffer holds, beside the number of the protocol or nothing; one that refuses overlaps keeps
--- its fragments without their bytes
+-- its fragments without their bytes; and the memory that it has
 pub record Contents (Number : Type 0) : Type 0 where
   pub ip_number : Number
   pub bytes : List ℕ
   pub sections : List IpFragRange
   pub end : Option ℕ
   pub members : Option (List Member)
+  pub room : Room
+
+-- the same with this memory
+abbrev pub with_room : {Number : Type 0} → Contents Number → Room → Contents Number
+with_room buf room = record buf { room = room }
+
+-- the same, whatever its memory
+abbrev pub SameButRoom : {Number : Type 0} → Contents Number → Contents Number → Type 0
+SameButRoom old new = new ≡ with_room old new.room
+
+-- there is memory for a fragment: for its bytes, for a section, and for it where fragments are kept
+pub record HasRoom {Number : Type 0} (buf : Contents Number) (f : Fragment) : Type 0 where
+  pub bytes : wanted_end (length buf.bytes) (member_of f) ≤ buf.room.for_bytes
+  pub sections : length buf.sections + 1 ≤ buf.room.for_sections
+  pub members : HasMemberRoom buf.members buf.room.for_members
 
 -- what becomes of a fragment that holds a place of an earlier one
 abbrev pub rule_by : Option (List Member) → OverlapRule
 rule_by None = Overwrites
 rule_by (Some ms) = Refuses
 
+-- the fragments that a new buffer of a rule keeps
+abbrev pub no_members : OverlapRule → Option (List Member)
+no_members Overwrites = None
+no_members Refuses = Some []
+
 abbrev pub rule_of : {Number : Type 0} → Contents Number → OverlapRule
 rule_of buf = rule_by buf.members
 
--- a buffer that is new
-abbrev pub empty_of : {Number : Type 0} → Number → Option (List Member) → Contents Number
-empty_of ip_number members =
-    record { ip_number = ip_number; bytes = []; sections = []; end = None; members = members }
+-- a buffer that is new, with this memory
+abbrev pub empty_of : {Number : Type 0} → Number → Option (List Member) → Room → Contents Number
+empty_of ip_number members room = record {
+  ip_number = ip_number;
+  bytes = [];
+  sections = [];
+  end = None;
+  members = members;
+  room = room;
+}
 
 -- what an error leaves of a buffer: all of it, but after an overlap it is as one that is new
 abbrev pub left_after : {Number : Type 0} → IpDefragError → Contents Number → Contents Number
-left_after e buf = if is_overlap e then empty_of buf.ip_number (Some []) else buf
+left_after e buf = if is_overlap e then empty_of buf.ip_number (Some []) buf.room else buf
 
 -- the buffer is the picture of these fragments, the oldest first
 pub record Shows {Number : Type 0} (buf : Contents Number) (fs : List Fragment) : Type 0 where

@@ -6,3 +6,4 @@ pub mod Joined
 pub mod Member
 pub mod Outcome
 pub mod Picture
+pub mod Room

@@ -1,8 +1,10 @@
 -- How many messages a pool holds, and how many buffers are spare.
 use Rattle.std.specs.Prelude.{◌≡◌, ◌+◌, ◌-◌, ◌≤◌, ◌⊎◌, ℕ, Bool, Option, Some, None, Result, Ok, Err}
-use Rattle.std.specs.Prelude.{length, if◌then◌else◌}
+use Rattle.std.specs.Prelude.{false, length, if◌then◌else◌, IfErr}
 use Rattle.ep_fragments.specs.declared.defrag.ip_defrag_error.IpDefragError.{IpDefragError}
-use Rattle.ep_fragments.specs.IpDefragError.{is_overlap}
+use Rattle.ep_fragments.specs.Fragments.{Fragment}
+use Rattle.ep_fragments.specs.IpDefragError.{is_overlap, wants_memory}
+use Rattle.ep_streams.specs.Memory.{FindsRoom, KeepsMemory}
 use Rattle.ep_streams.specs.Streams.{Pool, stream_at}
 
 -- the messages that are on their way
@@ -41,6 +43,22 @@ pub record Counts {K T X : Type 0} (same : K → K → Bool) (old new : Pool K T
   pub spare_len : new.spare ≡ spare_after result (stream_at same old name) old.spare
   pub sections : new.spare_sections
       ≡ sections_after result (stream_at same old name) old.spare_sections
+
+-- out of memory is answered to a fragment of this name only where there is no room for it
+abbrev pub HasMemoryFor : {K T X : Type 0} → (K → K → Bool) → Pool K T → K → Fragment
+    → Result X IpDefragError → Type 0
+HasMemoryFor same old name f result = FindsRoom (stream_at same old name) (open_in old) old.memory f
+    → IfErr result (λ e. wants_memory e ≡ false)
+
+-- the memory after a fragment of this name
+abbrev pub KeepsMemoryOf : {K T X : Type 0} → (K → K → Bool) → (old new : Pool K T) → K
+    → Result (Option X) IpDefragError → Type 0
+KeepsMemoryOf same old new name result = KeepsMemory result (stream_at same old name)
+    (stream_at same new name) old.memory new.memory (open_in new)
+
+-- there is a place for one buffer of bytes more
+abbrev pub HasPlace : {K T : Type 0} → Pool K T → Type 0
+HasPlace pool = open_in pool + 1 ≤ pool.memory.bytes_places
 
 -- the messages that are on their way and the spare buffers are no more than before, or no buffer is
 -- spare: there are as many as messages

@@ -1,4 +1,5 @@
 pub mod Counts
+pub mod Memory
 pub mod Refused
 pub mod SpareBuffers
 pub mod Streams

@@ -12,6 +12,11 @@ pub record SameCounts (old new : SpareBuffers) : Type 0 where
   pub bytes : vec_len new.bytes ≡ vec_len old.bytes
   pub sections : vec_len new.sections ≡ vec_len old.sections
 
+-- the same ones
+pub record SameBuffers (old new : SpareBuffers) : Type 0 where
+  pub bytes : new.bytes.items ≡ old.bytes.items
+  pub sections : new.sections.items ≡ old.sections.items
+
 -- and no fewer places in all
 pub record NoFewerPlaces (old new : SpareBuffers) : Type 0 where
   pub bytes : vec_capacity old.bytes ≤ vec_capacity new.bytes

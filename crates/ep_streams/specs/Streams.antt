@@ -1,7 +1,7 @@
 -- The fragmented messages that are on their way, each under its name: which fragments of each were
 -- accepted, and when the last of them.
 use denote.Ref.{Bor}
-use Rattle.std.specs.Prelude.{◌≡◌, ◌≢◌, ◌⊎◌, ℕ, Bool, true, false, if◌then◌else◌, Option, Some, None}
+use Rattle.std.specs.Prelude.{◌≡◌, ◌≢◌, ◌⊎◌, ℕ, Bool, true, false, Option, Some, None}
 use Rattle.std.specs.Prelude.{Result, List, [], IfErr, IsSomeAnd}
 use Rattle.std.specs.Map.{lookup}
 use Rattle.ep_streams.specs.declared.defrag.piece.Piece.{Piece}
@@ -9,21 +9,24 @@ use Rattle.ep_fragments.specs.declared.defrag.ip_defrag_error.IpDefragError.{IpD
 use Rattle.ep_fragments.specs.declared.defrag.overlap_rule.OverlapRule.{OverlapRule}
 use Rattle.ep_streams.specs.declared.defrag.stream.Stream.{Stream}
 use Rattle.ep_fragments.specs.Fragments.{Fragment, fragment}
-use Rattle.ep_fragments.specs.IpDefragBuf.{Shows, rule_of}
+use Rattle.ep_fragments.specs.IpDefragBuf.{Shows, rule_of, with_room}
 use Rattle.ep_fragments.specs.IpDefragError.{is_overlap}
 use Rattle.ep_fragments.specs.Outcome.{Outcome, error_of, memory_error, outcome}
 use Rattle.ep_fragments.specs.Outcome.Outcome.{Clash, Completed, Refusal, Waiting}
+use Rattle.ep_streams.specs.Memory.{Memory}
 
 -- the fragment that a piece of a message is
 abbrev pub fragment_of : Piece → Fragment
 fragment_of piece = fragment piece.offset piece.more_fragments piece.bytes.now
 
 -- what a pool holds: streams in no order that means anything, each beside its name; no name is
--- there twice; and how many buffers of bytes are spare, and how many of sections
+-- there twice; how many buffers of bytes are spare, and how many of sections; and the memory of these,
+-- and for more
 pub record Pool (K T : Type 0) : Type 0 where
   pub streams : List (K × Stream T)
   pub spare : ℕ
   pub spare_sections : ℕ
+  pub memory : Memory
 
 -- the stream of a name, if one is on its way
 abbrev pub stream_at : {K T : Type 0} → (K → K → Bool) → Pool K T → K → Option (Stream T)
@@ -63,11 +66,22 @@ abbrev pub OthersStay : {K T : Type 0} → (K → K → Bool) → K → Pool K T
 OthersStay {K} same name old new = (q : K) → same name q ≡ false
     → stream_at same new q ≡ stream_at same old q
 
+-- a stream with the fragments and the timestamp that it had, whatever its memory
+abbrev pub StaysButRoom : {T : Type 0} → Option (Stream T) → Option (Stream T) → Type 0
+StaysButRoom None new = new ≡ None
+StaysButRoom (Some s) new =
+    IsSomeAnd new (λ t. t ≡ record s { buf = with_room s.buf t.buf.room })
+
+-- what is left of a stream where this tells whether a fragment overlapped it
+abbrev pub IsLeft : {T : Type 0} → (overlap : Bool) → Option (Stream T) → Option (Stream T) → Type 0
+IsLeft true old new = new ≡ None
+IsLeft false old new = StaysButRoom old new
+
 -- after an error this name has the stream that it had, and none after an overlap
 abbrev pub Stays : {K T : Type 0} → (K → K → Bool) → K → Pool K T → Pool K T → IpDefragError
     → Type 0
-Stays same name old new error = stream_at same new name
-    ≡ (if is_overlap error then None else stream_at same old name)
+Stays same name old new error =
+    IsLeft (is_overlap error) (stream_at same old name) (stream_at same new name)
 
 -- a fragment of this name is refused by those that its stream shows, or else may want memory
 abbrev pub RefusesBy : {K T X : Type 0} → OverlapRule → (K → K → Bool) → Pool K T → K → Fragment

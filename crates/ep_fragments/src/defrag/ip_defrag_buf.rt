@@ -1,7 +1,7 @@
 //! One fragmented message, put together again.
 
 ghost use Rattle.std.specs.Prelude.{◌≡◌, ◌+◌, ◌*◌, ◌<◌, ◌≤◌, ◌↔◌, ◌&&◌, List, [], ◌++◌, ◌∷◌};
-ghost use Rattle.std.specs.Prelude.{if◌then◌else◌, length, map, nat_eq, vec_len, vec_capacity};
+ghost use Rattle.std.specs.Prelude.{if◌then◌else◌, length, map, max, nat_eq, vec_len, vec_capacity};
 ghost use Rattle.std.specs.Prelude.{is_some, not, false, None, Some, Ok, Err, OnOk, OnErr, IfOk, IfErr, IfSome};
 ghost use Rattle.std.specs.Prelude.{IsOk, IsTrue};
 ghost use Rattle.std.specs.Cmp.Lexicographic.{pointwise};
@@ -16,11 +16,12 @@ ghost use Rattle.ep_fragments.specs.Fragments.{refusal_at, accepted_count, IsRep
 ghost use Rattle.ep_fragments.specs.Fragments.{refusal_of, with_accepted, is_complete, Complete};
 ghost use Rattle.ep_fragments.specs.IpDefragBuf.{Contents, Shows, IsPicture, IsSound, AnswersAdd, Stops};
 ghost use Rattle.ep_fragments.specs.IpDefragBuf.{Writes, unless_refused, is_whole, rule_of, empty_of};
-ghost use Rattle.ep_fragments.specs.IpDefragBuf.{left_after, FindsPlace};
+ghost use Rattle.ep_fragments.specs.IpDefragBuf.{left_after, no_members, FindsPlace, HasRoom, SameButRoom};
 ghost use Rattle.ep_fragments.specs.IpDefragError.{wants_memory};
 ghost use Rattle.ep_fragments.specs.IpFragRange.{is_one_from_zero, same_range};
 ghost use Rattle.ep_fragments.specs.Member.{emptied, listed_in, member_of, same_member};
 ghost use Rattle.ep_fragments.specs.Picture.{text_of};
+ghost use Rattle.ep_fragments.specs.Room.{NoLessRoom, new_room, room_in, wanted_end};
 
 use super::member::{
     Member, Members, Place, clear_members, copy_members, find_place, insert_member, reserve_member,
@@ -57,6 +58,7 @@ impl<Number> Model for IpDefragBuf<Number> {
       sections = buf.sections.items;
       end = buf.end;
       members = listed_in buf.members;
+      room = room_in buf.data buf.sections buf.members;
     } };
 
     ghost invariant = { λ buf. IsSound record {
@@ -65,6 +67,7 @@ impl<Number> Model for IpDefragBuf<Number> {
       sections = buf.sections.items;
       end = buf.end;
       members = listed_in buf.members;
+      room = room_in buf.data buf.sections buf.members;
     } };
 }
 
@@ -96,7 +99,8 @@ impl Eq for IpDefragBuf {
 fn write_at(buffer: &mut Vec<u8>, start: usize, bytes: &[u8])
     requires room { start + length bytes.now ≤ vec_capacity buffer.old }
     requires fits { start + length bytes.now ≤ 65535 }
-    ensures { Writes buffer.old.items buffer.new.items start bytes.now }
+    ensures writes { Writes buffer.old.items buffer.new.items start bytes.now }
+    ensures room { vec_capacity buffer.old ≤ vec_capacity buffer.new }
 {
     if start == buffer.len() {
         buffer.extend_from_slice(bytes).unwrap();
@@ -111,6 +115,7 @@ fn write_at(buffer: &mut Vec<u8>, start: usize, bytes: &[u8])
 // follow it, takes it for a second one of its length too: a message of two, the second of which is
 // no longer, is never moved then.
 fn missing_room(there: usize, member: Member) -> usize
+    ensures room { there + result ≡ max there (wanted_end there member) }
     ensures enough { member.end ≤ there + result }
     ensures fits { there ≤ 65535 → there + result ≤ 65535 }
     ensures twice { result ≤ 2 * member.end }
@@ -185,7 +190,7 @@ impl<Number: Drop> IpDefragBuf<Number> {
     /// lists are emptied.
     pub fn new(ip_number: Number, data: Vec<u8>, sections: Vec<IpFragRange>) -> IpDefragBuf<Number>
         ensures empty { Shows result [] }
-        ensures value { result ≡ empty_of ip_number None }
+        ensures value { result ≡ empty_of ip_number None (new_room «data» sections None) }
     {
         IpDefragBuf::empty(ip_number, data, sections, None)
     }
@@ -199,7 +204,7 @@ impl<Number: Drop> IpDefragBuf<Number> {
         sections: Vec<IpFragRange>,
     ) -> IpDefragBuf<Number>
         ensures empty { Shows result [] }
-        ensures value { result ≡ empty_of ip_number (Some []) }
+        ensures value { result ≡ empty_of ip_number (Some []) (new_room «data» sections (Some [])) }
     {
         IpDefragBuf::empty(ip_number, data, sections, Some(Members::new(alloc)))
     }
@@ -215,6 +220,8 @@ impl<Number: Drop> IpDefragBuf<Number> {
         ensures empty { Shows result [] }
         ensures ip_number { result.ip_number ≡ ip_number }
         ensures rule { rule_of result ≡ rule }
+        ensures value { result
+            ≡ empty_of ip_number (no_members rule) (new_room «data» sections (no_members rule)) }
     {
         match rule {
             OverlapRule::Overwrites => IpDefragBuf::new(ip_number, data, sections),
@@ -232,7 +239,8 @@ impl<Number: Drop> IpDefragBuf<Number> {
     ) -> IpDefragBuf<Number>
         requires { IfSome (listed_in members) (λ ms. ms ≡ []) }
         ensures empty { Shows result [] }
-        ensures value { result ≡ empty_of ip_number (listed_in members) }
+        ensures value { result
+            ≡ empty_of ip_number (listed_in members) (room_in «data» sections members) }
     {
         data.clear();
         sections.clear();
@@ -247,14 +255,16 @@ impl<Number: Drop> IpDefragBuf<Number> {
 
     /// The bytes that are there, with 0 at each offset that is open.
     pub fn data(&self) -> &Vec<u8>
-        ensures { result.now.items ≡ self.now.bytes }
+        ensures bytes { result.now.items ≡ self.now.bytes }
+        ensures room { vec_capacity result.now ≡ self.now.room.for_bytes }
     {
         &self.data
     }
 
     /// The parts that are there; their order is left open. Parts that follow one another are one.
     pub fn sections(&self) -> &Vec<IpFragRange>
-        ensures { result.now.items ≡ self.now.sections }
+        ensures sections { result.now.items ≡ self.now.sections }
+        ensures room { vec_capacity result.now ≡ self.now.room.for_sections }
     {
         &self.sections
     }
@@ -307,7 +317,11 @@ impl<Number: Drop> IpDefragBuf<Number> {
             let f = fragment offset more_fragments bytes.now in
             rule_of self.old ≡ Refuses → IsRepeat fs f → refusal_at (named_end fs) f ≡ None
             → (result ≡ Ok tt) × (self.new ≡ self.old) }
-        ensures err { IfErr result (λ e. self.new ≡ left_after e self.old) }
+        ensures err { IfErr result (λ e. SameButRoom (left_after e self.old) self.new) }
+        // Out of memory is answered only where there was no room, and what is there stays.
+        ensures succeeds { HasRoom self.old (fragment offset more_fragments bytes.now)
+            → IfErr result (λ e. wants_memory e ≡ false) }
+        ensures room { NoLessRoom self.old.room self.new.room }
         ensures ip_number { self.new.ip_number ≡ self.old.ip_number }
         ensures rule { rule_of self.new ≡ rule_of self.old }
     {
@@ -348,7 +362,8 @@ impl<Number: Drop> IpDefragBuf<Number> {
 
     // Drops the fragments.
     fn clear(&mut self)
-        ensures { self.new ≡ empty_of self.old.ip_number (emptied self.old.members) }
+        ensures { self.new
+            ≡ empty_of self.old.ip_number (emptied self.old.members) self.old.room }
     {
         self.data.clear();
         self.sections.clear();
@@ -372,7 +387,10 @@ impl<Number: Drop> IpDefragBuf<Number> {
             let f = fragment offset member.more_fragments bytes.now in
             OnOk result (Shows self.new (fs ++ f ∷ [])) }
         ensures memory { IfErr result (λ e. e ≡ IpDefragError.AllocationFailure member.end) }
-        ensures err { OnErr result (self.new ≡ self.old) }
+        ensures err { OnErr result (SameButRoom self.old self.new) }
+        ensures succeeds { HasRoom self.old (fragment offset member.more_fragments bytes.now)
+            → IsOk result }
+        ensures room { NoLessRoom self.old.room self.new.room }
         ensures ip_number { self.new.ip_number ≡ self.old.ip_number }
         ensures rule { rule_of self.new ≡ rule_of self.old }
     {
@@ -421,6 +439,8 @@ impl<Number: Drop> IpDefragBuf<Number> {
         ensures text { (fs : List Fragment) → Shows self fs → Complete fs
             → result.0.items ≡ text_of fs }
         ensures short { length result.0.items ≤ 65535 }
+        ensures room { vec_capacity result.0 ≡ self.room.for_bytes }
+        ensures sections_room { vec_capacity result.1 ≡ self.room.for_sections }
     {
         (self.data, self.sections)
     }
@@ -436,7 +456,7 @@ impl IpDefragBuf {
 
     /// A buffer that is equal to this one, in memory of its own. An empty one takes none.
     pub fn try_clone(&self) -> Result<IpDefragBuf, AllocError>
-        ensures copy { IfOk result (λ copy. copy ≡ self.now) }
+        ensures copy { IfOk result (SameButRoom self.now) }
         ensures empty { self.now.bytes ≡ [] → self.now.sections ≡ []
             → self.now.members ≡ emptied self.now.members → IsOk result }
     {
@@ -479,6 +499,7 @@ impl IpDefragBuf {
             (map (λ f. fragment f.0 f.1 f.2.now) fragments.now) self.new) }
         ensures ip_number { self.new.ip_number ≡ self.old.ip_number }
         ensures rule { rule_of self.new ≡ rule_of self.old }
+        ensures room { NoLessRoom self.old.room self.new.room }
     {
         let mut count = 0;
         for &(offset, more_fragments, bytes) in fragments {
@@ -503,7 +524,8 @@ impl IpDefragBuf {
             IfOk result (λ taken. is_some
             (refusal_of (rule_of self.old) fs (fragment offset more_fragments bytes.now))
             ≡ not taken) }
-        ensures err { OnErr result (self.new ≡ self.old) }
+        ensures err { OnErr result (SameButRoom self.old self.new) }
+        ensures room { NoLessRoom self.old.room self.new.room }
         ensures memory { (fs : List Fragment) → Shows self.old fs
             → let f = fragment offset more_fragments bytes.now in
             IfErr result (λ e. (refusal_of (rule_of self.old) fs f ≡ None)

@@ -1,11 +1,12 @@
 //! The fragments of a message that may not overlap.
 
-ghost use Rattle.std.specs.Prelude.{◌≡◌, ◌↔◌, IsTrue, IsOk, IfOk, length, option_map};
+ghost use Rattle.std.specs.Prelude.{◌≡◌, ◌≤◌, ◌↔◌, IsTrue, IsOk, IfOk, length, option_map};
 ghost use Rattle.std.specs.List.{insert};
 ghost use Rattle.std.specs.List.Sorted.{IsBinarySearchResult, IsSearchInRange};
 ghost use Rattle.ep_fragments.specs.IpFragRange.{AreOrdered};
 ghost use Rattle.ep_fragments.specs.Member.{HasBytes, HasRoomForOne, IsIndexIn, IsPlace, emptied};
 ghost use Rattle.ep_fragments.specs.Member.{listed_in, member_cmp, reach_of};
+ghost use Rattle.ep_fragments.specs.Room.{HasMemberRoom, members_room};
 
 use super::IpFragRange;
 use super::sections::shares_place;
@@ -95,6 +96,9 @@ pub(crate) fn find_place(
 pub(crate) fn reserve_member(members: &mut Option<Members>) -> bool
     ensures same { listed_in members.new ≡ listed_in members.old }
     ensures room { IsTrue result → HasRoomForOne members.new }
+    ensures succeeds { HasMemberRoom (listed_in members.old) (members_room members.old)
+        → IsTrue result }
+    ensures no_less { members_room members.old ≤ members_room members.new }
 {
     match members {
         Some(members) => members.reserve(1).is_ok(),
@@ -107,8 +111,9 @@ pub(crate) fn reserve_member(members: &mut Option<Members>) -> bool
 pub(crate) fn insert_member(members: &mut Option<Members>, index: usize, member: Member)
     requires room { HasRoomForOne members.old }
     requires within { IsIndexIn members.old index }
-    ensures { listed_in members.new
+    ensures members { listed_in members.new
         ≡ option_map (λ ms. insert ms index member) (listed_in members.old) }
+    ensures no_less { members_room members.old ≤ members_room members.new }
 {
     if let Some(members) = members {
         if index == members.len() {
@@ -121,7 +126,8 @@ pub(crate) fn insert_member(members: &mut Option<Members>, index: usize, member:
 
 // Drops all members where they are kept.
 pub(crate) fn clear_members(members: &mut Option<Members>)
-    ensures { listed_in members.new ≡ emptied (listed_in members.old) }
+    ensures members { listed_in members.new ≡ emptied (listed_in members.old) }
+    ensures room { members_room members.new ≡ members_room members.old }
 {
     if let Some(members) = members {
         members.clear();

@@ -74,7 +74,8 @@ pub(crate) fn shares_place(sections: &[IpFragRange], range: IpFragRange) -> bool
 fn remove_between(sections: &mut Vec<IpFragRange>, from: usize, to: usize)
     requires ordered { from ≤ to }
     requires within { to ≤ vec_len sections.old }
-    ensures { sections.new.items ≡ remove_range sections.old.items from to }
+    ensures items { sections.new.items ≡ remove_range sections.old.items from to }
+    ensures room { vec_capacity sections.new ≡ vec_capacity sections.old }
 {
     if to - from == 1 {
         sections.remove(from);
@@ -92,6 +93,7 @@ fn insert_range(sections: &mut Vec<IpFragRange>, range: IpFragRange)
     requires range { range.start ≤ range.end }
     ensures adds { AddsRange sections.old.items sections.new.items range }
     ensures ordered { AreOrdered sections.new.items }
+    ensures room { vec_capacity sections.old ≤ vec_capacity sections.new }
 {
     let first = count_before(sections, range.start);
     let behind = count_up_to(sections, range, first);
@@ -113,6 +115,7 @@ pub(crate) fn add_range(sections: &mut Vec<IpFragRange>, range: IpFragRange)
     requires range { range.start ≤ range.end }
     ensures adds { AddsRange sections.old.items sections.new.items range }
     ensures ordered { AreOrdered sections.new.items }
+    ensures room { vec_capacity sections.old ≤ vec_capacity sections.new }
 {
     let len = sections.len();
     if len > 0 {

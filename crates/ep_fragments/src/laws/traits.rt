@@ -1,10 +1,12 @@
 //! What `Clone`, `PartialEq`, `Ord` and `Hash` of the types here mean, each clause about the
 //! relation that the type's own impl names.
-ghost use Rattle.std.specs.Prelude.{◌≡◌, ◌++◌, [], ◌∷◌};
+ghost use Rattle.std.specs.Prelude.{◌≡◌, ◌↔◌, ◌++◌, [], ◌∷◌, IsTrue};
 ghost use Rattle.std.specs.Cmp.Lexicographic.{slice_cmp};
 ghost use Rattle.std.specs.Hash as fed;
 ghost use Rattle.std.specs.Ordering.{nat_cmp};
-ghost use Rattle.ep_base.specs.Traits.{EqualIsSame, HashIsOf, IsPlainData};
+ghost use Rattle.ep_base.specs.Traits.{HashIsOf, IsPlainData};
+ghost use Rattle.ep_base.specs.declared.net.ip_number.IpNumber.{IpNumber};
+ghost use Rattle.ep_fragments.specs.IpDefragBuf.{Contents, SameButRoom};
 ghost use Rattle.ep_fragments.specs.IpDefragError.{hashed_as, ordered_as};
 ghost use Rattle.ep_fragments.specs.declared.defrag.ip_defrag_error.IpDefragError.{IpDefragError};
 ghost use Rattle.ep_fragments.specs.declared.defrag.ip_frag_range.IpFragRange.{IpFragRange};
@@ -20,9 +22,11 @@ pub fn types_are_plain_data()
     ensures overlap_rule { IsPlainData ⟦<OverlapRule as Value>⟧ }
 {}
 
-/// Equal are the buffers that are the same: all fields, also the order of their sections.
+/// Equal are the buffers that are the same, whatever their memory: all fields, also the order of
+/// their sections.
 pub fn equals_are_same()
-    ensures { EqualIsSame ⟦<IpDefragBuf as PartialEq>⟧.eq }
+    ensures { (a b : Contents IpNumber) → IsTrue (⟦<IpDefragBuf as PartialEq>⟧.eq a b)
+        ↔ SameButRoom a b }
 {}
 
 /// Refusals are ordered as they are declared, and one kind by its fields in their order; a hasher

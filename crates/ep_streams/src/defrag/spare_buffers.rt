@@ -1,7 +1,9 @@
 //! The memory of messages that ended, for those that begin.
 
-ghost use Rattle.std.specs.Prelude.{◌≡◌, ◌+◌, ◌-◌, ◌<◌, ◌≤◌, ℕ, true, if◌then◌else◌, vec_len, vec_capacity};
-ghost use Rattle.ep_streams.specs.SpareBuffers.{HasPlaces, NoFewerPlaces, SameCounts};
+ghost use Rattle.std.specs.Prelude.{◌≡◌, ◌+◌, ◌-◌, ◌<◌, ◌≤◌, ◌++◌, ◌∷◌, ℕ, [], true, false};
+ghost use Rattle.std.specs.Prelude.{if◌then◌else◌, vec_len, vec_capacity, IfSome};
+ghost use Rattle.ep_streams.specs.Memory.{capacities};
+ghost use Rattle.ep_streams.specs.SpareBuffers.{HasPlaces, NoFewerPlaces, SameBuffers, SameCounts};
 
 use ep_fragments::defrag::{IpDefragBuf, IpFragRange};
 use std::alloc::Global;
@@ -26,6 +28,8 @@ impl SpareBuffers {
     pub(crate) fn new(alloc: Global) -> SpareBuffers
         ensures bytes { vec_len result.bytes ≡ 0 }
         ensures sections { vec_len result.sections ≡ 0 }
+        ensures no_bytes { result.bytes.items ≡ [] }
+        ensures no_sections { result.sections.items ≡ [] }
     {
         SpareBuffers {
             bytes: Vec::new(alloc),
@@ -37,13 +41,33 @@ impl SpareBuffers {
     /// there.
     pub(crate) fn make_places(&mut self, held: usize) -> bool
         ensures made { result ≡ true → HasPlaces self.new (held + 1) }
+        ensures succeeds { HasPlaces self.old (held + 1) → result ≡ true }
         ensures same { SameCounts self.old self.new }
+        ensures buffers { SameBuffers self.old self.new }
         ensures no_fewer { NoFewerPlaces self.old self.new }
     {
         let Some(count) = held.checked_add(1) else {
             return false;
         };
         self.bytes.try_reserve(count).is_ok() && self.sections.try_reserve(count).is_ok()
+    }
+
+    /// Makes places for the bytes of one message more than these, and tells whether they are there.
+    pub(crate) fn make_bytes_places(&mut self, held: usize) -> bool
+        ensures made { result ≡ true
+            → vec_len self.new.bytes + (held + 1) ≤ vec_capacity self.new.bytes }
+        ensures succeeds { vec_len self.old.bytes + (held + 1) ≤ vec_capacity self.old.bytes
+            → result ≡ true }
+        ensures refused { result ≡ false
+            → vec_capacity self.new.bytes ≡ vec_capacity self.old.bytes }
+        ensures len { vec_len self.new.bytes ≡ vec_len self.old.bytes }
+        ensures bytes { self.new.bytes.items ≡ self.old.bytes.items }
+        ensures sections { self.new.sections ≡ self.old.sections }
+    {
+        let Some(count) = held.checked_add(1) else {
+            return false;
+        };
+        self.bytes.try_reserve(count).is_ok()
     }
 
     /// Buffers for a message, spare ones where there are some.
@@ -54,6 +78,13 @@ impl SpareBuffers {
             ≡ vec_len self.new.bytes + (if result.2.bytes then 1 else 0) }
         ensures sections { vec_len self.old.sections
             ≡ vec_len self.new.sections + (if result.2.sections then 1 else 0) }
+        ensures bytes_room { capacities self.old.bytes.items ≡ capacities self.new.bytes.items
+            ++ (if result.2.bytes then vec_capacity result.0 ∷ [] else []) }
+        ensures sections_room { capacities self.old.sections.items
+            ≡ capacities self.new.sections.items
+            ++ (if result.2.sections then vec_capacity result.1 ∷ [] else []) }
+        ensures no_bytes { result.2.bytes ≡ false → self.old.bytes.items ≡ [] }
+        ensures no_sections { result.2.sections ≡ false → self.old.sections.items ≡ [] }
         ensures no_fewer { NoFewerPlaces self.old self.new }
         ensures places { (count : ℕ) → HasPlaces self.old count → HasPlaces self.new count }
     {
@@ -75,6 +106,11 @@ impl SpareBuffers {
             ≡ vec_len self.old.bytes + (if taken.bytes then 1 else 0) }
         ensures sections { vec_len self.new.sections
             ≡ vec_len self.old.sections + (if taken.sections then 1 else 0) }
+        ensures bytes_room { capacities self.new.bytes.items ≡ capacities self.old.bytes.items
+            ++ (if taken.bytes then buf.room.for_bytes ∷ [] else []) }
+        ensures sections_room { capacities self.new.sections.items
+            ≡ capacities self.old.sections.items
+            ++ (if taken.sections then buf.room.for_sections ∷ [] else []) }
         ensures no_fewer { NoFewerPlaces self.old self.new }
         ensures places { (count : ℕ) → HasPlaces self.old (count + 1) → HasPlaces self.new count }
     {
@@ -92,6 +128,10 @@ impl SpareBuffers {
         requires { HasPlaces self.old 1 }
         ensures bytes { vec_len self.new.bytes ≡ vec_len self.old.bytes + 1 }
         ensures sections { vec_len self.new.sections ≡ vec_len self.old.sections + 1 }
+        ensures bytes_room { capacities self.new.bytes.items
+            ≡ capacities self.old.bytes.items ++ buf.room.for_bytes ∷ [] }
+        ensures sections_room { capacities self.new.sections.items
+            ≡ capacities self.old.sections.items ++ buf.room.for_sections ∷ [] }
         ensures no_fewer { NoFewerPlaces self.old self.new }
     {
         let (bytes, sections) = buf.take_bufs();
@@ -100,8 +140,10 @@ impl SpareBuffers {
     }
 }
 
-// It has no contract: no clause says that the memory is used again.
-fn or_empty<X: Drop>(alloc: Global, buffer: Option<Vec<X>>) -> Vec<X> {
+// The buffer, or else one without memory.
+fn or_empty<X: Drop>(alloc: Global, buffer: Option<Vec<X>>) -> Vec<X>
+    ensures { IfSome buffer (λ spare. vec_capacity result ≡ vec_capacity spare) }
+{
     match buffer {
         Some(buffer) => buffer,
         None => Vec::new(alloc),

@@ -1,16 +1,18 @@
 //! A message that is on its way.
 
-ghost use Rattle.std.specs.Prelude.{◌≡◌, ◌++◌, ◌∷◌, ◌+◌, ◌≤◌, ℕ, [], List, None, false, OnOk};
-ghost use Rattle.std.specs.Prelude.{IfErr, IfOk, IfSome, if◌then◌else◌, length, option_map, vec_len};
-ghost use Rattle.indexmap.specs.IndexMap.{get, index_map_len};
+ghost use Rattle.std.specs.Prelude.{◌≡◌, ◌++◌, ◌∷◌, ◌+◌, ◌≤◌, ℕ, [], List, false, OnOk};
+ghost use Rattle.std.specs.Prelude.{IfErr, IfOk, IfSome, length, option_map, vec_len, vec_capacity};
+ghost use Rattle.indexmap.specs.IndexMap.{get, index_map_len, spare as names_room};
 ghost use Rattle.ep_streams.specs.Counts.{held_after, sections_after, spare_after};
 ghost use Rattle.ep_fragments.specs.Fragments.{Fragment, refusal_of};
-ghost use Rattle.ep_fragments.specs.IpDefragBuf.{Shows, rule_of};
-ghost use Rattle.ep_fragments.specs.IpDefragError.{is_overlap};
+ghost use Rattle.ep_fragments.specs.IpDefragBuf.{HasRoom, Shows, rule_of, with_room};
+ghost use Rattle.ep_fragments.specs.IpDefragError.{is_overlap, wants_memory};
 ghost use Rattle.ep_fragments.specs.Outcome.{outcome};
 ghost use Rattle.ep_fragments.specs.declared.defrag.overlap_rule.OverlapRule.{OverlapRule};
+ghost use Rattle.ep_fragments.specs.Room.{NoLessRoom};
+ghost use Rattle.ep_streams.specs.Memory.{FindsRoom, KeepsMemory, capacities, memory_of};
 ghost use Rattle.ep_streams.specs.SpareBuffers.{HasPlaces};
-ghost use Rattle.ep_streams.specs.Streams.{Becomes, IsErrorOf, IsStreamOf, ShowsStream};
+ghost use Rattle.ep_streams.specs.Streams.{Becomes, IsErrorOf, IsLeft, IsStreamOf, ShowsStream};
 ghost use Rattle.ep_streams.specs.Streams.{fragment_of};
 ghost use Rattle.ep_streams.specs.Refused.{error_in, refused_by};
 
@@ -46,7 +48,10 @@ impl<T: Drop> Stream<T> {
             IfErr result (λ r. IsErrorOf f (outcome (rule_of self.old.buf) fs f) (error_in r)) }
         ensures told { IfErr result (λ r. r ≡ refused_by (error_in r)) }
         ensures stays { IfErr result (λ r. is_overlap (error_in r) ≡ false
-            → self.new ≡ self.old) }
+            → self.new ≡ record self.old { buf = with_room self.old.buf self.new.buf.room }) }
+        ensures succeeds { HasRoom self.old.buf (fragment_of piece.now)
+            → IfErr result (λ r. wants_memory (error_in r) ≡ false) }
+        ensures room { NoLessRoom self.old.buf.room self.new.buf.room }
     {
         match self
             .buf
@@ -104,6 +109,10 @@ fn finish(spare: &mut SpareBuffers, buf: IpDefragBuf<()>) -> Vec<u8>
     ensures short { length result.items ≤ 65535 }
     ensures same { vec_len spare.new.bytes ≡ vec_len spare.old.bytes }
     ensures sections { vec_len spare.new.sections ≡ vec_len spare.old.sections + 1 }
+    ensures bytes_stay { spare.new.bytes ≡ spare.old.bytes }
+    ensures sections_room { capacities spare.new.sections.items
+        ≡ capacities spare.old.sections.items ++ buf.room.for_sections ∷ [] }
+    ensures room { vec_capacity result ≡ buf.room.for_bytes }
     ensures places { (count : ℕ) → HasPlaces spare.old (count + 1) → HasPlaces spare.new count }
 {
     let (bytes, sections) = buf.take_bufs();
@@ -133,8 +142,14 @@ pub(crate) fn add_piece<K: Eq + Hash + Drop, T: Drop, S: BuildHasher>(
         IfErr result (IsErrorOf f (outcome kept fs f)) }
     ensures others { (q : K) → K.eq name q ≡ false
         → get K.eq streams.new q ≡ get K.eq streams.old q }
-    ensures err { IfErr result (λ e. get K.eq streams.new name
-        ≡ (if is_overlap e then None else get K.eq streams.old name)) }
+    ensures err { IfErr result (λ e.
+        IsLeft (is_overlap e) (get K.eq streams.old name) (get K.eq streams.new name)) }
+    ensures succeeds { FindsRoom (get K.eq streams.old name) (index_map_len streams.old)
+        (memory_of spare.old (names_room streams.old)) (fragment_of piece.now)
+        → IfErr result (λ e. wants_memory e ≡ false) }
+    ensures memory { KeepsMemory result (get K.eq streams.old name) (get K.eq streams.new name)
+        (memory_of spare.old (names_room streams.old))
+        (memory_of spare.new (names_room streams.new)) (index_map_len streams.new) }
     ensures short { IfOk result (λ told. IfSome told (λ bytes. length bytes.items ≤ 65535)) }
     ensures places { HasPlaces spare.new (index_map_len streams.new) }
     ensures spare { vec_len spare.new.bytes

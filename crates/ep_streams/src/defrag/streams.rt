@@ -1,11 +1,11 @@
 //! The messages that are on their way.
 
 ghost use Rattle.std.specs.Prelude.{◌≡◌, ◌+◌, ◌≤◌, [], List, OnOk, OnErr, IfOk, IfErr, IfSome};
-ghost use Rattle.std.specs.Prelude.{length, option_map};
+ghost use Rattle.std.specs.Prelude.{IsOk, ◌++◌, ◌∷◌, length, option_map, vec_capacity};
 ghost use Rattle.std.specs.Fn.{FnReturnsAt};
 ghost use Rattle.std.specs.List.{IsDistinct};
 ghost use Rattle.std.specs.Map.{keys_of};
-ghost use Rattle.ep_streams.specs.Counts.{Counts, open_in};
+ghost use Rattle.ep_streams.specs.Counts.{Counts, HasMemoryFor, HasPlace, KeepsMemoryOf, open_in};
 ghost use Rattle.ep_fragments.specs.Fragments.{Fragment};
 ghost use Rattle.ep_fragments.specs.Outcome.{outcome};
 ghost use Rattle.ep_streams.specs.Streams.{Becomes, IsErrorOf, MayAsk, OthersStay, Retained};
@@ -33,7 +33,8 @@ pub struct Streams<K: Eq + Hash, T, S: BuildHasher> {
 
 impl<K: Eq + Hash, T, S: BuildHasher> Model for Streams<K, T, S> {
     ghost use Rattle.std.specs.Prelude.{vec_len};
-    ghost use Rattle.indexmap.specs.IndexMap.{index_map_len};
+    ghost use Rattle.indexmap.specs.IndexMap.{index_map_len, spare as names_room};
+    ghost use Rattle.ep_streams.specs.Memory.{memory_of};
     ghost use Rattle.ep_streams.specs.SpareBuffers.{HasPlaces};
     ghost use Rattle.ep_streams.specs.Streams.{Pool};
 
@@ -43,6 +44,7 @@ impl<K: Eq + Hash, T, S: BuildHasher> Model for Streams<K, T, S> {
       streams = held.active.entries;
       spare = vec_len held.spare.bytes;
       spare_sections = vec_len held.spare.sections;
+      memory = memory_of held.spare (names_room held.active);
     } };
 
     ghost invariant = { λ held. HasPlaces held.spare (index_map_len held.active) };
@@ -54,6 +56,8 @@ impl<K: Eq + Hash + Drop, T: Drop, S: BuildHasher> Streams<K, T, S> {
         ensures streams { result.streams ≡ [] }
         ensures spare { result.spare ≡ 0 }
         ensures sections { result.spare_sections ≡ 0 }
+        ensures no_bytes { result.memory.bytes ≡ [] }
+        ensures no_sections { result.memory.sections ≡ [] }
     {
         Streams {
             alloc,
@@ -82,10 +86,16 @@ impl<K: Eq + Hash + Drop, T: Drop, S: BuildHasher> Streams<K, T, S> {
         ensures streams { self.new.streams ≡ self.old.streams }
         ensures ok { OnOk result (self.new.spare ≡ self.old.spare + 1) }
         ensures err { IfErr result (λ given. given ≡ bytes) }
-        ensures kept { OnErr result (self.new.spare ≡ self.old.spare) }
+        ensures kept { OnErr result (self.new ≡ self.old) }
         ensures sections { self.new.spare_sections ≡ self.old.spare_sections }
+        // Where there is a place, it is taken with its memory.
+        ensures succeeds { HasPlace self.old → IsOk result }
+        ensures memory { OnOk result (self.new.memory ≡ record self.old.memory {
+            bytes = self.old.memory.bytes ++ vec_capacity bytes ∷ [];
+            bytes_places = self.new.memory.bytes_places;
+        }) }
     {
-        if !self.spare.make_places(self.active.len()) {
+        if !self.spare.make_bytes_places(self.active.len()) {
             return Err(bytes);
         }
         self.spare.bytes.push_reserved(bytes);
@@ -119,6 +129,9 @@ impl<K: Eq + Hash + Drop, T: Drop, S: BuildHasher> Streams<K, T, S> {
         ensures err { IfErr result (Stays K.eq name self.old self.new) }
         ensures short { IfOk result (λ text. IfSome text (λ bytes. length bytes.items ≤ 65535)) }
         ensures counts { Counts K.eq self.old self.new name result }
+        // Out of memory is answered only where there was no room.
+        ensures succeeds { HasMemoryFor K.eq self.old name (fragment_of piece.now) result }
+        ensures memory { KeepsMemoryOf K.eq self.old self.new name result }
     {
         add_piece(
             self.alloc,

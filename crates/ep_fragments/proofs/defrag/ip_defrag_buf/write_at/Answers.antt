@@ -2,8 +2,8 @@ use Rattle.std.proofs.Common.{arith, ◌∙◌, ◌≡◌, length}
 use Rattle.ep_fragments.proofs.Written.{written}
 use Rattle.ep_fragments.proofs.defrag.ip_defrag_buf.write_at.Goals as goal
 
-pub returns-else-start-len : goal.returns-else-start-len
-returns-else-start-len c =
+pub returns-else-start-len-clause-writes : goal.returns-else-start-len-clause-writes
+returns-else-start-len-clause-writes c =
     let len = rw c.unwrap-else-start-len.ensures at c.resize.ensures.len in
     let had : c.args.buffer.now.len ≡ length c.args.buffer.now.items =
     omega (arith, c.args.buffer.now.ok.0) in

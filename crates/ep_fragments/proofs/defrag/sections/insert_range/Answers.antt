@@ -55,7 +55,7 @@ returns-else-first-behind-clause-adds c =
     (added_set _ _ _ _ c.index.result.now c.index-else-first-behind.result.now c.args.range _
     c.requires.in_order c.requires.range low high (omega (arith, order, c.if-first-behind.false))
     long c.index.ensures c.index-else-first-behind.ensures
-    (rw c.hull.ensures at c.hull-joined.ensures) c.remove_between.ensures).adds
+    (rw c.hull.ensures at c.hull-joined.ensures) c.remove_between.ensures.items).adds
 
 pub returns-else-first-behind-clause-ordered : goal.returns-else-first-behind-clause-ordered
 returns-else-first-behind-clause-ordered c =
@@ -68,4 +68,4 @@ returns-else-first-behind-clause-ordered c =
     (added_set _ _ _ _ c.index.result.now c.index-else-first-behind.result.now c.args.range _
     c.requires.in_order c.requires.range low high (omega (arith, order, c.if-first-behind.false))
     long c.index.ensures c.index-else-first-behind.ensures
-    (rw c.hull.ensures at c.hull-joined.ensures) c.remove_between.ensures).ordered
+    (rw c.hull.ensures at c.hull-joined.ensures) c.remove_between.ensures.items).ordered

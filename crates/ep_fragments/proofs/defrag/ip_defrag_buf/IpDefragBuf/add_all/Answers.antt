@@ -6,6 +6,7 @@ use Rattle.ep_fragments.specs.IpDefragBuf.{Shows, rule_of}
 use Rattle.ep_fragments.proofs.Accepted.{accepted_more, count_more, counted_more, stops}
 use Rattle.ep_fragments.proofs.Accepted.{same_refusal, same_shown}
 use Rattle.ep_fragments.proofs.Complete.{whole_iff}
+use Rattle.ep_fragments.proofs.Rooms.{no_less_more}
 use Rattle.ep_fragments.proofs.defrag.ip_defrag_buf.IpDefragBuf.add_all.Goals as goal
 use Rattle.ep_fragments.proofs.defrag.ip_defrag_buf.IpDefragBuf.add_all.Goals.{then-branch}
 use Rattle.ep_fragments.proofs.defrag.ip_defrag_buf.IpDefragBuf.add_all.Goals.{else-branch}
@@ -68,7 +69,12 @@ loop-offset-preserved c =
           c.loop-offset-item.is);
       ip_number = c.accept.ensures.ip_number ∙ c.loop-offset.invariant.ip_number;
       rule = c.accept.ensures.rule ∙ i.rule;
+      room = no_less_more _ _ _ i.room c.accept.ensures.room;
     }
+
+pub returns-in_err-accept-clause-room : goal.returns-in_err-accept-clause-room
+returns-in_err-accept-clause-room c =
+    no_less_more _ _ _ c.loop-offset.invariant.room c.accept.ensures.room
 
 pub returns-clause-cover : goal.returns-clause-cover
 returns-clause-cover c fs shows =

@@ -1,6 +1,7 @@
 use Rattle.std.proofs.Common.{◌≡◌, ◌≤◌, List, map, take}
 use Rattle.ep_fragments.specs.Fragments.{Fragment, accepted_count, fragment, with_all_accepted}
 use Rattle.ep_fragments.specs.IpDefragBuf.{Shows, rule_of}
+use Rattle.ep_fragments.specs.Room.{NoLessRoom}
 use Rattle.ep_fragments.proofs.defrag.ip_defrag_buf.IpDefragBuf.add_all.Given as goal
 
 abbrev pub invariant-loop-offset : goal.invariant-loop-offset
@@ -14,4 +15,5 @@ invariant-loop-offset l = record {
       (map (λ f. fragment f.0 f.1 f.2.now) (take l.offset-index l.fragments));
   ip_number : l.self.ip_number ≡ l.fn.self.ip_number;
   rule : rule_of l.self ≡ rule_of l.fn.self;
+  room : NoLessRoom l.fn.self.room l.self.room;
 }

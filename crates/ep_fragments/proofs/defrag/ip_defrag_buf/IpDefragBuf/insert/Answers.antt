@@ -33,10 +33,10 @@ invariant_of-self-then-not-member g c =
     (fragment c.args.offset c.args.member.more_fragments c.args.bytes.now) c.args.member
     c.args.index _ _ _ c.from.result c.self.view_is c.self.invariant.picture c.requires.member
     c.requires.unrefused c.requires.place c.try_reserve.ensures.items
-    c.try_reserve-else-is_err.ensures.items c.from.ensures c.write_at.ensures
+    c.try_reserve-else-is_err.ensures.items c.from.ensures c.write_at.ensures.writes
     c.add_range.ensures.adds
     (inr (not-true _ c.if-not-member.true, rw c.from-len.ensures at c.truncate.ensures.items, refl))
-    (c.insert_member.ensures ∙ ap (option_map (λ ms. insert ms c.args.index c.args.member))
+    (c.insert_member.ensures.members ∙ ap (option_map (λ ms. insert ms c.args.index c.args.member))
     c.reserve_member.ensures.same))
 
 pub invariant_of-self-else-not-member : goal.invariant_of-self-else-not-member
@@ -49,9 +49,9 @@ invariant_of-self-else-not-member g c =
     (fragment c.args.offset c.args.member.more_fragments c.args.bytes.now) c.args.member
     c.args.index _ _ _ c.from.result c.self.view_is c.self.invariant.picture c.requires.member
     c.requires.unrefused c.requires.place c.try_reserve.ensures.items
-    c.try_reserve-else-is_err.ensures.items c.from.ensures c.write_at.ensures
+    c.try_reserve-else-is_err.ensures.items c.from.ensures c.write_at.ensures.writes
     c.add_range.ensures.adds (inl (not-false _ c.if-not-member.false, refl, refl))
-    (c.insert_member.ensures ∙ ap (option_map (λ ms. insert ms c.args.index c.args.member))
+    (c.insert_member.ensures.members ∙ ap (option_map (λ ms. insert ms c.args.index c.args.member))
     c.reserve_member.ensures.same))
 
 pub returns-clause-accepted : goal.returns-clause-accepted
@@ -70,14 +70,14 @@ returns-clause-accepted g c fs shows =
           (fragment c.args.offset c.args.member.more_fragments c.args.bytes.now) c.args.member
           c.args.index _ _ _ c.from.result c.self.view_is c.self.invariant.picture
           c.requires.member c.requires.unrefused c.requires.place c.try_reserve.ensures.items
-          c.try_reserve-else-is_err.ensures.items c.from.ensures c.write_at.ensures
+          c.try_reserve-else-is_err.ensures.items c.from.ensures c.write_at.ensures.writes
           c.add_range.ensures.adds
           (inr (
             not-true _ w.if-not-member.true,
             rw c.from-len.ensures at w.truncate.ensures.items,
             refl,
           ))
-          (c.insert_member.ensures
+          (c.insert_member.ensures.members
           ∙ ap (option_map (λ ms. insert ms c.args.index c.args.member))
           c.reserve_member.ensures.same)))
       | else-not-member w ↦
@@ -92,9 +92,9 @@ returns-clause-accepted g c fs shows =
           (fragment c.args.offset c.args.member.more_fragments c.args.bytes.now) c.args.member
           c.args.index _ _ _ c.from.result c.self.view_is c.self.invariant.picture
           c.requires.member c.requires.unrefused c.requires.place c.try_reserve.ensures.items
-          c.try_reserve-else-is_err.ensures.items c.from.ensures c.write_at.ensures
+          c.try_reserve-else-is_err.ensures.items c.from.ensures c.write_at.ensures.writes
           c.add_range.ensures.adds (inl (not-false _ w.if-not-member.false, refl, refl))
-          (c.insert_member.ensures
+          (c.insert_member.ensures.members
           ∙ ap (option_map (λ ms. insert ms c.args.index c.args.member))
           c.reserve_member.ensures.same)))
     ]
