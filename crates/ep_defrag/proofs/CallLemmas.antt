@@ -27,8 +27,10 @@ use Rattle.ep_defrag.specs.PoolCalls.{outcome_at, told_of, told_outcome}
 use Rattle.ep_defrag.specs.PoolCalls.Told.{Delivered, Nothing, Refused}
 use Rattle.ep_defrag.specs.Processed.{Processed}
 use Rattle.ep_streams.specs.Streams.{Becomes, IsErrorOf, IsStreamOf, OthersStay, Pool, ShowsStream}
-use Rattle.ep_streams.specs.Streams.{Stays, stream_at}
+use Rattle.ep_streams.specs.Streams.{IsLeft, Stays, StaysButRoom, stream_at}
+use Rattle.ep_fragments.specs.IpDefragBuf.{rule_of}
 use Rattle.ep_fragments.proofs.Found.{no_overlap_at}
+use Rattle.ep_fragments.proofs.Rooms.{still_shows}
 use Rattle.ep_fragments.proofs.OutcomeLemmas.{by_outcome}
 use Rattle.ep_streams.proofs.Retaining.{some_same}
 
@@ -74,10 +76,25 @@ shows_after rule s h f time id payload becomes =
     (sym goes.1) (refl, tt))
     becomes
 
+-- and where its stream stays, whatever its memory
+still_held : (rule : OverlapRule) (old new : Option (Stream ℕ)) (h : Held) → StaysButRoom old new
+    → ShowsHeld rule old h → ShowsHeld rule new h
+still_held rule None new h is shows =
+    subst (λ (s : Option (Stream ℕ)). ShowsHeld rule s h) (sym is) shows
+still_held rule (Some s) None h is shows = absurd is
+still_held rule (Some s) (Some t) h is shows = (
+  (
+    still_shows s.buf t.buf h.fragments (ap (λ (u : Stream ℕ). u.buf) is) shows.0.0,
+    ap (λ (u : Stream ℕ). rule_of u.buf) is ∙ shows.0.1,
+    shows.0.2,
+  ),
+  ap (λ (u : Stream ℕ). u.timestamp) is ∙ shows.1,
+)
+
 -- and after an error, by the stream that is left
 left_after : (rule : OverlapRule) (f : Fragment) (h : Held) (old new : Option (Stream ℕ)) (time : ℕ)
     (e : IpDefragError) → error_of (outcome rule h.fragments f) ≡ Some e
-    → new ≡ cond (is_overlap e) None old → ShowsHeld rule old h
+    → IsLeft (is_overlap e) old new → ShowsHeld rule old h
     → ShowsHeld rule new (held_after h time (outcome rule h.fragments f))
 left_after rule f h old new time e is left shows =
     by_outcome rule h.fragments f
@@ -88,11 +105,11 @@ left_after rule f h old new time e is left shows =
     subst (λ (x : IpDefragError). is_overlap x ≡ false) same
     (subst (λ (o : Option IpDefragError). IfSome o (λ x. is_overlap x ≡ false)) refused
     (no_overlap_at (named_end h.fragments) f)) in
-    subst (λ (s : Option (Stream ℕ)). ShowsHeld rule s h)
-    (sym (left ∙ ap (λ (b : Bool). cond b None old) stays)) shows)
+    still_held rule old new h (subst (λ (b : Bool). IsLeft b old new) stays left) shows)
     (λ none clash told.
     let same : overlap_of f ≡ e = some_same (overlap_of f) e told in
-    let gone : new ≡ None = left ∙ ap (λ (x : IpDefragError). cond (is_overlap x) None old) (sym same) in
+    let gone : new ≡ None =
+    subst (λ (x : IpDefragError). IsLeft (is_overlap x) old new) (sym same) left in
     subst (λ (s : Option (Stream ℕ)). ShowsHeld rule s (record { fragments = []; time = time }))
     (sym gone) (refl, tt))
     (λ taken open_end told. cc)
@@ -159,14 +176,13 @@ module _ (parts : (a b : FragmentName) (x y : ℕ)
 
   -- where one name's stream stays and every other one's, all do
   all_same : (name : FragmentName) (channel : ℕ) → OthersStay same_id (id_named name channel) old new
-      → stream_at same_id new (id_named name channel)
-      ≡ stream_at same_id old (id_named name channel) → ShowsLists new lists
+      → StaysButRoom (stream_at same_id old (id_named name channel))
+      (stream_at same_id new (id_named name channel)) → ShowsLists new lists
   all_same name channel others is n c =
       subst (λ (h : Held). ShowsHeld (rule_over n.addresses)
       (stream_at same_id new (id_named n c)) h) (either_way _ (lists n c))
       (one_changes name channel lists others
-      (subst (λ (s : Option (Stream ℕ)). ShowsHeld (rule_over name.addresses) s (lists name channel))
-      (sym is) (shows name channel)) n c)
+      (still_held (rule_over name.addresses) _ _ (lists name channel) is (shows name channel)) n c)
 
   module _ (time channel : ℕ) (fault : Option SliceError) where
     abbrev Tells : Class → Told → Type 0
@@ -213,9 +229,10 @@ module _ (parts : (a b : FragmentName) (x y : ℕ)
                 ap (λ (want : Option IpDefragError). option_map Refused want)
                     wants,
                 all_same name channel others
-                    (err ∙ ap (λ (b : Bool). cond b None
-                    (stream_at same_id old (id_named name channel)))
-                    (want_stays f (outcome rule h.fragments f) e wants)),
+                    (subst (λ (b : Bool). IsLeft b
+                    (stream_at same_id old (id_named name channel))
+                    (stream_at same_id new (id_named name channel)))
+                    (want_stays f (outcome rule h.fragments f) e wants) err),
               )
         ]
 

@@ -1,5 +1,6 @@
 mod CallLemmas
 mod Handed
+mod KeptMemory
 mod OpenCount
 mod PartLemmas
 mod Runs

@@ -1,5 +1,6 @@
 //! Laws of the definitions: the contract of each function is the law.
 
+pub mod memory;
 pub mod names;
 pub mod streams;
 pub mod traits;

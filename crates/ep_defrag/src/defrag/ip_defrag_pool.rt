@@ -1,13 +1,14 @@
 //! Many fragmented messages, each put together by itself.
 
 ghost use Rattle.std.specs.Prelude.{◌≡◌, ◌+◌, ◌≤◌, [], None, Ok, OnOk, OnErr, IfOk, IfErr, IfSome};
-ghost use Rattle.std.specs.Prelude.{length};
+ghost use Rattle.std.specs.Prelude.{◌++◌, ◌∷◌, IsOk, length, vec_capacity};
 ghost use Rattle.std.specs.Fn.{FnReturnsAt};
 ghost use Rattle.std.specs.List.{IsDistinct};
 ghost use Rattle.std.specs.Map.{keys_of};
 ghost use Rattle.ep_packet.specs.Class.{IdentificationFits, as_class, packet_told};
 ghost use Rattle.ep_packet.specs.declared.class.Class.TheVariants as told;
-ghost use Rattle.ep_streams.specs.Counts.{Bounded, Counts, open_in};
+ghost use Rattle.ep_streams.specs.Counts.{Bounded, Counts, HasMemoryFor, HasPlace, KeepsMemoryOf};
+ghost use Rattle.ep_streams.specs.Counts.{open_in};
 ghost use Rattle.ep_defrag.specs.IpDefragPool.{Accepts, AcceptsBy, Refuses, same_id};
 ghost use Rattle.ep_defrag.specs.IpFragId.{fragment_in, id_named};
 ghost use Rattle.ep_streams.specs.Streams.{MayAsk, OthersStay, RefusesBy, Retained, Stays};
@@ -57,6 +58,8 @@ impl<Timestamp: Drop, CustomChannelId: Eq + Hash + Drop> IpDefragPool<
         ensures streams { result.streams ≡ [] }
         ensures spare { result.spare ≡ 0 }
         ensures sections { result.spare_sections ≡ 0 }
+        ensures no_bytes { result.memory.bytes ≡ [] }
+        ensures no_sections { result.memory.sections ≡ [] }
     {
         IpDefragPool::with_hasher(alloc, BuildHasherDefault::new())
     }
@@ -76,6 +79,8 @@ impl<Timestamp: Drop, CustomChannelId: Eq + Hash + Drop, S: BuildHasher> IpDefra
         ensures streams { result.streams ≡ [] }
         ensures spare { result.spare ≡ 0 }
         ensures sections { result.spare_sections ≡ 0 }
+        ensures no_bytes { result.memory.bytes ≡ [] }
+        ensures no_sections { result.memory.sections ≡ [] }
     {
         IpDefragPool {
             streams: Streams::with_hasher(alloc, state),
@@ -117,6 +122,13 @@ impl<Timestamp: Drop, CustomChannelId: Eq + Hash + Drop, S: BuildHasher> IpDefra
         ensures counts { IfSome (fragment_in (packet_told packet.now)) (λ told.
             Counts (same_id CustomChannelId.eq) self.old self.new (id_named told.0 channel_id) result) }
         ensures bound { Bounded self.old self.new }
+        // Out of memory is answered only where there was no room.
+        ensures succeeds { IfSome (fragment_in (packet_told packet.now)) (λ told.
+            HasMemoryFor (same_id CustomChannelId.eq) self.old (id_named told.0 channel_id) told.1
+            result) }
+        ensures memory { IfSome (fragment_in (packet_told packet.now)) (λ told.
+            KeepsMemoryOf (same_id CustomChannelId.eq) self.old self.new
+            (id_named told.0 channel_id) result) }
     {
         // Whole messages aren't looked into.
         if !packet.is_ip_payload_fragmented() {
@@ -155,6 +167,12 @@ impl<Timestamp: Drop, CustomChannelId: Eq + Hash + Drop, S: BuildHasher> IpDefra
         ensures counts { IfSome (fragment_in (as_class (told.Cut message.entry))) (λ named.
             Counts (same_id CustomChannelId.eq) self.old self.new (id_named named.0 channel_id) result) }
         ensures bound { Bounded self.old self.new }
+        ensures succeeds { IfSome (fragment_in (as_class (told.Cut message.entry))) (λ named.
+            HasMemoryFor (same_id CustomChannelId.eq) self.old (id_named named.0 channel_id)
+            named.1 result) }
+        ensures memory { IfSome (fragment_in (as_class (told.Cut message.entry))) (λ named.
+            KeepsMemoryOf (same_id CustomChannelId.eq) self.old self.new
+            (id_named named.0 channel_id) result) }
     {
         let CutMessage {
             vlan_ids,
@@ -197,6 +215,10 @@ impl<Timestamp: Drop, CustomChannelId: Eq + Hash + Drop, S: BuildHasher> IpDefra
         ensures short { IfOk result
             (λ payload. IfSome payload (λ whole. length whole.payload.items ≤ 65535)) }
         ensures counts { Counts ⟦<IpFragId<CustomChannelId> as PartialEq>⟧.eq self.old self.new id result }
+        ensures succeeds { HasMemoryFor ⟦<IpFragId<CustomChannelId> as PartialEq>⟧.eq self.old id
+            (fragment_of piece.now) result }
+        ensures memory { KeepsMemoryOf ⟦<IpFragId<CustomChannelId> as PartialEq>⟧.eq
+            self.old self.new id result }
     {
         let ip_number = id.payload_ip_number;
         let len_source = id.ip.len_source();
@@ -218,6 +240,12 @@ impl<Timestamp: Drop, CustomChannelId: Eq + Hash + Drop, S: BuildHasher> IpDefra
         ensures err { IfErr result (λ given. (given ≡ buf) × (self.new ≡ self.old)) }
         ensures same { self.new.streams ≡ self.old.streams }
         ensures sections { self.new.spare_sections ≡ self.old.spare_sections }
+        // Where there is a place, the message is kept there with its memory.
+        ensures succeeds { HasPlace self.old → IsOk result }
+        ensures memory { OnOk result (self.new.memory ≡ record self.old.memory {
+          bytes = self.old.memory.bytes ++ vec_capacity buf.payload ∷ [];
+          bytes_places = self.new.memory.bytes_places;
+        }) }
     {
         let IpDefragPayloadVec {
             ip_number,

@@ -16,6 +16,7 @@ ghost use Rattle.ep_packet.specs.declared.err.packet.slice_error.SliceError.{Sli
 ghost use Rattle.ep_streams.specs.Counts.{open_in};
 ghost use Rattle.ep_fragments.specs.Fragments.{Fragment, fragment};
 ghost use Rattle.ep_fragments.specs.IpDefragBuf.{Shows};
+ghost use Rattle.ep_fragments.specs.Room.{Room};
 ghost use Rattle.ep_defrag.specs.IpDefragPool.{same_id};
 ghost use Rattle.ep_defrag.specs.IpFragId.{id_named, same_name};
 ghost use Rattle.ep_defrag.specs.OpenMessages.{IsOpenCount};
@@ -304,24 +305,27 @@ pub fn replies_to_retain_from()
     ensures none { Replies (λ after. Unit {0}) no_lists (RetainFrom 5 ∷ []) [] → ⊥ }
 {}
 
-/// A buffer with the second 8 bytes of a message shows that fragment, and not the first one.
+/// A buffer with the second 8 bytes of a message shows that fragment, and not the first one,
+/// whatever its memory.
 pub fn a_part_that_is_shown()
-    ensures shown { Shows {Number = IpNumber}
+    ensures shown { (room : Room) → Shows {Number = IpNumber}
         (record {
           ip_number = record { 0 = 17 };
           bytes = replicate 8 0 ++ replicate 8 2;
           sections = record { start = 8; end = 16 } ∷ [];
           end = None;
           members = None;
+          room = room;
         })
         (fragment 1 true (replicate 8 2) ∷ []) }
-    ensures not_shown { Shows {Number = IpNumber}
+    ensures not_shown { (room : Room) → Shows {Number = IpNumber}
         (record {
           ip_number = record { 0 = 17 };
           bytes = replicate 8 0 ++ replicate 8 2;
           sections = record { start = 8; end = 16 } ∷ [];
           end = None;
           members = None;
+          room = room;
         })
         (fragment 0 true (replicate 8 2) ∷ []) → ⊥ }
 {}

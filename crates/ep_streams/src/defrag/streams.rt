@@ -91,8 +91,8 @@ impl<K: Eq + Hash + Drop, T: Drop, S: BuildHasher> Streams<K, T, S> {
         // Where there is a place, it is taken with its memory.
         ensures succeeds { HasPlace self.old → IsOk result }
         ensures memory { OnOk result (self.new.memory ≡ record self.old.memory {
-            bytes = self.old.memory.bytes ++ vec_capacity bytes ∷ [];
-            bytes_places = self.new.memory.bytes_places;
+          bytes = self.old.memory.bytes ++ vec_capacity bytes ∷ [];
+          bytes_places = self.new.memory.bytes_places;
         }) }
     {
         if !self.spare.make_bytes_places(self.active.len()) {

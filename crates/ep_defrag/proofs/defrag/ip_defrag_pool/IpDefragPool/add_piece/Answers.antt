@@ -1,5 +1,6 @@
 use Rattle.std.proofs.Common.{refl}
 use Rattle.ep_defrag.proofs.Handed.{none_told, whole_told}
+use Rattle.ep_defrag.proofs.KeptMemory.{keeps_error, keeps_handed, keeps_nothing}
 use Rattle.ep_defrag.proofs.defrag.ip_defrag_pool.IpDefragPool.add_piece.Goals as goal
 use Rattle.ep_defrag.proofs.defrag.ip_defrag_pool.IpDefragPool.add_piece.Goals.{in-Ok-Some, in-Ok-None}
 use Rattle.ep_defrag.proofs.defrag.ip_defrag_pool.IpDefragPool.add_piece.Goals.{in-Err}
@@ -31,4 +32,18 @@ returns-clause-refused g c fs shows =
       | in-Ok-None w ↦ rw w.result-is tt
       | in-Err w ↦ rw w.result-is
           (w.in-Err.ensures.refused c.args.rule fs (rw c.self.view_is shows) (λ e. refl))
+    ]
+
+pub returns-clause-memory : goal.returns-clause-memory
+returns-clause-memory g c =
+    elim c.match-add.branch [
+      | in-Ok-Some w ↦
+          rw w.result-is (keeps_handed _ _ _ _ _ _ _
+          (rw w.in-Ok-Some.field-0-is at (rw c.self.view_is at w.in-Ok-Some.ensures.memory)))
+      | in-Ok-None w ↦
+          rw w.result-is (keeps_nothing _ _ _ _ _
+          (rw w.in-Ok-None.field-0-is at (rw c.self.view_is at w.in-Ok-None.ensures.memory)))
+      | in-Err w ↦
+          rw w.result-is
+          (keeps_error _ _ _ _ _ _ (rw c.self.view_is at w.in-Err.ensures.memory))
     ]

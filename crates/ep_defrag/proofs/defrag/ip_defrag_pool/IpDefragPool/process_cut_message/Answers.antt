@@ -1,7 +1,7 @@
 use Rattle.std.proofs.Common.{subst}
 use Rattle.std.specs.Prelude.{IfErr}
 use Rattle.ep_packet.specs.declared.class.CutMessage.{CutMessage}
-use Rattle.ep_streams.specs.Counts.{Counts}
+use Rattle.ep_streams.specs.Counts.{Counts, HasMemoryFor, KeepsMemoryOf}
 use Rattle.ep_fragments.specs.Fragments.{Fragment, fragment}
 use Rattle.ep_streams.specs.Streams.{RefusesBy, Stays}
 use Rattle.ep_fragments.specs.declared.defrag.overlap_rule.OverlapRule.{OverlapRule}
@@ -61,3 +61,17 @@ returns-clause-counts g c =
     c.args.self.now c.add_piece.new.self (name_of c.args.message c.args.channel_id ip)
     c.add_piece.result)
     c.spec_id-ip.ensures c.add_piece.ensures.counts
+
+pub returns-clause-succeeds : goal.returns-clause-succeeds
+returns-clause-succeeds g c =
+    subst (λ (ip : IpFragVersionSpecId). HasMemoryFor (same_id g.CustomChannelId.PartialEq.eq)
+    c.args.self.now (name_of c.args.message c.args.channel_id ip) (fragment_in c.args.message)
+    c.add_piece.result)
+    c.spec_id-ip.ensures c.add_piece.ensures.succeeds
+
+pub returns-clause-memory : goal.returns-clause-memory
+returns-clause-memory g c =
+    subst (λ (ip : IpFragVersionSpecId). KeepsMemoryOf (same_id g.CustomChannelId.PartialEq.eq)
+    c.args.self.now c.add_piece.new.self (name_of c.args.message c.args.channel_id ip)
+    c.add_piece.result)
+    c.spec_id-ip.ensures c.add_piece.ensures.memory
