@@ -1,4 +1,5 @@
 pub mod Counts
 pub mod Refused
+pub mod Repeats
 pub mod SpareBuffers
 pub mod Streams
