@@ -12,6 +12,7 @@ ghost use Rattle.ep_fragments.specs.declared.defrag.TheConstants.{MAX_IP_DEFRAG_
 pub mod additions;
 pub mod examples;
 pub mod joined;
+pub mod kept;
 pub mod lengths;
 pub mod traits;
 
