@@ -1,4 +1,5 @@
 -- for the crates above, beside what is proved of each function
+pub mod AcceptedOutcomes
 pub mod Clash
 pub mod Complete
 pub mod Disjoint
@@ -14,6 +15,7 @@ mod HasBytesLemmas
 mod Joining
 mod Kept
 mod Lengths
+mod Literals
 mod MemberOrder
 mod Ordered
 pub mod Rooms

@@ -9,7 +9,11 @@ ghost use Rattle.ep_fragments.specs.Picture.{LastByteCounts, OpenPlaceHasNone};
 ghost use Rattle.ep_fragments.specs.declared.defrag.TheConstants.{MAX_IP_DEFRAG_LEN};
 ghost use Rattle.ep_fragments.specs.declared.defrag.TheConstants.{MAX_IP_DEFRAG_LEN_U16};
 
+pub mod additions;
 pub mod examples;
+pub mod joined;
+pub mod kept;
+pub mod lengths;
 pub mod traits;
 
 pub use crate::defrag::ip_defrag_buf::every_buffer_is_a_picture;

@@ -5,6 +5,7 @@
 pub mod device;
 mod fault;
 mod flushes;
+pub mod laws;
 mod writes;
 
 pub use device::{Device, ReaderWriter};

@@ -1,10 +1,10 @@
 //! Laws of verdicts: the contract of each function is the law.
-ghost use Rattle.std.specs.Prelude.{◌≡◌, ◌++◌, [], ◌∷◌, pos, replicate};
+ghost use Rattle.std.specs.Prelude.{◌≡◌, ◌++◌, ℕ, List, [], ◌∷◌, length, pos, replicate};
 ghost use Rattle.std.specs.Hash as fed;
 ghost use Rattle.ep_base.specs.Traits.{HashIsOfPlace, IsPlainData};
 ghost use Rattle.ep_packet.specs.Readable.ReadMessage.{Icmpv4, Icmpv6, Raw, Tcp, Udp};
 ghost use Rattle.ep_packet.specs.declared.addresses.Addresses.TheVariants.{V4, V6};
-ghost use Rattle.verdicts.specs.Verdict.{verdict_of, verdict_place};
+ghost use Rattle.verdicts.specs.Verdict.{pseudo_of, verdict_of, verdict_place};
 ghost use Rattle.verdicts.specs.declared.verdict.Verdict.TheVariants as verdict;
 
 use crate::Verdict;
@@ -48,6 +48,36 @@ pub fn verdicts_by_hand()
     ensures no_checksum { verdict_of
         (V6 (253 ∷ (replicate 14 0 ++ 1 ∷ [])) (253 ∷ (replicate 14 0 ++ 2 ∷ [])))
         (Udp (0 ∷ 1 ∷ 0 ∷ 2 ∷ 0 ∷ 8 ∷ 0 ∷ 0 ∷ [])) ≡ verdict.None }
+    ensures no_checksum_over_ipv4 { verdict_of
+        (V4 (10 ∷ 0 ∷ 0 ∷ 1 ∷ []) (10 ∷ 0 ∷ 0 ∷ 2 ∷ []))
+        (Udp (0 ∷ 1 ∷ 0 ∷ 2 ∷ 0 ∷ 16 ∷ 0 ∷ 0 ∷ 1 ∷ 2 ∷ 3 ∷ 4 ∷ 5 ∷ 6 ∷ 7 ∷ 8 ∷ []))
+        ≡ verdict.None }
     ensures raw { verdict_of (V4 (10 ∷ 0 ∷ 0 ∷ 1 ∷ []) (10 ∷ 0 ∷ 0 ∷ 2 ∷ [])) (Raw [])
         ≡ verdict.None }
+    ensures raw_bytes { verdict_of (V4 (10 ∷ 0 ∷ 0 ∷ 1 ∷ []) (10 ∷ 0 ∷ 0 ∷ 2 ∷ []))
+        (Raw (0 ∷ 1 ∷ 0 ∷ 2 ∷ [])) ≡ verdict.None }
+    ensures raw_all_ones { verdict_of
+        (V6 (253 ∷ (replicate 14 0 ++ 1 ∷ [])) (253 ∷ (replicate 14 0 ++ 2 ∷ [])))
+        (Raw (255 ∷ 255 ∷ [])) ≡ verdict.None }
+{}
+
+/// What stands in front of messages of 70,000 bytes over IPv6, from fd00::1 to fd00::2, is the whole
+/// length in 32 bits, 00011170 (RFC 8200, section 8.1; RFC 2675), of UDP too, and the number. Over
+/// IPv4 it is the length in 16 bits, here of 40,000 bytes, 9c40 (RFC 768).
+pub fn pseudo_headers_by_hand()
+    ensures udp { (bytes : List ℕ) → length bytes ≡ 70000
+        → pseudo_of (V6 (253 ∷ (replicate 14 0 ++ 1 ∷ [])) (253 ∷ (replicate 14 0 ++ 2 ∷ [])))
+        (Udp bytes) ≡ 253 ∷ (replicate 14 0 ++ (1 ∷ 253 ∷ (replicate 14 0
+        ++ (2 ∷ 0 ∷ 1 ∷ 0x11 ∷ 0x70 ∷ 0 ∷ 0 ∷ 0 ∷ 17 ∷ [])))) }
+    ensures tcp { (bytes : List ℕ) → length bytes ≡ 70000
+        → pseudo_of (V6 (253 ∷ (replicate 14 0 ++ 1 ∷ [])) (253 ∷ (replicate 14 0 ++ 2 ∷ [])))
+        (Tcp bytes) ≡ 253 ∷ (replicate 14 0 ++ (1 ∷ 253 ∷ (replicate 14 0
+        ++ (2 ∷ 0 ∷ 1 ∷ 0x11 ∷ 0x70 ∷ 0 ∷ 0 ∷ 0 ∷ 6 ∷ [])))) }
+    ensures icmpv6 { (bytes : List ℕ) → length bytes ≡ 70000
+        → pseudo_of (V6 (253 ∷ (replicate 14 0 ++ 1 ∷ [])) (253 ∷ (replicate 14 0 ++ 2 ∷ [])))
+        (Icmpv6 bytes) ≡ 253 ∷ (replicate 14 0 ++ (1 ∷ 253 ∷ (replicate 14 0
+        ++ (2 ∷ 0 ∷ 1 ∷ 0x11 ∷ 0x70 ∷ 0 ∷ 0 ∷ 0 ∷ 58 ∷ [])))) }
+    ensures udp_over_ipv4 { (bytes : List ℕ) → length bytes ≡ 40000
+        → pseudo_of (V4 (10 ∷ 0 ∷ 0 ∷ 1 ∷ []) (10 ∷ 0 ∷ 0 ∷ 2 ∷ [])) (Udp bytes)
+        ≡ 10 ∷ 0 ∷ 0 ∷ 1 ∷ 10 ∷ 0 ∷ 0 ∷ 2 ∷ 0 ∷ 17 ∷ 0x9c ∷ 0x40 ∷ [] }
 {}

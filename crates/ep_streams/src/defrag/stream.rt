@@ -1,20 +1,23 @@
 //! A message that is on its way.
 
-ghost use Rattle.std.specs.Prelude.{◌≡◌, ◌++◌, ◌∷◌, ◌+◌, ◌≤◌, ℕ, [], List, false, OnOk};
-ghost use Rattle.std.specs.Prelude.{IfErr, IfOk, IfSome, length, option_map, vec_len, vec_capacity};
+ghost use Rattle.std.specs.Prelude.{◌≡◌, ◌++◌, ◌∷◌, ◌+◌, ◌≤◌, ℕ, [], List, None, false, OnOk};
+ghost use Rattle.std.specs.Prelude.{IfErr, IfOk, IfSome, IsOk, length, option_map, vec_len, vec_capacity};
 ghost use Rattle.indexmap.specs.IndexMap.{get, index_map_len, spare as names_room};
 ghost use Rattle.ep_streams.specs.Counts.{held_after, sections_after, spare_after};
-ghost use Rattle.ep_fragments.specs.Fragments.{Fragment, refusal_of};
+ghost use Rattle.ep_fragments.specs.Fragments.{Fragment, IsRepeat, named_end, refusal_at};
+ghost use Rattle.ep_fragments.specs.Fragments.{refusal_of};
 ghost use Rattle.ep_fragments.specs.IpDefragBuf.{HasRoom, Shows, rule_of, with_room};
 ghost use Rattle.ep_fragments.specs.IpDefragError.{is_overlap, wants_memory};
 ghost use Rattle.ep_fragments.specs.Outcome.{outcome};
 ghost use Rattle.ep_fragments.specs.declared.defrag.overlap_rule.OverlapRule.{OverlapRule};
+ghost use Rattle.ep_fragments.specs.declared.defrag.overlap_rule.OverlapRule.TheVariants.{Refuses};
 ghost use Rattle.ep_fragments.specs.Room.{NoLessRoom};
 ghost use Rattle.ep_streams.specs.Memory.{FindsRoom, KeepsMemory, capacities, memory_of};
 ghost use Rattle.ep_streams.specs.SpareBuffers.{HasPlaces};
 ghost use Rattle.ep_streams.specs.Streams.{Becomes, IsErrorOf, IsLeft, IsStreamOf, ShowsStream};
 ghost use Rattle.ep_streams.specs.Streams.{fragment_of};
 ghost use Rattle.ep_streams.specs.Refused.{error_in, refused_by};
+ghost use Rattle.ep_streams.specs.Repeats.{TakesRepeat};
 
 use super::Piece;
 use super::spare_buffers::SpareBuffers;
@@ -46,6 +49,10 @@ impl<T: Drop> Stream<T> {
         ensures refused { let f = fragment_of piece.now in (fs : List Fragment)
             → Shows self.old.buf fs →
             IfErr result (λ r. IsErrorOf f (outcome (rule_of self.old.buf) fs f) (error_in r)) }
+        ensures repeat { let f = fragment_of piece.now in (fs : List Fragment)
+            → Shows self.old.buf fs → rule_of self.old.buf ≡ Refuses → IsRepeat fs f
+            → refusal_at (named_end fs) f ≡ None
+            → IsOk result × (self.new.buf ≡ self.old.buf) }
         ensures told { IfErr result (λ r. r ≡ refused_by (error_in r)) }
         ensures stays { IfErr result (λ r. is_overlap (error_in r) ≡ false
             → self.new ≡ record self.old { buf = with_room self.old.buf self.new.buf.room }) }
@@ -140,6 +147,8 @@ pub(crate) fn add_piece<K: Eq + Hash + Drop, T: Drop, S: BuildHasher>(
     ensures refused { let f = fragment_of piece.now in (kept : OverlapRule) (fs : List Fragment)
         → ShowsStream kept (get K.eq streams.old name) fs → (fs ≡ [] → kept ≡ rule) →
         IfErr result (IsErrorOf f (outcome kept fs f)) }
+    ensures repeat { TakesRepeat (get K.eq streams.old name) (get K.eq streams.new name)
+        (fragment_of piece.now) result }
     ensures others { (q : K) → K.eq name q ≡ false
         → get K.eq streams.new q ≡ get K.eq streams.old q }
     ensures err { IfErr result (λ e.

@@ -8,6 +8,7 @@ ghost use Rattle.std.specs.Map.{keys_of};
 ghost use Rattle.ep_streams.specs.Counts.{Counts, HasMemoryFor, HasPlace, KeepsMemoryOf, open_in};
 ghost use Rattle.ep_fragments.specs.Fragments.{Fragment};
 ghost use Rattle.ep_fragments.specs.Outcome.{outcome};
+ghost use Rattle.ep_streams.specs.Repeats.{TakesRepeat};
 ghost use Rattle.ep_streams.specs.Streams.{Becomes, IsErrorOf, MayAsk, OthersStay, Retained};
 ghost use Rattle.ep_streams.specs.Streams.{ShowsStream, Stays, fragment_of, stream_at};
 ghost use Rattle.ep_fragments.specs.declared.defrag.overlap_rule.OverlapRule.{OverlapRule};
@@ -125,6 +126,9 @@ impl<K: Eq + Hash + Drop, T: Drop, S: BuildHasher> Streams<K, T, S> {
             → ShowsStream kept (stream_at K.eq self.old name) fs → (fs ≡ [] → kept ≡ rule) →
             IfErr result (IsErrorOf (fragment_of piece.now)
             (outcome kept fs (fragment_of piece.now))) }
+        // A piece that is there already takes no memory.
+        ensures repeat { TakesRepeat (stream_at K.eq self.old name) (stream_at K.eq self.new name)
+            (fragment_of piece.now) result }
         ensures others { OthersStay K.eq name self.old self.new }
         ensures err { IfErr result (Stays K.eq name self.old self.new) }
         ensures short { IfOk result (λ text. IfSome text (λ bytes. length bytes.items ≤ 65535)) }
