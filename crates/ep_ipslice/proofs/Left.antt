@@ -297,7 +297,7 @@ view_left exts first view is =
           (λ (e : Ipv6Exts). e.slice) view.4,
     )
 
-none_named : (number : ℕ) (pieces : List Piece) → first_header_of number pieces ≡ None → pieces ≡ []
+pub none_named : (number : ℕ) (pieces : List Piece) → first_header_of number pieces ≡ None → pieces ≡ []
 none_named number [] is = refl
 none_named number (piece ∷ pieces) is = cc
 

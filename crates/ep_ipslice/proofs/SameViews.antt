@@ -4,8 +4,9 @@ use Rattle.std.proofs.Common.{Option, Some, None, IsTrue, ◌↔◌, nat_eq, ref
 use Rattle.std.specs.Cmp.Lexicographic.{pointwise, bytes_decides}
 use Rattle.std.specs.Cmp.Derive.{both_true}
 use Rattle.ep_base.specs.declared.net.ip_number.IpNumber.{IpNumber}
-use Rattle.ep_ipslice.specs.Compared.{auth_code, compared_as, number_place, ordered_as}
+use Rattle.ep_ipslice.specs.Compared.{auth_code, compared_as, left_as, number_place, ordered_as}
 use Rattle.ep_ipslice.specs.Ipv6Exts.{Ipv6Exts}
+use Rattle.ep_ipslice.specs.Ipv6Walk.{HeadersLeft}
 use Rattle.ep_ipslice.specs.Packet.{Ipv4Packet, Ipv6Packet}
 use Rattle.ep_ipslice.proofs.SamePayloads.{bool_again, bool_at, payload_same}
 
@@ -44,6 +45,17 @@ exts_same a b = (
   (λ h. sym (exts_again a) ∙ ap exts_at ((bytes_decides (compared_as a) (compared_as b)).0 h)
       ∙ exts_again b),
   (λ e. (bytes_decides (compared_as a) (compared_as b)).1 (ap compared_as e)),
+)
+
+left_at : List ℕ → HeadersLeft
+left_at [] = record { next_header = 0; rest = [] }
+left_at (number ∷ bytes) = record { next_header = number; rest = bytes }
+
+pub left_same : (a b : HeadersLeft) → IsTrue (pointwise nat_eq (left_as a) (left_as b)) ↔ (a ≡ b)
+unfolding left_at
+left_same a b = (
+  (λ h. ap left_at ((bytes_decides (left_as a) (left_as b)).0 h)),
+  (λ e. (bytes_decides (left_as a) (left_as b)).1 (ap left_as e)),
 )
 
 auth_at : List ℕ → Option (List ℕ)

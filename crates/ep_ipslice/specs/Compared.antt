@@ -4,6 +4,7 @@ use Rattle.std.specs.Hash as fed
 use Rattle.ep_base.specs.LenSource.{source_place}
 use Rattle.ep_base.specs.declared.net.ip_number.IpNumber.{IpNumber}
 use Rattle.ep_ipslice.specs.Ipv6Exts.{Ipv6Exts}
+use Rattle.ep_ipslice.specs.Ipv6Walk.{HeadersLeft}
 use Rattle.ep_ipslice.specs.declared.net.lax_ip_payload_slice.LaxIpPayloadSlice.{LaxIpPayloadSlice}
 use Rattle.ep_ipslice.specs.Packet.{IpPayload}
 
@@ -24,6 +25,10 @@ auth_code (Some auth) = 1 ∷ auth
 -- first number, flag and bytes
 abbrev pub compared_as : Ipv6Exts → List ℕ
 compared_as exts = number_place exts.first_header ∷ bool_place exts.fragmented ∷ exts.slice
+
+-- number and bytes
+abbrev pub left_as : HeadersLeft → List ℕ
+left_as left = left.next_header ∷ left.rest
 
 -- number, flag, source of the length and bytes, in this order
 abbrev pub ordered_as : IpPayload → List ℕ

@@ -40,6 +40,16 @@ any_order passed number = place_behind false number
 abbrev pub pieces_left : ℕ → List ℕ → List Piece
 pieces_left number bytes = pieces_within (length bytes) any_order [] number bytes
 
+-- what an iterator over headers holds: the number of the first one that is left, and the bytes of all
+-- that are
+pub record HeadersLeft : Type 0 where
+  pub next_header : ℕ
+  pub rest : List ℕ
+
+-- the headers themselves
+abbrev pub headers_left : HeadersLeft → List Piece
+headers_left left = pieces_left left.next_header left.rest
+
 -- the bytes are headers of a view, in a row behind others
 abbrev pub IsLeft : ℕ → List ℕ → Type 0
 IsLeft number bytes =

@@ -20,10 +20,6 @@ proto_refusals a = (
     )
     ∷ []
 
--- the fields, if their protocol addresses pair up, or the first fault
-abbrev pub proto_tested : ArpFields → Result ArpFields ArpNewError
-proto_tested a = unless_refused (proto_refusals a) a
-
 -- the fields, if all addresses pair up, or the first fault: that of hardware addresses, then that
 -- of protocol addresses
 abbrev pub new_at : ArpFields → Result ArpFields ArpNewError

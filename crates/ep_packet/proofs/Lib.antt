@@ -13,6 +13,7 @@ mod MessageFaults
 mod PacketViewLemmas
 mod PartsLemmas
 mod ReadHeaders
+mod SameClasses
 mod SameHeaderParts
 mod SameNet
 mod SamePackets

@@ -15,7 +15,7 @@ use Rattle.ep_link.specs.declared.err.linux_sll.header_error.HeaderError.{Header
 use Rattle.ep_link.specs.declared.link.linux_sll_protocol_type.LinuxSllProtocolType.{LinuxSllProtocolType}
 use Rattle.ep_link.specs.declared.link.linux_sll_protocol_type.LinuxSllProtocolType.TheVariants as protocol
 use Rattle.ep_link.specs.declared.link.link_slice.LinkSlice.{LinkSlice}
-use Rattle.ep_packet.specs.Parts.{AreTagsAt, ArePartsOf, IsAt, IsNetAt, LayersBehind, LayersIn}
+use Rattle.ep_packet.specs.Parts.{AreTagsAt, ArePartsOf, IsAt, IsNetAt, LayersIn}
 use Rattle.ep_packet.specs.Parts.{StandAt, TagsIn, headers_len, tags_len, transport_bytes}
 use Rattle.ep_packet.specs.SliceFault.{later, offset_by, fault_offset}
 use Rattle.ep_packet.specs.Sliced.{Layers, layers_in, no_layers, packet_behind, packet_of}
@@ -135,6 +135,11 @@ pub named_of : (o : Option EtherPayload) (e : SliceError) → Err e ≡ layers_i
 named_of None e same = let no : ◌≡◌ {A = Result Layers SliceError} (Err e) (Ok no_layers) =
     same in cc
 named_of (Some q) e same = refl
+
+-- the layers in what an ether type names, if it was named
+abbrev LayersBehind : Option EtherPayload → Layers → Type 0
+LayersBehind None layers = layers ≡ no_layers
+LayersBehind (Some q) layers = LayersIn q.payload 0 layers
 
 layers_behind : (bytes : List ℕ) (n place : ℕ) (o : Option EtherPayload) (layers : Layers)
     → n ≡ place → IfSome o (λ q. IsAt bytes n q.payload) → LayersBehind o layers

@@ -20,6 +20,7 @@ use Rattle.ep_packet.specs.Tags.{Tagged, most_tags, tags_in, vlan_ids_of}
 use Rattle.ep_packet.specs.declared.addresses.Addresses.{Addresses}
 use Rattle.ep_packet.specs.declared.addresses.Addresses.TheVariants.{V4, V6}
 use Rattle.ep_packet.specs.declared.class.Class.{Class as ToldClass}
+use Rattle.ep_packet.specs.declared.class.Part.{Part}
 use Rattle.ep_packet.specs.declared.class.Class.TheVariants as told
 use Rattle.ep_packet.specs.declared.err.packet.slice_error.SliceError.{SliceError}
 use Rattle.ep_packet.specs.declared.net.net_slice.NetSlice.{NetSlice}
@@ -159,6 +160,10 @@ packet_told packet = net_told (vlan_ids_of packet.link_exts.items) packet.net pa
 abbrev pub class_told : Result SlicedPacket SliceError → Class
 class_told (Ok packet) = packet_told packet
 class_told (Err e) = Refused
+
+-- all that a part of a message holds: number, offset, whether others follow, and bytes
+abbrev pub part_told : Part → ℕ × ℕ × Bool × List ℕ
+part_told part = (part.ip_number.0, part.offset, part.more_fragments, part.bytes.now)
 
 -- the class that the code tells
 abbrev pub as_class : ToldClass → Class

@@ -74,11 +74,6 @@ pub record LayersIn (frame : List ℕ) (place : ℕ) (layers : Layers) : Type 0 
   pub transport : IfSome layers.transport
       (λ message. IsAt frame (place + headers_len layers.net) (transport_bytes message))
 
--- the layers in what an ether type names, if it was named
-abbrev pub LayersBehind : Option EtherPayload → Layers → Type 0
-LayersBehind None layers = layers ≡ no_layers
-LayersBehind (Some q) layers = LayersIn q.payload 0 layers
-
 -- a tag at the front of some bytes, and what stands behind it
 pub record TagIn (bytes : List ℕ) (t : LinkExtSlice) : Type 0 where
   pub tag : IsTagAt bytes 0 t

@@ -17,7 +17,7 @@ use ep_ipslice::{IpPayloadSlice, Ipv4Slice, Ipv6Slice};
 use ep_tag::VlanId;
 
 /// What a frame, or a packet that was sliced, is to its reader.
-#[derive(Drop)]
+#[derive(Clone, Debug, PartialEq, Eq, Drop)]
 pub enum Class<'a> {
     /// An uncut message that can be read.
     Whole(WholeMessage<'a>),
@@ -30,7 +30,7 @@ pub enum Class<'a> {
 }
 
 /// An uncut message, and where it came from and went to.
-#[derive(Drop)]
+#[derive(Clone, Debug, PartialEq, Eq, Drop)]
 pub struct WholeMessage<'a> {
     /// Where it came from and went to.
     pub addresses: Addresses,
@@ -45,7 +45,7 @@ pub struct WholeMessage<'a> {
 /// A part of a message. Parts of one message share VLAN tags, addresses, identification and number,
 /// and with no part of another (RFC 791, section 3.2). Over IPv6 they do so here, too: RFC 8200,
 /// section 4.5, leaves the number out and takes that of the first part.
-#[derive(Drop)]
+#[derive(Clone, Debug, PartialEq, Eq, Drop)]
 pub struct CutMessage<'a> {
     /// The identifiers of the VLAN tags, the outer one first.
     pub vlan_ids: ArrayVec<VlanId, 3>,
@@ -58,7 +58,7 @@ pub struct CutMessage<'a> {
 }
 
 /// The bytes of a part of a message, and where they stand in it.
-#[derive(Clone, Copy)]
+#[derive(Clone, Copy, Debug, PartialEq, Eq)]
 pub struct Part<'a> {
     /// The number of the message's protocol.
     pub ip_number: IpNumber,

@@ -57,10 +57,6 @@ Becomes rule whole (Completed text) time stream told =
 abbrev pub IsErrorOf : Fragment → Outcome → IpDefragError → Type 0
 IsErrorOf f o error = (error_of o ≡ Some error) ⊎ (memory_error f o ≡ Some error)
 
--- each name has the stream that it had
-abbrev pub SameStreams : {K T : Type 0} → (K → K → Bool) → Pool K T → Pool K T → Type 0
-SameStreams {K} same old new = (name : K) → stream_at same new name ≡ stream_at same old name
-
 -- every other name has the stream that it had
 abbrev pub OthersStay : {K T : Type 0} → (K → K → Bool) → K → Pool K T → Pool K T → Type 0
 OthersStay {K} same name old new = (q : K) → same name q ≡ false

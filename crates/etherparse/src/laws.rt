@@ -11,5 +11,6 @@ pub use ep_ip::laws as ip;
 pub use ep_ipslice::laws as ipslice;
 pub use ep_link::laws as link;
 pub use ep_packet::laws as packet;
+pub use ep_streams::laws as streams;
 pub use ep_tag::laws as tag;
 pub use ep_tcpudp::laws as tcpudp;

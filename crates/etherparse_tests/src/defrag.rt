@@ -22,3 +22,4 @@ mod ranges;
 mod refusals;
 mod rules;
 mod streams;
+mod values;

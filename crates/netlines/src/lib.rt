@@ -5,6 +5,7 @@
 mod frames;
 pub mod laws;
 mod messages;
+mod pairs;
 mod program;
 
 pub use etherparse::defrag::IpFragVersionSpecId;
@@ -19,6 +20,7 @@ pub use lines::{
 };
 pub use messages::post_message::post;
 pub use messages::sealed_message::seal_message;
+pub use pairs::two_runs;
 pub use program::{answer_input, exit_code, fault_name};
 pub use runs::device;
 pub use verdicts::{Verdict, judge};

@@ -1,7 +1,7 @@
 //! Two runs side by side.
 use crate::checks::equal;
 use fault_devices::FaultReader;
-use netlines::laws;
+use netlines::two_runs;
 use std::test::*;
 
 // The halves of a message, and between them a piece of a TCP segment.
@@ -33,7 +33,7 @@ fn two_runs_over_the_same_halves(rt: HostRuntime) {
     let mut told = Vec::new(rt.alloc());
     let mut other_reader = FaultReader::new(OTHER, 1);
     let mut other_told = Vec::new(rt.alloc());
-    let results = laws::two_runs(
+    let results = two_runs(
         rt.alloc(),
         &mut reader,
         &mut told,

@@ -27,7 +27,7 @@ use std::marker::Model;
 /// So a caller whose input isn't trusted calls `retain` regularly: a receiver gives a message up by
 /// a timer (RFC 791, section 3.2), over IPv6 60 seconds after the fragment that came first (RFC
 /// 8200, section 4.5).
-#[derive(Drop)]
+#[derive(Debug, Drop)]
 pub struct IpDefragPool<
     Timestamp = (),
     CustomChannelId: Eq + Hash = (),

@@ -74,11 +74,14 @@ pub fn faults_can_be_moved()
         → auth_at bytes ≡ Err error → n < 2 ^ 64 → CanMove error n }
 {}
 
-/// Where bytes are headers in a row and a rest, under any order in which headers take places of
-/// their own numbers, and the walk over all skipped headers doesn't skip the number behind them, it
-/// ends at that number and rest.
-pub fn chain_is_skipped()
-    ensures ends { (order : Order) (first : ℕ) (bytes : List ℕ) (pieces : List Piece) (last : ℕ)
+/// Where bytes are headers in a row and a rest, and the walk over all skipped headers doesn't skip the
+/// number behind them, it ends at that number and rest.
+pub fn skip_agrees_with_chain()
+    ensures value { (first : ℕ) (bytes : List ℕ) (pieces : List Piece) (last : ℕ)
+        (rest : List ℕ) → Chain place_of first bytes pieces last rest
+        → is_skipped last ≡ false → skip first bytes ≡ Ok (last, rest) }
+    // So it does under any order in which headers take places of their own numbers.
+    ensures any { (order : Order) (first : ℕ) (bytes : List ℕ) (pieces : List Piece) (last : ℕ)
         (rest : List ℕ) → KeepsNumbers order → Chain order first bytes pieces last rest
         → is_skipped last ≡ false → skip first bytes ≡ Ok (last, rest) }
     ensures own { KeepsNumbers place_of }
@@ -87,15 +90,15 @@ pub fn chain_is_skipped()
 }
 
 /// The same of the call that walks.
-pub fn skip_agrees_with_chain(first: IpNumber, slice: &[u8]) -> Result<(IpNumber, &[u8]), LenError>
-    ensures value { (pieces : List Piece) (last : ℕ) (rest : List ℕ)
-        → Chain place_of first.0 slice.now pieces last rest → is_skipped last ≡ false
-        → IsOkAnd result (λ r. (r.0.0 ≡ last) × (r.1.now ≡ rest)) }
-    ensures any { (order : Order) (pieces : List Piece) (last : ℕ) (rest : List ℕ)
+pub fn skip_call_agrees_with_chain(
+    first: IpNumber,
+    slice: &[u8],
+) -> Result<(IpNumber, &[u8]), LenError>
+    ensures { (order : Order) (pieces : List Piece) (last : ℕ) (rest : List ℕ)
         → KeepsNumbers order → Chain order first.0 slice.now pieces last rest
         → is_skipped last ≡ false
         → IsOkAnd result (λ r. (r.0.0 ≡ last) × (r.1.now ≡ rest)) }
 {
-    chain_is_skipped();
+    skip_agrees_with_chain();
     Ipv6Header::skip_all_header_extensions_in_slice(slice, first)
 }

@@ -14,23 +14,20 @@ use crate::err::ipv6_exts::{ExtsWalkError, HeaderSliceError};
 use crate::{Ipv4Extensions, Ipv6Extensions, Ipv6RoutingExtensions};
 use ep_base::IpNumber;
 
-/// Headers of a value that all follow one another are the headers of that value alone. In front of
-/// any rest they are headers in a row, without a fault, where the number behind them is of no header
-/// that has a place.
-pub fn followed_chain_is_the_value()
-    ensures value { (value : Ipv6Value) (first : ℕ) (pieces : List Piece) (last : ℕ)
-        → Follows value first pieces last → walk_fault value pieces last ≡ None
-        → IsReadAgain value → value_of pieces ≡ value }
-    ensures chain { (value : Ipv6Value) (first : ℕ) (pieces : List Piece) (last : ℕ)
-        (rest : List ℕ) → Follows value first pieces last → has_place last ≡ false
-        → Chain place_of first (bytes_of pieces ++ rest) pieces last rest }
-    ensures fault { (pieces : List Piece) (last : ℕ) (rest : List ℕ) → has_place last ≡ false
-        → fault_of place_of pieces last rest ≡ None }
+/// Headers of a value that all follow one another, up to a number of no header that has a place, are
+/// read again from their bytes, whatever follows these: they are headers in a row and that rest,
+/// without a fault, and the headers of that value alone.
+pub fn written_chain_reads_back()
+    ensures { (value : Ipv6Value) (first : ℕ) (pieces : List Piece) (last : ℕ) (rest : List ℕ)
+        → IsReadAgain value → Follows value first pieces last
+        → walk_fault value pieces last ≡ None → has_place last ≡ false
+        → Chain place_of first (bytes_of pieces ++ rest) pieces last rest
+        × (fault_of place_of pieces last rest ≡ None) × (value_of pieces ≡ value) }
 {}
 
-/// What `write` appends from a first number is read again from that number, whatever follows it,
-/// where the number behind it is of no header that has a place: the same of the call that reads.
-pub fn written_chain_reads_back<'a>(
+/// The same of the call that reads: what `write` appends from a first number is read again from that
+/// number.
+pub fn read_call_gives_written_chain<'a>(
     headers: &Ipv6Extensions,
     first: IpNumber,
     slice: &'a [u8],
@@ -40,7 +37,7 @@ pub fn written_chain_reads_back<'a>(
         → has_place last ≡ false → slice.now ≡ bytes_of pieces ++ rest
         → IsOkAnd result (λ r. (r.0 ≡ headers.now) × (r.1.0 ≡ last) × (r.2.now ≡ rest)) }
 {
-    followed_chain_is_the_value();
+    written_chain_reads_back();
     headers.has_whole_headers();
     Ipv6Extensions::from_slice(first, slice)
 }

@@ -155,7 +155,7 @@ pub fn skip_agrees_with_view(first: IpNumber, body: &[u8]) -> Result<(IpNumber, 
         × (r.1.now ≡ packet.payload.payload)) }
 {
     laws::row_ends_where_none_is_taken();
-    laws::skip_agrees_with_chain(first, body)
+    laws::skip_call_agrees_with_chain(first, body)
 }
 
 /// The numbers of the headers that a view takes, in front and behind another header.

@@ -5,8 +5,8 @@ ghost use Rattle.std.specs.Cmp.Lexicographic.{slice_cmp};
 ghost use Rattle.std.specs.Ordering.{nat_cmp, ordering_then};
 ghost use Rattle.ep_base.specs.LenSource.{source_place};
 ghost use Rattle.ep_base.specs.Traits.{CopyIsValue, CopyNeverFails, EqualIsSame, IsPlainData};
-ghost use Rattle.ep_ext.specs.Value.{Piece};
 ghost use Rattle.ep_ipslice.specs.Compared.{bool_place, hashed_as, lax_told};
+ghost use Rattle.ep_ipslice.specs.Ipv6Walk.{HeadersLeft, headers_left};
 ghost use Rattle.ep_ipslice.specs.Packet.{IpPayload};
 ghost use Rattle.ep_ipslice.specs.declared.net.ipv4_extensions_slice.Ipv4ExtensionsSlice.{Ipv4ExtensionsSlice};
 ghost use Rattle.ep_ipslice.specs.declared.net.lax_ip_payload_slice.LaxIpPayloadSlice.{LaxIpPayloadSlice};
@@ -25,6 +25,7 @@ pub fn types_are_plain_data<'a>()
     ensures ip_payload_slice { IsPlainData ⟦<IpPayloadSlice<'a> as Value>⟧ }
     ensures ipv4_extensions_slice { IsPlainData ⟦<Ipv4ExtensionsSlice<'a> as Value>⟧ }
     ensures ipv6_extension_slice { IsPlainData ⟦<Ipv6ExtensionSlice<'a> as Value>⟧ }
+    ensures ipv6_extension_slice_iter { IsPlainData ⟦<Ipv6ExtensionSliceIter<'a> as Value>⟧ }
     ensures ipv6_extensions_slice { IsPlainData ⟦<Ipv6ExtensionsSlice<'a> as Value>⟧ }
     ensures ipv4_slice { IsPlainData ⟦<Ipv4Slice<'a> as Value>⟧ }
     ensures ipv6_slice { IsPlainData ⟦<Ipv6Slice<'a> as Value>⟧ }
@@ -43,16 +44,12 @@ pub fn types_are_plain_data<'a>()
 /// A copy is the value: of a view the bytes and what it tells of them.
 pub fn copies_are_values<'a>()
     ensures lax_ip_payload_slice { CopyIsValue ⟦<LaxIpPayloadSlice<'a> as Clone>⟧.is_clone }
-    ensures ipv6_extension_slice_iter { CopyIsValue
-        ⟦<Ipv6ExtensionSliceIter<'a> as Clone>⟧.is_clone }
     ensures ip_slice { CopyIsValue ⟦<IpSlice<'a> as Clone>⟧.is_clone }
 {}
 
 /// To copy one of these takes no memory and doesn't fail.
 pub fn copies_never_fail<'a>()
     ensures lax_ip_payload_slice { CopyNeverFails ⟦<LaxIpPayloadSlice<'a> as Clone>⟧.is_infallible }
-    ensures ipv6_extension_slice_iter { CopyNeverFails
-        ⟦<Ipv6ExtensionSliceIter<'a> as Clone>⟧.is_infallible }
     ensures ip_slice { CopyNeverFails ⟦<IpSlice<'a> as Clone>⟧.is_infallible }
 {}
 
@@ -75,8 +72,9 @@ pub fn lax_payloads_are_equal_as_told<'a>()
 pub fn defaults_hold_no_header<'a>()
     ensures ipv4_extensions_slice { (value : Ipv4ExtensionsSlice)
         → ⟦<Ipv4ExtensionsSlice<'a> as Default>⟧.is_default value → value.auth ≡ None }
-    ensures ipv6_extension_slice_iter { (left : List Piece)
-        → ⟦<Ipv6ExtensionSliceIter<'a> as Default>⟧.is_default left → left ≡ [] }
+    ensures ipv6_extension_slice_iter { (left : HeadersLeft)
+        → ⟦<Ipv6ExtensionSliceIter<'a> as Default>⟧.is_default left
+        → (left.next_header ≡ 59) × (headers_left left ≡ []) }
 {}
 
 /// Payloads are ordered by their protocol numbers, then whole ones first, then by the sources of

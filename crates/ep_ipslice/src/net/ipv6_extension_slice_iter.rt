@@ -1,11 +1,15 @@
 //! Going over the extension headers of an IPv6 packet.
 
-ghost use Rattle.std.specs.Prelude.{◌≡◌, List, [], ◌∷◌, MatchOption};
+ghost use Rattle.std.specs.Prelude.{◌≡◌, [], ◌∷◌, MatchOption, nat_eq};
+ghost use Rattle.std.specs.Cmp.Lexicographic.{pointwise};
+ghost use Rattle.std.specs.Cmp.Rules.{comparing};
 ghost use Rattle.std.specs.Iterator.{YieldsFirstBy, item_count};
+ghost use Rattle.std.specs.Ordering.{on};
+ghost use Rattle.std.proofs.Common.{rules};
 ghost use Rattle.ep_base.specs.Bytes.{num};
-ghost use Rattle.ep_ext.specs.Value.{Piece};
+ghost use Rattle.ep_ipslice.specs.Compared.{left_as};
 ghost use Rattle.ep_ipslice.specs.Ipv6Ext.{piece_of};
-ghost use Rattle.ep_ipslice.specs.Ipv6Walk.{IsLeft, pieces_left};
+ghost use Rattle.ep_ipslice.specs.Ipv6Walk.{HeadersLeft, IsLeft, headers_left, pieces_left};
 
 use super::Ipv6ExtensionSlice;
 use super::ipv6_extension_slice::ext_len;
@@ -17,7 +21,8 @@ use std::marker::Model;
 /// The extension headers of an [`Ipv6ExtensionsSlice`](super::Ipv6ExtensionsSlice), in their order,
 /// and then nothing more.
 ///
-/// A contract sees the value as the headers that are left.
+/// A contract sees the value as the number of the next header and the bytes of all that are left,
+/// whose headers are `headers_left`.
 #[derive(Clone, Debug, Drop)]
 pub struct Ipv6ExtensionSliceIter<'a> {
     next_header: IpNumber,
@@ -25,9 +30,9 @@ pub struct Ipv6ExtensionSliceIter<'a> {
 }
 
 impl<'a> Model for Ipv6ExtensionSliceIter<'a> {
-    ghost Value = { List Piece };
+    ghost Value = { HeadersLeft };
 
-    ghost view = { λ iter. pieces_left iter.next_header.0 iter.rest.now };
+    ghost view = { λ iter. record { next_header = iter.next_header.0; rest = iter.rest.now } };
 
     ghost invariant = { λ iter. IsLeft iter.next_header.0 iter.rest.now };
 }
@@ -36,7 +41,7 @@ impl<'a> Ipv6ExtensionSliceIter<'a> {
     // The headers whose bytes these are, of which the first has this number.
     pub(super) fn new(first: IpNumber, slice: &'a [u8]) -> Ipv6ExtensionSliceIter<'a>
         requires { IsLeft first.0 slice.now }
-        ensures { result ≡ pieces_left first.0 slice.now }
+        ensures { result ≡ record { next_header = first.0; rest = slice.now } }
     {
         Ipv6ExtensionSliceIter {
             next_header: first,
@@ -48,9 +53,9 @@ impl<'a> Ipv6ExtensionSliceIter<'a> {
 impl<'a> Iterator for Ipv6ExtensionSliceIter<'a> {
     type Item = Ipv6ExtensionSlice<'a>;
 
-    ghost next_gives = { YieldsFirstBy piece_of (λ left. left) };
+    ghost next_gives = { YieldsFirstBy piece_of headers_left };
 
-    ghost remaining = { item_count (λ left. left) };
+    ghost remaining = { item_count headers_left };
 
     fn next(&mut self) -> Option<Ipv6ExtensionSlice<'a>> {
         match first_header(self.next_header, self.rest) {
@@ -65,7 +70,7 @@ impl<'a> Iterator for Ipv6ExtensionSliceIter<'a> {
 }
 
 impl<'a> Default for Ipv6ExtensionSliceIter<'a> {
-    ghost is_default = { λ iter. iter ≡ [] };
+    ghost is_default = { λ iter. iter ≡ record { next_header = 59; rest = [] } };
 
     fn default() -> Self {
         Ipv6ExtensionSliceIter {
@@ -73,6 +78,20 @@ impl<'a> Default for Ipv6ExtensionSliceIter<'a> {
             rest: &[],
         }
     }
+}
+
+impl<'a> PartialEq for Ipv6ExtensionSliceIter<'a> {
+    ghost eq = { on left_as (pointwise nat_eq) };
+
+    ghost laws = { Prim.search (comparing, rules) };
+
+    fn eq(&self, other: &Self) -> bool {
+        self.next_header == other.next_header && self.rest == other.rest
+    }
+}
+
+impl<'a> Eq for Ipv6ExtensionSliceIter<'a> {
+    ghost laws = { Prim.search (comparing, rules) };
 }
 
 // The first of the headers that are left, the number that it names and what stands behind it.

@@ -13,6 +13,7 @@ ghost use Rattle.ep_ext.specs.Value.{Piece, bytes_of, piece_at};
 ghost use Rattle.ep_ext.specs.declared.net.ipv6_ext_place.Ipv6ExtPlace.TheVariants as place;
 ghost use Rattle.ep_ipslice.specs.Ipv6Exts.{Answers, Ipv6Exts, IsView, IsViewOf, Stops, exts_of};
 ghost use Rattle.ep_ipslice.specs.Ipv6Exts.{is_any_fragmenting, is_begun, place_behind, view_order};
+ghost use Rattle.ep_ipslice.specs.Ipv6Walk.{headers_left};
 
 use super::{Ipv6ExtensionSlice, Ipv6ExtensionSliceIter};
 use ep_base::IpNumber;
@@ -160,7 +161,7 @@ impl<'a> Ipv6ExtensionsSlice<'a> {
         ensures view { IsView self.now }
         ensures headers { (first : ℕ) (pieces : List Piece) (last : ℕ)
             → Row view_order [] first pieces last
-            → self.now ≡ exts_of first pieces → result ≡ pieces }
+            → self.now ≡ exts_of first pieces → headers_left result ≡ pieces }
     {
         laws::whole_header_is_found();
         match self.first_header {
@@ -219,7 +220,8 @@ impl<'a> IntoIterator for Ipv6ExtensionsSlice<'a> {
     type IntoIter = Ipv6ExtensionSliceIter<'a>;
 
     ghost into_iter_gives = { λ extensions iter. (first : ℕ) (pieces : List Piece) (last : ℕ)
-        → Row view_order [] first pieces last → extensions ≡ exts_of first pieces → iter ≡ pieces };
+        → Row view_order [] first pieces last → extensions ≡ exts_of first pieces
+        → headers_left iter ≡ pieces };
 
     fn into_iter(self) -> Ipv6ExtensionSliceIter<'a> {
         self.iter()

@@ -5,10 +5,16 @@ ghost use Rattle.std.specs.Cmp.Lexicographic.{slice_cmp};
 ghost use Rattle.std.specs.Hash as fed;
 ghost use Rattle.std.specs.Ordering.{nat_cmp};
 ghost use Rattle.ep_base.specs.Traits.{CopyIsValue, CopyNeverFails, HashIsOf, IsPlainData};
+ghost use Rattle.ep_packet.specs.Class.{as_class, part_told};
 ghost use Rattle.ep_packet.specs.PacketHeaders.{headers_told};
 ghost use Rattle.ep_packet.specs.Payload.{hashed_as, ordered_as, payload_told};
 ghost use Rattle.ep_packet.specs.Readable.{as_read};
 ghost use Rattle.ep_packet.specs.declared.addresses.Addresses.TheVariants as version;
+ghost use Rattle.ep_packet.specs.declared.class.Class.{Class as ClassValue};
+ghost use Rattle.ep_packet.specs.declared.class.Class.TheVariants as told;
+ghost use Rattle.ep_packet.specs.declared.class.CutMessage.{CutMessage as CutValue};
+ghost use Rattle.ep_packet.specs.declared.class.Part.{Part as PartValue};
+ghost use Rattle.ep_packet.specs.declared.class.WholeMessage.{WholeMessage as WholeValue};
 ghost use Rattle.ep_packet.specs.declared.message.Message.{Message as MessageValue};
 ghost use Rattle.ep_packet.specs.declared.packet_headers.PacketHeaders.{PacketHeaders};
 ghost use Rattle.ep_packet.specs.declared.payload_slice.PayloadSlice.{PayloadSlice};
@@ -17,8 +23,8 @@ use crate::err::ip::HeadersWriteError;
 use crate::err::net::NetSetNextHeaderError;
 use crate::err::packet::{SliceError, TransportChecksumError};
 use crate::{
-    Addresses, IpHeaders, Message, NetHeaders, NetSlice, PacketHeaders, Part, PayloadSlice,
-    SlicedPacket, TransportHeader, TransportSlice,
+    Addresses, Class, CutMessage, IpHeaders, Message, NetHeaders, NetSlice, PacketHeaders, Part,
+    PayloadSlice, SlicedPacket, TransportHeader, TransportSlice, WholeMessage,
 };
 use ep_base::laws::traits::Value;
 use std::hash::Hash;
@@ -79,11 +85,42 @@ pub fn equal_messages_are_read_alike<'a>()
         ↔ (as_read a ≡ as_read b) }
 {}
 
-/// A copy of a part of a message is the part and takes no memory.
+/// A copy of a part of a message is the part and takes no memory. So is one of what a frame is to its
+/// reader.
 pub fn copies_of_parts_are_values<'a>()
     ensures copies { CopyIsValue ⟦<Part<'a> as Clone>⟧.is_clone }
     ensures never_fails { CopyNeverFails ⟦<Part<'a> as Clone>⟧.is_infallible }
-{}
+    ensures cut { CopyIsValue ⟦<CutMessage<'a> as Clone>⟧.is_clone }
+    ensures cut_never_fails { CopyNeverFails ⟦<CutMessage<'a> as Clone>⟧.is_infallible }
+    ensures whole { CopyIsValue ⟦<WholeMessage<'a> as Clone>⟧.is_clone }
+    ensures whole_never_fails { CopyNeverFails ⟦<WholeMessage<'a> as Clone>⟧.is_infallible }
+    ensures class { CopyIsValue ⟦<Class<'a> as Clone>⟧.is_clone }
+    ensures class_never_fails { CopyNeverFails ⟦<Class<'a> as Clone>⟧.is_infallible }
+{
+    types_are_plain_data();
+    copies_of_messages_are_values();
+    ep_base::laws::traits::types_are_plain_data();
+    ep_tag::laws::traits::types_are_plain_data();
+}
+
+/// Parts of messages are equal where all that they hold is the same, and classes where they are of
+/// one kind and all that they tell is: of an uncut message addresses, number, bytes and how it is
+/// read, of a part its name, too.
+pub fn classes_are_equal_as_told<'a>()
+    ensures parts { (a b : PartValue) → IsTrue (⟦<Part<'a> as PartialEq>⟧.eq a b)
+        ↔ (part_told a ≡ part_told b) }
+    ensures cut { (a b : CutValue) → IsTrue (⟦<CutMessage<'a> as PartialEq>⟧.eq a b)
+        ↔ (as_class (told.Cut a) ≡ as_class (told.Cut b)) }
+    ensures whole { (a b : WholeValue) → IsTrue (⟦<WholeMessage<'a> as PartialEq>⟧.eq a b)
+        ↔ (as_class (told.Whole a) ≡ as_class (told.Whole b)) }
+    ensures class { (a b : ClassValue) → IsTrue (⟦<Class<'a> as PartialEq>⟧.eq a b)
+        ↔ (as_class a ≡ as_class b) }
+{
+    types_are_plain_data();
+    equal_messages_are_read_alike();
+    ep_base::laws::traits::types_are_plain_data();
+    ep_tag::laws::traits::types_are_plain_data();
+}
 
 /// Addresses feed a hasher their version, as it is declared, and then source and destination, each
 /// with its number of bytes.

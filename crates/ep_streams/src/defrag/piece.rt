@@ -2,7 +2,7 @@
 use ep_base::IpFragOffset;
 
 /// Bytes of a message, and where they stand in it.
-#[derive(Drop)]
+#[derive(Clone, Copy, Debug, PartialEq, Eq)]
 pub struct Piece<'a> {
     /// The offset of the bytes in the message, in units of 8 bytes.
     pub offset: IpFragOffset,

@@ -10,7 +10,7 @@ use std::alloc::Global;
 
 /// Buffers whose message ended, each kind in a list of its own: the bytes of a message are handed
 /// out, and its sections stay.
-#[derive(Drop)]
+#[derive(Debug, Drop)]
 pub(crate) struct SpareBuffers {
     pub bytes: Vec<Vec<u8>>,
     pub sections: Vec<Vec<IpFragRange>>,

@@ -29,7 +29,7 @@ use std::hash::{BuildHasher, Hash};
 
 /// A message that is on its way, and when its last fragment came. Contracts speak of it: no call
 /// hands one out.
-#[derive(Drop)]
+#[derive(Debug, Drop)]
 pub struct Stream<T> {
     /// Its fragments. The number of its protocol is told by its name.
     pub buf: IpDefragBuf<()>,

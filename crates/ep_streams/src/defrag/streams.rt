@@ -24,7 +24,7 @@ use std::hash::{BuildHasher, Hash};
 use std::marker::Model;
 
 /// The messages that are on their way, each under its name.
-#[derive(Drop)]
+#[derive(Debug, Drop)]
 pub struct Streams<K: Eq + Hash, T, S: BuildHasher> {
     alloc: Global,
     active: IndexMap<K, Stream<T>, S>,

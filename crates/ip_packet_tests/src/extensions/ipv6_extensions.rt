@@ -116,7 +116,7 @@ type Skipped<'a> = Result<(IpNumber, &'a [u8]), LenError>;
 fn skipped(bytes: &[u8]) -> (Skipped<'_>, Skipped<'_>) {
     (
         Ipv6Header::skip_all_header_extensions_in_slice(bytes, IpNumber(0)),
-        laws::skip_agrees_with_chain(IpNumber(0), bytes),
+        laws::skip_call_agrees_with_chain(IpNumber(0), bytes),
     )
 }
 

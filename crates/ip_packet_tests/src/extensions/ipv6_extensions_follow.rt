@@ -59,7 +59,7 @@ fn a_chain_is_followed_and_written(rt: HostRuntime) {
 // What headers are that are written over the front of these bytes and read again: whether they are
 // the same, the number behind them, and how many bytes are left.
 fn read_back(headers: &Ipv6Extensions, bytes: &[u8]) -> Option<(bool, IpNumber, usize)> {
-    match laws::written_chain_reads_back(headers, IpNumber(0), bytes) {
+    match laws::read_call_gives_written_chain(headers, IpNumber(0), bytes) {
         Ok((again, number, rest)) => Some((&again == headers, number, rest.len())),
         Err(_) => None,
     }

@@ -158,8 +158,9 @@ fn views_of_nothing(rt: HostRuntime) {
     let found = (
         Ipv4ExtensionsSlice::default().is_empty(),
         Ipv6ExtensionSliceIter::default().next().is_none(),
+        Ipv6ExtensionSliceIter::default() == Ipv6ExtensionSliceIter::default(),
     );
-    assert!(rt; found == (true, true));
+    assert!(rt; found == (true, true, true));
 }
 
 // The fields of the authentication header behind an IPv4 header.

@@ -5,6 +5,7 @@ ghost use Rattle.line_answers.specs.Sealed.{AddressesFit, HeaderFits, addresses_
 
 use crate::Letter;
 use etherparse::defrag::IpFragVersionSpecId;
+pub use etherparse::laws::ext::values::extensions_are_read_again;
 use etherparse::{Addresses, IpHeaders, TransportHeader, VlanId};
 
 /// Addresses have 4 bytes each, or 16.

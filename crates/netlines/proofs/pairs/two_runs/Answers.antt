@@ -3,7 +3,7 @@ use Rattle.std.specs.Io.KnownBytes.{Appends}
 use Rattle.line_answers.specs.Answers.{answers_of}
 use Rattle.line_answers.specs.TwoRuns.{AreIsolated}
 use Rattle.line_answers.proofs.WrittenLines.{on_both, runs_isolated}
-use Rattle.netlines.proofs.laws.pairs.two_runs.Goals as goal
+use Rattle.netlines.proofs.pairs.two_runs.Goals as goal
 
 pub returns : goal.returns
 returns g c =
