@@ -1,5 +1,6 @@
-/* Refuses one growth of the program into which it is loaded: the one with the number in REFUSED_GROWTH, counted from 1.
- * At the end it writes how many there were to standard error. */
+/* Refuses growths of the program into which it is loaded: the one with the number in REFUSED_GROWTH, counted from 1, or all from
+ * that number on where two dots follow it. At the end it writes to standard error how many there were, and how many bytes the
+ * greatest of them asked for. */
 #include <stddef.h>
 #include <stdio.h>
 #include <stdlib.h>
@@ -8,18 +9,26 @@ extern void *__libc_malloc(size_t size);
 extern void *__libc_realloc(void *old, size_t size);
 
 static long refused = -1;
+static int with_rest;
 static long growths;
+static size_t greatest;
 
-static int is_refused(void) {
+static int is_refused(size_t size) {
     if (refused < 0) {
         const char *number = getenv("REFUSED_GROWTH");
-        refused = number ? atol(number) : 0;
+        char *end = NULL;
+        refused = number ? strtol(number, &end, 10) : 0;
+        with_rest = end && *end == '.';
     }
-    return ++growths == refused;
+    if (size > greatest) greatest = size;
+    growths++;
+    return growths == refused || (with_rest && growths > refused);
 }
 
-void *malloc(size_t size) { return is_refused() ? NULL : __libc_malloc(size); }
+void *malloc(size_t size) { return is_refused(size) ? NULL : __libc_malloc(size); }
 
-void *realloc(void *old, size_t size) { return is_refused() ? NULL : __libc_realloc(old, size); }
+void *realloc(void *old, size_t size) { return is_refused(size) ? NULL : __libc_realloc(old, size); }
 
-__attribute__((destructor)) static void tell(void) { dprintf(2, "growths: %ld\n", growths); }
+__attribute__((destructor)) static void tell(void) {
+    dprintf(2, "growths: %ld, the greatest of %zu bytes\n", growths, greatest);
+}

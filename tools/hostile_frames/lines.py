@@ -11,6 +11,8 @@ VLAN = (0x8100, 0x88A8, 0x9100)
 MACSEC = 0x88E5
 HOP_BY_HOP, ICMP, TCP, UDP, ROUTING, FRAGMENT, AUTHENTICATION, ICMPV6, DESTINATION = 0, 1, 6, 17, 43, 44, 51, 58, 60
 CHECKSUM_AT = {UDP: 6, TCP: 16, ICMP: 2, ICMPV6: 2}
+# What links let through at once: the least over IPv4 and over IPv6, Ethernet, and jumbo frames.
+LINK_LIMITS = (576, 1280, 1500, 9000)
 # A line of so many characters is read, and its frame has at most so many bytes.
 LONGEST_LINE, LONGEST_FRAME = 200_000, 99_996
 LONGEST_MESSAGE = 65_535
@@ -351,6 +353,28 @@ def parts(draw):
         yield name, frame_line(draw, sender.channel, broken(draw, frame) if draw.random() < 0.2 else frame)
 
 
+def datagram(draw):
+    """A datagram as a network cuts it, or whole: each fragment but the last one fills a packet of the link, or what VLANs,
+    options and tunnels leave of that."""
+    sender = Sender(draw)
+    head = {4: 20, 6: 40}[sender.version]
+    room = draw.choice(LINK_LIMITS) - head - draw.choice((0, 0, 0, 0, 4, 8, 12, 20, 24, 28, 40, 50, 80))
+    filled = (room - (8 if sender.version == 6 else 0)) // 8 * 8
+    # What is sent over UDP and TCP in whole packets, and the lengths about a full fragment and some of them.
+    length = draw.choice((room, room - 8, room - 20, room - 32, filled - 1, filled, filled + 1, 2 * filled, draw.randrange(1, 4 * filled)))
+    message = message_of(draw, sender, max(0, length - 8))
+    if len(message) <= room and draw.random() < 0.5:
+        yield "datagram", frame_line(draw, sender.channel, part_frame(draw, sender, message))
+        return
+    plan = cut(message, range(filled // 8, (len(message) + 7) // 8, filled // 8))
+    if draw.random() < 0.5:
+        draw.shuffle(plan)
+    if draw.random() < 0.2:
+        plan.insert(draw.randrange(len(plan) + 1), draw.choice(plan))
+    for start, more, part in plan:
+        yield "fragment of a datagram", frame_line(draw, sender.channel, part_frame(draw, sender, part, start, more))
+
+
 def great_message(draw):
     """A message near the greatest length, in a few fragments."""
     sender, length = Sender(draw), LONGEST_MESSAGE + draw.choice((-8, -7, -1, 0, 0, 0, 1))
@@ -407,7 +431,7 @@ def bad_line(draw):
     yield "bad line", line.replace(b"\n", b"")
 
 
-STORIES = {whole: 40, parts: 40, every_front: 0.4, bad_line: 6, great_message: 0.08, long_chain: 0.12, long_line: 0.08}
+STORIES = {whole: 40, parts: 40, datagram: 8, every_front: 0.4, bad_line: 6, great_message: 0.08, long_chain: 0.12, long_line: 0.08}
 
 
 def block(draw, count):

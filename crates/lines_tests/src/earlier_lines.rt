@@ -152,3 +152,20 @@ fn answers_a_text_in_pieces(rt: HostRuntime) {
     equal(rt, session.has_ended(), true);
     hands_out(rt, &mut session, 16, (true, 5), "even\n");
 }
+
+/// Each line is a piece of its own, and its reply is handed out before the next one comes.
+#[test]
+fn answers_thousands_of_lines(rt: HostRuntime) {
+    let mut session = Session::new(rt.alloc(), unmarked(2500)).expect(&rt, "no memory");
+    for round in 0..2500u32 {
+        session.take(b"a\n").expect(&rt, "no memory");
+        session.take(b"\n").expect(&rt, "no memory");
+        if round == 0 {
+            hands_out(rt, &mut session, 16, (true, 10), "odd\nfirst\n");
+        } else {
+            hands_out(rt, &mut session, 16, (true, 10), "odd\nagain\n");
+        }
+    }
+    session.finish().expect(&rt, "no memory");
+    hands_out(rt, &mut session, 0, (true, 0), "");
+}

@@ -15,6 +15,8 @@ mod hasher_states;
 #[cfg(test)]
 mod laws;
 #[cfg(test)]
+mod lengths;
+#[cfg(test)]
 mod memory;
 #[cfg(test)]
 mod messages;
@@ -26,6 +28,8 @@ mod post_refusals;
 mod program;
 #[cfg(test)]
 mod reuse;
+#[cfg(test)]
+mod rounds;
 #[cfg(test)]
 mod rows;
 #[cfg(test)]

@@ -23,6 +23,8 @@ mod outputs;
 #[cfg(test)]
 mod refusals;
 #[cfg(test)]
+mod rounds;
+#[cfg(test)]
 mod summaries;
 #[cfg(test)]
 mod whole_captures;

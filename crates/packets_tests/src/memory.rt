@@ -9,8 +9,8 @@ use packets::{Dissection, Dissector, NoProgress, Summary, Tally, summarize, writ
 use std::alloc::Global;
 use std::process::Abort;
 
-// Two parts of a UDP datagram, and an IPv4 header that is cut off.
-const CAPTURE: &[u8; 189] = b"\
+/// Two parts of a UDP datagram, and an IPv4 header that is cut off.
+pub(super) const CAPTURE: &[u8; 189] = b"\
     \xd4\xc3\xb2\xa1\x02\x00\x04\x00\x00\x00\x00\x00\x00\x00\x00\x00\
     \x00\x00\x04\x00\x01\x00\x00\x00\
     \x00\xf1\x53\x65\x00\x00\x00\x00\x32\x00\x00\x00\x32\x00\x00\x00\
