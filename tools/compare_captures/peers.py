@@ -66,10 +66,12 @@ def told_of(capture, path):
     return told
 
 
-def records(seed, path):
-    """Each capture with what was put in and what the peers tell of it. Frames of other links are scapy's reading of them: there the
+def records(seed, path, step=1):
+    """Each capture, or each of so many, with what was put in and what the peers tell of it. Frames of other links are scapy's reading of them: there the
     peers have to tell the packets that were put in."""
-    for capture in captures.captures(seed, path):
+    for number, capture in enumerate(captures.captures(seed, path)):
+        if number % step:
+            continue
         told = {"made": (capture.packets, capture.times), **told_of(capture, path)}
         if capture.wanted is not None:
             for name, (packets, times) in told.items():
