@@ -1,11 +1,11 @@
 //! What is made of an input: lines of a capture, or a capture of lines.
 ghost use Rattle.std.specs.Prelude.{◌≡◌, List, ℕ, OnOk, IfSome, Result};
-ghost use Rattle.std.specs.Io.KnownBytes.{Appends};
+ghost use Rattle.std.specs.Io.KnownBytes.{Appends, Consumes};
 ghost use Rattle.runs.specs.Endings.{EndsFlushed};
 ghost use Rattle.runs.specs.Known.{Transfers};
 ghost use Rattle.captures.specs.Endings.{ending_of};
 ghost use Rattle.captures.specs.Lines.{Packet, lines_of};
-ghost use Rattle.captures.specs.Runs.{IsCapture, capture_to_lines};
+ghost use Rattle.captures.specs.Runs.{ArePassedOver, IsCapture, capture_to_lines};
 ghost use Rattle.captures.specs.Spelling.{TimedFrame, capture_of};
 ghost use Rattle.captures.specs.Texts.{IsText, lines_to_capture};
 ghost use Rattle.captures.specs.declared.extra.Extra.{Extra};
@@ -47,6 +47,10 @@ pub fn make<R: Read, W: Write>(
         → (done : Result Unit RunError) × EndsFlushed RunError.Write done result
         × Transfers (lines_to_capture time_unit) (R.remaining reader.old) (R.remaining reader.new)
         (W.contents writer.old) (W.contents writer.new) (ending_of done) }
+    // However it ends: in the whole units of the bytes read so many packets were passed over.
+    ensures passed { (extra : Extra) (unfit : Unfit) → mode ≡ Mode.Lines extra unfit
+        → (read : List ℕ) × Consumes (R.remaining reader.old) (R.remaining reader.new) read
+        × ArePassedOver unfit skipped.new read }
     // Of lines nothing is passed over.
     ensures same { (time_unit : TimeUnit) → mode ≡ Mode.Capture time_unit
         → skipped.new ≡ skipped.old }
@@ -72,6 +76,9 @@ fn make_lines<R: Read, W: Write>(
         × Transfers (capture_to_lines extra unfit skipped.new)
         (R.remaining reader.old) (R.remaining reader.new)
         (W.contents writer.old) (W.contents writer.new) (ending_of done) }
+    ensures passed { (read : List ℕ)
+        × Consumes (R.remaining reader.old) (R.remaining reader.new) read
+        × ArePassedOver unfit skipped.new read }
 {
     let made = captures::run(alloc, extra, unfit, reader, writer, skipped);
     flush_behind(writer, made, RunError::Write)

@@ -1,2 +1,3 @@
 pub mod ErrorStatus
+pub mod Inputs
 pub mod Looks

@@ -11,6 +11,6 @@ mod notes;
 
 pub use ending::{exit_code, tell_skipped};
 pub use exit_status::status;
-pub use input::{input_look, input_of};
+pub use input::Input;
 pub use looks::{Look, look_at};
 pub use notes::{Told, compression_note, note};

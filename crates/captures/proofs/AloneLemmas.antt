@@ -2,7 +2,7 @@
 use Rattle.std.proofs.Common.{◌≡◌, ◌∙◌, sym, ap, ap₂, refl, subst, ℕ, ◌+◌, ◌-◌, ◌*◌, ◌/◌, ◌%◌, ◌<◌}
 use Rattle.std.proofs.Common.{◌≤◌}
 use Rattle.std.proofs.Common.{◌==◌, arith, List, [], ◌++◌, length, take, drop, append_assoc}
-use Rattle.std.proofs.Common.{inl, inr, eqb-true, Some}
+use Rattle.std.proofs.Common.{inl, inr, eqb-true, Some, Bool}
 use Rattle.std.specs.Prelude.{◌⊎◌, IsTrue, slice_index, if◌then◌else◌}
 use Rattle.std.proofs.Math.Seq.{take-append_seam, drop-append_seam}
 use Rattle.std.proofs.lemmas.Bool.{ne_eqb, or_cases}
@@ -13,11 +13,12 @@ use Rattle.captures.specs.Lines.{packets_of}
 use Rattle.captures.specs.Numbers.{half, word}
 use Rattle.captures.specs.Pcap.{is_magic, link_type}
 use Rattle.captures.specs.Pcapng.{Content, HasOrder, Says, Becomes, captured_len, section_header}
+use Rattle.captures.specs.Pcapng.{is_read_version}
 use Rattle.captures.specs.Pcapng.{byte_order_magic, enhanced_packet, interface_description}
 use Rattle.captures.specs.Pcapng.{obsolete_packet, simple_packet, link_at, clock_at, clocks_with}
 use Rattle.captures.specs.Times.{clock_of, clock_time, unit_of}
 use Rattle.captures.specs.Units.{record_origin}
-use Rattle.captures.specs.Pcapng.Content.{Opens, Describes, Holds, Nothing}
+use Rattle.captures.specs.Pcapng.Content.{Opens, OpensOther, Describes, Holds, Nothing}
 use Rattle.captures.specs.Skipping.{counted, passing_from}
 use Rattle.captures.specs.Units.{IsUnit, IsBlockUnit, IsRecordUnit, OpensFile, no_section}
 use Rattle.captures.specs.declared.byte_order.ByteOrder.{ByteOrder}
@@ -158,10 +159,17 @@ origin_is : (n t : ℕ) (origin : Origin) → n ≡ origin.channel → t ≡ ori
     → record { channel = n; time = t } ≡ origin
 origin_is n t origin number time = λ i. record { channel = number i; time = time i }
 
+-- what a section header says, by whether its version is read
+abbrev pub header_content : Section → ByteOrder → List ℕ → Bool → Content
+header_content section order block is_read =
+    if is_read then Opens (section.first + section.interfaces)
+    else OpensOther (half order block 12) (half order block 14)
+
 -- a block says one thing at most
 abbrev pub content_at : Section → ByteOrder → List ℕ → ℕ → Content
 content_at section order block kind =
-    if kind == section_header then Opens (section.first + section.interfaces)
+    if kind == section_header then header_content section order block
+    (is_read_version (half order block 12) (half order block 14))
     else (if kind == interface_description then Describes (half order block 8) (word order block 12)
     (clock_of order (take (length block - 20) (drop 16 block)))
     else (if kind == enhanced_packet then Holds (timed_origin section order block (word order block 8))
@@ -179,11 +187,18 @@ describes_same : {l l' s s' : ℕ} {c c' : Clock} → l ≡ l' → s ≡ s' → 
     → Describes l s c ≡ Describes l' s' c'
 describes_same link snap clock = λ i. Describes (link i) (snap i) (clock i)
 
+opens_other_same : {m m' n n' : ℕ} → m ≡ m' → n ≡ n' → OpensOther m n ≡ OpensOther m' n'
+opens_other_same major minor = λ i. OpensOther (major i) (minor i)
+
 pub content_is : (section : Section) (order : ByteOrder) (block : List ℕ) (content : Content)
     → Says section order block content
     → content_at section order block (word order block 0) ≡ content
 content_is section order block (Opens first) says =
-    ap (content_at section order block) says.0 ∙ ap Opens says.3
+    ap (content_at section order block) says.0
+    ∙ ap (header_content section order block) says.2 ∙ ap Opens says.3
+content_is section order block (OpensOther major minor) says =
+    ap (content_at section order block) says.0
+    ∙ ap (header_content section order block) says.2 ∙ opens_other_same says.3 says.4
 content_is section order block (Describes link snap clock) says =
     ap (content_at section order block) says.0 ∙ describes_same says.2 says.3 says.4
 content_is section order block (Holds number link bytes) (inl says) =
@@ -236,6 +251,8 @@ becomes_once : (section : Section) (order : ByteOrder) (content : Content)
     → (after ≡ after') × (packets_of origin frame ≡ packets_of origin' frame')
 becomes_once section order (Opens first) after after' origin origin' frame frame' b b' =
     (b.0 ∙ sym b'.0, no_packets origin origin' frame frame' b.1 b'.1)
+becomes_once section order (OpensOther major minor) after after' origin origin' frame frame' b b' =
+    absurd b
 becomes_once section order (Describes link snap clock) after after' origin origin' frame frame' b b' =
     let links : b.0 ≡ b'.0 = some_same (sym b.1 ∙ b'.1) in (
       b.2

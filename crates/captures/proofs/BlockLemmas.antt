@@ -16,9 +16,9 @@ use Rattle.captures.specs.declared.capture_error.CaptureError.{CaptureError}
 use Rattle.captures.specs.declared.capture_error.CaptureError.TheVariants.{NotCapture, LinkType}
 use Rattle.captures.specs.declared.capture_error.CaptureError.TheVariants.{FrameTooLong, CutOff}
 use Rattle.captures.specs.declared.capture_error.CaptureError.TheVariants.{BlockTooLong, BadBlock}
-use Rattle.captures.specs.declared.capture_error.CaptureError.TheVariants.{NoFrame}
+use Rattle.captures.specs.declared.capture_error.CaptureError.TheVariants.{NoFrame, Version}
 use Rattle.captures.specs.declared.link.kind.Link.{Link}
-use Rattle.captures.specs.Pcapng.Content.{Opens, Describes, Holds, Nothing}
+use Rattle.captures.specs.Pcapng.Content.{Opens, OpensOther, Describes, Holds, Nothing}
 use Rattle.captures.specs.declared.byte_order.ByteOrder.{ByteOrder}
 use Rattle.captures.specs.declared.pcapng.section.Section.{Section}
 use Rattle.captures.specs.declared.origin.Origin.{Origin}
@@ -39,6 +39,8 @@ pub no_enhanced : (section : Section) (order : ByteOrder) (block : List ℕ)
     → (content : Content) → Says section order block content → ⊥
 no_enhanced section order block kind none (Opens first) says = let other =
     says.0 in absurd (omega arith)
+no_enhanced section order block kind none (OpensOther major minor) says = let other =
+    says.0 in absurd (omega arith)
 no_enhanced section order block kind none (Describes link_type snap_len clock) says = let other =
     says.0 in absurd (omega arith)
 no_enhanced section order block kind none (Holds origin link packet) (inl says) =
@@ -56,6 +58,8 @@ pub no_obsolete : (section : Section) (order : ByteOrder) (block : List ℕ)
     → (content : Content) → Says section order block content → ⊥
 no_obsolete section order block kind none (Opens first) says = let other =
     says.0 in absurd (omega arith)
+no_obsolete section order block kind none (OpensOther major minor) says = let other =
+    says.0 in absurd (omega arith)
 no_obsolete section order block kind none (Describes link_type snap_len clock) says = let other =
     says.0 in absurd (omega arith)
 no_obsolete section order block kind none (Holds origin link packet) (inl says) = let other =
@@ -72,6 +76,8 @@ pub no_simple : (section : Section) (order : ByteOrder) (block : List ℕ)
     → IsSimplePacket section order block origin link packet → ⊥)
     → (content : Content) → Says section order block content → ⊥
 no_simple section order block kind none (Opens first) says = let other =
+    says.0 in absurd (omega arith)
+no_simple section order block kind none (OpensOther major minor) says = let other =
     says.0 in absurd (omega arith)
 no_simple section order block kind none (Describes link_type snap_len clock) says = let other =
     says.0 in absurd (omega arith)
@@ -200,6 +206,7 @@ by_error section order bytes block (FrameTooLong captured) has size refused = ha
 by_error section order bytes block NoFrame has size refused = has
 by_error section order bytes block CutOff has size refused = refused
 by_error section order bytes block (BlockTooLong len) has size refused = absurd refused
+by_error section order bytes block (Version major minor) has size refused = has
 by_error section order bytes block BadBlock has size refused = (size, inr (inr has))
 
 pub refused_at : (section : Section) (order : ByteOrder) (bytes block rest : List ℕ)

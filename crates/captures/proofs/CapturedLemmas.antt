@@ -10,7 +10,7 @@ use Rattle.captures.specs.ComeBack.{HasLine, CapturedPacketsHaveLines}
 use Rattle.captures.specs.Lines.{Packet, packets_of}
 use Rattle.captures.specs.Numbers.{half, word}
 use Rattle.captures.specs.Pcapng.{Content, Says, Becomes, IsTimedPacket, clock_at}
-use Rattle.captures.specs.Pcapng.Content.{Opens, Describes, Holds, Nothing}
+use Rattle.captures.specs.Pcapng.Content.{Opens, OpensOther, Describes, Holds, Nothing}
 use Rattle.captures.specs.Units.{IsUnit, IsBlockUnit, Row, in_a_row, no_section}
 use Rattle.captures.specs.declared.byte_order.ByteOrder.{ByteOrder}
 use Rattle.captures.specs.declared.limits.TheConstants.{FRAME_LIMIT, TIME_LIMIT}
@@ -84,6 +84,8 @@ block_fits section order block after origin frame range bytes (Opens first) says
       (sym becomes.0) says.4,
   none_fits origin frame becomes.1,
 )
+block_fits section order block after origin frame range bytes (OpensOther major minor) says
+    becomes = absurd becomes
 block_fits section order block after origin frame range bytes
     (Describes link_type snap_len clock) says becomes = (
       subst (λ (s : Section). s.first < 2 ^ 32)

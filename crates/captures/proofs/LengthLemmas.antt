@@ -1,19 +1,37 @@
 -- Blocks that are too short for what they say.
-use Rattle.std.proofs.Common.{◌≡◌, ℕ, ◌+◌, ◌<◌, arith, List, length, inl, inr}
-use Rattle.std.specs.Prelude.{◌⊎◌}
+use Rattle.std.proofs.Common.{◌≡◌, ◌≢◌, ℕ, ◌+◌, ◌<◌, ◌==◌, arith, refl, Bool, true, false, List}
+use Rattle.std.proofs.Common.{length, inl, inr}
+use Rattle.std.specs.Prelude.{◌⊎◌, ◌&&◌}
+use Rattle.std.proofs.lemmas.Bool.{ne_eqb}
 use Rattle.captures.specs.Numbers.{word}
-use Rattle.captures.specs.Pcapng.{Content, RefusesBlock, Says, section_header}
+use Rattle.captures.specs.Pcapng.{Content, RefusesBlock, Says, is_read_version, section_header}
 use Rattle.captures.specs.Pcapng.{interface_description, enhanced_packet, obsolete_packet}
-use Rattle.captures.specs.Pcapng.Content.{Opens, Describes, Holds, Nothing}
+use Rattle.captures.specs.Pcapng.Content.{Opens, OpensOther, Describes, Holds, Nothing}
 use Rattle.captures.specs.declared.byte_order.ByteOrder.{ByteOrder}
 use Rattle.captures.specs.declared.capture_error.CaptureError.TheVariants.{LinkType, BadBlock}
 use Rattle.captures.specs.declared.capture_error.CaptureError.TheVariants.{FrameTooLong}
 use Rattle.captures.specs.declared.pcapng.section.Section.{Section}
 
+pub read_version : (major minor : ℕ) → major ≡ 1 → (minor ≡ 0) ⊎ (minor ≡ 2)
+    → is_read_version major minor ≡ true
+read_version major minor one (inl zero) = rw (one, zero) refl
+read_version major minor one (inr two) = rw (one, two) refl
+
+and_false : (b : Bool) → (b && false) ≡ false
+and_false true = refl
+and_false false = refl
+
+pub other_version : (major minor : ℕ) → (major ≢ 1) ⊎ ((minor ≢ 0) × (minor ≢ 2))
+    → is_read_version major minor ≡ false
+other_version major minor (inl other) = rw (ne_eqb major 1 other) refl
+other_version major minor (inr other) =
+    rw (ne_eqb minor 0 other.0, ne_eqb minor 2 other.1) (and_false (major == 1))
+
 module _ (section : Section) (order : ByteOrder) (block : List ℕ) where
   pub short_header : (content : Content) → word order block 0 ≡ section_header
       → length block < 28 → Says section order block content → ⊥
   short_header (Opens first) kind short says = let long = says.1 in absurd (omega arith)
+  short_header (OpensOther major minor) kind short says = let long = says.1 in absurd (omega arith)
   short_header (Describes link_type snap_len clock) kind short says =
       let other = says.0 in absurd (omega arith)
   short_header (Holds origin link packet) kind short (inl says) =
@@ -27,6 +45,8 @@ module _ (section : Section) (order : ByteOrder) (block : List ℕ) where
   short_description : (content : Content) → word order block 0 ≡ interface_description
       → length block < 20 → Says section order block content → ⊥
   short_description (Opens first) kind short says = let other = says.0 in absurd (omega arith)
+  short_description (OpensOther major minor) kind short says =
+      let other = says.0 in absurd (omega arith)
   short_description (Describes link_type snap_len clock) kind short says =
       let long = says.1 in absurd (omega arith)
   short_description (Holds origin link packet) kind short (inl says) =
@@ -50,6 +70,10 @@ module _ (section : Section) (order : ByteOrder) (block : List ℕ) where
       → length block < 32 + word order block 20 → Says section order block content → ⊥
   short_packet (Opens first) (inl kind) short says = let other = says.0 in absurd (omega arith)
   short_packet (Opens first) (inr kind) short says = let other = says.0 in absurd (omega arith)
+  short_packet (OpensOther major minor) (inl kind) short says =
+      let other = says.0 in absurd (omega arith)
+  short_packet (OpensOther major minor) (inr kind) short says =
+      let other = says.0 in absurd (omega arith)
   short_packet (Describes link_type snap_len clock) (inl kind) short says =
       let other = says.0 in absurd (omega arith)
   short_packet (Describes link_type snap_len clock) (inr kind) short says =

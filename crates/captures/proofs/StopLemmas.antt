@@ -9,9 +9,10 @@ use Rattle.captures.specs.Lines.{Packet, blank, lines_of}
 use Rattle.captures.specs.Numbers.{word}
 use Rattle.captures.specs.Pcap.{is_magic, link_type}
 use Rattle.captures.specs.Pcapng.{Content, HasOrder, Says, Reads, IsSkipped, RefusesBlock}
-use Rattle.captures.specs.Pcapng.{section_header}
-use Rattle.captures.specs.Pcapng.Content.{Opens, Describes, Holds}
-use Rattle.captures.specs.Runs.{IsCapture}
+use Rattle.captures.specs.Pcapng.{section_header, interface_description, enhanced_packet}
+use Rattle.captures.specs.Pcapng.{obsolete_packet, simple_packet}
+use Rattle.captures.specs.Pcapng.Content.{Opens, OpensOther, Describes, Holds, Nothing}
+use Rattle.captures.specs.Runs.{ArePassedOver, IsCapture}
 use Rattle.captures.specs.Units.{IsUnit, IsBlockUnit, IsRecordUnit, OpensFile, Row, in_a_row}
 use Rattle.captures.specs.Units.{no_section}
 use Rattle.captures.specs.Units.{HasNoFrame, IsShortBlock, IsShortRecord, HasLongFrame, HasLinkType}
@@ -23,7 +24,7 @@ use Rattle.captures.specs.declared.capture_error.CaptureError.{CaptureError}
 use Rattle.captures.specs.declared.capture_error.CaptureError.TheVariants.{NotCapture, LinkType}
 use Rattle.captures.specs.declared.capture_error.CaptureError.TheVariants.{FrameTooLong, CutOff}
 use Rattle.captures.specs.declared.capture_error.CaptureError.TheVariants.{BlockTooLong, BadBlock}
-use Rattle.captures.specs.declared.capture_error.CaptureError.TheVariants.{NoFrame}
+use Rattle.captures.specs.declared.capture_error.CaptureError.TheVariants.{NoFrame, Version}
 use Rattle.captures.specs.declared.link.kind.Link.{Link}
 use Rattle.captures.specs.declared.pcapng.section.Section.{Section}
 use Rattle.captures.specs.declared.translation.skipped.Passing.{Passing}
@@ -31,7 +32,7 @@ use Rattle.captures.specs.declared.translation.skipped.Skipped.{Skipped}
 use Rattle.captures.specs.declared.translation.state.State.{State}
 use Rattle.captures.specs.declared.unfit.Unfit.{Unfit}
 use Rattle.captures.specs.declared.translation.state.State.TheVariants.{Start, Classic, Pcapng}
-use Rattle.captures.proofs.AloneLemmas.{becomes_as, content_at, content_is, front_same, rest_same}
+use Rattle.captures.proofs.AloneLemmas.{becomes_as, front_same, rest_same}
 use Rattle.captures.proofs.AloneLemmas.{bytes_behind, order_alone}
 use Rattle.captures.proofs.AloneLemmas.{order_more, file_order, no_section_in, unit_alone}
 use Rattle.captures.proofs.BlockLemmas.{word_of, skipped_front}
@@ -57,11 +58,17 @@ section_kind Little bytes all big =
 -- a block of that kind has 28 bytes at least
 opens : (section : Section) (order : ByteOrder) (block : List ℕ) (content : Content)
     → Says section order block content → word order block 0 ≡ section_header → 28 ≤ length block
-opens section order block content says kind =
-    let is : content ≡ Opens (section.first + section.interfaces) =
-    sym (content_is section order block content says)
-    ∙ ap (content_at section order block) kind in
-    (subst (λ (k : Content). Says section order block k) is says).1
+opens section order block (Opens first) says kind = says.1
+opens section order block (OpensOther major minor) says kind = says.1
+opens section order block (Describes link_type snap_len clock) says kind =
+    let other = says.0 in absurd (omega arith)
+opens section order block (Holds origin link packet) (inl says) kind =
+    let other = says.0 in absurd (omega arith)
+opens section order block (Holds origin link packet) (inr (inl says)) kind =
+    let other = says.0 in absurd (omega arith)
+opens section order block (Holds origin link packet) (inr (inr says)) kind =
+    let other = says.kind in absurd (omega arith)
+opens section order block Nothing says kind = absurd (says.0 kind)
 
 some_and_none : {A : Type 0} (found : Option A) (x : A) → found ≡ Some x → found ≡ None → ⊥
 some_and_none found x some none = let same : Some x ≡ None = sym some ∙ none in cc
@@ -88,6 +95,9 @@ refused_says section order block NoFrame refused after origin frame reads =
     refused.3 after origin frame reads.becomes).2 refused.5
 refused_says section order block CutOff refused after origin frame reads = refused
 refused_says section order block (BlockTooLong len) refused after origin frame reads = refused
+refused_says section order block (Version major minor) refused after origin frame reads =
+    becomes_as section order block reads.content (OpensOther major minor) reads.says refused after
+    origin frame reads.becomes
 refused_says section order block BadBlock refused after origin frame reads =
     refused reads.content reads.says
 
@@ -172,6 +182,7 @@ module _ (bytes u r : List ℕ) (all : IsBytes bytes) (parts : bytes ≡ u ++ r)
               inr (subst (λ (o : ByteOrder). IsSkipped o bytes) (sym order)
               (skipped_front b.order bytes u r parts (omega arith) skipped))
         ])
+    not_at (Version major minor) refuses = not_refused (Version major minor) refuses
     not_at BadBlock (size, inl none) =
         none b.order (order_more section.order b.order bytes u r parts long b.has_order)
     not_at BadBlock (size, inr (inl bad)) = not_bad bad
@@ -209,6 +220,7 @@ module _ (bytes u r : List ℕ) (all : IsBytes bytes) (parts : bytes ≡ u ++ r)
     not_first NoFrame refuses = no_kind refuses.0.0
     not_first CutOff refuses = refuses
     not_first (BlockTooLong len) refuses = no_kind refuses.0.0
+    not_first (Version major minor) refuses = no_kind refuses.0.0
     not_first BadBlock refuses = no_kind refuses.0.0
 
   -- a section header
@@ -249,6 +261,8 @@ module _ (bytes u r : List ℕ) (all : IsBytes bytes) (parts : bytes ≡ u ++ r)
     not_section CutOff refuses = refuses
     not_section (BlockTooLong len) refuses =
         not_at (no_section unfit) b (BlockTooLong len) refuses.1
+    not_section (Version major minor) refuses =
+        not_at (no_section unfit) b (Version major minor) refuses.1
     not_section BadBlock refuses = not_at (no_section unfit) b BadBlock refuses.1
 
   -- a packet record
@@ -350,6 +364,8 @@ left_no_unit (Classic order time_unit link passing) bytes u r all parts after or
 left_no_unit (Classic order time_unit link passing) bytes u r all parts after origin frame i
     (Some (BlockTooLong len)) refuses = refuses
 left_no_unit (Classic order time_unit link passing) bytes u r all parts after origin frame i
+    (Some (Version major minor)) refuses = refuses
+left_no_unit (Classic order time_unit link passing) bytes u r all parts after origin frame i
     (Some BadBlock) refuses = refuses
 left_no_unit (Pcapng section) bytes u r all parts after origin frame i None (inl few) = let size =
     i.block.size in let f = fits bytes u r all parts after origin frame in absurd (omega arith)
@@ -422,3 +438,14 @@ capture_alone unfit bytes packets packets' skipped skipped' all capture capture'
     capture'.state [] [] None None (subst IsBytes p.parts all) (sym p.parts ∙ p'.parts)
     p.row p'.row (nothing_left capture.state) (nothing_left capture'.state) in
     (same.0, sym capture.counts ∙ ap skipped_in same.1 ∙ capture'.counts)
+
+pub passed_over_alone : (unfit : Unfit) (bytes : List ℕ) (skipped skipped' : Skipped)
+    → IsBytes bytes → ArePassedOver unfit skipped bytes → ArePassedOver unfit skipped' bytes
+    → skipped ≡ skipped'
+passed_over_alone unfit bytes skipped skipped' all a a' =
+    let p = a.passes in
+    let p' = a'.passes in
+    let same = rows_alone (Start unfit) p.units p'.units a.packets a'.packets a.state a'.state
+    a.rest a'.rest a.refusal a'.refusal (subst IsBytes p.parts all) (sym p.parts ∙ p'.parts)
+    p.row p'.row a.left a'.left in
+    sym a.counts ∙ ap skipped_in same.1 ∙ a'.counts

@@ -8,7 +8,7 @@ use Rattle.captures.specs.declared.capture_error.CaptureError.{CaptureError}
 use Rattle.captures.specs.declared.capture_error.CaptureError.TheVariants.{NotCapture, LinkType}
 use Rattle.captures.specs.declared.capture_error.CaptureError.TheVariants.{FrameTooLong, CutOff}
 use Rattle.captures.specs.declared.capture_error.CaptureError.TheVariants.{BlockTooLong, BadBlock}
-use Rattle.captures.specs.declared.capture_error.CaptureError.TheVariants.{NoFrame}
+use Rattle.captures.specs.declared.capture_error.CaptureError.TheVariants.{NoFrame, Version}
 use Rattle.captures.specs.declared.limits.TheConstants.{FIRST_UNIT_LEN}
 use Rattle.captures.specs.declared.pcapng.long_block.LongBlock.{LongBlock}
 use Rattle.captures.specs.declared.place.Place.{Place}
@@ -23,8 +23,9 @@ use Rattle.captures.specs.Numbers.{capped}
 use Rattle.captures.specs.Places.{IsPlace, block_type}
 use Rattle.captures.specs.Skipping.{none_skipped}
 use Rattle.captures.specs.Units.{Takes, IsNoCapture, in_a_row, skipped_in}
-use Rattle.captures.specs.Runs.{IsRefused, at_place, result_at_end, capture_to_lines}
-use Rattle.captures.specs.Translations.{Begins, IsDueBy, Translates, Finishes, IsWhole}
+use Rattle.captures.specs.Runs.{IsRefused, PassesOver, at_place, result_at_end, capture_to_lines}
+use Rattle.captures.specs.Translations.{Begins, RunEnds, Fills, IsDueBy, Translates, Finishes}
+use Rattle.captures.specs.Translations.{IsWhole}
 use Rattle.captures.proofs.CountLemmas.{capped_more}
 use Rattle.captures.proofs.SkipLemmas.{takes_piece, dropped_size}
 use Rattle.captures.proofs.UnitLemmas.{passes_start, takes_more, passes_to_start, no_capture_begun}
@@ -67,6 +68,9 @@ refused_outcome extra noted unfit told read written state rest count (BlockTooLo
     (state, rest, count, noted, takes, at, refl)
 refused_outcome extra noted unfit told read written state rest count NoFrame place takes at =
     (state, rest, count, noted, takes, at, refl)
+refused_outcome extra noted unfit told read written state rest count (Version major minor) place takes
+    at =
+    (state, rest, count, noted, takes, at, refl)
 refused_outcome extra noted unfit told read written state rest count BadBlock place takes at =
     (state, rest, count, noted, takes, at, refl)
 refused_outcome extra noted unfit told read written state rest count (LinkType number) place takes at =
@@ -105,8 +109,8 @@ tells_start extra unfit =
     } in
     record {
       room = refl;
-      starved = (refl, refl);
-      full = (Start unfit, [], 0, None, blank extra, takes);
+      starved = (refl, refl, refl);
+      full = (Start unfit, [], 0, None, blank extra, takes, refl);
       due = (Start unfit, [], 0, blank extra, takes);
       shows = ([], refl, 0, takes, refl, refl);
     }
@@ -166,7 +170,7 @@ module _ (ledger noted : Ledger) (same_extra : noted.extra ≡ ledger.extra) (un
   tells_more l =
       let takes = all_told None l in
       record {
-        full = (after, l.dropped ++ rest, tells.2 + count, None, noted, takes);
+        full = (after, l.dropped ++ rest, tells.2 + count, None, noted, takes, refl);
         follows = (
           (after, l.dropped ++ rest, tells.2 + count, noted, takes),
           (
@@ -190,7 +194,7 @@ module _ (ledger noted : Ledger) (same_extra : noted.extra ≡ ledger.extra) (un
   tells_refused shown error place l packet offset block =
       let takes = all_told (Some error) l in
       record {
-        full = (after, l.dropped ++ rest, tells.2 + count, Some error, noted, takes);
+        full = (after, l.dropped ++ rest, tells.2 + count, Some error, noted, takes, refl);
         follows = refused_outcome noted.extra noted unfit false (read ++ piece) (written ++ text) after
             (l.dropped ++ rest) (tells.2 + count) error place takes (record {
               packet = packet ∙ ap (λ t. capped (t + 1)) count_told
@@ -286,7 +290,7 @@ module _ (ledger : Ledger) (unfit : Unfit) (read written : List ℕ) (place : Pl
       omega (arith, length-append tells.0 held) in
       subst (λ (text : List ℕ). Finishes (capture_to_lines ledger.extra unfit (skipped_in state)) read text
       result) (sym (append-nil written)) (record {
-        full = (state, tells.0 ++ held, tells.2, None, ledger, tells.3);
+        full = (state, tells.0 ++ held, tells.2, None, ledger, tells.3, refl);
         whole = rw (is, sym whole) (at_end state (tells.0 ++ held) tells.2 tells.3 (record {
           packet = packet ∙ ap (λ t. capped (t + 1)) tells.4
               ∙ capped_more (2 ^ 64 - 1) tells.2 1;
@@ -303,6 +307,25 @@ pub goes_as : {extra extra' : Extra} {unfit : Unfit} {skipped : Skipped} {D : Ty
 goes_as {extra} {extra'} {unfit} {skipped} {D} {transition} {limit} {old} {new} {ending} same goes =
     subst (λ (e : Extra). Goes (capture_to_lines e unfit skipped) transition limit old new ending)
     same goes
+
+-- of what was read so many packets were passed over
+pub passes_over : {extra : Extra} {unfit : Unfit} {skipped : Skipped} {D : Type 0}
+    {transition : D → Call → D → Type 0} {old new : D}
+    → Fills (capture_to_lines extra unfit skipped) transition old new
+    → PassesOver unfit skipped transition old new
+passes_over fills = record {
+  calls = fills.calls;
+  made = fills.made;
+  passed = record {
+    state = fills.full.0;
+    packets = fills.full.5.packets;
+    rest = fills.full.1;
+    refusal = fills.full.3;
+    passes = fills.full.5.passes;
+    left = fills.full.5.left;
+    counts = fills.full.6;
+  };
+}
 
 -- the same is due, whatever was passed over
 pub due_as : {extra extra' : Extra} {unfit : Unfit} {skipped skipped' : Skipped}

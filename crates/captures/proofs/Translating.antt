@@ -8,11 +8,61 @@ use Rattle.runs.specs.Calls.{Call, Reads, Writes, bytes_given, bytes_read, bytes
 use Rattle.runs.specs.Endings.{Done, Stopped, OutOfMemory, OutOfReads, Refused, ending_by}
 use Rattle.runs.specs.Runs.{Task, EachFollows, Follows, Goes}
 use Rattle.runs.specs.Writes.{Written, Stops}
+use Rattle.std.proofs.Common.{◌∙◌, append-nil, refl}
+use Rattle.std.proofs.lemmas.List.Concat.{flat_map-append}
+use Rattle.runs.proofs.CallLemmas.{Makes-append}
 use Rattle.runs.proofs.Going.{Going, going_start, going_piece, going_end, going_write, going_ends}
 use Rattle.runs.proofs.Going.{going_stops, going_unread, going_all, goes_nothing}
 use Rattle.captures.specs.declared.limits.TheConstants.{INPUT_ROOM}
 use Rattle.captures.specs.declared.translation.refusal.Refusal.{Refusal}
-use Rattle.captures.specs.Translations.{Begins, IsDueBy, Translates, Finishes, IsWhole}
+use Rattle.captures.specs.Translations.{Begins, RunEnds, Fills, IsDueBy, Translates, Finishes}
+use Rattle.captures.specs.Translations.{IsWhole}
+
+module _ (task : Task Refusal) {D : Type 0} (transition : D → Call → D → Type 0) (read written : List ℕ)
+    (told : Bool) (count : ℕ) (old mid : D) (g : Going task transition read written told count old mid)
+    (text : List ℕ) (full : task.full told read text) where
+  -- all that is to be written is known by what was read so far,
+  fills_so_far : Fills task transition old mid
+  fills_so_far = record {
+    calls = g.calls;
+    made = g.made;
+    told = told;
+    text = text;
+    full = subst (λ (l : List ℕ). task.full told l text) (sym g.gave) full;
+  }
+
+  -- where a read fails then, too,
+  fills_unread : (new : D) → transition mid (Reads None) new → Fills task transition old new
+  fills_unread new call =
+      let last = Reads None ∷ [] in
+      let gave : bytes_read (g.calls ++ last) ≡ read =
+      flat_map-append bytes_given g.calls last ∙ append-nil (bytes_read g.calls) ∙ g.gave in
+      record {
+        calls = g.calls ++ last;
+        made = Makes-append transition old mid new g.calls last g.made (new, call, refl);
+        told = told;
+        text = text;
+        full = subst (λ (l : List ℕ). task.full told l text) (sym gave) full;
+      }
+
+  -- and where a write stops
+  fills_stopped : (new : D) (bytes : List ℕ) (fault : Fault) → Stops transition fault mid bytes new
+      → Fills task transition old new
+  fills_stopped new bytes fault s =
+      let before = going_write task transition read written told count old mid s.mid g s.front
+      s.before in
+      let last = Writes s.handed s.taken ∷ [] in
+      let gave : bytes_read (before.calls ++ last) ≡ read =
+      flat_map-append bytes_given before.calls last ∙ append-nil (bytes_read before.calls)
+      ∙ before.gave in
+      record {
+        calls = before.calls ++ last;
+        made = Makes-append transition old s.mid new before.calls last before.made
+            (new, s.stop, refl);
+        told = told;
+        text = text;
+        full = subst (λ (l : List ℕ). task.full told l text) (sym gave) full;
+      }
 
 module _ (task : Task Refusal) {D : Type 0} (transition : D → Call → D → Type 0) where
   -- a run ends by the result of all the input
@@ -37,28 +87,40 @@ module _ (task : Task Refusal) {D : Type 0} (transition : D → Call → D → T
     pub shows : shown held came text
     pub few : length came ≤ INPUT_ROOM * count
 
+  -- and this is all that is to be written of it
+  pub record Translated (shown : List ℕ → List ℕ → List ℕ → Type 0) (count : ℕ) (old new : D)
+      (held : List ℕ) : Type 0 where
+    pub translating : Translating shown count old new held
+    pub full : task.full false translating.came translating.text
+
   -- the header is written,
   pub translating_start : (shown : List ℕ → List ℕ → List ℕ → Type 0) (old new : D)
       (header : List ℕ) → Begins task shown header → Written transition old header new
-      → Translating shown 0 old new []
+      → Translated shown 0 old new []
   translating_start shown old new header begins written = record {
-    came = [];
-    text = header;
-    going = going_write task transition [] [] false 0 old old new
-        (going_start task transition old) header written;
-    due = begins.due;
-    shows = begins.shows;
-    few = omega arith;
+    translating = record {
+      came = [];
+      text = header;
+      going = going_write task transition [] [] false 0 old old new
+          (going_start task transition old) header written;
+      due = begins.due;
+      shows = begins.shows;
+      few = omega arith;
+    };
+    full = begins.full;
   }
 
   -- or a write stops before
   pub header_stops : (shown : List ℕ → List ℕ → List ℕ → Type 0) (limit : ℕ) (old new : D)
       (header : List ℕ) → Begins task shown header
       → (fault : Fault) → Stops transition fault old header new
-      → Goes task transition limit old new (Stopped fault)
-  header_stops shown limit old new header begins fault stops =
-      going_stops task transition limit [] [] false 0 old old new (going_start task transition old)
-      (omega arith) header fault begins.full stops
+      → RunEnds task transition limit old new (Stopped fault)
+  header_stops shown limit old new header begins fault stops = record {
+    goes = going_stops task transition limit [] [] false 0 old old new
+        (going_start task transition old) (omega arith) header fault begins.full stops;
+    fills = fills_stopped task transition [] [] false 0 old old (going_start task transition old)
+        header begins.full new header fault stops;
+  }
 
   module _ {shown : List ℕ → List ℕ → List ℕ → Type 0} {n : ℕ} {old mid : D}
       {held : List ℕ} (t : Translating shown n old mid held) {limit most : ℕ} (fits : n < limit)
@@ -80,39 +142,51 @@ module _ (task : Task Refusal) {D : Type 0} (transition : D → Call → D → T
 
       -- a piece is read, and what is made of it is written,
       pub translating_more : {new : D} → refusal ≡ None → Written transition later text new
-          → Translating shown' (n + 1) old new held'
+          → Translated shown' (n + 1) old new held'
       translating_more {new} is written = let goes_on = rw is at translates in record {
-        came = t.came ++ piece;
-        text = t.text ++ text;
-        going = going_write task transition (t.came ++ piece) t.text false
-            (n + 1) old later new asked text written;
-        due = goes_on.follows.0;
-        shows = goes_on.follows.1;
-        few = let few = t.few in omega (arith, length-append t.came piece);
+        translating = record {
+          came = t.came ++ piece;
+          text = t.text ++ text;
+          going = going_write task transition (t.came ++ piece) t.text false
+              (n + 1) old later new asked text written;
+          due = goes_on.follows.0;
+          shows = goes_on.follows.1;
+          few = let few = t.few in omega (arith, length-append t.came piece);
+        };
+        full = translates.full;
       }
 
       -- or a write stops before,
       pub translating_stops : {new : D} (fault : Fault) → Stops transition fault later text new
-          → Goes task transition limit old new (Stopped fault)
-      translating_stops {new} fault stops =
-          going_stops task transition limit (t.came ++ piece) t.text false
-          (n + 1) old later new asked (omega arith) text fault translates.full stops
+          → RunEnds task transition limit old new (Stopped fault)
+      translating_stops {new} fault stops = record {
+        goes = going_stops task transition limit (t.came ++ piece) t.text false
+            (n + 1) old later new asked (omega arith) text fault translates.full stops;
+        fills = fills_stopped task transition (t.came ++ piece) t.text false (n + 1) old later asked
+            (t.text ++ text) translates.full new text fault stops;
+      }
 
       -- or it is refused
       pub translating_refused : {new : D} (reason : Refusal) → refusal ≡ Some reason
-          → Written transition later text new → Goes task transition limit old new (Refused reason)
+          → Written transition later text new → RunEnds task transition limit old new (Refused reason)
       translating_refused {new} reason is written =
           let refused = rw is at translates in
           let done = going_write task transition (t.came ++ piece) t.text false
           (n + 1) old later new asked text written in
-          going_ends task transition limit (t.came ++ piece) (t.text ++ text) false
-          (n + 1) old new done (Refused reason) (omega arith) done.faults refused.follows
+          record {
+            goes = going_ends task transition limit (t.came ++ piece) (t.text ++ text) false
+                (n + 1) old new done (Refused reason) (omega arith) done.faults refused.follows;
+            fills = fills_so_far task transition (t.came ++ piece) (t.text ++ text) false (n + 1)
+                old new done (t.text ++ text) translates.full;
+          }
 
     -- a read fails
-    pub translating_fails : {new : D} → transition mid (Reads None) new
-        → Goes task transition limit old new (Stopped ReadFailed)
-    translating_fails {new} call =
-        going_unread task transition limit t.came t.text n old mid new t.going t.due call fits
+    pub translating_fails : {new : D} → task.full false t.came t.text
+        → transition mid (Reads None) new → RunEnds task transition limit old new (Stopped ReadFailed)
+    translating_fails {new} full call = record {
+      goes = going_unread task transition limit t.came t.text n old mid new t.going t.due call fits;
+      fills = fills_unread task transition t.came t.text false n old mid t.going t.text full new call;
+    }
 
     -- the end is told
     module _ {later : D} {piece : List ℕ} (none : piece ≡ [])
@@ -128,25 +202,37 @@ module _ (task : Task Refusal) {D : Type 0} (transition : D → Call → D → T
           (subst (λ (l : List ℕ). shown l t.came t.text) (sym same) t.shows) (omega arith)
 
       pub finish_stops : {new : D} (fault : Fault) → Stops transition fault later text new
-          → Goes task transition limit old new (Stopped fault)
-      finish_stops {new} fault stops =
-          going_stops task transition limit t.came t.text true (n + 1) old later new ended
-          (omega arith) text fault finishes.full stops
+          → RunEnds task transition limit old new (Stopped fault)
+      finish_stops {new} fault stops = record {
+        goes = going_stops task transition limit t.came t.text true (n + 1) old later new ended
+            (omega arith) text fault finishes.full stops;
+        fills = fills_stopped task transition t.came t.text true (n + 1) old later ended
+            (t.text ++ text) finishes.full new text fault stops;
+      }
 
       pub finish_ends : {new : D} → Written transition later text new
-          → Goes task transition limit old new (ending_by Refused result)
+          → RunEnds task transition limit old new (ending_by Refused result)
       finish_ends {new} written =
           let done = going_write task transition t.came t.text true
           (n + 1) old later new ended text written in
-          result_ends limit t.came (t.text ++ text) (n + 1) old new done
-          (omega arith) result finishes.whole
+          record {
+            goes = result_ends limit t.came (t.text ++ text) (n + 1) old new done
+                (omega arith) result finishes.whole;
+            fills = fills_so_far task transition t.came (t.text ++ text) true (n + 1) old new done
+                (t.text ++ text) finishes.full;
+          }
 
   -- as many reads as may be are made
   pub translating_all : (shown : List ℕ → List ℕ → List ℕ → Type 0) (limit : ℕ) (old new : D)
-      (held : List ℕ) → Translating shown limit old new held
-      → Goes task transition limit old new OutOfReads
-  translating_all shown limit old new held t =
-      going_all task transition limit t.came t.text old new t.going t.due
+      (held : List ℕ) → Translated shown limit old new held
+      → RunEnds task transition limit old new OutOfReads
+  translating_all shown limit old new held done =
+      let t = done.translating in
+      record {
+        goes = going_all task transition limit t.came t.text old new t.going t.due;
+        fills = fills_so_far task transition t.came t.text false limit old new t.going t.text
+            done.full;
+      }
 
 -- where the same is due by another task, calls by the one are calls by the other
 module _ {task task' : Task Refusal} (same : IsDueBy task task') where
@@ -198,7 +284,10 @@ module _ {task task' : Task Refusal} (same : IsDueBy task task') where
 
 -- nothing is called
 pub translates_nothing : (task : Task Refusal) {D : Type 0} (transition : D → Call → D → Type 0)
-    (limit : ℕ) (old : D) → task.starved false [] []
-    → Goes task transition limit old old OutOfMemory
-translates_nothing task transition limit old starved =
-    goes_nothing task transition limit old starved
+    (shown : List ℕ → List ℕ → List ℕ → Type 0) (limit : ℕ) (old : D) (header : List ℕ)
+    → Begins task shown header → RunEnds task transition limit old old OutOfMemory
+translates_nothing task transition shown limit old header begins = record {
+  goes = goes_nothing task transition limit old begins.starved;
+  fills = fills_so_far task transition [] [] false 0 old old (going_start task transition old) header
+      begins.full;
+}

@@ -8,7 +8,7 @@ use Rattle.captures.specs.Lines.{Packet}
 use Rattle.captures.specs.Pcap.{link_type}
 use Rattle.captures.specs.Pcapng.{Content, Says, Becomes, IsTimedPacket}
 use Rattle.captures.specs.Pcapng.{later_links, with_link}
-use Rattle.captures.specs.Pcapng.Content.{Opens, Describes, Holds, Nothing}
+use Rattle.captures.specs.Pcapng.Content.{Opens, OpensOther, Describes, Holds, Nothing}
 use Rattle.captures.specs.Runs.{IsCapture}
 use Rattle.captures.specs.Skipping.{counted_by}
 use Rattle.captures.specs.Units.{IsUnit, IsBlockUnit, Row, no_section}
@@ -104,6 +104,7 @@ says_kept : (section : Section) (order : ByteOrder) (block : List ℕ) (content 
     → Says (section_by Refuse section) order block content
     → Says (section_by Skip section) order block content
 says_kept section order block (Opens first) says = says
+says_kept section order block (OpensOther major minor) says = says
 says_kept section order block (Describes number snap_len clock) says = says
 says_kept section order block (Holds origin link packet) (inl says) =
     inl (says.0, timed_kept _ section order block origin link packet says.1)
@@ -128,6 +129,7 @@ becomes_kept : (section : Section) (order : ByteOrder) (content : Content) (next
     × (next ≡ section_by Refuse next)
 becomes_kept section order (Opens first) next origin frame b =
     ((ap (section_by Skip) b.0, b.1), b.0 ∙ sym (ap (section_by Refuse) b.0))
+becomes_kept section order (OpensOther major minor) next origin frame b = absurd b
 becomes_kept section order (Describes number snap_len clock) next origin frame b = (
   (
     b.0,

@@ -1,6 +1,7 @@
 pub mod ComeBack
 pub mod Dropped
 pub mod Endings
+pub mod Examples
 pub mod Forgetting
 pub mod Framed
 pub mod FrameLines

@@ -1,7 +1,8 @@
 -- Pcapng files (draft-ietf-opsawg-pcapng): blocks in a row. Each begins with its kind and its
 -- length, ends with its length, and has whole words of 4 bytes. Numbers are in the byte order of
 -- the section, which its header tells.
-use Rattle.std.specs.Prelude.{◌≡◌, ◌≢◌, ◌⊎◌, ℕ, ◌+◌, ◌-◌, ◌%◌, ◌^◌, ◌<◌, ◌≤◌, ◌==◌, min}
+use Rattle.std.specs.Prelude.{◌≡◌, ◌≢◌, ◌⊎◌, ℕ, ◌+◌, ◌-◌, ◌%◌, ◌^◌, ◌<◌, ◌≤◌, ◌==◌, ◌&&◌, ◌||◌, min}
+use Rattle.std.specs.Prelude.{Bool, true, false}
 use Rattle.std.specs.Prelude.{if◌then◌else◌, nat_lt, List, [], length, take, drop, slice_index_or}
 use Rattle.std.specs.Prelude.{slice_set, Option, Some, None}
 use Rattle.captures.specs.Framed.{link_for, taken_limit, told_frame}
@@ -16,7 +17,7 @@ use Rattle.captures.specs.declared.capture_error.CaptureError.{CaptureError}
 use Rattle.captures.specs.declared.capture_error.CaptureError.TheVariants.{NotCapture, LinkType}
 use Rattle.captures.specs.declared.capture_error.CaptureError.TheVariants.{FrameTooLong, CutOff}
 use Rattle.captures.specs.declared.capture_error.CaptureError.TheVariants.{BlockTooLong, BadBlock}
-use Rattle.captures.specs.declared.capture_error.CaptureError.TheVariants.{NoFrame}
+use Rattle.captures.specs.declared.capture_error.CaptureError.TheVariants.{NoFrame, Version}
 use Rattle.captures.specs.declared.limits.TheConstants.{BLOCK_LIMIT}
 use Rattle.captures.specs.declared.link.kind.Link.{Link}
 use Rattle.captures.specs.declared.link.kind.Link.TheVariants.{Ethernet}
@@ -57,11 +58,16 @@ pub record IsBlock (order : ByteOrder) (block : List ℕ) : Type 0 where
   pub front : word order block 4 ≡ length block
   pub back : word order block (length block - 4) ≡ length block
 
--- what a block says in a section: a section begins, its first interface having this number; an
--- interface is described, with its link type, snap length and clock; a packet was captured on an
+-- a section of this version is read: of 1.0, and of 1.2, which some programs write for the same
+abbrev pub is_read_version : (major : ℕ) → (minor : ℕ) → Bool
+is_read_version major minor = (major == 1) && ((minor == 0) || (minor == 2))
+
+-- what a block says in a section: a section begins, its first interface having this number, or one of
+-- a version that isn't read; an interface is described, with its link type, snap length and clock; a packet was captured on an
 -- interface of such a link; or nothing that is read here
 pub data Content : Type 0 where
   Opens : ℕ → Content
+  OpensOther : (major : ℕ) → (minor : ℕ) → Content
   Describes : (link_type : ℕ) → (snap_len : ℕ) → (clock : Clock) → Content
   Holds : (origin : Origin) → (link : Link) → (packet : List ℕ) → Content
   Nothing : Content
@@ -158,8 +164,13 @@ IsTaken order block len = (len ≤ BLOCK_LIMIT) ⊎ IsSkipped order block
 
 abbrev pub Says : Section → ByteOrder → List ℕ → Content → Type 0
 Says section order block (Opens first) =
-    (word order block 0 ≡ section_header) × (28 ≤ length block) × (half order block 12 ≡ 1)
+    (word order block 0 ≡ section_header) × (28 ≤ length block)
+    × (is_read_version (half order block 12) (half order block 14) ≡ true)
     × (section.first + section.interfaces ≡ first) × (first < 2 ^ 32)
+Says section order block (OpensOther major minor) =
+    (word order block 0 ≡ section_header) × (28 ≤ length block)
+    × (is_read_version (half order block 12) (half order block 14) ≡ false)
+    × (half order block 12 ≡ major) × (half order block 14 ≡ minor)
 Says section order block (Describes link_type snap_len clock) =
     (word order block 0 ≡ interface_description) × (20 ≤ length block)
     × (half order block 8 ≡ link_type)
@@ -172,8 +183,8 @@ Says section order block (Holds origin link packet) =
     ⊎ IsSimplePacket section order block origin link packet)
 Says section order block Nothing = IsOther order block
 
--- the section, and the bytes that are told, after a block that says this: links are taken, and so
--- is the packet
+-- the section, and the bytes that are told, after a block that says this: versions and links are
+-- read, and the packet is taken
 abbrev pub Becomes : Section → ByteOrder → Content → Section → Origin → List ℕ → Type 0
 Becomes section order (Opens first) after origin frame =
     (after ≡ record {
@@ -186,6 +197,7 @@ Becomes section order (Opens first) after origin frame =
       passing = section.passing;
     })
     × (frame ≡ [])
+Becomes section order (OpensOther major minor) after origin frame = ⊥
 Becomes section order (Describes link_type snap_len clock) after origin frame =
     (links : List Link) × (links_with section link_type ≡ Some links)
     × (after ≡ record section {
@@ -224,5 +236,7 @@ RefusesBlock section order block NoFrame =
     × (told_frame section.passing.unfit link packet ≡ None)
 RefusesBlock section order block CutOff = ⊥
 RefusesBlock section order block (BlockTooLong len) = ⊥
+RefusesBlock section order block (Version major minor) =
+    Says section order block (OpensOther major minor)
 RefusesBlock section order block BadBlock = (content : Content)
     → Says section order block content → ⊥

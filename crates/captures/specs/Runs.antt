@@ -2,12 +2,12 @@
 -- ends.
 use Rattle.std.specs.Prelude.{◌≡◌, ◌≢◌, ◌⊎◌, nat_lt, if◌then◌else◌, ℕ, zero, suc, ◌<◌, ◌≤◌, Bool}
 use Rattle.std.specs.Prelude.{true, List, [], length, Option, Some, None, Result, Ok, Err}
-use Rattle.runs.specs.Calls.{Call}
+use Rattle.runs.specs.Calls.{Call, Makes, bytes_read}
 use Rattle.runs.specs.Runs.{Task, Goes}
 use Rattle.captures.specs.declared.capture_error.CaptureError.TheVariants.{NotCapture, LinkType}
 use Rattle.captures.specs.declared.capture_error.CaptureError.TheVariants.{FrameTooLong, CutOff}
 use Rattle.captures.specs.declared.capture_error.CaptureError.TheVariants.{BlockTooLong, BadBlock}
-use Rattle.captures.specs.declared.capture_error.CaptureError.TheVariants.{NoFrame}
+use Rattle.captures.specs.declared.capture_error.CaptureError.TheVariants.{NoFrame, Version}
 use Rattle.captures.specs.declared.capture_error.CaptureError.{CaptureError}
 use Rattle.captures.specs.declared.translation.run_error.RunError.{RunError}
 use Rattle.captures.specs.declared.translation.refusal.Refusal.{Refusal}
@@ -19,7 +19,7 @@ use Rattle.captures.specs.Endings.{ending_of}
 use Rattle.captures.specs.Lines.{Packet, blank, lines_of}
 use Rattle.captures.specs.Places.{IsPlace}
 use Rattle.captures.specs.Skipping.{none_skipped}
-use Rattle.captures.specs.Units.{Passes, Takes, IsNoCapture, skipped_in}
+use Rattle.captures.specs.Units.{IsLeft, Passes, Takes, IsNoCapture, skipped_in}
 use Rattle.captures.specs.declared.extra.Extra.{Extra}
 use Rattle.captures.specs.declared.place.Place.{Place}
 use Rattle.captures.specs.declared.text.ledger.Ledger.{Ledger}
@@ -32,6 +32,16 @@ pub record IsCapture (unfit : Unfit) (bytes : List ℕ) (packets : List Packet) 
   pub state : State
   pub passes : Passes (Start unfit) bytes packets state []
   pub known : state ≢ Start unfit
+  pub counts : skipped_in state ≡ skipped
+
+-- all whole units of the bytes are taken, and so many packets of them were passed over
+pub record ArePassedOver (unfit : Unfit) (skipped : Skipped) (bytes : List ℕ) : Type 0 where
+  pub state : State
+  pub packets : List Packet
+  pub rest : List ℕ
+  pub refusal : Option CaptureError
+  pub passes : Passes (Start unfit) bytes packets state rest
+  pub left : IsLeft state rest refusal
   pub counts : skipped_in state ≡ skipped
 
 -- the text is the lines of all whole packets in bytes after which nothing is refused
@@ -77,22 +87,25 @@ IsRefused extra unfit skipped (InCapture NoFrame place) told read written =
     AreToldBefore extra unfit skipped NoFrame place read written
 IsRefused extra unfit skipped (InCapture (BlockTooLong len) place) told read written =
     AreToldBefore extra unfit skipped (BlockTooLong len) place read written
+IsRefused extra unfit skipped (InCapture (Version major minor) place) told read written =
+    AreToldBefore extra unfit skipped (Version major minor) place read written
 IsRefused extra unfit skipped (InCapture BadBlock place) told read written =
     AreToldBefore extra unfit skipped BadBlock place read written
 IsRefused extra unfit skipped (InLine number) told read written = ⊥
 
 -- the lines of the packets of a capture, each before the next read. Where the whole capture is
--- told, or refused at some place, so many packets were passed over
+-- told, or refused at some place, or a write fails, so many packets were passed over
 abbrev pub capture_to_lines : Extra → Unfit → Skipped → Task Refusal
 capture_to_lines extra unfit skipped = record {
   room = INPUT_ROOM;
   due = AreTold extra unfit;
   full = λ told read text. (state : State) × (rest : List ℕ) × (count : ℕ)
       × (refusal : Option CaptureError) × (noted : Ledger)
-      × Takes (blank extra) (Start unfit) read state rest count text refusal noted;
+      × Takes (blank extra) (Start unfit) read state rest count text refusal noted
+      × (skipped_in state ≡ skipped);
   whole = λ read written. (packets : List Packet) × IsCapture unfit read packets skipped
       × (written ≡ lines_of extra packets);
-  starved = λ told read written. (read ≡ []) × (written ≡ []);
+  starved = λ told read written. (read ≡ []) × (written ≡ []) × (skipped ≡ none_skipped);
   refused = IsRefused extra unfit skipped;
 }
 
@@ -118,3 +131,10 @@ abbrev pub Runs : Extra → Unfit → Skipped → {D : Type 0} → (D → Call �
     → Result Unit RunError → Type 0
 Runs extra unfit skipped transition limit old new result =
     Goes (capture_to_lines extra unfit skipped) transition limit old new (ending_of result)
+
+-- calls took a device from old to new, and of what they read so many packets were passed over
+pub record PassesOver (unfit : Unfit) (skipped : Skipped) {D : Type 0}
+    (transition : D → Call → D → Type 0) (old new : D) : Type 0 where
+  pub calls : List Call
+  pub made : Makes transition old calls new
+  pub passed : ArePassedOver unfit skipped (bytes_read calls)

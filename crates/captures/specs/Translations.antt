@@ -1,7 +1,9 @@
 -- What a run makes of its input, piece by piece. Some bytes are held after these were read and
 -- these written: the relation of the three is the caller's.
-use Rattle.std.specs.Prelude.{◌≡◌, ℕ, true, false, List, [], Option, Some, None, Result, Ok, Err}
-use Rattle.runs.specs.Runs.{Task}
+use Rattle.std.specs.Prelude.{◌≡◌, ℕ, Bool, true, false, List, [], Option, Some, None, Result, Ok, Err}
+use Rattle.runs.specs.Calls.{Call, Makes, bytes_read}
+use Rattle.runs.specs.Endings.{Ending}
+use Rattle.runs.specs.Runs.{Goes, Task}
 use Rattle.captures.specs.declared.limits.TheConstants.{INPUT_ROOM}
 use Rattle.captures.specs.declared.translation.refusal.Refusal.{Refusal}
 
@@ -42,3 +44,18 @@ pub record Finishes (task : Task Refusal) (read written : List ℕ)
     (result : Result Unit Refusal) : Type 0 where
   pub full : task.full true read written
   pub whole : IsWhole task read written result
+
+-- calls took a device from old to new, and of what they read this is all that is to be written
+pub record Fills (task : Task Refusal) {D : Type 0} (transition : D → Call → D → Type 0)
+    (old new : D) : Type 0 where
+  pub calls : List Call
+  pub made : Makes transition old calls new
+  pub told : Bool
+  pub text : List ℕ
+  pub full : task.full told (bytes_read calls) text
+
+-- a run that ends so, whose task knows what was read, however it ends
+pub record RunEnds (task : Task Refusal) {D : Type 0} (transition : D → Call → D → Type 0)
+    (limit : ℕ) (old new : D) (ending : Ending Refusal) : Type 0 where
+  pub goes : Goes task transition limit old new ending
+  pub fills : Fills task transition old new

@@ -14,7 +14,7 @@ use Rattle.captures.specs.declared.capture_error.CaptureError.{CaptureError}
 use Rattle.captures.specs.declared.capture_error.CaptureError.TheVariants.{NotCapture, LinkType}
 use Rattle.captures.specs.declared.capture_error.CaptureError.TheVariants.{FrameTooLong, CutOff}
 use Rattle.captures.specs.declared.capture_error.CaptureError.TheVariants.{BlockTooLong, BadBlock}
-use Rattle.captures.specs.declared.capture_error.CaptureError.TheVariants.{NoFrame}
+use Rattle.captures.specs.declared.capture_error.CaptureError.TheVariants.{NoFrame, Version}
 use Rattle.captures.specs.declared.limits.TheConstants.{FIRST_UNIT_LEN}
 use Rattle.captures.specs.declared.link.kind.Link.{Link}
 use Rattle.captures.specs.declared.link.kind.Link.TheVariants.{Ethernet}
@@ -201,6 +201,8 @@ RefusesAt section bytes (FrameTooLong captured) =
 RefusesAt section bytes NoFrame = HasRefusedBlock section bytes NoFrame
 RefusesAt section bytes CutOff = ⊥
 RefusesAt section bytes (BlockTooLong len) = (12 ≤ length bytes) × HasLongBlock section bytes len
+RefusesAt section bytes (Version major minor) =
+    HasRefusedBlock section bytes (Version major minor)
 RefusesAt section bytes BadBlock =
     (12 ≤ length bytes)
     × (((order : ByteOrder) → HasOrder section.order bytes order → ⊥)
@@ -248,6 +250,8 @@ RefusesFirst unfit bytes NoFrame = BeginsSection bytes × RefusesAt (no_section 
 RefusesFirst unfit bytes CutOff = ⊥
 RefusesFirst unfit bytes (BlockTooLong len) = BeginsSection bytes
     × RefusesAt (no_section unfit) bytes (BlockTooLong len)
+RefusesFirst unfit bytes (Version major minor) = BeginsSection bytes
+    × RefusesAt (no_section unfit) bytes (Version major minor)
 RefusesFirst unfit bytes BadBlock = BeginsSection bytes
     × RefusesAt (no_section unfit) bytes BadBlock
 
@@ -261,6 +265,7 @@ Refuses (Classic order time_unit link passing) bytes (FrameTooLong captured) =
 Refuses (Classic order time_unit link passing) bytes NoFrame = HasNoFrame order link passing.unfit bytes
 Refuses (Classic order time_unit link passing) bytes CutOff = ⊥
 Refuses (Classic order time_unit link passing) bytes (BlockTooLong len) = ⊥
+Refuses (Classic order time_unit link passing) bytes (Version major minor) = ⊥
 Refuses (Classic order time_unit link passing) bytes BadBlock = ⊥
 Refuses (Pcapng section) bytes error = RefusesAt section bytes error
 

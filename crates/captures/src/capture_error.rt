@@ -26,9 +26,12 @@ pub enum CaptureError {
     /// packet, has so many bytes, which is more than [`BLOCK_LIMIT`](crate::BLOCK_LIMIT).
     #[error("a block of {0} bytes is too long")]
     BlockTooLong(u32),
+    /// A section of a pcapng file has this major and minor version. Those that are read are 1.0, and
+    /// 1.2, which is the same.
+    #[error("version {0}.{1} of pcapng is not read")]
+    Version(u16, u16),
     /// A block of a pcapng file isn't well made: its two lengths differ, or have no whole words of
-    /// 4 bytes, or have too few for what it says; or it names an interface that was not described;
-    /// or it begins a section of another version.
+    /// 4 bytes, or have too few for what it says; or it names an interface that was not described.
     #[error("a block is not well made")]
     BadBlock,
 }

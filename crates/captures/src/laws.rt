@@ -1,5 +1,7 @@
 //! Laws of captures: the contract of each function is the law, and its body is empty.
 
+pub mod examples;
+
 ghost use Rattle.std.specs.Prelude.{◌≡◌, ◌≢◌, ◌⊎◌, ◌≤◌, ◌<◌, ◌+◌, ◌*◌, ◌%◌, ◌^◌, ℕ, List, [], ◌∷◌};
 ghost use Rattle.std.specs.Prelude.{codes, length, Option};
 ghost use Rattle.std.specs.List.{AllByRecursion};
@@ -11,7 +13,7 @@ ghost use Rattle.captures.specs.Lines.{Packet, blank, line_of};
 ghost use Rattle.captures.specs.Numbers.{half, word};
 ghost use Rattle.captures.specs.Pcapng.{Content, HasOrder, RefusesBlock, Says};
 ghost use Rattle.captures.specs.Pcapng.Content.{Opens};
-ghost use Rattle.captures.specs.Runs.{IsCapture};
+ghost use Rattle.captures.specs.Runs.{ArePassedOver, IsCapture};
 ghost use Rattle.captures.specs.Skipping.{none_skipped};
 ghost use Rattle.captures.specs.Texts.{IsText};
 ghost use Rattle.captures.specs.Units.{RefusesAt, Takes};
@@ -19,7 +21,7 @@ ghost use Rattle.captures.specs.declared.byte_order.ByteOrder.{ByteOrder};
 ghost use Rattle.captures.specs.declared.capture_error.CaptureError.{CaptureError};
 ghost use Rattle.captures.specs.declared.capture_error.CaptureError.TheVariants.{LinkType, BadBlock};
 ghost use Rattle.captures.specs.declared.capture_error.CaptureError.TheVariants.{FrameTooLong};
-ghost use Rattle.captures.specs.declared.capture_error.CaptureError.TheVariants.{BlockTooLong};
+ghost use Rattle.captures.specs.declared.capture_error.CaptureError.TheVariants.{BlockTooLong, Version};
 ghost use Rattle.captures.specs.declared.pcapng.section.Section.{Section};
 ghost use Rattle.captures.specs.declared.translation.state.State.{State};
 ghost use Rattle.captures.specs.declared.translation.state.State.TheVariants.{Start};
@@ -57,6 +59,14 @@ pub fn capture_is_alone()
         (skipped skipped' : Skipped) → IsBytes bytes
         → IsCapture unfit bytes packets skipped → IsCapture unfit bytes packets' skipped'
         → (packets ≡ packets') × (skipped ≡ skipped') }
+{}
+
+/// How many packets of some bytes are passed over is known by the bytes, whether more are wanted behind
+/// them or they are refused.
+pub fn passed_over_is_alone()
+    ensures { (unfit : Unfit) (bytes : List ℕ) (skipped skipped' : Skipped) → IsBytes bytes
+        → ArePassedOver unfit skipped bytes → ArePassedOver unfit skipped' bytes
+        → skipped ≡ skipped' }
 {}
 
 /// A capture that is told whole where packets that can't be told are refused is told the same where
@@ -137,16 +147,21 @@ pub fn worked_line()
     }) ≡ codes "frame 7 0aff\n" }
 {}
 
-/// A block of the kind of a section header opens a section with 28 bytes at least and major version
-/// 1, whatever its minor version is.
+/// A block of the kind of a section header opens a section with 28 bytes at least and version 1.0 or
+/// 1.2, and any other version is refused by its numbers.
 pub fn section_header_lengths()
     ensures short { (section : Section) (order : ByteOrder) (block : List ℕ) (content : Content)
         → word order block 0 ≡ 0x0a0d0d0a → length block < 28
         → Says section order block content → ⊥ }
     ensures long { (section : Section) (order : ByteOrder) (block : List ℕ)
         → word order block 0 ≡ 0x0a0d0d0a → 28 ≤ length block → half order block 12 ≡ 1
+        → (half order block 14 ≡ 0) ⊎ (half order block 14 ≡ 2)
         → section.first + section.interfaces < 2 ^ 32
         → Says section order block (Opens (section.first + section.interfaces)) }
+    ensures other { (section : Section) (order : ByteOrder) (block : List ℕ)
+        → word order block 0 ≡ 0x0a0d0d0a → 28 ≤ length block
+        → (half order block 12 ≢ 1) ⊎ ((half order block 14 ≢ 0) × (half order block 14 ≢ 2))
+        → RefusesBlock section order block (Version (half order block 12) (half order block 14)) }
 {}
 
 /// An interface description of fewer than 20 bytes is not well made, whatever its link type is.

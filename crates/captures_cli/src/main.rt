@@ -4,12 +4,12 @@
 
 use anyhow::Context;
 use capture_commands::{Mode, PROGRAM, asked_for, exit_code, make};
-use capture_inputs::{input_look, input_of, tell_skipped};
+use capture_inputs::{Input, tell_skipped};
 use captures::Skipped;
 use command_lines::captures::command;
 use std::env;
 use std::fs::File;
-use std::io::{BufReader, Read};
+use std::io::Read;
 use std::process::ExitCode;
 
 fn main(rt: HostRuntime) -> anyhow::Result<ExitCode> {
@@ -32,16 +32,16 @@ fn main(rt: HostRuntime) -> anyhow::Result<ExitCode> {
 
 fn make_of_file(rt: &HostRuntime, mode: Mode, name: &str) -> anyhow::Result<ExitCode> {
     if name == "-" {
-        let input = input_of(rt.alloc(), rt.stdin())?;
+        let input = Input::new(rt.alloc(), rt.stdin())?;
         return Ok(make_of(rt, mode, input));
     }
     let file = File::open(rt, name).context("the file cannot be opened")?;
-    let input = input_of(rt.alloc(), file)?;
+    let input = Input::new(rt.alloc(), file)?;
     Ok(make_of(rt, mode, input))
 }
 
-fn make_of<R: Read + Drop>(rt: &HostRuntime, mode: Mode, mut input: BufReader<R>) -> ExitCode {
-    let seen = input_look(&mut input);
+fn make_of<R: Read + Drop>(rt: &HostRuntime, mode: Mode, mut input: Input<R>) -> ExitCode {
+    let seen = input.look();
     let mut skipped = Skipped::NONE;
     let made = make(rt.alloc(), mode, &mut input, &mut rt.stdout(), &mut skipped);
     tell_skipped(rt, PROGRAM, skipped);

@@ -2,6 +2,7 @@
 //! description.
 ghost use Rattle.std.specs.Prelude.{◌+◌, ◌≤◌, length};
 
+use crate::checks::joined;
 use crate::lines::{LINES, refused, tells};
 use captures::CaptureError;
 
@@ -132,8 +133,28 @@ fn each_refusal(rt: HostRuntime) {
             none,
             (1, 0, Some(SECTION)),
         ),
-        // version 2
-        (12, b"\x02", bad, none, (1, 0, Some(SECTION))),
+        // versions 2.0, 1.1 and 1.3
+        (
+            12,
+            b"\x02",
+            CaptureError::Version(2, 0),
+            none,
+            (1, 0, Some(SECTION)),
+        ),
+        (
+            14,
+            b"\x01",
+            CaptureError::Version(1, 1),
+            none,
+            (1, 0, Some(SECTION)),
+        ),
+        (
+            167,
+            b"\x03",
+            CaptureError::Version(1, 3),
+            two,
+            (3, 152, Some(SECTION)),
+        ),
         // another length at the end
         (24, b"\x20", bad, none, (1, 0, Some(SECTION))),
         // less than a block has
@@ -181,11 +202,30 @@ fn each_refusal(rt: HostRuntime) {
     }
 }
 
+// An interface that cuts packets at 4 bytes, and simple packets of 3, 4 and 1500 bytes: the lesser
+// of both lengths is there.
+#[test]
+fn simple_packets_under_a_snap_length(rt: HostRuntime) {
+    let file = joined(
+        rt,
+        &[
+            &TWO_SECTIONS[..28],
+            b"\x01\0\0\0\x14\0\0\0\x01\0\0\0\x04\0\0\0\x14\0\0\0",
+            b"\x03\0\0\0\x14\0\0\0\x03\0\0\0\x01\x02\x03\0\x14\0\0\0",
+            b"\x03\0\0\0\x14\0\0\0\x04\0\0\0\x01\x02\x03\x04\x14\0\0\0",
+            b"\x03\0\0\0\x14\0\0\0\xdc\x05\0\0\x01\x02\x03\x04\x14\0\0\0",
+        ],
+    );
+    let lines = b"frame 0 010203\nframe 0 01020304\nframe 0 01020304\n";
+    tells(rt, file.as_slice(), Ok(()), lines);
+}
+
 #[test]
 fn fields_that_are_ignored(rt: HostRuntime) {
     for (at, bytes) in [
         // minor version 2, which is to be read as 0
         (14, b"\x02".as_slice()),
+        (167, b"\x02"),
         // the length of the first section
         (16, b"\x7c\x00\x00\x00\x00\x00\x00\x00"),
         // the reserved half of an interface description, in either byte order

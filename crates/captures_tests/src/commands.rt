@@ -1,7 +1,8 @@
 //! What is made of an input, the flush, the status and what is told of an error.
-use crate::checks::{equal, equal_bytes, holds, joined};
+use crate::checks::{equal, equal_bytes, holds, joined, repeated};
+use crate::lines::refused;
 use capture_commands::{Mode, PROGRAM, asked_for, exit_code, make, note};
-use capture_inputs::{Look, Told, input_look, input_of, look_at, tell_skipped};
+use capture_inputs::{Input, Look, Told, look_at, tell_skipped};
 use captures::{CaptureError, Extra, Place, RunError, Skipped, TimeUnit, Unfit};
 use command_lines::captures::command;
 use fault_devices::{Fault, FaultReader, UnflushableWriter};
@@ -237,6 +238,16 @@ const ERRORS: &[(RunError, &str, u8)] = &[
         "packet 3, byte 112, block type 0xa0d0d0a (section header): a block is not well made",
         3,
     ),
+    (
+        RunError::Capture(CaptureError::Version(1, 3), SECTION),
+        "packet 3, byte 112, block type 0xa0d0d0a (section header): version 1.3 of pcapng is not read",
+        3,
+    ),
+    (
+        RunError::Capture(CaptureError::BlockTooLong(262_148), ENHANCED),
+        "packet 3, byte 112, block type 0x6 (enhanced packet): a block of 262148 bytes is too long",
+        3,
+    ),
 ];
 
 #[test]
@@ -248,6 +259,63 @@ fn errors_have_messages_and_a_status(rt: HostRuntime) -> Result<(), Fail> {
         equal(rt, code, ExitCode::from(*status));
     }
     equal(rt, exit_code(&rt, Ok(()), Look::Other), ExitCode::SUCCESS);
+    Ok(())
+}
+
+// The names of the registry of link types (tcpdump.org/linktypes.html), without their prefix.
+const LINK_TYPES: &[(u16, &str)] = &[
+    (9, ": it is PPP"),
+    (105, ": it is IEEE802_11, of wireless networks"),
+    (127, ": it is IEEE802_11_RADIOTAP, of wireless networks"),
+    (189, ": it is USB_LINUX"),
+    (220, ": it is USB_LINUX_MMAPPED"),
+    (251, ": it is BLUETOOTH_LE_LL"),
+    (252, ": it is WIRESHARK_UPPER_PDU, of exported packets"),
+    (253, ": it is NETLINK"),
+    (8, ""),
+    (10, ""),
+    (265, ""),
+];
+
+#[test]
+fn names_of_link_types(rt: HostRuntime) {
+    for (number, text) in LINK_TYPES.iter() {
+        let error = RunError::Capture(CaptureError::LinkType(*number), THIRD);
+        equal(rt, note(error, Look::Other), *text);
+    }
+}
+
+// The names of pcapng's block types (draft-ietf-opsawg-pcapng, sections 4 and 11.1).
+const BLOCK_TYPES: &[(u32, &str)] = &[
+    (0x0a0d_0d0a, " (section header)"),
+    (1, " (interface description)"),
+    (2, " (obsolete packet)"),
+    (3, " (simple packet)"),
+    (4, " (name resolution)"),
+    (5, " (interface statistics)"),
+    (6, " (enhanced packet)"),
+    (9, " (systemd journal export)"),
+    (10, " (decryption secrets)"),
+    (0x0bad, " (custom)"),
+    (0x4000_0bad, " (custom)"),
+    (0, ""),
+    (7, ""),
+    (8, ""),
+    (0x8000_0006, ""),
+];
+
+#[test]
+fn names_of_block_types(rt: HostRuntime) -> Result<(), Fail> {
+    for (kind, name) in BLOCK_TYPES.iter() {
+        let place = Place {
+            packet: 3,
+            offset: 112,
+            block: Some(*kind),
+        };
+        let told = format!(in rt.alloc(); "{place}")?;
+        let wanted = format!(in rt.alloc(); "packet 3, byte 112, block type {kind:#x}{name}")?;
+        equal(rt, told.as_str(), wanted.as_str());
+    }
     Ok(())
 }
 
@@ -294,26 +362,99 @@ fn what_inputs_look_like(rt: HostRuntime) -> Result<(), Fail> {
     Ok(())
 }
 
-// What a reader looks like whose first read is this one.
-fn look_of<R: Read + Drop>(rt: impl Abort + AllocGlobal + Copy, reader: R, wanted: Look) {
-    let Ok(mut input) = input_of(rt.alloc(), reader) else {
+// An input that looks so.
+fn looked<R: Read + Drop>(
+    rt: impl Abort + AllocGlobal + Copy,
+    reader: R,
+    wanted: Look,
+) -> Input<R> {
+    let Ok(mut input) = Input::new(rt.alloc(), reader) else {
         panic!(rt; "no memory for a buffer");
     };
-    equal(rt, input_look(&mut input), wanted);
+    equal(rt, input.look(), wanted);
+    input
 }
 
 #[test]
 fn what_first_reads_look_like(rt: HostRuntime) {
-    let text = b"frame 0 0aff\n".as_slice();
-    look_of(rt, text, Look::Text);
-    look_of(rt, b"".as_slice(), Look::Empty);
-    for (kind, wanted) in [
-        (ErrorKind::IsADirectory, Look::Directory),
-        (ErrorKind::Other, Look::Other),
-    ] {
-        let reader = FaultReader::failing(text, 64, 0, Fault::Fails(kind));
-        look_of(rt, reader, wanted);
+    for (front, seen, _) in FRONTS.iter() {
+        looked(rt, *front, *seen);
     }
+    // 64 bytes are looked at.
+    let text = repeated(rt, b"a", 64);
+    let long = joined(rt, &[text.as_slice(), b"\0"]);
+    looked(rt, long.as_slice(), Look::Text);
+    looked(rt, &long.as_slice()[1..], Look::Other);
+}
+
+const MODES: [(Mode, &[u8]); 2] = [
+    (Mode::Lines(Extra::Nothing, Unfit::Refuse), b""),
+    (Mode::Capture(TimeUnit::Microseconds), HEADER),
+];
+
+// The look is the first read of a run: a run ends by its fault, and there is no other read.
+#[test]
+fn a_look_that_fails_ends_the_run(rt: HostRuntime) {
+    for (mode, written) in MODES {
+        for (kind, seen) in [
+            (ErrorKind::IsADirectory, Look::Directory),
+            (ErrorKind::Interrupted, Look::Other),
+            (ErrorKind::Other, Look::Other),
+        ] {
+            let mut reader = FaultReader::failing(HEADER, 64, 0, Fault::Fails(kind));
+            let mut lines = Vec::new(rt.alloc());
+            {
+                let mut input = looked(rt, &mut reader, seen);
+                let mut skipped = Skipped::NONE;
+                let made = make(rt.alloc(), mode, &mut input, &mut lines, &mut skipped);
+                equal(rt, made, Err(RunError::Read));
+                equal(rt, exit_code(&rt, made, seen), ExitCode::from(4));
+                equal(rt, input.look(), seen);
+            }
+            equal(rt, reader.calls, 1);
+            equal_bytes(rt, lines.as_slice(), written);
+        }
+    }
+}
+
+// So does the end that it tells, as a terminal does before which nothing was typed.
+#[test]
+fn a_look_that_tells_the_end_ends_the_run(rt: HostRuntime) {
+    for (mode, written) in MODES {
+        let mut reader = FaultReader::failing(HEADER, 64, 0, Fault::MovesNone);
+        let mut lines = Vec::new(rt.alloc());
+        {
+            let mut input = looked(rt, &mut reader, Look::Empty);
+            let mut skipped = Skipped::NONE;
+            let made = make(rt.alloc(), mode, &mut input, &mut lines, &mut skipped);
+            let wanted = match mode {
+                Mode::Lines(_, _) => refused(CaptureError::NotCapture, 1, 0, None),
+                Mode::Capture(_) => Ok(()),
+            };
+            equal(rt, made, wanted);
+            equal(rt, input.look(), Look::Empty);
+        }
+        equal(rt, reader.calls, 1);
+        equal_bytes(rt, lines.as_slice(), written);
+    }
+}
+
+// What a look has read is given once, and the reads of a run go on behind it.
+#[test]
+fn a_look_takes_nothing(rt: HostRuntime) {
+    let file = joined(rt, &[HEADER.as_slice(), PACKET.as_slice()]);
+    let mut reader = FaultReader::new(file.as_slice(), 7);
+    let mut lines = Vec::new(rt.alloc());
+    {
+        let mut input = looked(rt, &mut reader, Look::Capture);
+        equal(rt, input.look(), Look::Capture);
+        let mode = Mode::Lines(Extra::Nothing, Unfit::Refuse);
+        let made = make(rt.alloc(), mode, &mut input, &mut lines, &mut Skipped::NONE);
+        equal(rt, made, Ok(()));
+    }
+    equal_bytes(rt, lines.as_slice(), b"frame 0 0aff\n");
+    // Six reads of 42 bytes, and one that tells the end.
+    equal(rt, reader.calls, 7);
 }
 
 // The first line of what is no text of lines.

@@ -69,7 +69,28 @@ const PACKETS: &[(u8, &[u8], Option<&str>)] = &[
         b"\0\x01\0\x01\0\x06\x02\0\0\0\0\x01\0\0\0\x04\x42",
         NO_FRAME,
     ),
+    // Of frame relay, radiotap and netlink, and of a tunnel of GRE.
+    (113, b"\0\0\x03\x02\0\0\0\0\0\0\0\0\0\0\x08\0\x45", NO_FRAME),
+    (113, b"\0\0\x03\x23\0\0\0\0\0\0\0\0\0\0\x08\0\x45", NO_FRAME),
     (113, b"\0\0\x03\x38\0\0\0\0\0\0\0\0\0\0\x08\0\x45", NO_FRAME),
+    (113, b"\0\0\x03\x0a\0\0\0\0\0\0\0\0\0\0\x08\0\x45", IPV4),
+    // Ether types begin with 1536.
+    (113, b"\0\0\0\x01\0\0\0\0\0\0\0\0\0\0\x05\xdd\x45", NO_FRAME),
+    (113, b"\0\0\0\x01\0\0\0\0\0\0\0\0\0\0\x05\xff\x45", NO_FRAME),
+    (
+        113,
+        b"\0\0\0\x01\0\0\0\0\0\0\0\0\0\0\x06\0\x45",
+        Some("frame 0 000000000000000000000000060045\n"),
+    ),
+    // Addresses of one byte, five and seven.
+    (113, b"\0\0\0\x01\0\x01\x02\0\0\0\0\x01\0\0\x08\0\x45", IPV4),
+    (113, b"\0\0\0\x01\0\x05\x02\0\0\0\0\x01\0\0\x08\0\x45", IPV4),
+    (113, b"\0\0\0\x01\0\x07\x02\0\0\0\0\x01\0\0\x08\0\x45", IPV4),
+    (
+        20,
+        b"\x08\0\0\0\0\0\0\x02\0\x01\x04\x05\x02\0\0\0\0\x01\0\0\x45",
+        IPV4,
+    ),
     (113, b"\0\x04\0\x01\0\x06\x02\0\0\0\0\x01\0\0\x08", NO_FRAME),
     (
         20,
@@ -118,15 +139,24 @@ fn filled(rt: impl Abort + AllocGlobal + Copy, front: &[u8], len: usize) -> Vec<
     joined(rt, &[front, zeros.as_slice()])
 }
 
-// As many bytes as a line holds, behind a header of 14 in place of none and of 16.
+// As many bytes as a line holds, behind a header of 14 in place of none, of 4, 16 and 20.
 #[test]
 fn longest_packets(rt: HostRuntime) {
     let ip = b"\x45".as_slice();
+    let null = b"\x02\0\0\0".as_slice();
+    let openbsd = b"\0\0\0\x02".as_slice();
     let cooked = b"\0\x04\0\x01\0\x06\x02\0\0\0\0\x01\0\0\x08\0".as_slice();
+    let cooked_2 = b"\x08\0\0\0\0\0\0\x02\0\x01\x04\x06\x02\0\0\0\0\x01\0\0".as_slice();
     let too_long = |count| refused(CaptureError::FrameTooLong(count), 1, 24, None);
     for (link_type, front, len, wanted, line_len) in [
         (101, ip, 99_977, Ok(()), 199_991),
         (101, ip, 99_978, too_long(99_978), 0),
+        (0, null, 99_981, Ok(()), 199_991),
+        (0, null, 99_982, too_long(99_982), 0),
+        (108, openbsd, 99_981, Ok(()), 199_991),
+        (108, openbsd, 99_982, too_long(99_982), 0),
+        (20, cooked_2, 99_997, Ok(()), 199_991),
+        (20, cooked_2, 99_998, too_long(99_998), 0),
         (113, cooked, 99_993, Ok(()), 199_991),
         (113, cooked, 99_994, too_long(99_994), 0),
     ] {
@@ -180,6 +210,23 @@ fn links_of_a_section(rt: HostRuntime) {
         frame 1 000000000000000000000000080045\n\
         frame 0 00000000000000000000000086dd60\n";
     tells(rt, file.as_slice(), Ok(()), lines);
+}
+
+// An interface of LINUX_SLL2 (276), as `dumpcap -i any` describes it.
+#[test]
+fn cooked_interface_of_a_section(rt: HostRuntime) {
+    let file = joined(
+        rt,
+        &[
+            SECTION,
+            b"\x01\0\0\0\x14\0\0\0\x14\x01\0\0\0\0\x04\0\x14\0\0\0",
+            b"\x06\0\0\0\x38\0\0\0\0\0\0\0\0\0\0\0\0\0\0\0\x15\0\0\0\x15\0\0\0",
+            b"\x08\0\0\0\0\0\0\x02\0\x01\x04\x06\x02\0\0\0\0\x01\0\0\x45\0\0\0",
+            b"\x38\0\0\0",
+        ],
+    );
+    let line = b"frame 0 000000000000020000000001080045\n";
+    tells(rt, file.as_slice(), Ok(()), line);
 }
 
 // The 32nd interface of a section may have any link that is read, the 33rd has to be Ethernet.

@@ -197,6 +197,27 @@ fn packets_that_are_held(rt: HostRuntime) {
     equal(rt, input.calls, 2);
 }
 
+// A second packet of 99,992 bytes: the refusal leaves no packet, and each call answers as before.
+#[test]
+fn held_packets_that_are_refused(rt: HostRuntime) {
+    let mut file = *LITTLE_MICROSECONDS;
+    file[98..102].copy_from_slice(b"\x98\x86\x01\0");
+    let mut reader = reader_of(rt, Unfit::Refuse, file.as_slice());
+    equal(rt, reader.advance(), Ok(true));
+    holds(rt, reader.packet().is_some());
+    let place = Place {
+        packet: 2,
+        offset: 90,
+        block: None,
+    };
+    let wanted = ReadError::Capture(CaptureError::FrameTooLong(99_992), place);
+    equal(rt, reader.advance_held(), Err(wanted));
+    holds(rt, reader.packet().is_none());
+    equal(rt, reader.advance_held(), Ok(false));
+    holds(rt, reader.packet().is_none());
+    equal(rt, reader.advance(), Err(wanted));
+}
+
 // The first packet ends at byte 90. Of the second, ten bytes are there at first.
 #[test]
 fn packets_of_bytes_go_on(rt: HostRuntime) {

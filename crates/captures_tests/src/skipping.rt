@@ -1,11 +1,13 @@
 //! Runs that pass over packets that can't be told. The files are made by hand from the formats'
 //! descriptions.
 use crate::blocks::TWO_SECTIONS;
-use crate::checks::{joined, repeated};
+use crate::checks::{equal, equal_bytes, joined, repeated};
 use crate::classic::{BIG_NANOSECONDS, LITTLE_MICROSECONDS};
 use crate::lines::{lines_of, refused, tells, tells_skipping};
 use crate::links::{SECTION, capture, interface_of, packet_of};
-use captures::{CaptureError, Extra, Skipped};
+use captures::{CaptureError, Extra, RunError, Skipped, Unfit, run};
+use fault_devices::{Fault, FaultReader, FaultWriter};
+use std::io::ErrorKind;
 use std::process::Abort;
 
 // The record of a packet of one byte, 45.
@@ -140,4 +142,130 @@ fn interfaces_of_two_sections(rt: HostRuntime) {
     // Without that, the run ends at the first description.
     let wanted = refused(CaptureError::LinkType(9), 1, 28, Some(1));
     tells(rt, file.as_slice(), wanted, b"");
+}
+
+// The least and the greatest packets that are passed over for their length in blocks: an enhanced
+// packet of 99,992 bytes and a simple one of 262,128, in a block of 262,144.
+#[test]
+fn long_packets_of_blocks(rt: HostRuntime) {
+    let least = repeated(rt, b"\0", 99_992);
+    let greatest = repeated(rt, b"\0", 262_128);
+    let file = joined(
+        rt,
+        &[
+            SECTION,
+            &interface_of(1),
+            b"\x06\0\0\0\xb8\x86\x01\0\0\0\0\0\0\0\0\0\0\0\0\0\x98\x86\x01\0\x98\x86\x01\0",
+            least.as_slice(),
+            b"\xb8\x86\x01\0",
+            b"\x03\0\0\0\0\0\x04\0\xf0\xff\x03\0",
+            greatest.as_slice(),
+            b"\0\0\x04\0",
+            &packet_of(0),
+        ],
+    );
+    let passed = Skipped {
+        too_long: 2,
+        ..Skipped::NONE
+    };
+    tells_skipping(rt, file.as_slice(), Ok(()), b"frame 0 45\n", passed);
+}
+
+// A run that passes over packets ends so, and has passed over so many.
+fn skips(
+    rt: impl Abort + AllocGlobal + Copy,
+    reader: &mut FaultReader<'_>,
+    writer: &mut FaultWriter,
+    wanted: Result<(), RunError>,
+    passed: Skipped,
+) {
+    let mut skipped = Skipped {
+        of_other_links: 7,
+        too_long: 8,
+        without_frame: 9,
+    };
+    let result = run(
+        rt.alloc(),
+        Extra::Nothing,
+        Unfit::Skip,
+        reader,
+        writer,
+        &mut skipped,
+    );
+    equal(rt, result, wanted);
+    equal(rt, skipped, passed);
+}
+
+// A capture of raw IP: the packets of bytes 24 to 41 and 58 to 75 have no frame, the one between has
+// a line. A run tells how many were passed over by then where its read or its write fails.
+#[test]
+fn faults_after_packets_are_passed_over(rt: HostRuntime) {
+    let packet = b"\0\0\0\0\0\0\0\0\0\0\0\x01\0\0\0\x01\x55".as_slice();
+    let file = joined(rt, &[capture(rt, 101, b"\x55").as_slice(), RECORD, packet]);
+    let count = |without_frame| Skipped {
+        without_frame,
+        ..Skipped::NONE
+    };
+    let failure = Fault::Fails(ErrorKind::Other);
+    for (before, passed) in [(0usize, 0), (40, 0), (41, 1), (58, 1), (74, 1), (75, 2)] {
+        let mut reader = FaultReader::failing(file.as_slice(), 1, before, failure);
+        let mut writer = FaultWriter::new(rt.alloc(), 50);
+        skips(
+            rt,
+            &mut reader,
+            &mut writer,
+            Err(RunError::Read),
+            count(passed),
+        );
+    }
+    for (fault, error) in [
+        (failure, RunError::Write),
+        (Fault::MovesNone, RunError::WriteZero),
+    ] {
+        // Byte by byte the line is written before the last packet is read, and else behind it.
+        for (piece, passed) in [(1, 1), (75, 2)] {
+            let mut reader = FaultReader::new(file.as_slice(), piece);
+            let mut writer = FaultWriter::failing(rt.alloc(), 50, 0, fault);
+            skips(rt, &mut reader, &mut writer, Err(error), count(passed));
+        }
+    }
+}
+
+// A capture of PPP (9), of one packet.
+const OF_PPP: &[u8; 41] = b"\
+    \xa1\xb2\xc3\xd4\x00\x02\x00\x04\0\0\0\0\0\0\0\0\x00\x04\x00\x00\0\0\0\x09\
+    \0\0\0\0\0\0\0\0\0\0\0\x01\0\0\0\x01\x45";
+
+// To be run without memory, too: then nothing is read and nothing was passed over.
+#[test]
+fn a_run_wants_memory(rt: HostRuntime) {
+    let mut lines = Vec::new(rt.alloc());
+    let mut skipped = Skipped {
+        of_other_links: 7,
+        too_long: 8,
+        without_frame: 9,
+    };
+    let mut input = OF_PPP.as_slice();
+    let result = run(
+        rt.alloc(),
+        Extra::Nothing,
+        Unfit::Skip,
+        &mut input,
+        &mut lines,
+        &mut skipped,
+    );
+    let (wanted, left, passed) = match result {
+        Err(_) => (Err(RunError::Memory), OF_PPP.as_slice(), Skipped::NONE),
+        Ok(()) => (
+            Ok(()),
+            b"".as_slice(),
+            Skipped {
+                of_other_links: 1,
+                ..Skipped::NONE
+            },
+        ),
+    };
+    equal(rt, result, wanted);
+    equal_bytes(rt, input, left);
+    equal(rt, skipped, passed);
 }

@@ -169,6 +169,13 @@ const CLOCKS: &[(&[u8], u64, &str)] = &[
         0x1_0000_0000,
         "frame 0 01 4294967295 999999 999\n",
     ),
+    // Two signed numbers of 64 bits: beyond 2106, and the first below 0.
+    (
+        b"\x0e\0\x08\0\0\0\0\0\0\0\0\x40",
+        0,
+        "frame 0 01 4294967295 999999 999\n",
+    ),
+    (b"\x0e\0\x08\0\0\0\0\0\0\0\0\x80", 1, "frame 0 01 0 0\n"),
     // Behind a comment; behind the end of the options; of another length; cut off.
     (
         b"\x01\0\x05\0hello\0\0\0\x09\0\x01\0\x00\0\0\0\0\0\0\0",

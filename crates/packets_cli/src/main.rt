@@ -5,7 +5,7 @@ mod progress_line;
 
 use crate::progress_line::ProgressLine;
 use anyhow::Context;
-use capture_inputs::{Look, input_look, input_of, tell_skipped};
+use capture_inputs::{Input, Look, tell_skipped};
 use captures::{RunError, Skipped};
 use packets::commands::{
     AskError, Asked, Coloring, Output, asked_for, command, exit_code, write_flushed, write_report,
@@ -14,7 +14,7 @@ use packets::{JsonLines, Report, Rules, ShowOptions, Style, Summary, summarize};
 use std::env::{self, VarError};
 use std::fs::File;
 use std::hash::RandomState;
-use std::io::{BufReader, IsTerminal, Read};
+use std::io::{IsTerminal, Read};
 use std::process::ExitCode;
 
 // What standard error begins with.
@@ -47,7 +47,7 @@ fn main(rt: HostRuntime) -> anyhow::Result<ExitCode> {
 
 fn tell_file(rt: &HostRuntime, asked: Asked<'_>) -> anyhow::Result<ExitCode> {
     if asked.name == "-" {
-        let input = input_of(rt.alloc(), rt.stdin())?;
+        let input = Input::new(rt.alloc(), rt.stdin())?;
         return tell_input(rt, asked, None, input);
     }
     let file = File::open(rt, asked.name).context("the file cannot be opened")?;
@@ -55,7 +55,7 @@ fn tell_file(rt: &HostRuntime, asked: Asked<'_>) -> anyhow::Result<ExitCode> {
         Ok(metadata) if metadata.is_file() => Some(metadata.len()),
         _ => None,
     };
-    let input = input_of(rt.alloc(), file)?;
+    let input = Input::new(rt.alloc(), file)?;
     tell_input(rt, asked, len, input)
 }
 
@@ -63,9 +63,9 @@ fn tell_input<R: Read + Drop>(
     rt: &HostRuntime,
     asked: Asked<'_>,
     len: Option<u64>,
-    mut input: BufReader<R>,
+    mut input: Input<R>,
 ) -> anyhow::Result<ExitCode> {
-    let look = input_look(&mut input);
+    let look = input.look();
     let mut skipped = Skipped::NONE;
     let rules = &asked.rules;
     let alloc = rt.alloc();
@@ -93,7 +93,7 @@ fn tell_summary<R: Read + Drop>(
     rt: &HostRuntime,
     rules: &Rules,
     len: Option<u64>,
-    input: BufReader<R>,
+    input: Input<R>,
     skipped: &mut Skipped,
 ) -> anyhow::Result<Result<(), RunError>> {
     let alloc = rt.alloc();

@@ -4,7 +4,8 @@ ghost use Rattle.std.specs.Prelude.{length, IfOk, IfErr, IfSome, MatchOption};
 ghost use Rattle.captures.specs.Framed.{frame_bytes, own_frame};
 ghost use Rattle.captures.specs.Numbers.{word};
 ghost use Rattle.captures.specs.Pcapng.{section_header, interface_description, simple_packet};
-ghost use Rattle.captures.specs.Pcapng.{captured_len, IsOther, IsSkipped, HoldsPacket, Content};
+ghost use Rattle.captures.specs.Pcapng.{captured_len, is_read_version, IsOther, IsSkipped};
+ghost use Rattle.captures.specs.Pcapng.{HoldsPacket, Content};
 ghost use Rattle.captures.specs.Pcapng.{Says, IsTimedPacket, IsSimplePacket, Reads, RefusesBlock};
 ghost use Rattle.captures.specs.Pcapng.Content.{Holds};
 ghost use Rattle.captures.specs.Pcapng.{clock_at, clocks_with, link_at, links_with, later_links};
@@ -121,8 +122,12 @@ fn begin_section<'a>(
     ensures refused { IfErr result
         (λ e. RefusesBlock section.old order block.now e × (section.new ≡ section.old)) }
 {
-    if block.len() < 28 || order.half(block, 12) != 1 {
+    if block.len() < 28 {
         return Err(CaptureError::BadBlock);
+    }
+    let (major, minor) = (order.half(block, 12), order.half(block, 14));
+    if !is_read_version(major, minor) {
+        return Err(CaptureError::Version(major, minor));
     }
     let Some(first) = section.first.checked_add(section.interfaces) else {
         return Err(CaptureError::BadBlock);
@@ -132,6 +137,12 @@ fn begin_section<'a>(
     section.interfaces = 0;
     section.snap_len = 0;
     Ok(nothing())
+}
+
+fn is_read_version(major: u16, minor: u16) -> bool
+    ensures { result ≡ is_read_version major minor }
+{
+    major == 1 && (minor == 0 || minor == 2)
 }
 
 fn describe_interface<'a>(

@@ -133,7 +133,7 @@ impl<R: Read + Drop> PacketReader<R> {
 
     /// Goes on to the next packet if it is held whole, and tells whether it is. Nothing is read: so
     /// a caller does what is due before a read that may wait, and goes on by
-    /// [`PacketReader::advance`].
+    /// [`PacketReader::advance`]. Where it is not, the reader stands at no packet.
     pub fn advance_held(&mut self) -> Result<bool, ReadError>
         ensures source { source_of self.new ≡ source_of self.old }
         ensures comes { (unfit : Unfit) (read : List ℕ) (given : List Packet)
@@ -141,6 +141,8 @@ impl<R: Read + Drop> PacketReader<R> {
             → HeldTo unfit self.new (R.remaining self.new.reader) read given result }
         ensures again { (ended : Result Unit ReadError) → self.old.ended ≡ Some ended
             → (result ≡ Ok false) × (self.new ≡ self.old) }
+        ensures none { self.old.ended ≡ None → (result ≡ Ok true → ⊥)
+            → packet_at self.new ≡ None }
     {
         if self.ended.is_some() {
             return Ok(false);

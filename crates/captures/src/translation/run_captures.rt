@@ -1,7 +1,7 @@
 //! A run: reads, and the lines of the packets that they give.
 ghost use Rattle.std.specs.Prelude.{◌≡◌, ◌≤◌, ◌+◌, ◌-◌, ◌*◌, ◌^◌, ◌++◌, ℕ, List, length};
 ghost use Rattle.std.specs.Prelude.{OnOk, IfSome, IsErrOf, None};
-ghost use Rattle.std.specs.Io.KnownBytes.{Appends, IsAtEnd};
+ghost use Rattle.std.specs.Io.KnownBytes.{Appends, Consumes, IsAtEnd};
 ghost use Rattle.runs.specs.Known.{KnownCall, Transfers, known_of};
 ghost use Rattle.captures.specs.declared.extra.Extra.{Extra};
 ghost use Rattle.captures.specs.Dropped.{IsDropped};
@@ -9,7 +9,9 @@ ghost use Rattle.captures.specs.Endings.{ending_of};
 ghost use Rattle.captures.specs.Lines.{Packet, blank, lines_of};
 ghost use Rattle.captures.specs.Numbers.{capped};
 ghost use Rattle.captures.specs.Places.{block_type};
-ghost use Rattle.captures.specs.Runs.{Runs, IsCapture, capture_to_lines, result_at_end};
+ghost use Rattle.captures.specs.Runs.{ArePassedOver, IsCapture, PassesOver, Runs};
+ghost use Rattle.captures.specs.Runs.{capture_to_lines, result_at_end};
+ghost use Rattle.captures.specs.Skipping.{none_skipped};
 ghost use Rattle.captures.specs.Framed.{unfit_by};
 ghost use Rattle.captures.specs.Units.{Takes, skipped_in};
 ghost use Rattle.captures.specs.declared.limits.TheConstants.{INPUT_ROOM};
@@ -61,13 +63,18 @@ pub fn run<R: Read, W: Write>(
         (known_of (R.remaining reader.old) (W.contents writer.old))
         (known_of (R.remaining reader.new) (W.contents writer.new)) result }
 
+    // However it ends: in the whole units of the bytes read so many packets were passed over.
+    ensures passed { (read : List ℕ)
+        × Consumes (R.remaining reader.old) (R.remaining reader.new) read
+        × ArePassedOver unfit skipped.new read }
+
     // Each of these reads gave a byte at least.
     ensures too_many { IsErrOf result RunError.TooManyReads
         → IfSome (R.remaining reader.old) (λ bytes. READ_COUNT_LIMIT ≤ length bytes) }
 
     // Memory is taken before the first call.
     ensures memory { IsErrOf result RunError.Memory
-        → (reader.new ≡ reader.old) × (writer.new ≡ writer.old) }
+        → (reader.new ≡ reader.old) × (writer.new ≡ writer.old) × (skipped.new ≡ none_skipped) }
 {
     let mut device = ReaderWriter { reader, writer };
     let result = run_over(alloc, extra, unfit, &mut device, READ_COUNT_LIMIT, skipped);
@@ -87,7 +94,9 @@ pub fn run_over<D: Device>(
     reads: u64,
     skipped: &mut Skipped,
 ) -> Result<(), RunError>
-    ensures { Runs extra unfit skipped.new D.transition reads device.old device.new result }
+    ensures runs { Runs extra unfit skipped.new D.transition reads device.old device.new result }
+    // However it ends: of what these calls read so many packets were passed over.
+    ensures passed { PassesOver unfit skipped.new D.transition device.old device.new }
 {
     match unfit {
         Unfit::Refuse => run_by::<false, D>(alloc, extra, device, reads, skipped),
@@ -102,7 +111,9 @@ fn run_by<const SKIPS: bool, D: Device>(
     reads: u64,
     skipped: &mut Skipped,
 ) -> Result<(), RunError>
-    ensures { Runs extra (unfit_by SKIPS) skipped.new D.transition reads device.old device.new result }
+    ensures runs { Runs extra (unfit_by SKIPS) skipped.new D.transition reads device.old device.new
+        result }
+    ensures passed { PassesOver (unfit_by SKIPS) skipped.new D.transition device.old device.new }
 {
     let mut teller: PacketTeller<SKIPS> = PacketTeller {
         state: State::Start(Unfit::by(SKIPS)),

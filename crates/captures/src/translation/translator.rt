@@ -1,9 +1,9 @@
 //! What a run makes of its input, piece by piece, and such a run.
 ghost use Rattle.std.specs.Prelude.{◌≡◌, ◌≤◌, ◌<◌, ◌+◌, ◌*◌, ◌++◌, ℕ, List, [], length, take, IfOk};
 ghost use Rattle.std.specs.Prelude.{None, vec_capacity, vec_len};
-ghost use Rattle.runs.specs.Runs.{Task, Goes};
+ghost use Rattle.runs.specs.Runs.{Task};
 ghost use Rattle.captures.specs.Endings.{ending_of};
-ghost use Rattle.captures.specs.Translations.{Begins, IsDueBy, Translates, Finishes};
+ghost use Rattle.captures.specs.Translations.{Begins, RunEnds, IsDueBy, Translates, Finishes};
 ghost use Rattle.captures.specs.declared.limits.TheConstants.{INPUT_ROOM, OUTPUT_ROOM};
 ghost use Rattle.captures.specs.declared.translation.refusal.Refusal.{Refusal};
 
@@ -86,7 +86,7 @@ pub(crate) fn run_translator<T: Translator, D: Device>(
     requires due { (t t' : T) → T.kept t' ≡ T.kept t → IsDueBy (T.task t) (T.task t') }
     requires most { INPUT_ROOM * reads ≤ T.most }
     ensures kept { T.kept translator.new ≡ T.kept translator.old }
-    ensures goes { Goes (T.task translator.new) D.transition reads device.old device.new
+    ensures ends { RunEnds (T.task translator.new) D.transition reads device.old device.new
         (ending_of result) }
 {
     let Ok((mut input, mut output)) = buffers(alloc) else {
@@ -137,7 +137,7 @@ fn translate_reads<T: Translator, D: Device>(
     requires input { length input.old ≡ INPUT_ROOM }
     requires output { OUTPUT_ROOM ≤ vec_capacity output.old }
     ensures kept { T.kept translator.new ≡ T.kept translator.old }
-    ensures goes { Goes (T.task translator.new) D.transition reads device.old device.new
+    ensures ends { RunEnds (T.task translator.new) D.transition reads device.old device.new
         (ending_of result) }
 {
     write_whole(device, header)?;

@@ -13,3 +13,9 @@ returns-in-Capture-clause-capture_bytes g c time_unit is =
     let same = sym is ∙ c.in-Capture.is in
     let unit_is : time_unit ≡ c.in-Capture.time_unit = cc in
     rw unit_is c.make_capture.ensures.bytes
+
+pub returns-in-Lines-clause-passed : goal.returns-in-Lines-clause-passed
+returns-in-Lines-clause-passed g c extra unfit is =
+    let same = sym is ∙ c.in-Lines.is in
+    let unfit_is : unfit ≡ c.in-Lines.unfit = cc in
+    rw unfit_is c.make_lines.ensures.passed

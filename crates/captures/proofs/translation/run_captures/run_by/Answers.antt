@@ -1,6 +1,6 @@
 use Rattle.std.proofs.Common.{◌∙◌, ap}
 use Rattle.captures.specs.declared.text.ledger.Ledger.{Ledger}
-use Rattle.captures.proofs.Telling.{tells_start, due_as, goes_as}
+use Rattle.captures.proofs.Telling.{tells_start, due_as, goes_as, passes_over}
 use Rattle.captures.proofs.translation.run_captures.run_by.Goals as goal
 
 pub run_translator-result-requires-clause-begins :
@@ -11,8 +11,12 @@ run_translator-result-requires-clause-begins g c =
 pub run_translator-result-requires-clause-due : goal.run_translator-result-requires-clause-due
 run_translator-result-requires-clause-due g c t t' same = due_as same
 
-pub returns : goal.returns
-returns g c =
+pub returns-clause-runs : goal.returns-clause-runs
+returns-clause-runs g c =
     rw c.skipped.ensures
     (goes_as (c.run_translator-result.ensures.kept
-    ∙ ap (λ (l : Ledger). l.extra) c.blank.ensures) c.run_translator-result.ensures.goes)
+    ∙ ap (λ (l : Ledger). l.extra) c.blank.ensures) c.run_translator-result.ensures.ends.goes)
+
+pub returns-clause-passed : goal.returns-clause-passed
+returns-clause-passed g c =
+    rw c.skipped.ensures (passes_over c.run_translator-result.ensures.ends.fills)

@@ -19,4 +19,4 @@ pub returns : goal.returns
 returns g c =
     subst (λ (u : TimeUnit). Goes (lines_to_capture u) g.D.Device.transition c.args.reads
     c.args.device.now c.run_translator.new.device (ending_of c.run_translator.result))
-    c.run_translator.ensures.kept c.run_translator.ensures.goes
+    c.run_translator.ensures.kept c.run_translator.ensures.ends.goes

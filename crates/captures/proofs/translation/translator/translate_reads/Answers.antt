@@ -4,14 +4,14 @@ use Rattle.std.proofs.lemmas.Result.{err_from_is_err_and}
 use borrow.Rule.Slice.PartMut.{put_mid}
 use Rattle.captures.specs.declared.limits.TheConstants.{INPUT_ROOM}
 use Rattle.captures.proofs.BufferLemmas.{read_front, read_nothing, moved_front}
-use Rattle.captures.proofs.Translating.{Translating, translating_start, header_stops}
+use Rattle.captures.proofs.Translating.{Translated, translating_start, header_stops}
 use Rattle.captures.proofs.Translating.{translating_more, translating_stops, translating_refused}
 use Rattle.captures.proofs.Translating.{translating_fails, finish_stops, finish_ends}
 use Rattle.captures.proofs.Translating.{translating_all, translating_by}
 use Rattle.captures.proofs.translation.translator.translate_reads.Goals as goal
 
-pub returns-in_err-write_whole-clause-goes : goal.returns-in_err-write_whole-clause-goes
-returns-in_err-write_whole-clause-goes g c =
+pub returns-in_err-write_whole-clause-ends : goal.returns-in_err-write_whole-clause-ends
+returns-in_err-write_whole-clause-ends g c =
     let exit = err_from_is_err_and c.from_residual.result c.from_residual.ensures.1 in
     rw (exit.1, exit.2)
     (header_stops (g.T.Translator.task c.args.translator.now) g.D.Device.transition _
@@ -20,7 +20,7 @@ returns-in_err-write_whole-clause-goes g c =
 
 pub reads-init : goal.reads-init
 reads-init g c = record {
-  translating = translating_start (g.T.Translator.task c.args.translator.now)
+  translated = translating_start (g.T.Translator.task c.args.translator.now)
       g.D.Device.transition _ c.args.device.now c.write_whole.new.device c.args.header.now
       c.requires.begins c.in_ok-write_whole.ensures;
   room = let size = c.requires.input in omega arith;
@@ -29,11 +29,11 @@ reads-init g c = record {
   kept = refl;
 }
 
-pub returns-in-Err-clause-goes : goal.returns-in-Err-clause-goes
-returns-in-Err-clause-goes g c =
+pub returns-in-Err-clause-ends : goal.returns-in-Err-clause-ends
+returns-in-Err-clause-ends g c =
     let task = g.T.Translator.task c.reads.translator in
     let transition = g.D.Device.transition in
-    let t = c.reads.invariant.translating in
+    let t = c.reads.invariant.translated.translating in
     let room = c.reads.invariant.room in
     let left = c.reads.left in
     let input = c.reads.input in
@@ -41,14 +41,14 @@ returns-in-Err-clause-goes g c =
     let end = c.min-end.ensures in
     let some : 0 < length (take asked (drop left input)) = search rules in
     translating_fails task transition t c.reads-test.true c.requires.most
-    (c.in-Err.ensures.call some)
+    c.reads.invariant.translated.full (c.in-Err.ensures.call some)
 
-pub returns-in_err-write_whole-2-clause-goes : goal.returns-in_err-write_whole-2-clause-goes
-returns-in_err-write_whole-2-clause-goes g c =
+pub returns-in_err-write_whole-2-clause-ends : goal.returns-in_err-write_whole-2-clause-ends
+returns-in_err-write_whole-2-clause-ends g c =
     let task = g.T.Translator.task c.finish-finished.new.self in
     let transition = g.D.Device.transition in
     let t = translating_by (c.requires.due c.reads.translator
-    c.finish-finished.new.self c.finish-finished.ensures.kept) c.reads.invariant.translating in
+    c.finish-finished.new.self c.finish-finished.ensures.kept) c.reads.invariant.translated.translating in
     let room = c.reads.invariant.room in
     let left = c.reads.left in
     let input = c.reads.input in
@@ -64,12 +64,12 @@ returns-in_err-write_whole-2-clause-goes g c =
     (c.in-Ok.ensures.call some) same c.finish-finished.ensures.finishes
     c.in_err-write_whole-2.field-0.0 c.in_err-write_whole-2.ensures)
 
-pub returns-in-Ok-result-clause-goes : goal.returns-in-Ok-result-clause-goes
-returns-in-Ok-result-clause-goes g c =
+pub returns-in-Ok-result-clause-ends : goal.returns-in-Ok-result-clause-ends
+returns-in-Ok-result-clause-ends g c =
     let task = g.T.Translator.task c.finish-finished.new.self in
     let transition = g.D.Device.transition in
     let t = translating_by (c.requires.due c.reads.translator
-    c.finish-finished.new.self c.finish-finished.ensures.kept) c.reads.invariant.translating in
+    c.finish-finished.new.self c.finish-finished.ensures.kept) c.reads.invariant.translated.translating in
     let room = c.reads.invariant.room in
     let left = c.reads.left in
     let input = c.reads.input in
@@ -84,12 +84,12 @@ returns-in-Ok-result-clause-goes g c =
     c.in_ok-write_whole-2.ensures in
     rw c.in-Ok-result.is at done
 
-pub returns-in-Err-result-clause-goes : goal.returns-in-Err-result-clause-goes
-returns-in-Err-result-clause-goes g c =
+pub returns-in-Err-result-clause-ends : goal.returns-in-Err-result-clause-ends
+returns-in-Err-result-clause-ends g c =
     let task = g.T.Translator.task c.finish-finished.new.self in
     let transition = g.D.Device.transition in
     let t = translating_by (c.requires.due c.reads.translator
-    c.finish-finished.new.self c.finish-finished.ensures.kept) c.reads.invariant.translating in
+    c.finish-finished.new.self c.finish-finished.ensures.kept) c.reads.invariant.translated.translating in
     let room = c.reads.invariant.room in
     let left = c.reads.left in
     let input = c.reads.input in
@@ -104,12 +104,12 @@ returns-in-Err-result-clause-goes g c =
     c.in_ok-write_whole-2.ensures in
     rw c.from.ensures (rw c.in-Err-result.is at done)
 
-pub returns-in_err-write_whole-3-clause-goes : goal.returns-in_err-write_whole-3-clause-goes
-returns-in_err-write_whole-3-clause-goes g c =
+pub returns-in_err-write_whole-3-clause-ends : goal.returns-in_err-write_whole-3-clause-ends
+returns-in_err-write_whole-3-clause-ends g c =
     let task = g.T.Translator.task c.translate-taken.new.self in
     let transition = g.D.Device.transition in
     let t = translating_by (c.requires.due c.reads.translator
-    c.translate-taken.new.self c.translate-taken.ensures.kept) c.reads.invariant.translating in
+    c.translate-taken.new.self c.translate-taken.ensures.kept) c.reads.invariant.translated.translating in
     let room = c.reads.invariant.room in
     let to_read = (c.requires.due c.reads.translator c.translate-taken.new.self
     c.translate-taken.ensures.kept).room ∙ c.reads.invariant.size in
@@ -132,12 +132,12 @@ returns-in_err-write_whole-3-clause-goes g c =
     c.translate-taken.ensures.translates
     c.in_err-write_whole-3.field-0.0 c.in_err-write_whole-3.ensures)
 
-pub returns-in-Some-clause-goes : goal.returns-in-Some-clause-goes
-returns-in-Some-clause-goes g c =
+pub returns-in-Some-clause-ends : goal.returns-in-Some-clause-ends
+returns-in-Some-clause-ends g c =
     let task = g.T.Translator.task c.translate-taken.new.self in
     let transition = g.D.Device.transition in
     let t = translating_by (c.requires.due c.reads.translator
-    c.translate-taken.new.self c.translate-taken.ensures.kept) c.reads.invariant.translating in
+    c.translate-taken.new.self c.translate-taken.ensures.kept) c.reads.invariant.translated.translating in
     let room = c.reads.invariant.room in
     let to_read = (c.requires.due c.reads.translator c.translate-taken.new.self
     c.translate-taken.ensures.kept).room ∙ c.reads.invariant.size in
@@ -177,7 +177,7 @@ reads-preserved g c =
     let task = g.T.Translator.task c.translate-taken.new.self in
     let transition = g.D.Device.transition in
     let t = translating_by (c.requires.due c.reads.translator
-    c.translate-taken.new.self c.translate-taken.ensures.kept) c.reads.invariant.translating in
+    c.translate-taken.new.self c.translate-taken.ensures.kept) c.reads.invariant.translated.translating in
     let room = c.reads.invariant.room in
     let to_read = (c.requires.due c.reads.translator c.translate-taken.new.self
     c.translate-taken.ensures.kept).room ∙ c.reads.invariant.size in
@@ -203,8 +203,8 @@ reads-preserved g c =
     c.copy_within.ensures.after in
     let same : length c.copy_within.new.self ≡ INPUT_ROOM = search rules in
     record {
-      translating =
-          subst (λ (l : List ℕ). Translating task transition shown'
+      translated =
+          subst (λ (l : List ℕ). Translated task transition shown'
           (c.reads.counter + 1) c.args.device.now c.write_whole-in-reads.new.device l)
           (sym moved)
           (translating_more task transition t c.reads-test.true c.requires.most
@@ -219,13 +219,13 @@ reads-preserved g c =
       kept = c.translate-taken.ensures.kept ∙ c.reads.invariant.kept;
     }
 
-pub returns-clause-goes : goal.returns-clause-goes
-returns-clause-goes g c =
+pub returns-clause-ends : goal.returns-clause-ends
+returns-clause-ends g c =
     let all : c.reads.counter ≡ c.args.reads = omega arith in
     let task = g.T.Translator.task c.reads.translator in
     let transition = g.D.Device.transition in
     let shown = g.T.Translator.shows c.reads.translator in
     let held = take c.reads.left c.reads.input in
     translating_all task transition shown c.args.reads c.args.device.now c.reads.device held
-    (subst (λ (n : ℕ). Translating task transition shown n c.args.device.now c.reads.device held)
-    all c.reads.invariant.translating)
+    (subst (λ (n : ℕ). Translated task transition shown n c.args.device.now c.reads.device held)
+    all c.reads.invariant.translated)

@@ -1,12 +1,12 @@
 use Rattle.std.proofs.Common.{◌≡◌, ◌<◌, ◌≤◌, length, take, vec_capacity}
 use Rattle.captures.specs.declared.limits.TheConstants.{INPUT_ROOM, OUTPUT_ROOM}
-use Rattle.captures.proofs.Translating.{Translating}
+use Rattle.captures.proofs.Translating.{Translated}
 use Rattle.captures.proofs.translation.translator.translate_reads.Given as goal
 
 -- What was read is translated but for a front of the input, which is held and leaves room.
 abbrev pub invariant-reads : goal.invariant-reads
 invariant-reads g l = record {
-  translating : Translating (g.T.Translator.task l.translator) g.D.Device.transition
+  translated : Translated (g.T.Translator.task l.translator) g.D.Device.transition
       (g.T.Translator.shows l.translator) l.counter l.fn.device l.device (take l.left l.input);
   room : l.left < length l.input;
   output : OUTPUT_ROOM ≤ vec_capacity l.output;

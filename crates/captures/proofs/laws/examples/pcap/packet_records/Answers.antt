@@ -1,0 +1,11 @@
+use Rattle.std.proofs.Common.{refl, ◌∷◌, ◌++◌, []}
+use Rattle.std.specs.Prelude.{replicate}
+use Rattle.captures.proofs.laws.examples.pcap.packet_records.Goals as goal
+
+pub returns : goal.returns
+returns c = record {
+  head = replicate 8 0 ++ (2 ∷ 0 ∷ 0 ∷ 0 ∷ 0xdc ∷ 5 ∷ 0 ∷ 0 ∷ []);
+  parts = refl;
+  size = refl;
+  captured = refl;
+}

@@ -1,0 +1,199 @@
+use Rattle.std.proofs.Common.{arith, drop, inl, inr, refl, take, List, [], ◌∷◌, ℕ, ◌≡◌}
+use Rattle.std.specs.Prelude.{replicate, slice_set}
+use Rattle.captures.specs.Examples.{cut_simple_block, enhanced_block, interface_block, longer_packet}
+use Rattle.captures.specs.Examples.{packet_at, section_block, simple_block}
+use Rattle.captures.specs.Lines.{Packet}
+use Rattle.captures.specs.Pcapng.Content.{Opens, Describes, Holds}
+use Rattle.captures.specs.Skipping.{passing_from}
+use Rattle.captures.specs.Times.{usual_clock}
+use Rattle.captures.specs.Units.{IsBlockUnit, no_section}
+use Rattle.captures.specs.declared.byte_order.ByteOrder.TheVariants.{Little}
+use Rattle.captures.specs.declared.link.kind.Link.TheVariants.{Ethernet, Sll2}
+use Rattle.captures.specs.declared.origin.Origin.{Origin}
+use Rattle.captures.specs.declared.pcapng.section.Section.{Section}
+use Rattle.captures.specs.declared.translation.state.State.TheVariants.{Pcapng}
+use Rattle.captures.specs.declared.unfit.Unfit.TheVariants.{Refuse}
+use Rattle.captures.proofs.laws.examples.pcapng.captures_of_blocks.Goals as goal
+
+abbrev opened : Section
+opened = record {
+  order = Little;
+  first = 0;
+  interfaces = 0;
+  snap_len = 0;
+  links = replicate 32 Ethernet;
+  clocks = replicate 33 usual_clock;
+  passing = passing_from Refuse;
+}
+
+abbrev described : Section
+described = record {
+  order = Little;
+  first = 0;
+  interfaces = 1;
+  snap_len = 22;
+  links = slice_set (replicate 32 Ethernet) 0 Sll2;
+  clocks = slice_set (replicate 33 usual_clock) 0 usual_clock;
+  passing = passing_from Refuse;
+}
+
+abbrev nowhere : Origin
+nowhere = record { channel = 0; time = 0 }
+
+opens : IsBlockUnit (no_section Refuse) section_block (Pcapng opened) nowhere []
+opens = record {
+  order = Little;
+  has_order = inr (refl, refl);
+  block = record { size = omega arith; words = refl; front = refl; back = refl };
+  fits = inl (omega arith);
+  next = opened;
+  reads = record {
+    content = Opens 0;
+    says = (refl, omega arith, refl, refl, omega arith);
+    becomes = (refl, refl);
+  };
+  becomes = refl;
+}
+
+describes : IsBlockUnit opened interface_block (Pcapng described) nowhere []
+describes = record {
+  order = Little;
+  has_order = inl (λ e. let same : 0x01000000 ≡ 0x0a0d0d0a = e in absurd (omega arith), refl);
+  block = record { size = omega arith; words = refl; front = refl; back = refl };
+  fits = inl (omega arith);
+  next = described;
+  reads = record {
+    content = Describes 276 22 usual_clock;
+    says = (refl, omega arith, refl, refl, refl, omega arith);
+    becomes = (slice_set (replicate 32 Ethernet) 0 Sll2, refl, refl, refl);
+  };
+  becomes = refl;
+}
+
+module _ (told : Packet) where
+  abbrev Tells : List ℕ → Type 0
+  Tells block = IsBlockUnit described block (Pcapng described) told.origin told.frame
+
+holds_simple : Tells (packet_at 0) simple_block
+holds_simple = record {
+  order = Little;
+  has_order = inl (λ e. let same : 0x03000000 ≡ 0x0a0d0d0a = e in absurd (omega arith), refl);
+  block = record { size = omega arith; words = refl; front = refl; back = refl };
+  fits = inl (omega arith);
+  next = described;
+  reads = record {
+    content = Holds nowhere Sll2 (take 21 (drop 12 simple_block));
+    says = inr (inr (record {
+      kind = refl;
+      size = omega arith;
+      interface = omega arith;
+      number = refl;
+      time = refl;
+      over = refl;
+      captured = refl;
+      bytes = refl;
+    }));
+    becomes = (refl, refl, refl, omega arith);
+  };
+  becomes = refl;
+}
+
+holds_cut : Tells longer_packet cut_simple_block
+holds_cut = record {
+  order = Little;
+  has_order = inl (λ e. let same : 0x03000000 ≡ 0x0a0d0d0a = e in absurd (omega arith), refl);
+  block = record { size = omega arith; words = refl; front = refl; back = refl };
+  fits = inl (omega arith);
+  next = described;
+  reads = record {
+    content = Holds nowhere Sll2 (take 22 (drop 12 cut_simple_block));
+    says = inr (inr (record {
+      kind = refl;
+      size = omega arith;
+      interface = omega arith;
+      number = refl;
+      time = refl;
+      over = refl;
+      captured = refl;
+      bytes = refl;
+    }));
+    becomes = (refl, refl, refl, omega arith);
+  };
+  becomes = refl;
+}
+
+holds_enhanced : Tells (packet_at 1700000000250000000) enhanced_block
+holds_enhanced = record {
+  order = Little;
+  has_order = inl (λ e. let same : 0x06000000 ≡ 0x0a0d0d0a = e in absurd (omega arith), refl);
+  block = record { size = omega arith; words = refl; front = refl; back = refl };
+  fits = inl (omega arith);
+  next = described;
+  reads = record {
+    content = Holds (record { channel = 0; time = 1700000000250000000 }) Sll2
+        (take 21 (drop 28 enhanced_block));
+    says = inl (
+      refl,
+      record {
+        size = omega arith;
+        described = omega arith;
+        number = refl;
+        fits = omega arith;
+        time = refl;
+        over = refl;
+        captured = refl;
+        bytes = refl;
+      },
+    );
+    becomes = (refl, refl, refl, omega arith);
+  };
+  becomes = refl;
+}
+
+pub returns : goal.returns
+returns c =
+    let first = packet_at 0 in
+    let last = packet_at 1700000000250000000 in
+    record {
+      state = Pcapng described;
+      passes = record {
+        units = section_block ∷ interface_block ∷ simple_block ∷ cut_simple_block
+            ∷ enhanced_block ∷ [];
+        row = (
+          Pcapng opened,
+          nowhere,
+          [],
+          first ∷ longer_packet ∷ last ∷ [],
+          inr (refl, opens),
+          (
+            Pcapng described,
+            nowhere,
+            [],
+            first ∷ longer_packet ∷ last ∷ [],
+            describes,
+            (
+              Pcapng described,
+              first.origin,
+              first.frame,
+              longer_packet ∷ last ∷ [],
+              holds_simple,
+              (
+                Pcapng described,
+                longer_packet.origin,
+                longer_packet.frame,
+                last ∷ [],
+                holds_cut,
+                (Pcapng described, last.origin, last.frame, [], holds_enhanced, (refl, refl), refl),
+                refl,
+              ),
+              refl,
+            ),
+            refl,
+          ),
+          refl,
+        );
+        parts = refl;
+      };
+      known = λ e. cc e;
+      counts = refl;
+    }

@@ -1,0 +1,64 @@
+-- Captures by hand, of which laws say what is in them.
+use Rattle.std.specs.Prelude.{ℕ, List, [], ◌∷◌}
+use Rattle.captures.specs.Lines.{Packet}
+
+-- ---- a classic capture (draft-ietf-opsawg-pcap, sections 4 and 5)
+
+-- high byte first, nanoseconds, version 2.4, a snap length of 262,144, LINUX_SLL2 (276)
+abbrev pub file_header : List ℕ
+file_header =
+    0xa1 ∷ 0xb2 ∷ 0x3c ∷ 0x4d ∷ 0 ∷ 2 ∷ 0 ∷ 4 ∷ 0 ∷ 0 ∷ 0 ∷ 0 ∷ 0 ∷ 0 ∷ 0 ∷ 0 ∷ 0 ∷ 4 ∷ 0 ∷ 0
+    ∷ 0 ∷ 0 ∷ 1 ∷ 0x14 ∷ []
+
+-- at 1,700,000,000.25 seconds 21 bytes of 1500: IPv4 on interface 3, sent by us (4) from an address
+-- of six bytes, and the first byte of the packet
+abbrev pub packet_record : List ℕ
+packet_record =
+    0x65 ∷ 0x53 ∷ 0xf1 ∷ 0 ∷ 0x0e ∷ 0xe6 ∷ 0xb2 ∷ 0x80 ∷ 0 ∷ 0 ∷ 0 ∷ 0x15 ∷ 0 ∷ 0 ∷ 5 ∷ 0xdc
+    ∷ 8 ∷ 0 ∷ 0 ∷ 0 ∷ 0 ∷ 0 ∷ 0 ∷ 3 ∷ 0 ∷ 1 ∷ 4 ∷ 6 ∷ 2 ∷ 0 ∷ 0 ∷ 0 ∷ 0 ∷ 1 ∷ 0 ∷ 0 ∷ 0x45 ∷ []
+
+-- ---- a pcapng file (draft-ietf-opsawg-pcapng)
+
+-- low byte first, version 1.0, a length that isn't told
+abbrev pub section_block : List ℕ
+section_block =
+    0x0a ∷ 0x0d ∷ 0x0d ∷ 0x0a ∷ 0x1c ∷ 0 ∷ 0 ∷ 0 ∷ 0x4d ∷ 0x3c ∷ 0x2b ∷ 0x1a ∷ 1 ∷ 0 ∷ 0 ∷ 0
+    ∷ 0xff ∷ 0xff ∷ 0xff ∷ 0xff ∷ 0xff ∷ 0xff ∷ 0xff ∷ 0xff ∷ 0x1c ∷ 0 ∷ 0 ∷ 0 ∷ []
+
+-- LINUX_SLL2 (276), of whose packets 22 bytes are captured at most
+abbrev pub interface_block : List ℕ
+interface_block =
+    1 ∷ 0 ∷ 0 ∷ 0 ∷ 0x14 ∷ 0 ∷ 0 ∷ 0 ∷ 0x14 ∷ 1 ∷ 0 ∷ 0 ∷ 0x16 ∷ 0 ∷ 0 ∷ 0 ∷ 0x14 ∷ 0 ∷ 0 ∷ 0 ∷ []
+
+-- the same packet as above, of 21 bytes, filled up to whole words
+abbrev pub simple_block : List ℕ
+simple_block =
+    3 ∷ 0 ∷ 0 ∷ 0 ∷ 0x28 ∷ 0 ∷ 0 ∷ 0 ∷ 0x15 ∷ 0 ∷ 0 ∷ 0 ∷ 8 ∷ 0 ∷ 0 ∷ 0 ∷ 0 ∷ 0 ∷ 0 ∷ 3 ∷ 0 ∷ 1
+    ∷ 4 ∷ 6 ∷ 2 ∷ 0 ∷ 0 ∷ 0 ∷ 0 ∷ 1 ∷ 0 ∷ 0 ∷ 0x45 ∷ 0 ∷ 0 ∷ 0 ∷ 0x28 ∷ 0 ∷ 0 ∷ 0 ∷ []
+
+-- 22 bytes of 1500
+abbrev pub cut_simple_block : List ℕ
+cut_simple_block =
+    3 ∷ 0 ∷ 0 ∷ 0 ∷ 0x28 ∷ 0 ∷ 0 ∷ 0 ∷ 0xdc ∷ 5 ∷ 0 ∷ 0 ∷ 8 ∷ 0 ∷ 0 ∷ 0 ∷ 0 ∷ 0 ∷ 0 ∷ 3 ∷ 0 ∷ 1
+    ∷ 4 ∷ 6 ∷ 2 ∷ 0 ∷ 0 ∷ 0 ∷ 0 ∷ 1 ∷ 0 ∷ 0 ∷ 0x45 ∷ 0x17 ∷ 0 ∷ 0 ∷ 0x28 ∷ 0 ∷ 0 ∷ 0 ∷ []
+
+-- the same packet and time as above
+abbrev pub enhanced_block : List ℕ
+enhanced_block =
+    6 ∷ 0 ∷ 0 ∷ 0 ∷ 0x38 ∷ 0 ∷ 0 ∷ 0 ∷ 0 ∷ 0 ∷ 0 ∷ 0 ∷ 0x24 ∷ 0x0a ∷ 6 ∷ 0 ∷ 0x90 ∷ 0x10 ∷ 0x22
+    ∷ 0x18 ∷ 0x15 ∷ 0 ∷ 0 ∷ 0 ∷ 0xdc ∷ 5 ∷ 0 ∷ 0 ∷ 8 ∷ 0 ∷ 0 ∷ 0 ∷ 0 ∷ 0 ∷ 0 ∷ 3 ∷ 0 ∷ 1 ∷ 4
+    ∷ 6 ∷ 2 ∷ 0 ∷ 0 ∷ 0 ∷ 0 ∷ 1 ∷ 0 ∷ 0 ∷ 0x45 ∷ 0 ∷ 0 ∷ 0 ∷ 0x38 ∷ 0 ∷ 0 ∷ 0 ∷ []
+
+-- ---- what is in them: no destination, the sender's address, the ether type, and the packet's bytes
+
+abbrev pub packet_at : (time : ℕ) → Packet
+packet_at time = record {
+  origin = record { channel = 0; time = time };
+  frame = 0 ∷ 0 ∷ 0 ∷ 0 ∷ 0 ∷ 0 ∷ 2 ∷ 0 ∷ 0 ∷ 0 ∷ 0 ∷ 1 ∷ 8 ∷ 0 ∷ 0x45 ∷ [];
+}
+
+abbrev pub longer_packet : Packet
+longer_packet = record {
+  origin = record { channel = 0; time = 0 };
+  frame = 0 ∷ 0 ∷ 0 ∷ 0 ∷ 0 ∷ 0 ∷ 2 ∷ 0 ∷ 0 ∷ 0 ∷ 0 ∷ 1 ∷ 8 ∷ 0 ∷ 0x45 ∷ 0x17 ∷ [];
+}

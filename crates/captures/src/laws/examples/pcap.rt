@@ -1,0 +1,53 @@
+//! Classic captures (draft-ietf-opsawg-pcap, sections 4 and 5).
+
+ghost use Rattle.std.specs.Prelude.{◌≡◌, ℕ, List, [], ◌∷◌, ◌++◌, replicate, true, false};
+ghost use Rattle.captures.specs.Examples.{file_header, packet_at, packet_record};
+ghost use Rattle.captures.specs.Numbers.{half, word};
+ghost use Rattle.captures.specs.Pcap.{IsFileHeader, IsPacketRecord, is_magic, link_type};
+ghost use Rattle.captures.specs.Runs.{IsCapture};
+ghost use Rattle.captures.specs.Skipping.{none_skipped};
+ghost use Rattle.captures.specs.declared.byte_order.ByteOrder.TheVariants.{Big, Little};
+ghost use Rattle.captures.specs.declared.unfit.Unfit.TheVariants.{Refuse};
+
+/// Numbers in both byte orders.
+pub fn numbers()
+    ensures high_first { (half Big (9 ∷ 1 ∷ 2 ∷ []) 1 ≡ 0x0102)
+        × (word Big (9 ∷ 1 ∷ 2 ∷ 3 ∷ 4 ∷ []) 1 ≡ 0x01020304) }
+    ensures low_first { (half Little (9 ∷ 1 ∷ 2 ∷ []) 1 ≡ 0x0201)
+        × (word Little (9 ∷ 1 ∷ 2 ∷ 3 ∷ 4 ∷ []) 1 ≡ 0x04030201) }
+{}
+
+/// The two magic numbers, and some that are none: either in the other order, that of a patched
+/// format, and the type of a section header.
+pub fn magic_numbers()
+    ensures read { (is_magic 0xa1b2c3d4 ≡ true) × (is_magic 0xa1b23c4d ≡ true) }
+    ensures other { (is_magic 0xd4c3b2a1 ≡ false) × (is_magic 0x4d3cb2a1 ≡ false)
+        × (is_magic 0xa1b2cd34 ≡ false) × (is_magic 0x0a0d0d0a ≡ false) }
+{}
+
+/// File headers of Ethernet in both orders, the second with a frame check sequence of 4 bytes (0x48 in
+/// the upper bits of its last number), and headers of versions 2.3 and 1.4.
+pub fn file_headers()
+    ensures low_first { IsFileHeader Little (0xd4 ∷ 0xc3 ∷ 0xb2 ∷ 0xa1 ∷ 2 ∷ 0 ∷ 4 ∷ 0 ∷ replicate 8 0
+        ++ 0xff ∷ 0xff ∷ 0 ∷ 0 ∷ 1 ∷ 0 ∷ 0 ∷ 0 ∷ []) }
+    ensures high_first { IsFileHeader Big (0xa1 ∷ 0xb2 ∷ 0x3c ∷ 0x4d ∷ 0 ∷ 2 ∷ 0 ∷ 4 ∷ replicate 8 0
+        ++ 0 ∷ 4 ∷ 0 ∷ 0 ∷ 0x48 ∷ 0 ∷ 0 ∷ 1 ∷ []) }
+    ensures minor { IsFileHeader Little (0xd4 ∷ 0xc3 ∷ 0xb2 ∷ 0xa1 ∷ 2 ∷ 0 ∷ 3 ∷ 0 ∷ replicate 16 0)
+        → ⊥ }
+    ensures major { IsFileHeader Little (0xd4 ∷ 0xc3 ∷ 0xb2 ∷ 0xa1 ∷ 1 ∷ 0 ∷ 4 ∷ 0 ∷ replicate 16 0)
+        → ⊥ }
+    ensures link { link_type Little (replicate 20 0 ++ 0x14 ∷ 1 ∷ 0 ∷ 0 ∷ []) ≡ 276 }
+    ensures sequence { link_type Big (replicate 20 0 ++ 0x48 ∷ 0 ∷ 0 ∷ 1 ∷ []) ≡ 1 }
+{}
+
+/// A record tells how many bytes follow it, and how many the packet had: 2 of 1500.
+pub fn packet_records()
+    ensures { IsPacketRecord Little (replicate 8 0 ++ 2 ∷ 0 ∷ 0 ∷ 0 ∷ 0xdc ∷ 5 ∷ 0 ∷ 0 ∷ 7 ∷ 8
+        ∷ []) (7 ∷ 8 ∷ []) }
+{}
+
+/// A capture of one packet, whose first 21 bytes of 1500 were captured on LINUX_SLL2.
+pub fn captures_of_records()
+    ensures { IsCapture Refuse (file_header ++ packet_record)
+        (packet_at 1700000000250000000 ∷ []) none_skipped }
+{}

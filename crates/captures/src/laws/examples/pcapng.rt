@@ -1,0 +1,93 @@
+//! Pcapng files (draft-ietf-opsawg-pcapng).
+
+ghost use Rattle.std.specs.Prelude.{◌≡◌, ◌≢◌, ◌⊎◌, ℕ, List, [], ◌∷◌, ◌++◌, length, true, false};
+ghost use Rattle.std.specs.Prelude.{slice_set, Some, None};
+ghost use Rattle.captures.specs.Examples.{cut_simple_block, enhanced_block, interface_block};
+ghost use Rattle.captures.specs.Examples.{longer_packet, packet_at, section_block, simple_block};
+ghost use Rattle.captures.specs.Numbers.{word};
+ghost use Rattle.captures.specs.Pcapng.{Becomes, IsTaken, Says, byte_order_magic, captured_len};
+ghost use Rattle.captures.specs.Pcapng.{enhanced_packet, interface_description, is_read_version};
+ghost use Rattle.captures.specs.Pcapng.{links_with, obsolete_packet, section_header, simple_packet};
+ghost use Rattle.captures.specs.Pcapng.Content.{Describes, Holds};
+ghost use Rattle.captures.specs.Runs.{IsCapture};
+ghost use Rattle.captures.specs.Skipping.{none_skipped, passing_from};
+ghost use Rattle.captures.specs.Times.{usual_clock};
+ghost use Rattle.captures.specs.declared.byte_order.ByteOrder.{ByteOrder};
+ghost use Rattle.captures.specs.declared.byte_order.ByteOrder.TheVariants.{Big, Little};
+ghost use Rattle.captures.specs.declared.link.kind.Link.TheVariants.{Ethernet, Ip};
+ghost use Rattle.captures.specs.declared.origin.Origin.{Origin};
+ghost use Rattle.captures.specs.declared.pcapng.section.Section.{Section};
+ghost use Rattle.captures.specs.declared.unfit.Unfit.TheVariants.{Refuse, Skip};
+
+/// The types of blocks, and the magic number that tells the byte order (sections 4.1 to 4.4 and
+/// appendix A).
+pub fn block_types()
+    ensures section { section_header ≡ 0x0a0d0d0a }
+    ensures interface { interface_description ≡ 1 }
+    ensures packets { (enhanced_packet ≡ 6) × (simple_packet ≡ 3) × (obsolete_packet ≡ 2) }
+    ensures order { byte_order_magic ≡ 0x1a2b3c4d }
+{}
+
+/// The versions of sections: the format has 1.0, and 1.2 is to be read as that.
+pub fn versions()
+    ensures read { (is_read_version 1 0 ≡ true) × (is_read_version 1 2 ≡ true) }
+    ensures minor { (is_read_version 1 1 ≡ false) × (is_read_version 1 3 ≡ false)
+        × (is_read_version 1 256 ≡ false) × (is_read_version 1 65535 ≡ false) }
+    ensures major { (is_read_version 0 0 ≡ false) × (is_read_version 2 0 ≡ false)
+        × (is_read_version 2 2 ≡ false) × (is_read_version 256 0 ≡ false) }
+{}
+
+/// Of a simple packet the lesser of its length and of the snap length is there, and all of it where
+/// the snap length is 0.
+pub fn simple_packet_lengths()
+    ensures whole { captured_len 96 60 ≡ 60 }
+    ensures same { captured_len 96 96 ≡ 96 }
+    ensures cut { captured_len 96 1500 ≡ 96 }
+    ensures no_limit { captured_len 0 1500 ≡ 1500 }
+{}
+
+/// The description of an interface of LINUX_SLL2 (276) that cuts packets at 262,144 bytes.
+pub fn interface_descriptions()
+    ensures { (section : Section) → section.interfaces ≡ 0
+        → Says section Little (1 ∷ 0 ∷ 0 ∷ 0 ∷ 20 ∷ 0 ∷ 0 ∷ 0 ∷ 0x14 ∷ 1 ∷ 0 ∷ 0 ∷ 0 ∷ 0 ∷ 4 ∷ 0 ∷ 20
+        ∷ 0 ∷ 0 ∷ 0 ∷ []) (Describes 276 262144 usual_clock) }
+{}
+
+/// The 32nd interface of a section may have any link that is read, the 33rd that of Ethernet alone.
+pub fn links_of_interfaces()
+    ensures first { (section : Section) → section.interfaces ≡ 31 → section.passing ≡ passing_from Refuse
+        → (links_with section 101 ≡ Some (slice_set section.links 31 Ip))
+        × (links_with section 105 ≡ None) }
+    ensures later { (section : Section) → section.interfaces ≡ 32
+        → (links_with section 1 ≡ Some section.links) × (links_with section 101 ≡ None) }
+{}
+
+/// A block that is read has 262,144 bytes at most, and a custom one any length.
+pub fn greatest_blocks()
+    ensures read { (order : ByteOrder) (block : List ℕ) → word order block 0 ≡ 6
+        → IsTaken order block 262_144 × (IsTaken order block 262_148 → ⊥) }
+    ensures custom { (order : ByteOrder) (block : List ℕ) → word order block 0 ≡ 0x0bad
+        → word Big block 0 ≢ 0x0a0d0d0a → IsTaken order block 4_294_967_292 }
+{}
+
+/// A packet that is too long for a line is passed over where such packets are, up to 262,128 bytes.
+pub fn long_packets_are_passed_over()
+    ensures { (section : Section) (order : ByteOrder) (origin : Origin) (packet : List ℕ)
+        → section.passing ≡ passing_from Skip
+        → (length packet ≡ 99_992) ⊎ (length packet ≡ 262_128)
+        → Becomes section order (Holds origin Ethernet packet) (record section {
+          passing = record {
+            unfit = Skip;
+            skipped = record { of_other_links = 0; too_long = 1; without_frame = 0 };
+          };
+        }) origin [] }
+{}
+
+/// A section of version 1.0, low byte first, with an interface of LINUX_SLL2 (276) that cuts packets at
+/// 22 bytes, and three packets: a simple one of 21 bytes, a simple one of which 22 of 1500 bytes
+/// are there, and an enhanced one of which 21 are. A simple packet has no time.
+pub fn captures_of_blocks()
+    ensures { IsCapture Refuse (section_block ++ (interface_block ++ (simple_block
+        ++ (cut_simple_block ++ enhanced_block))))
+        (packet_at 0 ∷ longer_packet ∷ packet_at 1700000000250000000 ∷ []) none_skipped }
+{}
