@@ -1,5 +1,7 @@
 mod CallLemmas
 mod Handed
+mod JoinedMessages
+mod OpenByHand
 mod OpenCount
 mod PartLemmas
 mod Runs
