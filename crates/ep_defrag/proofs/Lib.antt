@@ -1,6 +1,8 @@
 mod CallLemmas
 mod Handed
+mod JoinedMessages
 mod KeptMemory
+mod OpenByHand
 mod OpenCount
 mod PartLemmas
 mod Runs

@@ -1,5 +1,6 @@
 pub mod IpDefragPool
 pub mod IpFragId
+pub mod Joined
 pub mod OpenMessages
 pub mod PoolCalls
 pub mod Processed

@@ -1,7 +1,10 @@
 //! Laws of the definitions: the contract of each function is the law.
 
+pub mod joined;
 pub mod memory;
 pub mod names;
+pub mod open_messages;
+pub mod packets;
 pub mod streams;
 pub mod traits;
 

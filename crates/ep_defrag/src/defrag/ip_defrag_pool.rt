@@ -11,6 +11,7 @@ ghost use Rattle.ep_streams.specs.Counts.{Bounded, Counts, HasMemoryFor, HasPlac
 ghost use Rattle.ep_streams.specs.Counts.{open_in};
 ghost use Rattle.ep_defrag.specs.IpDefragPool.{Accepts, AcceptsBy, Refuses, same_id};
 ghost use Rattle.ep_defrag.specs.IpFragId.{fragment_in, id_named};
+ghost use Rattle.ep_streams.specs.Repeats.{TakesRepeat};
 ghost use Rattle.ep_streams.specs.Streams.{MayAsk, OthersStay, RefusesBy, Retained, Stays};
 ghost use Rattle.ep_streams.specs.Streams.{fragment_of, stream_at};
 
@@ -109,6 +110,11 @@ impl<Timestamp: Drop, CustomChannelId: Eq + Hash + Drop, S: BuildHasher> IpDefra
             Accepts (same_id CustomChannelId.eq) self.old self.new (id_named told.0 channel_id) told.1 timestamp result) }
         ensures refused { IfSome (fragment_in (packet_told packet.now)) (λ told.
             Refuses (same_id CustomChannelId.eq) self.old (id_named told.0 channel_id) told.1 result) }
+        // A fragment that is there already takes no memory, where overlaps are refused.
+        ensures repeat { IfSome (fragment_in (packet_told packet.now)) (λ told.
+            TakesRepeat (stream_at (same_id CustomChannelId.eq) self.old (id_named told.0 channel_id))
+            (stream_at (same_id CustomChannelId.eq) self.new (id_named told.0 channel_id)) told.1
+            result) }
         // Every other name's list and timestamp stay. After a refusal this name's do, too, but an
         // overlap ends its stream.
         ensures others { IfSome (fragment_in (packet_told packet.now)) (λ told.
@@ -155,6 +161,10 @@ impl<Timestamp: Drop, CustomChannelId: Eq + Hash + Drop, S: BuildHasher> IpDefra
             named.1 timestamp result) }
         ensures refused { IfSome (fragment_in (as_class (told.Cut message.entry))) (λ named.
             Refuses (same_id CustomChannelId.eq) self.old (id_named named.0 channel_id) named.1
+            result) }
+        ensures repeat { IfSome (fragment_in (as_class (told.Cut message.entry))) (λ named.
+            TakesRepeat (stream_at (same_id CustomChannelId.eq) self.old (id_named named.0 channel_id))
+            (stream_at (same_id CustomChannelId.eq) self.new (id_named named.0 channel_id)) named.1
             result) }
         ensures others { IfSome (fragment_in (as_class (told.Cut message.entry))) (λ named.
             OthersStay (same_id CustomChannelId.eq) (id_named named.0 channel_id)
@@ -207,6 +217,10 @@ impl<Timestamp: Drop, CustomChannelId: Eq + Hash + Drop, S: BuildHasher> IpDefra
         ensures accepted { AcceptsBy rule ⟦<IpFragId<CustomChannelId> as PartialEq>⟧.eq
             self.old self.new id (fragment_of piece.now) timestamp result }
         ensures refused { RefusesBy rule ⟦<IpFragId<CustomChannelId> as PartialEq>⟧.eq self.old id
+            (fragment_of piece.now) result }
+        ensures repeat { TakesRepeat
+            (stream_at ⟦<IpFragId<CustomChannelId> as PartialEq>⟧.eq self.old id)
+            (stream_at ⟦<IpFragId<CustomChannelId> as PartialEq>⟧.eq self.new id)
             (fragment_of piece.now) result }
         ensures others { OthersStay ⟦<IpFragId<CustomChannelId> as PartialEq>⟧.eq
             id self.old self.new }

@@ -7,6 +7,7 @@ ghost use Rattle.ep_packet.specs.Class.Class.{Refused};
 ghost use Rattle.ep_packet.specs.Sliced.{sliced_ethernet};
 ghost use Rattle.ep_packet.specs.declared.err.packet.slice_error.SliceError.{SliceError};
 ghost use Rattle.ep_streams.specs.Counts.{Bounded, open_in};
+ghost use Rattle.ep_defrag.specs.Joined.{AreAccepted, JoinReplies};
 ghost use Rattle.ep_defrag.specs.OpenMessages.{NeverMore};
 ghost use Rattle.ep_defrag.specs.PoolCalls.{Answered, FrameAnswered, HasMemory, Lists, Replies};
 ghost use Rattle.ep_defrag.specs.PoolCalls.{ShowsLists, answers, fault_in, lists_after};
@@ -141,6 +142,9 @@ pub fn run_calls<S: BuildHasher>(
     ensures told { IfOk result (λ replies. (lists : Lists) → ShowsLists pool.old lists
         → AllByRecursion HasMemory (map as_told replies.items)
         → map as_told replies.items ≡ answers lists calls.now) }
+    // Over IPv6 each message is joined from accepted fragments, no two of which hold the same place.
+    ensures joined { IfOk result (λ replies. (lists : Lists) → ShowsLists pool.old lists
+        → AreAccepted lists → JoinReplies lists calls.now (map as_told replies.items)) }
     ensures lists { IfOk result (λ replies. (lists : Lists) → ShowsLists pool.old lists
         → AllByRecursion HasMemory (map as_told replies.items)
         → ShowsLists pool.new (lists_after lists calls.now)) }

@@ -262,14 +262,22 @@ pub fn replies_without_memory()
     ensures nothing { HasMemory Nothing }
 {}
 
-/// Out of memory may be told of a fragment that isn't refused, with its end, where the last 8 of
-/// 16 bytes came before it, and then its list is as it was; and of nothing else, `RetainFrom`
-/// neither.
+/// Out of memory may be told of a fragment that isn't refused, by where it ends in its message, where
+/// the last 8 of 16 bytes or its first 8 came before it, and then its list is as it was; and of
+/// nothing else, `RetainFrom` neither.
 pub fn wants_of_memory()
     ensures fragment { (ids : List ℕ) (a b : List ℕ)
         → want_at_frame
         (λ name channel. record { fragments = fragment 1 false (replicate 8 2) ∷ []; time = 4 })
         (Cut (record { vlan_ids = ids; addresses = V6 a b; identification = 7; number = 17 }) 0 true (replicate 8 1)) 3 ≡ Some (Refused (AllocationFailure 8)) }
+    ensures later { (ids : List ℕ) (a b : List ℕ)
+        → want_at_frame
+        (λ name channel. record { fragments = fragment 0 true (replicate 8 1) ∷ []; time = 4 })
+        (Cut (record { vlan_ids = ids; addresses = V6 a b; identification = 7; number = 17 }) 3 true (replicate 16 3)) 3 ≡ Some (Refused (AllocationFailure 40)) }
+    ensures later_over_ipv4 { (ids : List ℕ) (a b : List ℕ)
+        → want_at_frame
+        (λ name channel. record { fragments = fragment 0 true (replicate 8 1) ∷ []; time = 4 })
+        (Cut (record { vlan_ids = ids; addresses = V4 a b; identification = 7; number = 17 }) 1 false (replicate 4 3)) 3 ≡ Some (Refused (AllocationFailure 12)) }
     ensures stays { (a b : List ℕ)
         → FrameAnswered (λ after. (after
         (record { vlan_ids = []; addresses = V6 a b; identification = 7; number = 17 }) 3).fragments

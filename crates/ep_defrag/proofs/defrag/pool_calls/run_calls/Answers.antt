@@ -3,6 +3,7 @@ use Rattle.std.proofs.Common.{take}
 use Rattle.std.proofs.lemmas.List.{take_all}
 use Rattle.ep_defrag.specs.declared.defrag.pool_calls.PoolCall.{PoolCall}
 use Rattle.ep_defrag.specs.PoolCalls.{Answered, Lists, Replies, ShowsLists, as_told, lists_after}
+use Rattle.ep_defrag.proofs.JoinedMessages.{replies_join}
 use Rattle.ep_defrag.proofs.Runs.{bounded_more, front_has, no_call, same_call, replies_more}
 use Rattle.ep_defrag.proofs.Runs.{replies_with_memory}
 use Rattle.ep_defrag.proofs.defrag.pool_calls.run_calls.Goals as goal
@@ -56,6 +57,11 @@ pub returns-clause-told : goal.returns-clause-told
 returns-clause-told g c lists shows has =
     (replies_with_memory (ShowsLists c.loop-call.pool) lists c.args.calls.now
     (map as_told c.loop-call.replies.items) (returns-clause-replies g c lists shows) has).0
+
+pub returns-clause-joined : goal.returns-clause-joined
+returns-clause-joined g c lists shows accepted =
+    replies_join (ShowsLists c.loop-call.pool) lists c.args.calls.now
+    (map as_told c.loop-call.replies.items) (returns-clause-replies g c lists shows) accepted
 
 pub returns-clause-lists : goal.returns-clause-lists
 returns-clause-lists g c lists shows has =

@@ -3,7 +3,8 @@ use Rattle.std.specs.Prelude.{IfErr}
 use Rattle.ep_packet.specs.declared.class.CutMessage.{CutMessage}
 use Rattle.ep_streams.specs.Counts.{Counts, HasMemoryFor, KeepsMemoryOf}
 use Rattle.ep_fragments.specs.Fragments.{Fragment, fragment}
-use Rattle.ep_streams.specs.Streams.{RefusesBy, Stays}
+use Rattle.ep_streams.specs.Repeats.{TakesRepeat}
+use Rattle.ep_streams.specs.Streams.{RefusesBy, Stays, stream_at}
 use Rattle.ep_fragments.specs.declared.defrag.overlap_rule.OverlapRule.{OverlapRule}
 use Rattle.ep_defrag.specs.IpDefragPool.{Accepts, AcceptsBy, Refuses, same_id}
 use Rattle.ep_defrag.specs.declared.defrag.ip_frag_id.IpFragId.{IpFragId}
@@ -47,6 +48,15 @@ returns-clause-refused g c =
     c.args.self.now (name_of c.args.message c.args.channel_id ip) (fragment_in c.args.message)
     c.add_piece.result)
     c.spec_id-ip.ensures own
+
+pub returns-clause-repeat : goal.returns-clause-repeat
+returns-clause-repeat g c =
+    let same = same_id g.CustomChannelId.PartialEq.eq in
+    subst (λ (ip : IpFragVersionSpecId). TakesRepeat
+    (stream_at same c.args.self.now (name_of c.args.message c.args.channel_id ip))
+    (stream_at same c.add_piece.new.self (name_of c.args.message c.args.channel_id ip))
+    (fragment_in c.args.message) c.add_piece.result)
+    c.spec_id-ip.ensures c.add_piece.ensures.repeat
 
 pub returns-clause-err : goal.returns-clause-err
 returns-clause-err g c =
