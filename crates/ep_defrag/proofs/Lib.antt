@@ -4,3 +4,4 @@ mod OpenCount
 mod PartLemmas
 mod Runs
 mod SameCalls
+mod TimestampLemmas

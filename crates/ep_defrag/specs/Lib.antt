@@ -3,3 +3,4 @@ pub mod IpFragId
 pub mod OpenMessages
 pub mod PoolCalls
 pub mod Processed
+pub mod Timestamps

@@ -2,6 +2,7 @@
 
 pub mod names;
 pub mod streams;
+pub mod timestamps;
 pub mod traits;
 
 pub use ep_fragments::laws::{

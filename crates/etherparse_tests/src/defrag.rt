@@ -20,5 +20,6 @@ mod pool_scripts;
 mod pools;
 mod ranges;
 mod refusals;
+mod renewed_timestamps;
 mod rules;
 mod streams;
