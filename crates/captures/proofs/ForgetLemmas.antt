@@ -1,13 +1,14 @@
 -- Which messages are dropped.
 use Rattle.std.proofs.Common.{◌≡◌, ◌∙◌, sym, ap, subst, refl, ℕ, zero, suc, ◌+◌, ◌-◌, ◌*◌, ◌^◌}
 use Rattle.std.proofs.Common.{◌<◌, ◌≤◌, ◌==◌, arith, Bool, true, false, List, [], ◌∷◌, ◌++◌, inl, inr}
-use Rattle.std.proofs.Common.{append_assoc}
-use Rattle.std.specs.Prelude.{◌⊎◌, nat_le}
+use Rattle.std.specs.Prelude.{◌⊎◌, if◌then◌else◌}
 use Rattle.std.specs.List.{AllByRecursion}
-use Rattle.std.proofs.lemmas.Bool.{leb-true, leb-false, lt-ltb, ne_eqb}
+use Rattle.std.proofs.lemmas.Bool.{lt-ltb, ne_eqb}
 use Rattle.captures.specs.Forgetting.{with_forget, forgets, Drops, come_to, ForgetKeeps, ForgetDrops}
 use Rattle.captures.specs.Lines.{Packet, blank, has_passed, counted_by, noted, noted_all}
 use Rattle.captures.specs.Numbers.{capped}
+use Rattle.captures.specs.Spans.{Mark, have_passed, passed_spans}
+use Rattle.captures.proofs.SpanLemmas.{has_or_not, spans_drop, spans_keep}
 use Rattle.captures.specs.declared.extra.Extra.TheVariants.{Forget}
 use Rattle.captures.specs.declared.text.ledger.Ledger.{Ledger}
 
@@ -25,16 +26,15 @@ module _ (seconds lines begin line time : ℕ) (some : 0 < lines) where
   abbrev Passed : Bool → Type 0
   Passed passed = has_passed seconds (at seconds lines begin line) time ≡ passed
 
-  by_test : (b : Bool) → nat_le (begin + span seconds) time ≡ b
-      → (Passed true × (begin + span seconds ≤ time)) ⊎ (Passed false × (time < begin + span seconds))
-  by_test true is =
-      inl (rw (lt-ltb 0 lines some, is) refl, leb-true (begin + span seconds) time is)
-  by_test false is =
-      inr (rw (lt-ltb 0 lines some, is) refl, leb-false (begin + span seconds) time is)
+  as_span : (b : Bool) → have_passed seconds begin time ≡ b → Passed b
+  as_span b is = rw (lt-ltb 0 lines some, is) refl
 
   either_way : (Passed true × (begin + span seconds ≤ time))
       ⊎ (Passed false × (time < begin + span seconds))
-  either_way = by_test (nat_le (begin + span seconds) time) refl
+  either_way = elim (has_or_not seconds begin time) [
+    | inl passed ↦ inl (as_span true passed.0, passed.1)
+    | inr more ↦ inr (as_span false more.0, more.1)
+  ]
 
   not_none : (lines == 0) ≡ false
   not_none = ne_eqb lines 0 (λ e. absurd (omega arith))
@@ -166,50 +166,115 @@ begin_most seconds most lines begin line (packet ∷ packets) few fits low all =
     subst (λ (l : Ledger). (noted_all l packets).begin ≤ most) (sym s.is)
     (begin_most seconds most s.lines s.begin' s.line packets s.few s.fits next all.1)
 
--- ---- what is kept
+-- ---- the packets as spans see them
 
--- no span passes that began later,
-never : (seconds time line' lines begin line : ℕ) (packets : List Packet) → 0 < lines
-    → time < begin
-    → AllByRecursion (λ p. p.origin.time < time + 1000000000 * seconds) packets
-    → Drops line' (forgets seconds (at seconds lines begin line) packets) → ⊥
-never seconds time line' lines begin line [] some later all drops = drops
-never seconds time line' lines begin line (packet ∷ packets) some later all drops =
-    let early = all.0 in
-    elim (either_way seconds lines begin line packet.origin.time some) [
-      | inl passed ↦ (let long = passed.1 in absurd (omega arith))
-      | inr more ↦
-          never seconds time line' (capped (lines + 1)) begin line packets (omega arith) later all.1
-          (subst (Drops line') (forgets_more seconds lines begin line some packet packets more.0)
-          drops)
-    ]
+-- each with the number of the line with which a span begins where one begins with it
+abbrev marks : ℕ → Ledger → List Packet → List Mark
+marks seconds ledger [] = []
+marks seconds ledger (packet ∷ packets) =
+    record { time = packet.origin.time; number = capped (ledger.lines + 1) }
+    ∷ marks seconds (noted ledger packet) packets
 
--- and of the one that is running what came before it is dropped
-keeps : (seconds time line' lines begin line : ℕ) (packets : List Packet) → 0 < lines
-    → line ≤ line' → time < begin + 1000000000 * seconds
-    → AllByRecursion (λ p. p.origin.time < time + 1000000000 * seconds) packets
-    → Drops line' (forgets seconds (at seconds lines begin line) packets) → ⊥
-keeps seconds time line' lines begin line [] some first near all drops = drops
-keeps seconds time line' lines begin line (packet ∷ packets) some first near all drops =
-    elim (either_way seconds lines begin line packet.origin.time some) [
+abbrev began : (begin line : ℕ) → Mark
+began begin line = record { time = begin; number = line }
+
+marks_passed : (seconds lines begin line : ℕ) (some : 0 < lines) (packet : Packet)
+    (packets : List Packet) → Passed seconds lines begin line packet.origin.time some true
+    → have_passed seconds begin packet.origin.time ≡ true
+    → passed_spans seconds (began begin line) (marks seconds (at seconds lines begin line)
+    (packet ∷ packets)) ≡ line ∷ passed_spans seconds
+    (began packet.origin.time (capped (lines + 1))) (marks seconds
+    (at seconds (capped (lines + 2)) packet.origin.time (capped (lines + 1))) packets)
+marks_passed seconds lines begin line some packet packets passed is =
+    ap (λ b. if b
+    then line ∷ passed_spans seconds (began packet.origin.time (capped (lines + 1)))
+    (marks seconds (noted (at seconds lines begin line) packet) packets)
+    else passed_spans seconds (began begin line)
+    (marks seconds (noted (at seconds lines begin line) packet) packets)) is
+    ∙ ap (λ (l : Ledger). line ∷ passed_spans seconds
+    (began packet.origin.time (capped (lines + 1))) (marks seconds l packets))
+    (counted_passed seconds lines begin line packet.origin.time some passed)
+
+marks_more : (seconds lines begin line : ℕ) (some : 0 < lines) (packet : Packet)
+    (packets : List Packet) → Passed seconds lines begin line packet.origin.time some false
+    → have_passed seconds begin packet.origin.time ≡ false
+    → passed_spans seconds (began begin line) (marks seconds (at seconds lines begin line)
+    (packet ∷ packets)) ≡ passed_spans seconds (began begin line) (marks seconds
+    (at seconds (capped (lines + 1)) begin line) packets)
+marks_more seconds lines begin line some packet packets more is =
+    ap (λ b. if b
+    then line ∷ passed_spans seconds (began packet.origin.time (capped (lines + 1)))
+    (marks seconds (noted (at seconds lines begin line) packet) packets)
+    else passed_spans seconds (began begin line)
+    (marks seconds (noted (at seconds lines begin line) packet) packets)) is
+    ∙ ap (λ (l : Ledger). passed_spans seconds (began begin line) (marks seconds l packets))
+    (counted_more seconds lines begin line packet.origin.time some more)
+
+-- the lines that have messages dropped name the spans that pass
+forgets_are : (seconds lines begin line : ℕ) (packets : List Packet) → 0 < lines
+    → forgets seconds (at seconds lines begin line) packets
+    ≡ passed_spans seconds (began begin line) (marks seconds (at seconds lines begin line) packets)
+forgets_are seconds lines begin line [] some = refl
+forgets_are seconds lines begin line (packet ∷ packets) some =
+    elim (has_or_not seconds begin packet.origin.time) [
       | inl passed ↦
-          (let long = passed.1 in
-          let here : Drops line' (line ∷ forgets seconds
-          (at seconds (capped (lines + 2)) packet.origin.time (capped (lines + 1))) packets) =
-          subst (Drops line') (forgets_passed seconds lines begin line some packet packets passed.0)
-          drops in
-          elim here [
-            | inl less ↦ absurd (omega arith)
-            | inr d ↦
-                never seconds time line' (capped (lines + 2)) packet.origin.time
-                (capped (lines + 1)) packets (omega arith) (omega arith) all.1 d
-          ])
+          let is : Passed seconds lines begin line packet.origin.time some true =
+          as_span seconds lines begin line packet.origin.time some true passed.0 in
+          forgets_passed seconds lines begin line some packet packets is
+          ∙ ap (λ (ns : List ℕ). line ∷ ns) (forgets_are seconds (capped (lines + 2))
+          packet.origin.time (capped (lines + 1)) packets (omega arith))
+          ∙ sym (marks_passed seconds lines begin line some packet packets is passed.0)
       | inr more ↦
-          keeps seconds time line' (capped (lines + 1)) begin line packets (omega arith) first near
-          all.1
-          (subst (Drops line') (forgets_more seconds lines begin line some packet packets more.0)
-          drops)
+          let is : Passed seconds lines begin line packet.origin.time some false =
+          as_span seconds lines begin line packet.origin.time some false more.0 in
+          forgets_more seconds lines begin line some packet packets is
+          ∙ forgets_are seconds (capped (lines + 1)) begin line packets (omega arith)
+          ∙ sym (marks_more seconds lines begin line some packet packets is more.0)
     ]
+
+marks_append : (seconds : ℕ) (ledger : Ledger) (packets others : List Packet)
+    → marks seconds ledger (packets ++ others)
+    ≡ marks seconds ledger packets ++ marks seconds (noted_all ledger packets) others
+marks_append seconds ledger [] others = refl
+marks_append seconds ledger (packet ∷ packets) others =
+    ap (λ (ms : List Mark). record
+    { time = packet.origin.time; number = capped (ledger.lines + 1) } ∷ ms)
+    (marks_append seconds (noted ledger packet) packets others)
+
+all_times : (seconds : ℕ) (P : ℕ → Type 0) (ledger : Ledger) (packets : List Packet)
+    → AllByRecursion (λ p. P p.origin.time) packets
+    → AllByRecursion (λ m. P m.time) (marks seconds ledger packets)
+all_times seconds P ledger [] all = tt
+all_times seconds P ledger (packet ∷ packets) all =
+    (all.0, all_times seconds P (noted ledger packet) packets all.1)
+
+-- lines go on from a line that came,
+lines_go_on : (seconds own lines begin line time : ℕ) → own < 2 ^ 64 → own ≤ lines → 0 < lines
+    → own ≤ (counted_by (has_passed seconds (at seconds lines begin line) time)
+    (at seconds lines begin line) time).lines
+lines_go_on seconds own lines begin line time fits before some =
+    elim (either_way seconds lines begin line time some) [
+      | inl passed ↦ subst (λ (l : Ledger). own ≤ l.lines)
+          (sym (counted_passed seconds lines begin line time some passed.0)) (omega arith)
+      | inr more ↦ subst (λ (l : Ledger). own ≤ l.lines)
+          (sym (counted_more seconds lines begin line time some more.0)) (omega arith)
+    ]
+
+-- and each packet behind it has a greater number
+all_beyond : (seconds own time lines begin line : ℕ) (packets : List Packet) → line ≤ lines
+    → lines < 2 ^ 64 → 0 < lines → own < 2 ^ 64 - 1 → own ≤ lines
+    → AllByRecursion (λ m. (own < m.number) ⊎ (m.time ≤ time))
+    (marks seconds (at seconds lines begin line) packets)
+    × (own ≤ (noted_all (at seconds lines begin line) packets).lines)
+all_beyond seconds own time lines begin line [] few fits some small before = (tt, before)
+all_beyond seconds own time lines begin line (packet ∷ packets) few fits some small before =
+    let s = step seconds lines begin line packet.origin.time few fits in
+    let on = lines_go_on seconds own lines begin line packet.origin.time (omega arith) before some in
+    let next = subst (λ (l : Ledger). own ≤ l.lines) s.is on in
+    let rest = all_beyond seconds own time s.lines s.begin' s.line packets s.few s.fits s.some small next in
+    let all = subst (λ (l : Ledger). AllByRecursion (λ m. (own < m.number) ⊎ (m.time ≤ time))
+    (marks seconds l packets) × (own ≤ (noted_all l packets).lines)) (sym s.is) rest in
+    ((inl (omega arith), all.0), all.1)
 
 come_to-step : (seconds : ℕ) (before : List Packet) (packet : Packet)
     → (begin : ℕ) × ((noted_all (blank (Forget seconds)) before).begin ≡ begin)
@@ -225,68 +290,12 @@ come_to-step seconds before packet =
 pub forget_keeps : ForgetKeeps
 forget_keeps seconds before packet later some all drops =
     let s = (come_to-step seconds before packet).2 in
-    keeps seconds packet.origin.time s.lines s.lines s.begin' s.line later s.some s.few
-    (s.near some) all
-    (subst (λ (l : Ledger). Drops l.lines (forgets seconds l later)) s.is drops)
-
--- ---- what is dropped
-
--- by a span that began behind a line, once it passes
-goes_by : (seconds line' lines begin line : ℕ) (packets : List Packet) (last : Packet) → 0 < lines
-    → line' < line → begin + 1000000000 * seconds ≤ last.origin.time
-    → Drops line' (forgets seconds (at seconds lines begin line) (packets ++ last ∷ []))
-goes_by seconds line' lines begin line [] last some behind long =
-    elim (either_way seconds lines begin line last.origin.time some) [
-      | inl passed ↦
-          subst (Drops line') (sym (forgets_passed seconds lines begin line some last [] passed.0))
-          (inl behind)
-      | inr more ↦ (let short = more.1 in absurd (omega arith))
-    ]
-goes_by seconds line' lines begin line (packet ∷ packets) last some behind long =
-    elim (either_way seconds lines begin line packet.origin.time some) [
-      | inl passed ↦
-          subst (Drops line') (sym (forgets_passed seconds lines begin line some packet
-          (packets ++ last ∷ []) passed.0)) (inl behind)
-      | inr more ↦
-          subst (Drops line') (sym (forgets_more seconds lines begin line some packet
-          (packets ++ last ∷ []) more.0))
-          (goes_by seconds line' (capped (lines + 1)) begin line packets last (omega arith) behind
-          long)
-    ]
-
--- and one begins so
-goes : (seconds line' lines begin line : ℕ) (between : List Packet) (next : Packet)
-    (later : List Packet) (last : Packet) → 0 < lines → line' ≤ lines → line' < 2 ^ 64 - 1
-    → begin + 1000000000 * seconds ≤ next.origin.time
-    → AllByRecursion (λ p. p.origin.time + 1000000000 * seconds ≤ last.origin.time)
-    (between ++ next ∷ [])
-    → Drops line' (forgets seconds (at seconds lines begin line)
-    ((between ++ next ∷ []) ++ (later ++ last ∷ [])))
-goes seconds line' lines begin line [] next later last some before few long all =
-    elim (either_way seconds lines begin line next.origin.time some) [
-      | inl passed ↦
-          subst (Drops line') (sym (forgets_passed seconds lines begin line some next
-          (later ++ last ∷ []) passed.0))
-          (inr (goes_by seconds line' (capped (lines + 2)) next.origin.time (capped (lines + 1))
-          later last (omega arith) (omega arith) all.0))
-      | inr more ↦ (let short = more.1 in absurd (omega arith))
-    ]
-goes seconds line' lines begin line (packet ∷ between) next later last some before few long all =
-    let rest = (between ++ next ∷ []) ++ (later ++ last ∷ []) in
-    elim (either_way seconds lines begin line packet.origin.time some) [
-      | inl passed ↦
-          subst (Drops line') (sym (forgets_passed seconds lines begin line some packet rest
-          passed.0))
-          (inr (subst (λ (ps : List Packet). Drops line' (forgets seconds
-          (at seconds (capped (lines + 2)) packet.origin.time (capped (lines + 1))) ps))
-          (append_assoc (between ++ next ∷ []) later (last ∷ []))
-          (goes_by seconds line' (capped (lines + 2)) packet.origin.time (capped (lines + 1))
-          ((between ++ next ∷ []) ++ later) last (omega arith) (omega arith) all.0)))
-      | inr more ↦
-          subst (Drops line') (sym (forgets_more seconds lines begin line some packet rest more.0))
-          (goes seconds line' (capped (lines + 1)) begin line between next later last (omega arith)
-          (omega arith) few long all.1)
-    ]
+    let here = subst (λ (l : Ledger). Drops l.lines (forgets seconds l later)) s.is drops in
+    spans_keep seconds packet.origin.time s.lines (began s.begin' s.line)
+    (marks seconds (at seconds s.lines s.begin' s.line) later) s.few (s.near some)
+    (all_times seconds (λ t. t < packet.origin.time + 1000000000 * seconds)
+    (at seconds s.lines s.begin' s.line) later all)
+    (subst (Drops s.lines) (forgets_are seconds s.lines s.begin' s.line later s.some) here)
 
 pub forget_drops : ForgetDrops
 forget_drops seconds before packet between next later last early long all few =
@@ -301,7 +310,29 @@ forget_drops seconds before packet between next later last early long all few =
     ] in
     let count : (come_to seconds before packet).lines ≡ s.lines =
     ap (λ (l : Ledger). l.lines) s.is in
+    let small : s.lines < 2 ^ 64 - 1 = omega arith in
+    let here = at seconds s.lines s.begin' s.line in
+    let front = between ++ next ∷ [] in
+    let then = noted_all here front in
+    let beyond = all_beyond seconds s.lines packet.origin.time s.lines s.begin' s.line between s.few
+    s.fits s.some small (omega arith) in
+    let here_front = marks_append seconds here between (next ∷ []) in
+    let there = subst (λ (ms : List Mark). Drops s.lines
+    (passed_spans seconds (began s.begin' s.line) ms))
+    (sym (marks_append seconds here front (later ++ last ∷ [])
+    ∙ ap (λ (ms : List Mark). ms ++ marks seconds then (later ++ last ∷ [])) here_front
+    ∙ ap (λ (ms : List Mark). (marks seconds here between
+    ++ marks seconds (noted_all here between) (next ∷ [])) ++ ms)
+    (marks_append seconds then later (last ∷ []))))
+    (spans_drop seconds packet.origin.time s.lines (began s.begin' s.line)
+    (marks seconds here between)
+    (began next.origin.time (capped ((noted_all here between).lines + 1)))
+    (marks seconds then later)
+    (began last.origin.time (capped ((noted_all then later).lines + 1))) begins long
+    (omega (arith, small, beyond.1)) beyond.0
+    (subst (AllByRecursion (λ m. m.time + 1000000000 * seconds ≤ last.origin.time)) here_front
+    (all_times seconds (λ t. t + 1000000000 * seconds ≤ last.origin.time) here front all))) in
     subst (λ (l : Ledger). Drops l.lines (forgets seconds l
     ((between ++ next ∷ []) ++ (later ++ last ∷ [])))) (sym s.is)
-    (goes seconds s.lines s.lines s.begin' s.line between next later last s.some (omega arith)
-    (omega arith) (omega arith) all)
+    (subst (Drops s.lines) (sym (forgets_are seconds s.lines s.begin' s.line
+    ((between ++ next ∷ []) ++ (later ++ last ∷ [])) s.some)) there)

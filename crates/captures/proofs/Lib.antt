@@ -18,6 +18,7 @@ mod PlaceLemmas
 mod ReadLemmas
 mod RecordLemmas
 mod SkipLemmas
+mod SpanLemmas
 mod SpellingLemmas
 mod StopLemmas
 mod Telling

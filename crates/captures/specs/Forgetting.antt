@@ -4,6 +4,7 @@ use Rattle.std.specs.Prelude.{ℕ, ◌+◌, ◌-◌, ◌*◌, ◌^◌, ◌<◌, 
 use Rattle.std.specs.Prelude.{◌++◌}
 use Rattle.std.specs.List.{AllByRecursion}
 use Rattle.captures.specs.Lines.{Packet, blank, has_passed, noted, noted_all}
+pub use Rattle.captures.specs.Spans.{Drops}
 use Rattle.captures.specs.declared.extra.Extra.TheVariants.{Forget}
 use Rattle.captures.specs.declared.text.ledger.Ledger.{Ledger}
 
@@ -17,11 +18,6 @@ forgets seconds ledger [] = []
 forgets seconds ledger (packet ∷ packets) =
     with_forget (has_passed seconds ledger packet.origin.time) ledger.line
     (forgets seconds (noted ledger packet) packets)
-
--- one of them drops a message whose last fragment came on this line
-abbrev pub Drops : ℕ → List ℕ → Type 0
-Drops line [] = ⊥
-Drops line (number ∷ numbers) = (line < number) ⊎ Drops line numbers
 
 -- so far the lines have come with a packet, whose own line is the last one then
 abbrev pub come_to : ℕ → List Packet → Packet → Ledger

@@ -15,6 +15,7 @@ pub mod Places
 pub mod Readers
 pub mod Runs
 pub mod Skipping
+pub mod Spans
 pub mod Spelling
 pub mod Texts
 pub mod Times

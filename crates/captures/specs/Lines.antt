@@ -1,8 +1,9 @@
 -- The packets of a capture, and the lines that are written of them.
-use Rattle.std.specs.Prelude.{ℕ, ◌+◌, ◌*◌, ◌/◌, ◌%◌, ◌==◌, ◌&&◌, nat_le, nat_lt, Bool}
+use Rattle.std.specs.Prelude.{ℕ, ◌+◌, ◌/◌, ◌%◌, ◌==◌, ◌&&◌, nat_lt, Bool}
 use Rattle.std.specs.Prelude.{if◌then◌else◌, List, [], ◌∷◌, ◌++◌, codes, decimal}
 use Rattle.hex.specs.Hex.{encode_lower}
 use Rattle.captures.specs.Numbers.{capped}
+use Rattle.captures.specs.Spans.{have_passed}
 use Rattle.captures.specs.declared.extra.Extra.{Extra}
 use Rattle.captures.specs.declared.extra.Extra.TheVariants.{Nothing, Times, Forget}
 use Rattle.captures.specs.declared.origin.Origin.{Origin}
@@ -46,11 +47,10 @@ forget_line number = codes "forget " ++ decimal number ++ 10 ∷ []
 abbrev pub blank : Extra → Ledger
 blank extra = record { extra = extra; lines = 0; begin = 0; line = 0 }
 
--- whether with a packet of this time so many seconds have passed since the span began that is
--- running: with a time before it none have
+-- whether the span that is running has passed with a packet of this time
 abbrev pub has_passed : ℕ → Ledger → ℕ → Bool
 has_passed seconds ledger time =
-    nat_lt 0 ledger.lines && nat_le (ledger.begin + 1000000000 * seconds) time
+    nat_lt 0 ledger.lines && have_passed seconds ledger.begin time
 
 -- the line before a packet's where a span has passed: what came before that span is dropped
 abbrev pub forget_text : Bool → Ledger → List ℕ

@@ -10,6 +10,7 @@ pub enum Extra {
     Times,
     /// Which messages may be dropped: whenever so many seconds have passed by the packets' times
     /// since the last such line, or the first packet, a line `forget NUMBER` stands before the
-    /// packet's, with the number of that last line, or 1. Lines are numbered from 1, these too.
+    /// packet's, with the number of that last line, or 1. Lines are numbered from 1, these too. What
+    /// 0 seconds mean, [`Spans::go_on`](crate::Spans::go_on) says.
     Forget(u32),
 }

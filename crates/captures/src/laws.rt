@@ -34,6 +34,8 @@ ghost use Rattle.captures.specs.declared.extra.Extra.TheVariants.{Forget};
 ghost use Rattle.captures.specs.declared.text.ledger.Ledger.{Ledger};
 ghost use Rattle.captures.specs.declared.time.time_unit.TimeUnit.{TimeUnit};
 
+pub mod spans;
+
 use crate::limits::{
     BLOCK_LIMIT, FIRST_UNIT_LEN, FRAME_LIMIT, INPUT_ROOM, LINE_LIMIT, READ_COUNT_LIMIT,
     SKIPPED_LIMIT, TIME_LIMIT,

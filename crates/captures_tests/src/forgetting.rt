@@ -1,7 +1,7 @@
 //! Lines that have messages dropped, worked by hand.
 use crate::checks::{append, equal, equal_bytes, joined};
 use crate::lines::tells_all;
-use captures::{Extra, Skipped, Unfit, run};
+use captures::{Extra, Skipped, Spans, Unfit, run};
 use fault_devices::FaultReader;
 use std::process::Abort;
 
@@ -57,6 +57,13 @@ fn spans_that_pass(rt: HostRuntime) {
             "frame 0 01\nframe 0 01\nframe 0 01\nforget 1\nframe 0 01\nframe 0 01\nframe 0 01\n\
             forget 4\nframe 0 01\n",
         ),
+        // Of no seconds: each packet but the first that doesn't come before the span began.
+        (
+            0,
+            &[(100, 0), (99, 0), (100, 0), (100, 0), (99, 999_999), (101, 0)],
+            "frame 0 01\nframe 0 01\nforget 1\nframe 0 01\nforget 3\nframe 0 01\nframe 0 01\n\
+            forget 5\nframe 0 01\n",
+        ),
         // The longest span there is.
         (
             4_294_967_295,
@@ -71,6 +78,41 @@ fn spans_that_pass(rt: HostRuntime) {
             file.as_slice(),
             wanted.as_bytes(),
         );
+    }
+}
+
+// Times in seconds, and when the span began that has passed with each.
+#[test]
+fn spans_that_have_passed(rt: HostRuntime) {
+    for (seconds, times) in [
+        (
+            10,
+            [
+                (100, None),
+                (105, None),
+                (110, Some(100)),
+                (119, None),
+                (90, None),
+                (121, Some(110)),
+            ]
+            .as_slice(),
+        ),
+        (
+            0,
+            &[
+                (100, None),
+                (99, None),
+                (100, Some(100)),
+                (90, None),
+                (101, Some(100)),
+            ],
+        ),
+    ] {
+        let mut spans = Spans::new();
+        for (time, passed) in times {
+            let began = spans.go_on(seconds, *time * 1_000_000_000u64);
+            equal(rt, began.map(|began| began / 1_000_000_000), *passed);
+        }
     }
 }
 

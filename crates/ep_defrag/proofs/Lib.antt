@@ -7,3 +7,4 @@ mod OpenCount
 mod PartLemmas
 mod Runs
 mod SameCalls
+mod TimestampLemmas

@@ -4,3 +4,4 @@ pub mod Joined
 pub mod OpenMessages
 pub mod PoolCalls
 pub mod Processed
+pub mod Timestamps

@@ -14,9 +14,9 @@ use Rattle.ep_streams.specs.Streams.{OthersStay, Pool, Stays}
 
 -- a packet of this class was processed, which came at this time on this channel: the clauses of
 -- `process_sliced_packet`
-pub record Processed (old : Pool (IpFragId ℕ) ℕ) (class : Class) (time channel : ℕ)
+pub record Processed {T : Type 0} (old : Pool (IpFragId ℕ) T) (class : Class) (time : T) (channel : ℕ)
     (result : Result (Option IpDefragPayloadVec) IpDefragError)
-    (new : Pool (IpFragId ℕ) ℕ) : Type 0 where
+    (new : Pool (IpFragId ℕ) T) : Type 0 where
   pub passed : fragment_in class ≡ None → (result ≡ Ok None) × (new ≡ old)
   pub accepted : IfSome (fragment_in class)
       (λ told. Accepts (same_id nat_eq) old new (id_named told.0 channel) told.1 time result)

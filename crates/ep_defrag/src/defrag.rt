@@ -6,6 +6,7 @@ mod ip_frag_id;
 mod ip_frag_version_spec_id;
 mod part;
 mod pool_calls;
+mod renewed_timestamps;
 
 pub use ep_fragments::defrag::{
     IpDefragBuf, IpDefragError, IpFragRange, MAX_IP_DEFRAG_LEN, MAX_IP_DEFRAG_LEN_U16, OverlapRule,

@@ -6,6 +6,7 @@ pub mod names;
 pub mod open_messages;
 pub mod packets;
 pub mod streams;
+pub mod timestamps;
 pub mod traits;
 
 pub use ep_fragments::laws::{

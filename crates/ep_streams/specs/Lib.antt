@@ -4,3 +4,4 @@ pub mod Refused
 pub mod Repeats
 pub mod SpareBuffers
 pub mod Streams
+pub mod Timestamps

@@ -21,6 +21,7 @@ mod pool_scripts;
 mod pools;
 mod ranges;
 mod refusals;
+mod renewed_timestamps;
 mod rounds;
 mod rules;
 mod streams;

@@ -8,9 +8,8 @@ ghost use Rattle.captures.specs.declared.extra.Extra.TheVariants.{Forget};
 use crate::Extra;
 use crate::link::frame::Frame;
 use crate::origin::Origin;
+use crate::spans::have_passed;
 use crate::text::line::{append_forget_line, append_line, append_timed_line};
-
-const NANOSECONDS: u64 = 1_000_000_000;
 
 /// How far the lines of a run have come. Lines are counted where spans of time are.
 #[derive(Clone, Copy)]
@@ -68,8 +67,7 @@ impl Ledger {
     fn has_passed(&self, seconds: u32, time: u64) -> bool
         ensures { result ≡ has_passed seconds self.now time }
     {
-        let span = NANOSECONDS * u64::from(seconds);
-        self.lines > 0 && time >= self.begin && time - self.begin >= span
+        self.lines > 0 && have_passed(seconds, self.begin, time)
     }
 
     fn append_forget(&self, out: &mut [u8], used: usize, passed: bool) -> usize

@@ -15,7 +15,7 @@ ghost use Rattle.ep_streams.specs.Repeats.{TakesRepeat};
 ghost use Rattle.ep_streams.specs.Streams.{MayAsk, OthersStay, RefusesBy, Retained, Stays};
 ghost use Rattle.ep_streams.specs.Streams.{fragment_of, stream_at};
 
-use super::part::spec_id;
+use super::part::named;
 use super::{IpDefragError, IpDefragPayloadVec, IpFragId, OverlapRule, Piece, Streams};
 use ep_packet::{Class, CutMessage, SlicedPacket};
 use std::alloc::{AllocError, Global};
@@ -34,7 +34,7 @@ pub struct IpDefragPool<
     CustomChannelId: Eq + Hash = (),
     S: BuildHasher = BuildHasherDefault<FoldHasher>,
 > {
-    streams: Streams<IpFragId<CustomChannelId>, Timestamp, S>,
+    pub(super) streams: Streams<IpFragId<CustomChannelId>, Timestamp, S>,
 }
 
 impl<Timestamp, CustomChannelId: Eq + Hash, S: BuildHasher> Model
@@ -184,30 +184,13 @@ impl<Timestamp: Drop, CustomChannelId: Eq + Hash + Drop, S: BuildHasher> IpDefra
             KeepsMemoryOf (same_id CustomChannelId.eq) self.old self.new
             (id_named named.0 channel_id) result) }
     {
-        let CutMessage {
-            vlan_ids,
-            addresses,
-            identification,
-            part,
-        } = message;
-        let ip = spec_id(addresses, identification);
-        let rule = ip.overlap_rule();
-        let id = IpFragId {
-            vlan_ids,
-            ip,
-            payload_ip_number: part.ip_number,
-            channel_id,
-        };
-        let piece = Piece {
-            offset: part.offset,
-            more_fragments: part.more_fragments,
-            bytes: part.bytes,
-        };
+        let (id, piece) = named(message, channel_id);
+        let rule = id.ip.overlap_rule();
         self.add_piece(id, rule, &piece, timestamp)
     }
 
     // Takes a piece of the message with this name, whose pieces overlap by this rule.
-    fn add_piece(
+    pub(super) fn add_piece(
         &mut self,
         id: IpFragId<CustomChannelId>,
         rule: OverlapRule,

@@ -11,6 +11,7 @@ ghost use Rattle.ep_fragments.specs.Outcome.{outcome};
 ghost use Rattle.ep_streams.specs.Repeats.{TakesRepeat};
 ghost use Rattle.ep_streams.specs.Streams.{Becomes, IsErrorOf, MayAsk, OthersStay, Retained};
 ghost use Rattle.ep_streams.specs.Streams.{ShowsStream, Stays, fragment_of, stream_at};
+ghost use Rattle.ep_streams.specs.Timestamps.{timestamp_at};
 ghost use Rattle.ep_fragments.specs.declared.defrag.overlap_rule.OverlapRule.{OverlapRule};
 
 use super::Piece;
@@ -73,6 +74,17 @@ impl<K: Eq + Hash + Drop, T: Drop, S: BuildHasher> Streams<K, T, S> {
         ensures names { IsDistinct K.eq (keys_of self.now.streams) }
     {
         self.active.len()
+    }
+
+    /// The timestamp of the message with this name, that of the piece accepted last.
+    pub fn timestamp_of(&self, name: &K) -> Option<&T>
+        ensures { option_map (λ timestamp. timestamp.now) result
+            ≡ timestamp_at K.eq self.now name.now }
+    {
+        match self.active.get(name) {
+            Some(stream) => Some(&stream.timestamp),
+            None => None,
+        }
     }
 
     /// How many buffers of bytes are spare.

@@ -6,7 +6,7 @@ use crate::defrag::pool_scripts::{KEEP_FROM, NOTHING, RETAINED, Script, runs_all
 use std::test::*;
 
 // The first half with another last byte.
-const IPV6_OTHER_BYTES: &[u8] = &[
+pub const IPV6_OTHER_BYTES: &[u8] = &[
     0x02, 0, 0, 0, 0, 0x02, 0x02, 0, 0, 0, 0, 0x01, 0x86, 0xdd, 0x60, 0, 0, 0, 0, 0x10, 0x2c, 0x40,
     0xfd, 0, 0, 0, 0, 0, 0, 0, 0, 0, 0, 0, 0, 0, 0, 0x01, 0xfd, 0, 0, 0, 0, 0, 0, 0, 0, 0, 0, 0, 0,
     0, 0, 0x02, 0x11, 0, 0, 0x01, 0, 0, 0, 0x07, 0, 0x01, 0, 0x02, 0, 0x10, 0xf5, 0xb3,
