@@ -313,22 +313,22 @@ forget_drops seconds before packet between next later last early long all few =
     let small : s.lines < 2 ^ 64 - 1 = omega arith in
     let here = at seconds s.lines s.begin' s.line in
     let front = between ++ next ∷ [] in
-    let then = noted_all here front in
+    let after = noted_all here front in
     let beyond = all_beyond seconds s.lines packet.origin.time s.lines s.begin' s.line between s.few
     s.fits s.some small (omega arith) in
     let here_front = marks_append seconds here between (next ∷ []) in
     let there = subst (λ (ms : List Mark). Drops s.lines
     (passed_spans seconds (began s.begin' s.line) ms))
     (sym (marks_append seconds here front (later ++ last ∷ [])
-    ∙ ap (λ (ms : List Mark). ms ++ marks seconds then (later ++ last ∷ [])) here_front
+    ∙ ap (λ (ms : List Mark). ms ++ marks seconds after (later ++ last ∷ [])) here_front
     ∙ ap (λ (ms : List Mark). (marks seconds here between
     ++ marks seconds (noted_all here between) (next ∷ [])) ++ ms)
-    (marks_append seconds then later (last ∷ []))))
+    (marks_append seconds after later (last ∷ []))))
     (spans_drop seconds packet.origin.time s.lines (began s.begin' s.line)
     (marks seconds here between)
     (began next.origin.time (capped ((noted_all here between).lines + 1)))
-    (marks seconds then later)
-    (began last.origin.time (capped ((noted_all then later).lines + 1))) begins long
+    (marks seconds after later)
+    (began last.origin.time (capped ((noted_all after later).lines + 1))) begins long
     (omega (arith, small, beyond.1)) beyond.0
     (subst (AllByRecursion (λ m. m.time + 1000000000 * seconds ≤ last.origin.time)) here_front
     (all_times seconds (λ t. t + 1000000000 * seconds ≤ last.origin.time) here front all))) in

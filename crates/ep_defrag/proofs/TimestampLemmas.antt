@@ -98,14 +98,14 @@ module _ {K T U : Type 0} (read : T → U) where
     pub at_by : (pool : Pool K T) (name : K) → timestamp_at same (pool_by read pool) name
         ≡ option_map read (timestamp_at same pool name)
     at_by pool name = ap (option_map (λ (s : Stream U). s.timestamp)) (stream_read pool name)
-        ∙ timestamp_read (stream_at same pool name)
+        ∙ timestamp_read read (stream_at same pool name)
 
     pub stream_shows_by : (rule : OverlapRule) (pool : Pool K T) (name : K) (fs : List Fragment)
         → ShowsStream rule (stream_at same (pool_by read pool) name) fs
         ↔ ShowsStream rule (stream_at same pool name) fs
     stream_shows_by rule pool name fs = (
-      λ h. shows_read rule (stream_at same pool name) fs (rw (stream_read pool name) at h),
-      λ h. rw (stream_read pool name) (shows_by rule (stream_at same pool name) fs h),
+      λ h. shows_read read rule (stream_at same pool name) fs (rw (stream_read pool name) at h),
+      λ h. rw (stream_read pool name) (shows_by read rule (stream_at same pool name) fs h),
     )
 
     others_by : (name : K) (old new : Pool K T) → OthersStay same name old new
@@ -116,7 +116,7 @@ module _ {K T U : Type 0} (read : T → U) where
     stays_by : (name : K) (old new : Pool K T) (e : IpDefragError) → Stays same name old new e
         → Stays same name (pool_by read old) (pool_by read new) e
     stays_by name old new e stays = rw (stream_read old name, stream_read new name)
-        (left_by (is_overlap e) (stream_at same old name) (stream_at same new name) stays)
+        (left_by read (is_overlap e) (stream_at same old name) (stream_at same new name) stays)
 
 module _ {T : Type 0} (read : T → ℕ) where
   abbrev same : IpFragId ℕ → IpFragId ℕ → Bool
