@@ -3,7 +3,6 @@ pub mod Dropped
 pub mod Endings
 pub mod Forgetting
 pub mod Framed
-pub mod FrameLines
 pub mod Fronts
 pub mod Held
 pub mod Lines

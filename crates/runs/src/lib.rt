@@ -5,9 +5,11 @@
 pub mod device;
 mod fault;
 mod flushes;
+mod limits;
 mod writes;
 
 pub use device::{Device, ReaderWriter};
 pub use fault::Fault;
 pub use flushes::flush_behind;
+pub use limits::READ_COUNT_LIMIT;
 pub use writes::write_whole;
