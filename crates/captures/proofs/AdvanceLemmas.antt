@@ -10,7 +10,7 @@ use Rattle.captures.specs.Readers.{IsRefusedWith, skipped_by}
 use Rattle.captures.specs.Runs.{fault_at_end}
 use Rattle.captures.specs.Units.{skipped_in}
 use Rattle.captures.specs.declared.capture_error.CaptureError.{CaptureError}
-use Rattle.captures.specs.declared.limits.TheConstants.{READ_COUNT_LIMIT}
+use Rattle.runs.specs.declared.limits.TheConstants.{READ_COUNT_LIMIT}
 use Rattle.captures.specs.declared.packet.Packet.{Packet}
 use Rattle.captures.specs.declared.pcapng.long_block.LongBlock.{LongBlock}
 use Rattle.captures.specs.declared.reading.packet_reader.PacketReader.{PacketReader}

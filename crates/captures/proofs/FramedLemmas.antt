@@ -20,7 +20,7 @@ use Rattle.captures.specs.Framed.{ip_type, made_header, no_address, null_family}
 use Rattle.captures.specs.declared.link.header.Header.{Header}
 use Rattle.captures.specs.Numbers.{half, word}
 use Rattle.captures.specs.declared.byte_order.ByteOrder.TheVariants.{Big}
-use Rattle.captures.specs.declared.limits.TheConstants.{FRAME_LIMIT}
+use Rattle.commands.specs.declared.limits.TheConstants.{FRAME_LIMIT}
 use Rattle.captures.specs.declared.link.kind.Link.{Link}
 use Rattle.captures.specs.declared.link.kind.Link.TheVariants.{Ethernet, Ip, Null, Loop, Sll, Sll2}
 use Rattle.captures.specs.declared.link.kind.Link.TheVariants.{Other}

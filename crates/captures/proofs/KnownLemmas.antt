@@ -12,7 +12,8 @@ use Rattle.captures.specs.declared.unfit.Unfit.{Unfit}
 use Rattle.captures.specs.Endings.{cause}
 use Rattle.captures.specs.Lines.{Packet, lines_of}
 use Rattle.captures.specs.Runs.{ArePassedOver, IsCapture, PassesOver, Runs, capture_to_lines}
-use Rattle.captures.specs.Spelling.{TimedFrame, capture_of}
+use Rattle.captures.specs.Spelling.{capture_of}
+use Rattle.commands.specs.TimedLines.{TimedFrame}
 use Rattle.captures.specs.Texts.{IsText, WritesCapture, lines_to_capture}
 use Rattle.captures.specs.declared.extra.Extra.{Extra}
 use Rattle.captures.specs.declared.time.time_unit.TimeUnit.{TimeUnit}

@@ -13,7 +13,6 @@ mod FrontLemmas
 mod GivenLemmas
 mod KnownLemmas
 mod LengthLemmas
-mod NumberLemmas
 mod PlaceLemmas
 mod ReadLemmas
 mod RecordLemmas

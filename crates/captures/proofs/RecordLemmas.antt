@@ -1,9 +1,8 @@
 -- The record of the frame that a line hands in.
 use Rattle.std.proofs.Common.{◌≡◌, ◌∙◌, sym, ap, refl, ℕ, ◌+◌, ◌/◌, ◌<◌, ◌≤◌, Bool, true, false}
 use Rattle.std.proofs.Common.{List, [], ◌∷◌, ◌++◌, length, take, drop, Some, None, Result, Ok, Err}
-use Rattle.std.proofs.Common.{append_assoc, arith, inl, inr, nat_eq}
-use Rattle.std.specs.Prelude.{◌⊎◌, codes, MatchResult}
-use Rattle.std.specs.List.{starts_with}
+use Rattle.std.proofs.Common.{append_assoc, arith, inl, inr}
+use Rattle.std.specs.Prelude.{◌⊎◌, MatchResult}
 use Rattle.std.proofs.Math.Seq.{take-append-add, take-append_seam}
 use Rattle.std.proofs.lemmas.Bool.{le-leb, lt-leb}
 use Rattle.std.proofs.lemmas.List.{length-take-le}
@@ -11,43 +10,38 @@ use borrow.Rule.Slice.PartMut.{put_mid}
 use Rattle.hex.specs.Hex.{decode_of, decode_sized}
 use Rattle.hex.specs.declared.error.FromHexError.{FromHexError}
 use Rattle.hex.proofs.HexLemmas.{decode_of-ok, decode_sized-ok, decode_sized-twice}
-use Rattle.captures.specs.FrameLines.{frame_at, frame_in, frame_of}
+use Rattle.commands.specs.Commands.{frame_on}
+use Rattle.commands.specs.TimedLines.{frame_at}
+use Rattle.commands.specs.declared.limits.TheConstants.{FRAME_LIMIT}
+use Rattle.commands.specs.declared.timed_line.Time.{Time}
 use Rattle.captures.specs.Spelling.{parts_in, record_head, record_of}
-use Rattle.captures.specs.declared.text.frame_line.Time.{Time}
-use Rattle.captures.specs.declared.limits.TheConstants.{FRAME_LIMIT}
 use Rattle.captures.specs.declared.time.time_unit.TimeUnit.{TimeUnit}
 
-pub frame_of-other : (line : List ℕ) → starts_with nat_eq line (codes "frame ") ≡ false
-    → frame_of line ≡ None
-unfolding frame_of
-frame_of-other line other = rw other refl
-
-pub frame_of-behind : (line text : List ℕ) → starts_with nat_eq line (codes "frame ") ≡ true
-    → text ≡ drop 6 line → frame_of line ≡ frame_in text
-unfolding frame_of
-frame_of-behind line text starts behind = rw starts (ap frame_in (sym behind))
-
 -- no frame has no bytes, or so many
-frame_none : (time : Time) (frame : List ℕ) → (length frame ≡ 0) ⊎ (FRAME_LIMIT < length frame)
-    → frame_at (Some time) (Ok frame) ≡ None
-frame_none time [] (inl none) = refl
-frame_none time (b ∷ frame) (inl none) = absurd (omega arith)
-frame_none time frame (inr long) =
-    rw (le-leb 1 (length frame) (omega arith), lt-leb (length frame) FRAME_LIMIT long) refl
+frame_none : (time : Time) (channel : ℕ) (frame : List ℕ)
+    → (length frame ≡ 0) ⊎ (FRAME_LIMIT < length frame)
+    → frame_at (Some time) (frame_on channel (Ok frame)) ≡ None
+frame_none time channel [] none = refl
+frame_none time channel (b ∷ frame) (inl none) = absurd (omega arith)
+frame_none time channel (b ∷ frame) (inr long) =
+    rw (lt-leb (length (b ∷ frame)) FRAME_LIMIT long) refl
 
-by_digits : (time : Time) (digits : List ℕ) (d : Result (List ℕ) FromHexError)
+by_digits : (time : Time) (channel : ℕ) (digits : List ℕ) (d : Result (List ℕ) FromHexError)
     → decode_of digits ≡ d → (length digits / 2 ≡ 0) ⊎ (FRAME_LIMIT < length digits / 2)
-    → frame_at (Some time) d ≡ None
-by_digits time digits (Ok frame) is (inl none) = let twice = (decode_of-ok digits frame is).2 in
-    frame_none time frame (inl (omega arith))
-by_digits time digits (Ok frame) is (inr long) = let twice = (decode_of-ok digits frame is).2 in
-    frame_none time frame (inr (omega arith))
-by_digits time digits (Err e) is size = refl
+    → frame_at (Some time) (frame_on channel d) ≡ None
+by_digits time channel digits (Ok frame) is (inl none) =
+    let twice = (decode_of-ok digits frame is).2 in
+    frame_none time channel frame (inl (omega arith))
+by_digits time channel digits (Ok frame) is (inr long) =
+    let twice = (decode_of-ok digits frame is).2 in
+    frame_none time channel frame (inr (omega arith))
+by_digits time channel digits (Err e) is size = refl
 
 -- digits of no byte, or of too many
-pub no_frame_at : (time : Time) (digits : List ℕ) → (length digits / 2 ≡ 0)
-    ⊎ (FRAME_LIMIT < length digits / 2) → frame_at (Some time) (decode_of digits) ≡ None
-no_frame_at time digits size = by_digits time digits (decode_of digits) refl size
+pub no_frame_at : (time : Time) (channel : ℕ) (digits : List ℕ)
+    → (length digits / 2 ≡ 0) ⊎ (FRAME_LIMIT < length digits / 2)
+    → frame_at (Some time) (frame_on channel (decode_of digits)) ≡ None
+no_frame_at time channel digits size = by_digits time channel digits (decode_of digits) refl size
 
 sized_is : (digits new : List ℕ) (n : ℕ) (r : Bool) (d : Result (List ℕ) FromHexError)
     → decode_sized digits n ≡ d → MatchResult d (λ v. (r ≡ true) × (new ≡ v)) (λ e. r ≡ false)
@@ -68,11 +62,13 @@ pub decoded : (digits new : List ℕ) (n : ℕ) (r : Bool)
     → (decode_of digits ≡ Ok new) × (length new ≡ n)
 decoded digits new n r told yes' = sized_is digits new n r (decode_sized digits n) refl told yes'
 
-pub frame_is : (time : Time) (frame : List ℕ) → 0 < length frame → length frame ≤ FRAME_LIMIT
-    → frame_at (Some time) (Ok frame)
+pub frame_is : (time : Time) (channel : ℕ) (frame : List ℕ) → 0 < length frame
+    → length frame ≤ FRAME_LIMIT
+    → frame_at (Some time) (frame_on channel (Ok frame))
     ≡ Some (record { seconds = time.seconds; nanoseconds = time.nanoseconds; frame = frame })
-frame_is time frame some short =
-    rw (le-leb 1 (length frame) (omega arith), le-leb (length frame) FRAME_LIMIT short) refl
+frame_is time channel [] some short = absurd (omega arith)
+frame_is time channel (b ∷ frame) some short =
+    rw (le-leb (length (b ∷ frame)) FRAME_LIMIT short) refl
 
 -- what is put behind the first bytes
 put_front : (out new : List ℕ) (a n m : ℕ) → a ≤ length out → length new ≡ n → m ≡ n

@@ -17,14 +17,15 @@ use Rattle.captures.specs.declared.unfit.Unfit.TheVariants.{Refuse, Skip}
 use Rattle.captures.specs.declared.unfit.Unfit.{Unfit}
 use Rattle.captures.specs.Pcap.{IsPacketRecord}
 use Rattle.captures.specs.Runs.{IsCapture}
-use Rattle.captures.specs.Spelling.{TimedFrame, file_header, record_head, record_of, capture_of}
+use Rattle.captures.specs.Spelling.{file_header, record_head, record_of, capture_of}
+use Rattle.commands.specs.TimedLines.{TimedFrame}
 use Rattle.captures.specs.Spelling.{packets_in, parts_in, origin_of, IsWritable}
 use Rattle.captures.specs.Numbers.{word}
 use Rattle.captures.specs.Times.{record_time}
 use Rattle.captures.specs.declared.time.time_unit.TimeUnit.TheVariants.{Microseconds, Nanoseconds}
 use Rattle.captures.specs.Units.{Row, in_a_row, IsRecordUnit, OpensFile, record_origin}
 use Rattle.captures.specs.declared.byte_order.ByteOrder.TheVariants.{Little}
-use Rattle.captures.specs.declared.limits.TheConstants.{FRAME_LIMIT}
+use Rattle.commands.specs.declared.limits.TheConstants.{FRAME_LIMIT}
 use Rattle.captures.specs.declared.link.kind.Link.TheVariants.{Ethernet}
 use Rattle.captures.specs.declared.translation.state.State.TheVariants.{Classic}
 use Rattle.captures.specs.declared.time.time_unit.TimeUnit.{TimeUnit}

@@ -2,9 +2,10 @@
 use Rattle.std.proofs.Common.{◌≡◌, ◌∙◌, sym, ap, ap₂, refl, ℕ, false, true, arith, List, [], ◌∷◌}
 use Rattle.std.proofs.Common.{◌++◌, length, drop, append-nil, length-append}
 use Rattle.std.specs.Prelude.{slice_index, unwrap_or}
-use Rattle.captures.specs.FrameLines.{frame_of}
-use Rattle.captures.specs.Spelling.{TimedFrame}
-use Rattle.captures.specs.Texts.{is_newline, HasNoNewline, with_line_ends, HandIn, IsText}
+use Rattle.commands.specs.TimedLines.{timed_frame_of}
+use Rattle.commands.specs.TimedLines.{TimedFrame}
+use Rattle.captures.specs.Texts.{is_newline, with_line_ends, HandIn, IsText}
+use Rattle.lines.specs.Lines.{HasNoNewline}
 
 tail_same : (a b : ℕ) (xs ys : List ℕ) → a ∷ xs ≡ b ∷ ys → xs ≡ ys
 tail_same a b xs ys same = ap (λ (l : List ℕ). drop 1 l) same
@@ -38,7 +39,7 @@ lines_alone (l ∷ ls) [] fs gs p q same = let sizes = ap length same in
     absurd (omega (arith, length-append l (10 ∷ with_line_ends ls)))
 lines_alone (l ∷ ls) (m ∷ ms) fs gs p q same =
     let split = line_same l m (with_line_ends ls) (with_line_ends ms) p.2 q.2 same in
-    let first : p.0 ≡ q.0 = ap (λ o. unwrap_or o p.0) (sym p.3 ∙ ap frame_of split.0 ∙ q.3) in
+    let first : p.0 ≡ q.0 = ap (λ o. unwrap_or o p.0) (sym p.3 ∙ ap timed_frame_of split.0 ∙ q.3) in
     let later = lines_alone ls ms p.1 q.1 p.4 q.4 split.1 in
     p.5 ∙ ap₂ (λ (t : TimedFrame) (ts : List TimedFrame). t ∷ ts) first later ∙ sym q.5
 

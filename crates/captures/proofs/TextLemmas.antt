@@ -9,10 +9,12 @@ use Rattle.std.proofs.lemmas.Bool.{lt-ltb, le-ltb, cases_lt}
 use Rattle.std.proofs.lemmas.List.{take_rest, drop-drop}
 use Rattle.std.proofs.lemmas.List.Sums.{split_at_first, passes_at_first}
 use Rattle.std.proofs.lemmas.List.Concat.{flat_map-append}
-use Rattle.captures.specs.FrameLines.{frame_of}
-use Rattle.captures.specs.declared.limits.TheConstants.{LINE_LIMIT}
-use Rattle.captures.specs.Spelling.{TimedFrame, record_of}
-use Rattle.captures.specs.Texts.{is_newline, HasNoNewline, with_line_ends, HandIn, Hands, ends_line}
+use Rattle.commands.specs.TimedLines.{timed_frame_of}
+use Rattle.commands.specs.declared.limits.TheConstants.{TIMED_LINE_LIMIT}
+use Rattle.captures.specs.Spelling.{record_of}
+use Rattle.commands.specs.TimedLines.{TimedFrame}
+use Rattle.captures.specs.Texts.{is_newline, with_line_ends, HandIn, Hands, ends_line}
+use Rattle.lines.specs.Lines.{HasNoNewline}
 use Rattle.captures.specs.Texts.{with_last_line_end}
 use Rattle.captures.specs.Texts.{IsLeftLine}
 use Rattle.captures.specs.declared.time.time_unit.TimeUnit.{TimeUnit}
@@ -121,7 +123,7 @@ hands_more bytes piece rest rest' m n fs gs p q = record {
 -- one more line
 pub hands_line : (bytes rest line rest' : List ℕ) (n : ℕ) (fs : List TimedFrame)
     (timed : TimedFrame) → Hands bytes n fs rest → rest ≡ line ++ 10 ∷ rest' → HasNoNewline line
-    → frame_of line ≡ Some timed
+    → timed_frame_of line ≡ Some timed
     → Hands bytes (n + 1) (fs ++ timed ∷ []) rest'
 hands_line bytes rest line rest' n fs timed p parts whole is =
     subst (λ l. Hands l (n + 1) (fs ++ timed ∷ []) rest') (append-nil bytes)
@@ -186,17 +188,17 @@ ended_rest begun piece text rest n fs parts p none =
 -- ---- what is taken
 
 -- where no line ends any more
-left_by : (rest : List ℕ) (b : Bool) → nat_lt LINE_LIMIT (length rest) ≡ b
+left_by : (rest : List ℕ) (b : Bool) → nat_lt TIMED_LINE_LIMIT (length rest) ≡ b
     → HasNoNewline rest → IsLeftLine b rest
-left_by rest true is none = inr (none, ltb-true LINE_LIMIT (length rest) is)
-left_by rest false is none = (none, ltb-false LINE_LIMIT (length rest) is)
+left_by rest true is none = inr (none, ltb-true TIMED_LINE_LIMIT (length rest) is)
+left_by rest false is none = (none, ltb-false TIMED_LINE_LIMIT (length rest) is)
 
 pub left_line : (rest : List ℕ) → HasNoNewline rest
-    → IsLeftLine (nat_lt LINE_LIMIT (length rest)) rest
-left_line rest none = left_by rest (nat_lt LINE_LIMIT (length rest)) refl none
+    → IsLeftLine (nat_lt TIMED_LINE_LIMIT (length rest)) rest
+left_line rest none = left_by rest (nat_lt TIMED_LINE_LIMIT (length rest)) refl none
 
 pub left_bad : (rest line rest' : List ℕ) → rest ≡ line ++ 10 ∷ rest' → HasNoNewline line
-    → frame_of line ≡ None → IsLeftLine true rest
+    → timed_frame_of line ≡ None → IsLeftLine true rest
 left_bad rest line rest' parts whole none =
     inl (record { line = line; rest = rest'; parts = parts; whole = whole; none = none })
 
@@ -218,7 +220,7 @@ taking_start time_unit bytes written none =
 
 pub taking_line : (time_unit : TimeUnit) (bytes rest line rest' written written' : List ℕ) (n : ℕ) (timed : TimedFrame)
     → Taking time_unit bytes n rest written → rest ≡ line ++ 10 ∷ rest' → HasNoNewline line
-    → frame_of line ≡ Some timed
+    → timed_frame_of line ≡ Some timed
     → written' ≡ written ++ record_of time_unit timed → Taking time_unit bytes (n + 1) rest' written'
 taking_line time_unit bytes rest line rest' written written' n timed t parts whole is more = record {
   frames = t.frames ++ timed ∷ [];

@@ -4,9 +4,11 @@ use Rattle.std.proofs.Common.{true, false, List, [], ◌∷◌, ◌++◌, length
 use Rattle.std.proofs.Common.{Ok, Err, append_assoc, append-nil}
 use Rattle.std.specs.Io.Iter.{u64_saturate}
 use Rattle.std.specs.List.{flat_map}
-use Rattle.captures.specs.declared.limits.TheConstants.{INPUT_ROOM, READ_COUNT_LIMIT}
+use Rattle.captures.specs.declared.limits.TheConstants.{INPUT_ROOM}
+use Rattle.runs.specs.declared.limits.TheConstants.{READ_COUNT_LIMIT}
 use Rattle.captures.specs.declared.translation.refusal.Refusal.TheVariants.{InLine}
-use Rattle.captures.specs.Spelling.{TimedFrame, file_header, record_of, capture_of}
+use Rattle.captures.specs.Spelling.{file_header, record_of, capture_of}
+use Rattle.commands.specs.TimedLines.{TimedFrame}
 use Rattle.captures.specs.Texts.{Hands, IsBegunLine, TakesLines, with_last_line_end, with_line_ends}
 use Rattle.captures.specs.Texts.{lines_to_capture}
 use Rattle.captures.specs.Translations.{Begins, Translates, Finishes}

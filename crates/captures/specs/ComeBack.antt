@@ -6,11 +6,13 @@ use Rattle.hex.specs.Hex.{IsBytes}
 use Rattle.captures.specs.Lines.{Packet, lines_of}
 use Rattle.captures.specs.Runs.{IsCapture}
 use Rattle.captures.specs.Skipping.{none_skipped}
-use Rattle.captures.specs.Spelling.{TimedFrame, capture_of}
+use Rattle.captures.specs.Spelling.{capture_of}
+use Rattle.commands.specs.TimedLines.{TimedFrame}
 use Rattle.captures.specs.Texts.{IsText}
 use Rattle.captures.specs.Times.{nanoseconds_in}
 use Rattle.captures.specs.declared.extra.Extra.TheVariants.{Nothing, Times}
-use Rattle.captures.specs.declared.limits.TheConstants.{FRAME_LIMIT, TIME_LIMIT}
+use Rattle.captures.specs.declared.limits.TheConstants.{TIME_LIMIT}
+use Rattle.commands.specs.declared.limits.TheConstants.{FRAME_LIMIT}
 use Rattle.captures.specs.declared.time.time_unit.TimeUnit.{TimeUnit}
 use Rattle.captures.specs.declared.translation.skipped.Skipped.{Skipped}
 use Rattle.captures.specs.declared.unfit.Unfit.{Unfit}

@@ -4,7 +4,6 @@ pub mod Endings
 pub mod Examples
 pub mod Forgetting
 pub mod Framed
-pub mod FrameLines
 pub mod Fronts
 pub mod Held
 pub mod Lines

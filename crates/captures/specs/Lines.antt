@@ -1,7 +1,7 @@
 -- The packets of a capture, and the lines that are written of them.
-use Rattle.std.specs.Prelude.{ℕ, ◌+◌, ◌/◌, ◌%◌, ◌==◌, ◌&&◌, nat_lt, Bool}
-use Rattle.std.specs.Prelude.{if◌then◌else◌, List, [], ◌∷◌, ◌++◌, codes, decimal}
-use Rattle.hex.specs.Hex.{encode_lower}
+use Rattle.std.specs.Prelude.{ℕ, ◌+◌, ◌==◌, ◌&&◌, nat_lt, Bool}
+use Rattle.std.specs.Prelude.{if◌then◌else◌, List, [], ◌∷◌, ◌++◌}
+use Rattle.commands.specs.Written.{written_forget, written_frame, written_timed_frame}
 use Rattle.captures.specs.Numbers.{capped}
 use Rattle.captures.specs.Spans.{have_passed}
 use Rattle.captures.specs.declared.extra.Extra.{Extra}
@@ -22,26 +22,16 @@ packets_of origin (byte ∷ bytes) = record { origin = origin; frame = byte ∷ 
 
 -- the line that hands a packet's frame in
 abbrev pub line_of : Packet → List ℕ
-line_of packet = codes "frame " ++ decimal packet.origin.channel ++ codes " "
-    ++ encode_lower packet.frame ++ 10 ∷ []
-
--- nanoseconds behind a time's microseconds, where there are any
-abbrev pub nanoseconds_text : ℕ → List ℕ
-nanoseconds_text n = if n == 0 then [] else codes " " ++ decimal n
-
--- a time behind the digits of a frame: its seconds and microseconds
-abbrev pub time_text : ℕ → List ℕ
-time_text time = codes " " ++ decimal (time / 1000000000) ++ codes " "
-    ++ decimal (time / 1000 % 1000000) ++ nanoseconds_text (time % 1000)
+line_of packet = written_frame packet.origin.channel packet.frame ++ 10 ∷ []
 
 -- the same line with the packet's time
 abbrev pub timed_line_of : Packet → List ℕ
-timed_line_of packet = codes "frame " ++ decimal packet.origin.channel ++ codes " "
-    ++ encode_lower packet.frame ++ time_text packet.origin.time ++ 10 ∷ []
+timed_line_of packet =
+    written_timed_frame packet.origin.channel packet.frame packet.origin.time ++ 10 ∷ []
 
 -- the line that has all messages dropped of which no fragment came on this line or after it
 abbrev pub forget_line : ℕ → List ℕ
-forget_line number = codes "forget " ++ decimal number ++ 10 ∷ []
+forget_line number = written_forget number ++ 10 ∷ []
 
 -- before the first line
 abbrev pub blank : Extra → Ledger

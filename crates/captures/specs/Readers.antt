@@ -10,7 +10,7 @@ use Rattle.captures.specs.Places.{IsPlace, block_type}
 use Rattle.captures.specs.Runs.{IsCapture, fault_at_end}
 use Rattle.captures.specs.Units.{IsBegun, Refuses, skipped_in}
 use Rattle.captures.specs.declared.capture_error.CaptureError.{CaptureError}
-use Rattle.captures.specs.declared.limits.TheConstants.{READ_COUNT_LIMIT}
+use Rattle.runs.specs.declared.limits.TheConstants.{READ_COUNT_LIMIT}
 use Rattle.captures.specs.declared.packet.Packet.{Packet}
 use Rattle.captures.specs.declared.place.Place.{Place}
 use Rattle.captures.specs.declared.reading.ahead.Ahead.{Ahead}

@@ -5,16 +5,11 @@ use Rattle.std.specs.Int.{to_le_bytes, w32}
 use Rattle.std.specs.List.{flat_map}
 use Rattle.captures.specs.Lines.{Packet, packets_of}
 use Rattle.captures.specs.Times.{nanoseconds_in, record_time}
-use Rattle.captures.specs.declared.limits.TheConstants.{FRAME_LIMIT}
+use Rattle.commands.specs.TimedLines.{TimedFrame}
+use Rattle.commands.specs.declared.limits.TheConstants.{FRAME_LIMIT}
 use Rattle.captures.specs.declared.origin.Origin.{Origin}
 use Rattle.captures.specs.declared.time.time_unit.TimeUnit.{TimeUnit}
 use Rattle.captures.specs.declared.time.time_unit.TimeUnit.TheVariants.{Microseconds, Nanoseconds}
-
--- a frame, and when it was captured
-pub record TimedFrame : Type 0 where
-  pub seconds : ℕ
-  pub nanoseconds : ℕ
-  pub frame : List ℕ
 
 -- magic number, version 2.4, two numbers that are 0, a snap length of 262,144, link type 1
 abbrev pub file_header : TimeUnit → List ℕ

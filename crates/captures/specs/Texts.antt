@@ -2,24 +2,22 @@
 use Rattle.std.specs.Prelude.{◌≡◌, ◌⊎◌, ℕ, ◌+◌, ◌<◌, ◌≤◌, ◌==◌, Bool, true, false, if◌then◌else◌}
 use Rattle.std.specs.Prelude.{List, [], ◌∷◌, ◌++◌, length, Some, None, Result}
 use Rattle.std.specs.List.{flat_map}
+use Rattle.lines.specs.Lines.{HasNoNewline}
 use Rattle.runs.specs.Calls.{Call}
 use Rattle.runs.specs.Runs.{Task, Goes}
-use Rattle.captures.specs.declared.limits.TheConstants.{LINE_LIMIT, INPUT_ROOM}
+use Rattle.captures.specs.declared.limits.TheConstants.{INPUT_ROOM}
+use Rattle.commands.specs.declared.limits.TheConstants.{TIMED_LINE_LIMIT}
 use Rattle.captures.specs.declared.translation.run_error.RunError.{RunError}
 use Rattle.captures.specs.Endings.{ending_of}
 use Rattle.captures.specs.declared.translation.refusal.Refusal.{Refusal}
 use Rattle.captures.specs.declared.translation.refusal.Refusal.TheVariants.{InCapture, InLine}
-use Rattle.captures.specs.FrameLines.{frame_of}
+use Rattle.commands.specs.TimedLines.{timed_frame_of}
 use Rattle.captures.specs.declared.time.time_unit.TimeUnit.{TimeUnit}
-use Rattle.captures.specs.Spelling.{TimedFrame, record_of, capture_of}
+use Rattle.captures.specs.Spelling.{record_of, capture_of}
+use Rattle.commands.specs.TimedLines.{TimedFrame}
 
 abbrev pub is_newline : ℕ → Bool
 is_newline byte = byte == 10
-
--- bytes with no 0a among them
-abbrev pub HasNoNewline : List ℕ → Type 0
-HasNoNewline [] = Unit {0}
-HasNoNewline (byte ∷ bytes) = (is_newline byte ≡ false) × HasNoNewline bytes
 
 -- some lines, each ended by 0a
 abbrev pub with_line_ends : List (List ℕ) → List ℕ
@@ -31,7 +29,7 @@ abbrev pub HandIn : List (List ℕ) → List TimedFrame → Type 0
 HandIn [] frames = frames ≡ []
 HandIn (line ∷ lines) frames =
     (timed : TimedFrame) × (later : List TimedFrame) × HasNoNewline line
-    × (frame_of line ≡ Some timed) × HandIn lines later × (frames ≡ timed ∷ later)
+    × (timed_frame_of line ≡ Some timed) × HandIn lines later × (frames ≡ timed ∷ later)
 
 -- bytes begin with so many lines, which hand these frames in, and a rest follows them
 pub record Hands (bytes : List ℕ) (count : ℕ) (frames : List TimedFrame)
@@ -43,7 +41,7 @@ pub record Hands (bytes : List ℕ) (count : ℕ) (frames : List TimedFrame)
 
 -- bytes that may become a line
 abbrev pub IsBegunLine : List ℕ → Type 0
-IsBegunLine bytes = HasNoNewline bytes × (length bytes ≤ LINE_LIMIT)
+IsBegunLine bytes = HasNoNewline bytes × (length bytes ≤ TIMED_LINE_LIMIT)
 
 -- the bytes begin with a line that hands no frame in
 pub record HasBadLine (bytes : List ℕ) : Type 0 where
@@ -51,11 +49,11 @@ pub record HasBadLine (bytes : List ℕ) : Type 0 where
   pub rest : List ℕ
   pub parts : bytes ≡ line ++ 10 ∷ rest
   pub whole : HasNoNewline line
-  pub none : frame_of line ≡ None
+  pub none : timed_frame_of line ≡ None
 
 -- no line that hands a frame in can be the first, whatever comes after these bytes
 abbrev pub BeginsBadLine : List ℕ → Type 0
-BeginsBadLine bytes = HasBadLine bytes ⊎ (HasNoNewline bytes × (LINE_LIMIT < length bytes))
+BeginsBadLine bytes = HasBadLine bytes ⊎ (HasNoNewline bytes × (TIMED_LINE_LIMIT < length bytes))
 
 -- after all lines that hand frames in: a line is begun, or hands no frame in
 abbrev pub IsLeftLine : Bool → List ℕ → Type 0

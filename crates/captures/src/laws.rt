@@ -28,7 +28,8 @@ ghost use Rattle.captures.specs.declared.translation.state.State.TheVariants.{St
 ghost use Rattle.captures.specs.declared.translation.skipped.Skipped.{Skipped};
 ghost use Rattle.captures.specs.declared.unfit.Unfit.{Unfit};
 ghost use Rattle.captures.specs.declared.unfit.Unfit.TheVariants.{Refuse, Skip};
-ghost use Rattle.captures.specs.Spelling.{IsWritable, TimedFrame, capture_of, packets_in};
+ghost use Rattle.captures.specs.Spelling.{IsWritable, capture_of, packets_in};
+ghost use Rattle.commands.specs.TimedLines.{TimedFrame};
 ghost use Rattle.captures.specs.declared.extra.Extra.{Extra};
 ghost use Rattle.captures.specs.declared.extra.Extra.TheVariants.{Forget};
 ghost use Rattle.captures.specs.declared.text.ledger.Ledger.{Ledger};
@@ -36,13 +37,11 @@ ghost use Rattle.captures.specs.declared.time.time_unit.TimeUnit.{TimeUnit};
 
 pub mod spans;
 
-use crate::limits::{
-    BLOCK_LIMIT, FIRST_UNIT_LEN, FRAME_LIMIT, INPUT_ROOM, LINE_LIMIT, READ_COUNT_LIMIT,
-    SKIPPED_LIMIT, TIME_LIMIT,
-};
+use crate::limits::{BLOCK_LIMIT, FIRST_UNIT_LEN, INPUT_ROOM, SKIPPED_LIMIT, TIME_LIMIT};
 use crate::pcapng::section::ETHERNET;
 use crate::{
-    CaptureError, Extra, Header, Link, Place, ReadError, RunError, Skipped, TimeUnit, Unfit,
+    CaptureError, Extra, FRAME_LIMIT, Header, Link, Place, ReadError, RunError, Skipped, TimeUnit,
+    Unfit,
 };
 use ep_base::laws::traits::Value;
 use runs::Fault;
@@ -211,13 +210,10 @@ pub fn types_are_plain_data()
 
 /// The numbers that the definitions take from the code.
 pub fn constants()
-    ensures frame { FRAME_LIMIT ≡ 99_991 }
     ensures skipped { SKIPPED_LIMIT ≡ 262_128 }
     ensures block { BLOCK_LIMIT ≡ 262_144 }
     ensures first { FIRST_UNIT_LEN ≡ 24 }
     ensures input { INPUT_ROOM ≡ 262_144 }
-    ensures line { LINE_LIMIT ≡ 200_032 }
     ensures time { TIME_LIMIT ≡ 4_294_967_295_999_999_999 }
-    ensures reads { READ_COUNT_LIMIT ≡ 2 ^ 40 }
     ensures ethernet { ETHERNET ≡ 1 }
 {}

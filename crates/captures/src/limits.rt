@@ -1,13 +1,5 @@
 //! How much a run takes.
 
-/// The bytes of a frame at most. The line of such a frame has 200,000 bytes at most, without the 0a
-/// that ends it, whatever its channel.
-pub const FRAME_LIMIT: usize = 99_991;
-
-/// The bytes of a line that hands a frame in at most, without the 0a that ends it: those of the
-/// longest frame, channel and time.
-pub const LINE_LIMIT: usize = 200_032;
-
 /// The bytes of the shortest capture there is: a file header.
 pub const FIRST_UNIT_LEN: usize = 24;
 
@@ -31,6 +23,3 @@ pub const OUTPUT_ROOM: usize = 5 * INPUT_ROOM;
 
 /// The last nanosecond since the year 1970 began whose seconds fit 32 bits.
 pub const TIME_LIMIT: u64 = 4_294_967_295_999_999_999;
-
-/// The reads of a run at most.
-pub const READ_COUNT_LIMIT: u64 = 1 << 40;

@@ -1,6 +1,5 @@
 //! Lines that hand frames in: of packets, and as the packet records of a capture.
 
-pub(crate) mod frame_line;
 pub(crate) mod ledger;
 pub(crate) mod line;
 pub(crate) mod line_records;

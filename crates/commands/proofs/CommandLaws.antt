@@ -191,7 +191,7 @@ module _ (number digits : List ℕ) (decimal : list_all is_ascii_digit number �
   number_first = ap (λ k. take k (number ++ 32 ∷ digits)) first_space
       ∙ take_at number (32 ∷ digits) (length number) refl
 
-  digits_after : after_first is_space text ≡ digits
+  pub digits_after : after_first is_space text ≡ digits
   digits_after =
       ap (λ k. drop (k + 1) (number ++ 32 ∷ digits)) first_space
       ∙ ap (drop (length number + 1)) (sym (append_assoc number (32 ∷ []) digits))

@@ -3,3 +3,5 @@ pub mod Fronts
 pub mod Numbers
 pub mod Reads
 pub mod Request
+pub mod TimedLines
+pub mod Written

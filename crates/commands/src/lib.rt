@@ -4,12 +4,16 @@
 
 mod hex_digits;
 pub mod laws;
+mod limits;
 mod line_head;
 mod line_reader;
 mod number;
 mod place;
 mod request;
+mod timed_line;
 
 pub use hex_digits::FRAME_ROOM;
+pub use limits::{FRAME_LIMIT, TIMED_LINE_LIMIT};
 pub use line_reader::LineReader;
 pub use request::{HandedIn, Request};
+pub use timed_line::{Time, TimedLine, read_timed_line};

@@ -12,7 +12,8 @@ use crate::hex_digits::HexDigits;
 use crate::number::Number;
 use crate::place::Place;
 
-const FRAME: &[u8; 6] = b"frame ";
+/// The first word of a line of a frame, and the space after it.
+pub const FRAME: &[u8; 6] = b"frame ";
 
 const FORGET: &[u8; 7] = b"forget ";
 

@@ -15,7 +15,8 @@ use Rattle.runs.proofs.CallLemmas.{read_count-append}
 use Rattle.runs.proofs.KnownLemmas.{goes_ok}
 use Rattle.lines.specs.declared.run_error.RunError.{RunError}
 use Rattle.lines.specs.declared.run_error.RunError.TheVariants.{Read, Memory, TooManyReads}
-use Rattle.lines.specs.declared.limits.TheConstants.{READ_COUNT_LIMIT, READ_SIZE_LIMIT}
+use Rattle.lines.specs.declared.limits.TheConstants.{READ_SIZE_LIMIT}
+use Rattle.runs.specs.declared.limits.TheConstants.{READ_COUNT_LIMIT}
 use Rattle.lines.specs.Endings.{cause}
 use Rattle.lines.specs.Lines.{Split, split, last_line, ended_lines_of}
 use Rattle.lines.specs.Replies.{EndsBefore, Meaning, replies_after, replies_to, replies_to_ended}

@@ -4,5 +4,5 @@ mod LineLemmas
 mod MemoryLemmas
 mod RepliesLemmas
 mod SplitLaws
-mod SplitLemmas
+pub mod SplitLemmas
 mod WriteLemmas

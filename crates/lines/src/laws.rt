@@ -2,8 +2,8 @@
 ghost use Rattle.std.specs.Prelude.{◌≡◌, ◌++◌, ℕ, List};
 ghost use Rattle.lines.specs.Lines.{PiecesAreTheText, ended_lines_of, last_line, split};
 ghost use Rattle.lines.specs.Replies.{Meaning, replies_after, replies_to, replies_to_ended};
-ghost use Rattle.lines.specs.declared.limits.TheConstants.{LINE_LIMIT, READ_COUNT_LIMIT};
-ghost use Rattle.lines.specs.declared.limits.TheConstants.{READ_SIZE_LIMIT, REPLY_ROOM};
+ghost use Rattle.lines.specs.declared.limits.TheConstants.{LINE_LIMIT, READ_SIZE_LIMIT, REPLY_ROOM};
+ghost use Rattle.runs.specs.declared.limits.TheConstants.{READ_COUNT_LIMIT};
 
 /// The lines that 0a ends and what comes after the last 0a, joined by 0a, are the bytes again, and
 /// none of these pieces holds a 0a.

@@ -12,7 +12,8 @@ mod run_lines;
 
 pub use answerer::Answerer;
 pub use in_memory::answers_by;
-pub use limits::{LINE_LIMIT, READ_COUNT_LIMIT, READ_SIZE_LIMIT, REPLY_ROOM};
+pub use limits::{LINE_LIMIT, READ_SIZE_LIMIT, REPLY_ROOM};
 pub use line_answerer::LineAnswerer;
 pub use run_error::RunError;
 pub use run_lines::run_with;
+pub use runs::READ_COUNT_LIMIT;

@@ -2,7 +2,7 @@
 ghost use Rattle.std.specs.Prelude.{◌≡◌, ◌≤◌, List, [], length, IfOk, vec_len};
 ghost use Rattle.lines.specs.Replies.{Begun};
 ghost use Rattle.lines.specs.Runs.{NumbersFit, RunsBy};
-ghost use Rattle.lines.specs.declared.limits.TheConstants.{READ_COUNT_LIMIT};
+ghost use Rattle.runs.specs.declared.limits.TheConstants.{READ_COUNT_LIMIT};
 
 use crate::line_answerer::LineAnswerer;
 use crate::{Answerer, READ_SIZE_LIMIT, RunError};

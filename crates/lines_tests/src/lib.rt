@@ -12,3 +12,5 @@ mod earlier_lines;
 mod hex_digits;
 #[cfg(test)]
 mod pieces;
+#[cfg(test)]
+mod timed_lines;

@@ -6,7 +6,7 @@ use Rattle.captures.specs.Fronts.{Gives, taken_of}
 use Rattle.captures.specs.Readers.{AreGiven, IsRefusedAt}
 use Rattle.captures.specs.Runs.{IsCapture}
 use Rattle.captures.specs.Units.{skipped_in}
-use Rattle.captures.specs.declared.limits.TheConstants.{READ_COUNT_LIMIT}
+use Rattle.runs.specs.declared.limits.TheConstants.{READ_COUNT_LIMIT}
 use Rattle.captures.specs.declared.packet.Packet.{Packet}
 use Rattle.captures.specs.declared.translation.run_error.RunError.{RunError}
 use Rattle.captures.specs.declared.translation.run_error.RunError.TheVariants.{Read, Write}

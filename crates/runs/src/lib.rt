@@ -6,9 +6,11 @@ pub mod device;
 mod fault;
 mod flushes;
 pub mod laws;
+mod limits;
 mod writes;
 
 pub use device::{Device, ReaderWriter};
 pub use fault::Fault;
 pub use flushes::flush_behind;
+pub use limits::READ_COUNT_LIMIT;
 pub use writes::write_whole;

@@ -2,7 +2,8 @@
 ghost use Rattle.std.specs.Prelude.{◌≡◌};
 ghost use Rattle.captures.specs.Framed.{captured_limit, link_for, link_of, taken_limit};
 
-use crate::limits::{FRAME_LIMIT, SKIPPED_LIMIT};
+use crate::FRAME_LIMIT;
+use crate::limits::SKIPPED_LIMIT;
 use crate::link::header::HEADER_LEN;
 use crate::unfit::Unfit;
 

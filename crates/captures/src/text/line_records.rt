@@ -1,15 +1,16 @@
 //! All whole lines at the front of some bytes, as the packet records of their frames.
 ghost use Rattle.std.specs.Prelude.{◌≡◌, ◌≤◌, ◌+◌, ◌*◌, ◌++◌, length, take, position, MatchOption};
 ghost use Rattle.std.specs.Prelude.{IfSome, None, Some};
-ghost use Rattle.captures.specs.FrameLines.{frame_of};
-ghost use Rattle.captures.specs.Spelling.{TimedFrame, record_of};
+ghost use Rattle.commands.specs.TimedLines.{timed_frame_of};
+ghost use Rattle.captures.specs.Spelling.{record_of};
+ghost use Rattle.commands.specs.TimedLines.{TimedFrame};
 ghost use Rattle.captures.specs.Texts.{TakesLines, is_newline};
 
-use crate::limits::{FRAME_LIMIT, LINE_LIMIT};
+use crate::FRAME_LIMIT;
 use crate::pcap::writer::record_head;
-use crate::text::frame_line::frame_line;
 use crate::text::line::append;
 use crate::time::time_unit::TimeUnit;
+use commands::{TIMED_LINE_LIMIT, read_timed_line};
 
 /// What is known after the lines at the front of some bytes.
 #[derive(Drop)]
@@ -54,7 +55,7 @@ pub(crate) fn take_lines<'a>(time_unit: TimeUnit, bytes: &'a [u8], out: &mut [u8
         count,
         rest,
         used,
-        is_bad: rest.len() > LINE_LIMIT,
+        is_bad: rest.len() > TIMED_LINE_LIMIT,
     }
 }
 
@@ -68,13 +69,13 @@ fn newline_in(bytes: &[u8]) -> Option<usize>
 /// then: none where the line hands no frame in.
 fn append_record(time_unit: TimeUnit, out: &mut [u8], used: usize, line: &[u8]) -> Option<usize>
     requires { used + 2 * length line.now ≤ length out.old }
-    ensures record { MatchOption result (frame_of line.now ≡ None)
-        (λ end. (timed : TimedFrame) × (frame_of line.now ≡ Some timed)
+    ensures record { MatchOption result (timed_frame_of line.now ≡ None)
+        (λ end. (timed : TimedFrame) × (timed_frame_of line.now ≡ Some timed)
         × (take end out.new ≡ take used out.old ++ record_of time_unit timed)) }
     ensures end { IfSome result (λ end. end ≤ used + 2 * length line.now) }
     ensures same { result ≡ None → take used out.new ≡ take used out.old }
 {
-    let line = frame_line(line)?;
+    let line = read_timed_line(line)?;
     let len = line.digits.len() / 2;
     if len == 0 || len > FRAME_LIMIT {
         return None;

@@ -3,10 +3,12 @@ ghost use Rattle.std.specs.Prelude.{◌≡◌, ◌≤◌, ◌*◌, List, length,
 ghost use Rattle.std.specs.Io.KnownBytes.{Appends, IsAtEnd};
 ghost use Rattle.runs.specs.Known.{KnownCall, Transfers, known_of};
 ghost use Rattle.captures.specs.Endings.{ending_of};
-ghost use Rattle.captures.specs.Spelling.{TimedFrame, capture_of};
+ghost use Rattle.captures.specs.Spelling.{capture_of};
+ghost use Rattle.commands.specs.TimedLines.{TimedFrame};
 ghost use Rattle.captures.specs.Texts.{Hands, IsBegunLine, IsText, WritesCapture, lines_to_capture};
 ghost use Rattle.captures.specs.declared.time.time_unit.TimeUnit.{TimeUnit};
-ghost use Rattle.captures.specs.declared.limits.TheConstants.{INPUT_ROOM, READ_COUNT_LIMIT};
+ghost use Rattle.captures.specs.declared.limits.TheConstants.{INPUT_ROOM};
+ghost use Rattle.runs.specs.declared.limits.TheConstants.{READ_COUNT_LIMIT};
 
 use crate::pcap::writer::file_header;
 use crate::text::line_records::take_lines;

@@ -1,5 +1,6 @@
 use Rattle.std.proofs.Common.{rules, arith, ◌∙◌, ap, Some, length, ℕ, ◌/◌, inl, inr}
-use Rattle.captures.specs.FrameLines.{frame_at}
+use Rattle.commands.specs.Commands.{frame_on}
+use Rattle.commands.specs.TimedLines.{frame_at}
 use Rattle.captures.specs.Spelling.{record_head}
 use Rattle.captures.proofs.RecordLemmas.{no_frame_at, decoded, frame_is, record_put}
 use Rattle.captures.proofs.text.line_records.append_record.Goals as goal
@@ -11,9 +12,9 @@ returns-then-len-eq0-clause-record c =
     let line = c.in_ok-line.line in
     elim c.then-len-eq0.branch [
       | then-len-eq0-via-then-len-eq0 w ↦
-          c.in_ok-line.ensures.frame ∙ no_frame_at line.time line.digits.now (inl (omega arith))
+          c.in_ok-line.ensures.frame ∙ no_frame_at line.time line.channel line.digits.now (inl (omega arith))
       | then-len-eq0-via-else-len-eq0+then-len-gt-FRAME_LIMIT w ↦
-          c.in_ok-line.ensures.frame ∙ no_frame_at line.time line.digits.now (inr (omega arith))
+          c.in_ok-line.ensures.frame ∙ no_frame_at line.time line.channel line.digits.now (inr (omega arith))
     ]
 
 pub returns-then-decode-clause-record : goal.returns-then-decode-clause-record
@@ -28,8 +29,9 @@ returns-then-decode-clause-record c =
         nanoseconds = time.nanoseconds;
         frame = c.decode.new.bytes;
       },
-      c.in_ok-line.ensures.frame ∙ ap (frame_at (Some time)) found.0
-          ∙ frame_is time c.decode.new.bytes (omega arith) (omega arith),
+      c.in_ok-line.ensures.frame
+          ∙ ap (λ d. frame_at (Some time) (frame_on line.channel d)) found.0
+          ∙ frame_is time line.channel c.decode.new.bytes (omega arith) (omega arith),
       record_put c.args.time_unit c.args.out.now c.append-start.new.out c.decode.new.bytes c.record_head-head.result
           c.args.used c.append-start.result n _ time (search rules) found.1 (omega arith)
           c.append-start.ensures.text

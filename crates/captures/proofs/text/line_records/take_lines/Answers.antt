@@ -1,7 +1,7 @@
 use Rattle.std.proofs.Common.{rules, arith, ◌≡◌, ◌∙◌, ◌+◌, ◌-◌, ◌<◌, sym, ap, subst, refl, length}
 use Rattle.std.proofs.Common.{take, drop, ℕ, List, Some, None}
 use Rattle.std.proofs.lemmas.List.{length-drop}
-use Rattle.captures.specs.FrameLines.{frame_of}
+use Rattle.commands.specs.TimedLines.{timed_frame_of}
 use Rattle.captures.proofs.TextLemmas.{taking_line, found_line, none_found, left_line, left_bad}
 use Rattle.captures.proofs.TextLemmas.{after_line}
 use Rattle.captures.proofs.text.line_records.take_lines.Goals as goal
@@ -11,7 +11,7 @@ returns-in_default-append_record-clause-takes c =
     let taking = c.lines.invariant.taking in
     let rest = c.lines.rest.now in
     let found = found_line rest c.in-Some.end (sym c.newline_in.ensures ∙ c.in-Some.is) in
-    let none = subst (λ (l : List ℕ). frame_of l ≡ None) c.split_at.ensures.front
+    let none = subst (λ (l : List ℕ). timed_frame_of l ≡ None) c.split_at.ensures.front
     c.in_default-append_record.ensures.record in
     record {
       frames = taking.frames;
@@ -31,7 +31,7 @@ lines-preserved c =
     let found = found_line rest end (sym c.newline_in.ensures ∙ c.in-Some.is) in
     let lt : end < length rest = search rules in
     let record' = c.in-Some-append_record.ensures.record in
-    let is = subst (λ (l : List ℕ). frame_of l ≡ Some record'.0)
+    let is = subst (λ (l : List ℕ). timed_frame_of l ≡ Some record'.0)
     c.split_at.ensures.front record'.1 in
     let after : take (length c.split_at.result.1.now - 1) (drop 1 c.split_at.result.1.now)
     ≡ drop (end + 1) rest =

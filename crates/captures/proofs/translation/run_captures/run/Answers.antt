@@ -1,7 +1,7 @@
 use Rattle.std.proofs.Common.{rules}
 use Rattle.runs.proofs.KnownLemmas.{Goes-reader_writer, goes_memory, goes_end, goes_transfer}
 use Rattle.runs.proofs.KnownLemmas.{goes_too_many}
-use Rattle.captures.specs.declared.limits.TheConstants.{READ_COUNT_LIMIT}
+use Rattle.runs.specs.declared.limits.TheConstants.{READ_COUNT_LIMIT}
 use Rattle.captures.specs.Endings.{cause, ending_of}
 use Rattle.captures.specs.Runs.{capture_to_lines}
 use Rattle.captures.proofs.KnownLemmas.{passed_known, runs_ok}

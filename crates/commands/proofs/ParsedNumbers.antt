@@ -1,4 +1,4 @@
--- Decimal numbers in a line.
+-- Decimal numbers in a line of a frame with its time.
 use Rattle.std.proofs.Common.{◌≡◌, ap, refl, ℕ, ◌<◌, ◌≤◌, ◌^◌, true, List, length, Some, Result}
 use Rattle.std.proofs.Common.{Ok, Err, arith, inl, inr}
 use Rattle.std.specs.Char.{is_ascii_digit}
@@ -8,7 +8,7 @@ use Rattle.std.specs.Str.Parse.{digits_value, ParsesUnsigned}
 use Rattle.std.proofs.lemmas.Bool.{le-leb, lt-leb, cases_lt}
 use Rattle.std.proofs.lemmas.Str.Parse.{parse_digits}
 use Rattle.digits.proofs.Numerals.{decimals}
-use Rattle.captures.specs.FrameLines.{number_of}
+use Rattle.commands.specs.TimedLines.{number_of}
 
 -- what `parse` reads of at most ten digits
 pub number_parsed : {E : Type 0} (digits : List ℕ) (r : Result ℕ E) → 0 < length digits

@@ -1,7 +1,7 @@
 use Rattle.std.proofs.Common.{rules, ◌∙◌, sym}
 use Rattle.digits.proofs.Numerals.{digits_are_text, text_is}
-use Rattle.captures.proofs.NumberLemmas.{number_parsed}
-use Rattle.captures.proofs.text.frame_line.number.Goals as goal
+use Rattle.commands.proofs.ParsedNumbers.{number_parsed}
+use Rattle.commands.proofs.timed_line.number.Goals as goal
 
 pub returns-in_err-ok : goal.returns-in_err-ok
 returns-in_err-ok c =

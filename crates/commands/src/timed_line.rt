@@ -1,36 +1,37 @@
-//! A line that hands a frame in.
-ghost use Rattle.std.specs.Prelude.{◌≡◌, ◌+◌, ◌<◌, ◌≤◌, length, position, Some, None, IfSome};
-ghost use Rattle.std.specs.Prelude.{MatchOption};
+//! A line of a frame that may have the time at which it was captured.
+ghost use Rattle.std.specs.Prelude.{◌≡◌, ◌+◌, ◌<◌, ◌≤◌, ◌++◌, codes, length, position, Some, None};
+ghost use Rattle.std.specs.Prelude.{IfSome, MatchOption};
 ghost use Rattle.std.specs.Char.{is_ascii_digit};
 ghost use Rattle.std.specs.List.{list_all};
 ghost use Rattle.hex.specs.Hex.{decode_of};
-ghost use Rattle.captures.specs.FrameLines.{is_space, number_below, number_of, parts_of, time_of};
-ghost use Rattle.captures.specs.FrameLines.{frame_at, frame_behind};
-ghost use Rattle.captures.specs.FrameLines.{frame_in, frame_of};
+ghost use Rattle.commands.specs.Commands.{frame_on, is_space};
+ghost use Rattle.commands.specs.TimedLines.{digits_frame, frame_at, number_below, number_of, parts_of};
+ghost use Rattle.commands.specs.TimedLines.{text_frame, time_of, timed_frame_of};
 
-const FRAME: &[u8; 6] = b"frame ";
+use crate::line_head::FRAME;
 
 /// When a frame was captured, since the year 1970 began.
-#[derive(Clone, Copy)]
-pub(crate) struct Time {
+#[derive(Drop)]
+pub struct Time {
     pub seconds: u32,
     /// The parts of a second, less than one.
     pub nanoseconds: u32,
 }
 
-/// The digits of a frame, which may not be hex, and its time.
+/// What stands in a line of a frame. The digits may be no frame's.
 #[derive(Drop)]
-pub(crate) struct FrameLine<'l> {
+pub struct TimedLine<'l> {
+    pub channel: u32,
     pub time: Time,
     pub digits: &'l [u8],
 }
 
-/// The parts of a line of the form `frame CHANNEL DIGITS`, behind which the time may stand, `SECONDS
-/// MICROSECONDS` or `SECONDS MICROSECONDS NANOSECONDS`.
-pub(crate) fn frame_line(line: &[u8]) -> Option<FrameLine<'_>>
-    ensures frame { MatchOption result (frame_of line.now ≡ None)
-        (λ f. frame_of line.now ≡ frame_at (Some f.time) (decode_of f.digits.now)) }
-    ensures short { IfSome result (λ f. length f.digits.now + 8 ≤ length line.now) }
+/// The parts of a whole line of the form `frame CHANNEL DIGITS`, after which the time may stand,
+/// `SECONDS MICROSECONDS` or `SECONDS MICROSECONDS NANOSECONDS`.
+pub fn read_timed_line(line: &[u8]) -> Option<TimedLine<'_>>
+    ensures frame { MatchOption result (timed_frame_of line.now ≡ None)
+        (λ t. timed_frame_of line.now ≡ frame_at (Some t.time) (frame_on t.channel (decode_of t.digits.now))) }
+    ensures short { IfSome result (λ t. length t.digits.now + 8 ≤ length line.now) }
 {
     if !line.starts_with(FRAME) {
         return None;
@@ -38,23 +39,25 @@ pub(crate) fn frame_line(line: &[u8]) -> Option<FrameLine<'_>>
     channel_and_digits(&line[FRAME.len()..])
 }
 
-fn channel_and_digits(text: &[u8]) -> Option<FrameLine<'_>>
-    ensures frame { MatchOption result (frame_in text.now ≡ None)
-        (λ f. frame_in text.now ≡ frame_at (Some f.time) (decode_of f.digits.now)) }
-    ensures short { IfSome result (λ f. length f.digits.now + 2 ≤ length text.now) }
+fn channel_and_digits(text: &[u8]) -> Option<TimedLine<'_>>
+    ensures frame { MatchOption result (text_frame text.now ≡ None)
+        (λ t. text_frame text.now ≡ frame_at (Some t.time) (frame_on t.channel (decode_of t.digits.now))) }
+    ensures short { IfSome result (λ t. length t.digits.now + 2 ≤ length text.now) }
 {
     let space = space_in(text)?;
-    number(&text[..space])?;
-    timed_digits(&text[space + 1..])
+    let channel = number(&text[..space])?;
+    timed_digits(channel, &text[space + 1..])
 }
 
-fn timed_digits(text: &[u8]) -> Option<FrameLine<'_>>
-    ensures frame { MatchOption result (frame_behind text.now ≡ None)
-        (λ f. frame_behind text.now ≡ frame_at (Some f.time) (decode_of f.digits.now)) }
-    ensures short { IfSome result (λ f. length f.digits.now ≤ length text.now) }
+fn timed_digits(channel: u32, text: &[u8]) -> Option<TimedLine<'_>>
+    ensures frame { MatchOption result (digits_frame channel text.now ≡ None)
+        (λ t. digits_frame channel text.now
+        ≡ frame_at (Some t.time) (frame_on t.channel (decode_of t.digits.now))) }
+    ensures short { IfSome result (λ t. length t.digits.now ≤ length text.now) }
 {
     let Some(space) = space_in(text) else {
-        return Some(FrameLine {
+        return Some(TimedLine {
+            channel,
             time: Time {
                 seconds: 0,
                 nanoseconds: 0,
@@ -63,7 +66,8 @@ fn timed_digits(text: &[u8]) -> Option<FrameLine<'_>>
         });
     };
     let time = read_time(&text[space + 1..])?;
-    Some(FrameLine {
+    Some(TimedLine {
+        channel,
         time,
         digits: &text[..space],
     })
