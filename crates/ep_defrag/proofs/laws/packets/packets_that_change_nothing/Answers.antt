@@ -1,4 +1,4 @@
-use Rattle.std.proofs.Common.{◌≡◌, subst, sym, refl, inl, inr, true, ℕ, List, [], ◌∷◌, Option, None}
+use Rattle.std.proofs.Common.{◌≡◌, subst, sym, refl, inl, inr, true, ℕ, List, [], ◌∷◌, Option, None, Some}
 use Rattle.std.proofs.Common.{replicate}
 use Rattle.std.specs.Map.{lookup}
 use Rattle.std.specs.Prelude.{nat_eq}
@@ -7,7 +7,7 @@ use Rattle.ep_fragments.specs.declared.defrag.overlap_rule.OverlapRule.{OverlapR
 use Rattle.ep_fragments.specs.declared.defrag.overlap_rule.OverlapRule.TheVariants.{Overwrites, Refuses}
 use Rattle.ep_fragments.specs.Fragments.{Fragment, fragment}
 use Rattle.ep_fragments.specs.Outcome.{outcome}
-use Rattle.ep_streams.specs.Streams.{IsErrorOf, ShowsStream}
+use Rattle.ep_streams.specs.Streams.{IsErrorOf, ShowsStream, StaysButRoom, stream_at}
 use Rattle.ep_streams.specs.declared.defrag.stream.Stream.{Stream}
 use Rattle.ep_defrag.specs.declared.defrag.ip_frag_id.IpFragId.{IpFragId}
 use Rattle.ep_defrag.specs.IpDefragPool.{same_id}
@@ -17,13 +17,17 @@ use Rattle.ep_defrag.proofs.laws.packets.packets_that_change_nothing.Goals as go
 pub returns-clause-other_error : goal.returns-clause-other_error
 returns-clause-other_error c pool time channel p = let is = (p.passed refl).0 in cc
 
+stays_same : (s : Option (Stream ℕ)) → StaysButRoom s s
+stays_same None = refl
+stays_same (Some s) = refl
+
 pub returns-clause-unaligned : goal.returns-clause-unaligned
 returns-clause-unaligned c pool name time channel = record {
   passed = λ is. cc;
   accepted = λ fs shows. tt;
   refused = λ fs shows. inl refl;
   others = λ q other. refl;
-  err = refl;
+  err = stays_same (stream_at (same_id nat_eq) pool (id_named name channel));
 }
 
 abbrev first : Fragment
