@@ -1,5 +1,5 @@
 -- What is replied to one more line of a text, and the lists after it.
-use Rattle.std.proofs.Common.{◌≡◌, ◌∙◌, sym, ap, refl, ℕ, ◌+◌, List, [], ◌∷◌, ◌++◌, append_assoc}
+use Rattle.std.proofs.Common.{◌≡◌, ◌∙◌, ap, refl, ℕ, ◌+◌, List, [], ◌∷◌, ◌++◌, append_assoc}
 use Rattle.commands.specs.Commands.{Command, command_of}
 use Rattle.line_answers.specs.Answers.{answer_after, command_answer, frame_meaning, reply_after}
 use Rattle.line_answers.specs.Arrivals.{lists_after_lines, lists_with_line}

@@ -9,11 +9,9 @@ use Rattle.std.specs.List.{AllByRecursion}
 use Rattle.std.proofs.lemmas.Bool.{le-ltb, lt-ltb, ne_eqb}
 use Rattle.captures.specs.ComeBack.{HasLine}
 use Rattle.captures.specs.Lines.{Packet, blank, counted_by, forget_text, has_passed, line_of, lines_from}
-use Rattle.captures.specs.Lines.{noted}
 use Rattle.captures.specs.Numbers.{capped}
 use Rattle.captures.specs.Texts.{with_line_ends}
 use Rattle.captures.specs.declared.extra.Extra.TheVariants.{Forget}
-use Rattle.captures.specs.declared.text.ledger.Ledger.{Ledger}
 use Rattle.commands.specs.Commands.Command.{Forget as Forgets}
 use Rattle.commands.specs.Written.{written_forget}
 use Rattle.commands.proofs.WrittenLemmas.{written_forget-asks, written_forget-one_line}
@@ -29,8 +27,8 @@ use Rattle.line_answers.specs.Answers.{class_answer, frame_meaning, outcome_answ
 use Rattle.line_answers.specs.Arrivals.{lists_after_lines}
 use Rattle.line_answers.proofs.AnswerLemmas.{lists_after_lines-nil}
 use Rattle.lines.specs.Lines.{lines_of}
-use Rattle.lines.specs.Replies.{number_after, replies_after}
-use Rattle.capture_answers.specs.PacketAnswers.{lists_since, lists_with_packet, packet_answer}
+use Rattle.lines.specs.Replies.{replies_after}
+use Rattle.capture_answers.specs.PacketAnswers.{Ledger, lists_since, lists_with_packet, packet_answer}
 use Rattle.capture_answers.specs.PacketAnswers.{spanned_answers, spanned_from, kept}
 use Rattle.capture_answers.proofs.LineLemmas.{line_listed, line_replied}
 use Rattle.capture_answers.proofs.PlainLemmas.{no_lines, packet_listed, packet_replied, text_of}

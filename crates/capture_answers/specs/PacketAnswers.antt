@@ -3,8 +3,7 @@
 -- number 1.
 use Rattle.std.specs.Prelude.{ℕ, ◌+◌, Bool, if◌then◌else◌, List, [], ◌∷◌, ◌++◌, codes}
 use Rattle.captures.specs.Lines.{Packet, blank, has_passed, noted}
-use Rattle.captures.specs.declared.extra.Extra.TheVariants.{Forget}
-use Rattle.captures.specs.declared.text.ledger.Ledger.{Ledger}
+use Rattle.captures.specs.declared.extra.Extra.TheVariants.{Forget, Nothing}
 use Rattle.etherparse.specs.defrag.PoolCalls.{Lists, lists_with_frame, no_lists, retained_from}
 use Rattle.etherparse.specs.packet.Class.{class_of}
 use Rattle.line_answers.specs.Answers.{class_answer}
@@ -28,6 +27,13 @@ answers_from lists number (packet ∷ packets) =
 -- the answers to all packets of a capture
 abbrev pub packet_answers : List Packet → List (List ℕ)
 packet_answers packets = answers_from no_lists 1 packets
+
+abbrev type_of : {A : Type 0} → A → Type 0
+type_of {A} a = A
+
+-- how far the lines of packets have come, and which span is running
+abbrev pub Ledger : Type 0
+Ledger = type_of (blank Nothing)
 
 -- the accepted fragments of the datagrams of which one came with this packet or after it
 abbrev pub lists_since : (first : ℕ) → Lists → Lists

@@ -1,5 +1,5 @@
 -- The frame that a line hands in with its time, by the parts of the line.
-use Rattle.std.proofs.Common.{◌≡◌, ◌∙◌, sym, ap, ap₂, refl, ℕ, ◌+◌, ◌-◌, ◌*◌, ◌<◌, ◌≤◌, Bool, true, false}
+use Rattle.std.proofs.Common.{◌≡◌, ◌∙◌, sym, ap, ap₂, refl, ℕ, ◌+◌, ◌-◌, ◌*◌, ◌<◌, Bool, true, false}
 use Rattle.std.proofs.Common.{List, [], ◌∷◌, ◌++◌, length, take, drop, get_or, Option, Some, None}
 use Rattle.std.proofs.Common.{Result, Ok, Err, nat_eq, arith, inl, inr, length-append, append_assoc}
 use Rattle.std.proofs.Common.{append-nil, eqb-true}
@@ -18,7 +18,7 @@ use Rattle.hex.proofs.HexLemmas.{decode_of-ok}
 use Rattle.lines.specs.declared.limits.TheConstants.{LINE_LIMIT}
 use Rattle.commands.specs.Commands.{Command, command_of, frame_on, is_channel, is_space}
 use Rattle.commands.specs.Commands.Command.{Frame, Forget, Bad}
-use Rattle.commands.specs.TimedLines.{TimedFrame, channel_frame, digits_before, digits_frame, frame_at}
+use Rattle.commands.specs.TimedLines.{channel_frame, digits_before, digits_frame, frame_at}
 use Rattle.commands.specs.TimedLines.{frame_before, no_time, text_before, text_frame, third_space}
 use Rattle.commands.specs.TimedLines.{time_of, timed_frame_of}
 use Rattle.commands.specs.declared.limits.TheConstants.{FRAME_LIMIT}

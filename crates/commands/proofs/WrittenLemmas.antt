@@ -1,5 +1,5 @@
 -- Lines as they are written: what they ask for, and that each is one line.
-use Rattle.std.proofs.Common.{◌≡◌, ◌∙◌, sym, ap, refl, ℕ, ◌+◌, ◌*◌, ◌<◌, ◌≤◌, ◌^◌, ◌==◌, Bool, true, false}
+use Rattle.std.proofs.Common.{◌≡◌, ◌∙◌, sym, ap, refl, ℕ, ◌+◌, ◌<◌, ◌≤◌, ◌^◌, ◌==◌, Bool, true, false}
 use Rattle.std.proofs.Common.{List, [], ◌∷◌, ◌++◌, length, arith}
 use Rattle.std.specs.Prelude.{nat_le, codes, decimal}
 use Rattle.std.specs.Char.{is_ascii_digit}

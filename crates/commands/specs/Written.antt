@@ -1,6 +1,6 @@
 -- The lines that ask for something, as they are written: numbers in decimal, with no zero in front,
 -- and hex digits in lower case. No line has its end here.
-use Rattle.std.specs.Prelude.{ℕ, ◌*◌, ◌/◌, ◌%◌, ◌==◌, if◌then◌else◌, List, [], ◌++◌, codes, decimal}
+use Rattle.std.specs.Prelude.{ℕ, ◌/◌, ◌%◌, ◌==◌, if◌then◌else◌, List, [], ◌++◌, codes, decimal}
 use Rattle.hex.specs.Hex.{encode_lower}
 
 -- the line that hands in a frame on a channel
