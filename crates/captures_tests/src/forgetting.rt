@@ -60,7 +60,14 @@ fn spans_that_pass(rt: HostRuntime) {
         // Of no seconds: each packet but the first that doesn't come before the span began.
         (
             0,
-            &[(100, 0), (99, 0), (100, 0), (100, 0), (99, 999_999), (101, 0)],
+            &[
+                (100, 0),
+                (99, 0),
+                (100, 0),
+                (100, 0),
+                (99, 999_999),
+                (101, 0),
+            ],
             "frame 0 01\nframe 0 01\nforget 1\nframe 0 01\nforget 3\nframe 0 01\nframe 0 01\n\
             forget 5\nframe 0 01\n",
         ),

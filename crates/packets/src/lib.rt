@@ -1,6 +1,7 @@
 //! What the packets of a capture are, shown to people.
 #![tactic(auto)]
 
+mod beginnings;
 pub mod commands;
 mod dissection;
 mod dissector;

@@ -10,18 +10,8 @@ pub fn capture_of(alloc: Global, link_type: u32, frames: &[&str]) -> Result<Vec<
     let mut capture = header(alloc, link_type)?;
     let mut microseconds = 0u32;
     for frame in frames {
-        add_frame(alloc, &mut capture, 1_700_000_000, microseconds, *frame)?;
+        add_frame(alloc, &mut capture, microseconds, *frame)?;
         microseconds = microseconds.wrapping_add(1500);
-    }
-    Ok(capture)
-}
-
-/// A capture of these frames, on Ethernet, that came at these seconds. It has no contract: tests
-/// alone call it, and are run.
-pub fn capture_at(alloc: Global, frames: &[(u32, &str)]) -> Result<Vec<u8>, FromHexError> {
-    let mut capture = header(alloc, 1)?;
-    for (seconds, frame) in frames {
-        add_frame(alloc, &mut capture, *seconds, 0, *frame)?;
     }
     Ok(capture)
 }
@@ -38,13 +28,12 @@ fn header(alloc: Global, link_type: u32) -> Result<Vec<u8>, FromHexError> {
 fn add_frame(
     alloc: Global,
     capture: &mut Vec<u8>,
-    seconds: u32,
     microseconds: u32,
     frame: &str,
 ) -> Result<(), FromHexError> {
     let bytes = hex::decode(alloc, frame)?;
     let len = ((bytes.len() % 0x1_0000_0000) as u32).to_be_bytes();
-    capture.extend_from_slice(&seconds.to_be_bytes())?;
+    capture.extend_from_slice(&1_700_000_000u32.to_be_bytes())?;
     capture.extend_from_slice(&microseconds.to_be_bytes())?;
     capture.extend_from_slice(&len)?;
     capture.extend_from_slice(&len)?;

@@ -2,7 +2,6 @@
 
 use crate::captured::{captured, dissected, first};
 use crate::checks::{equal, fail, holds};
-use crate::classic_captures::capture_at;
 use crate::frames::{FRAMES, REFUSED_WHOLE};
 use crate::outcomes::{every_packet, packets_of};
 use captures::{Packets, Skipped, Unfit};
@@ -253,36 +252,6 @@ fn open_messages(rt: HostRuntime) {
         begun_in(rt, &mut dissector, capture.as_slice()),
         Some(2),
     );
-}
-
-// With spans of no seconds one has passed with each packet that doesn't come before it began: the
-// message of which a part came before is dropped then, and waits as long as times run backwards.
-#[test]
-fn spans_of_no_seconds(rt: HostRuntime) {
-    let mut rules = every_packet(rt.alloc());
-    rules.forget = Some(0);
-    let other = FRAMES[0];
-    let all = [
-        (100, other),
-        (98, PART),
-        (99, other),
-        (99, other),
-        (100, other),
-    ];
-    for (count, open) in [(2, 1), (3, 1), (4, 1), (5, 0)] {
-        let Ok(capture) = capture_at(rt.alloc(), &all[..count]) else {
-            fail(rt, "no capture");
-        };
-        let mut summary = Summary::new(rt.alloc());
-        let ending = summarize(
-            rt.alloc(),
-            &rules,
-            &mut summary,
-            capture.as_slice(),
-            &mut NoProgress,
-        );
-        equal(rt, (ending.result, ending.open), (Ok(()), open));
-    }
 }
 
 const SHARES: &str = "      4000 100.0 %          135980 100.0 %         1  all packets

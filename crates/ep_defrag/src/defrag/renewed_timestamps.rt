@@ -31,7 +31,10 @@ impl<Timestamp: Copy + Drop, CustomChannelId: Eq + Hash + Drop, S: BuildHasher> 
         packet: &SlicedPacket<'_>,
         renew: F,
         channel_id: CustomChannelId,
-    ) -> (Option<Timestamp>, Result<Option<IpDefragPayloadVec>, IpDefragError>)
+    ) -> (
+        Option<Timestamp>,
+        Result<Option<IpDefragPayloadVec>, IpDefragError>,
+    )
         requires { F.IsAlwaysCallable renew }
         ensures passed { fragment_in (packet_told packet.now) ≡ None
             → (result.0 ≡ None) × (result.1 ≡ Ok None) × (self.new ≡ self.old) }
@@ -71,7 +74,10 @@ impl<Timestamp: Copy + Drop, CustomChannelId: Eq + Hash + Drop, S: BuildHasher> 
         message: CutMessage<'_>,
         renew: F,
         channel_id: CustomChannelId,
-    ) -> (Option<Timestamp>, Result<Option<IpDefragPayloadVec>, IpDefragError>)
+    ) -> (
+        Option<Timestamp>,
+        Result<Option<IpDefragPayloadVec>, IpDefragError>,
+    )
         requires fits { IdentificationFits message.addresses message.identification }
         requires renews { F.IsAlwaysCallable renew }
         ensures before { IfSome (fragment_in (as_class (told.Cut message.entry))) (λ named. result.0

@@ -38,8 +38,11 @@ fn process(
     let Ok(packet) = SlicedPacket::from_ethernet(frame) else {
         fail(rt, "a frame isn't sliced");
     };
-    let (before, result) =
-        pool.process_sliced_packet_with(&packet, |first| first.unwrap_or(now), channel);
+    let (before, result) = pool.process_sliced_packet_with(
+        &packet,
+        |first| first.unwrap_or(now),
+        channel,
+    );
     (before, outcome_of(&result))
 }
 
@@ -79,15 +82,15 @@ fn messages_keep_when_they_began(rt: HostRuntime) {
 #[test]
 fn parts_by_their_class(rt: HostRuntime) {
     let mut pool: IpDefragPool<u64, u32> = IpDefragPool::new(rt.alloc());
-    for (frame, now, told) in [
-        (FIRST, 1, (None, Waits)),
-        (SECOND, 2, (Some(1), Completes)),
-    ] {
+    for (frame, now, told) in [(FIRST, 1, (None, Waits)), (SECOND, 2, (Some(1), Completes))] {
         let Class::Cut(message) = Class::from_ethernet(frame) else {
             fail(rt, "a frame has no part");
         };
-        let (before, result) =
-            pool.process_cut_message_with(message, |first| first.unwrap_or(now), 0);
+        let (before, result) = pool.process_cut_message_with(
+            message,
+            |first| first.unwrap_or(now),
+            0,
+        );
         equal(rt, (before, outcome_of(&result)), told);
     }
 }

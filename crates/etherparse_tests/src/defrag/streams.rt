@@ -64,7 +64,10 @@ fn messages_stay_whose_time_is_kept(rt: HostRuntime) {
     }
     streams.retain(&|time: &u64| *time >= 6);
     equal(rt, (streams.len(), streams.spare_len()), (1, 1));
-    let kept = (streams.timestamp_of(&7).copied(), streams.timestamp_of(&8).copied());
+    let kept = (
+        streams.timestamp_of(&7).copied(),
+        streams.timestamp_of(&8).copied(),
+    );
     equal(rt, kept, (None, Some(6)));
 }
 
