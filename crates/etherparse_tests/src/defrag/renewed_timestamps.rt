@@ -18,8 +18,8 @@ enum Outcome {
 
 use Outcome::{Completes, Refused, Waits};
 
-fn outcome_of(result: &Result<Option<IpDefragPayloadVec>, IpDefragError>) -> Outcome {
-    match result {
+fn outcome_of(processed: &Result<Option<IpDefragPayloadVec>, IpDefragError>) -> Outcome {
+    match processed {
         Ok(None) => Waits,
         Ok(Some(_)) => Completes,
         Err(_) => Refused,
