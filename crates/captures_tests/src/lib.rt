@@ -11,8 +11,6 @@ mod checks;
 #[cfg(test)]
 mod classic;
 #[cfg(test)]
-mod commands;
-#[cfg(test)]
 mod forgetting;
 #[cfg(test)]
 mod limits;
@@ -24,6 +22,8 @@ mod links;
 mod long_blocks;
 #[cfg(test)]
 mod pieces;
+#[cfg(test)]
+mod programs;
 #[cfg(test)]
 mod readers;
 #[cfg(test)]

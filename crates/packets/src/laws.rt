@@ -13,7 +13,7 @@ ghost use Rattle.packets.specs.Tally.{tally_of};
 ghost use Rattle.packets.specs.declared.outline.Outline.{Outline};
 ghost use Rattle.packets.specs.declared.reason.Reason.TheVariants as reason;
 
-use crate::commands::Coloring;
+use crate::program::Coloring;
 use crate::{
     ChecksumTallies, Condition, Ending, Headers, Net, NoProgress, Outline, PartState, PartTallies,
     Reason, ShowOptions, Sizes, Tally, WordError,

@@ -2,7 +2,6 @@
 #![tactic(auto)]
 
 mod beginnings;
-pub mod commands;
 mod dissection;
 mod dissector;
 mod filter;
@@ -11,6 +10,7 @@ pub mod laws;
 mod messages;
 mod outline;
 mod payload;
+pub mod program;
 mod reason;
 mod run;
 mod show;

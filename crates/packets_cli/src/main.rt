@@ -7,7 +7,7 @@ use crate::progress_line::ProgressLine;
 use anyhow::Context;
 use capture_inputs::{Input, Look, tell_skipped};
 use captures::{RunError, Skipped};
-use packets::commands::{
+use packets::program::{
     AskError, Asked, Coloring, Output, asked_for, command, exit_code, write_flushed, write_report,
 };
 use packets::{JsonLines, Report, Rules, ShowOptions, Style, Summary, summarize};

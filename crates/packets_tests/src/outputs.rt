@@ -5,7 +5,7 @@ use crate::outcomes::every_packet;
 use capture_inputs::Look;
 use captures::{CaptureError, Place, RunError, Skipped};
 use fault_devices::UnflushableWriter;
-use packets::commands::{exit_code, write_flushed, write_report};
+use packets::program::{exit_code, write_flushed, write_report};
 use packets::{JsonLines, Report, Summary};
 use std::alloc::Global;
 use std::io::Write;

@@ -2,7 +2,7 @@
 
 use crate::checks::{equal, fail, is_shown_as, is_text};
 use captures::Unfit;
-use packets::commands::{AskError, asked_for, command};
+use packets::program::{AskError, asked_for, command};
 use std::alloc::{AllocError, Global};
 use std::process::Abort;
 

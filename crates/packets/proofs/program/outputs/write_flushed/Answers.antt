@@ -1,6 +1,6 @@
 use Rattle.std.proofs.Common.{rules}
 use Rattle.packets.proofs.LineLemmas.{lines_flushed}
-use Rattle.packets.proofs.commands.outputs.write_flushed.Goals as goal
+use Rattle.packets.proofs.program.outputs.write_flushed.Goals as goal
 
 pub returns : goal.returns
 returns g c =
