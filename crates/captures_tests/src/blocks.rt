@@ -3,7 +3,7 @@
 ghost use Rattle.std.specs.Prelude.{◌+◌, ◌≤◌, length};
 
 use crate::checks::joined;
-use crate::lines::{LINES, refused, tells};
+use crate::packet_lines::{LINES, refused, tells};
 use captures::CaptureError;
 
 const SCAPY: &[u8; 208] = b"\

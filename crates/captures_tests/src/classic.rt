@@ -2,7 +2,7 @@
 ghost use Rattle.std.specs.Prelude.{◌+◌, ◌≤◌, length};
 
 use crate::checks::joined;
-use crate::lines::{LINES, refused, tells};
+use crate::packet_lines::{LINES, refused, tells};
 use captures::CaptureError;
 
 pub(super) const LITTLE_MICROSECONDS: &[u8; 148] = b"\

@@ -1,6 +1,6 @@
 //! Lines that have messages dropped, worked by hand.
 use crate::checks::{append, equal, equal_bytes, joined};
-use crate::lines::tells_all;
+use crate::packet_lines::tells_all;
 use captures::{Extra, Skipped, Spans, Unfit, run};
 use fault_devices::FaultReader;
 use std::process::Abort;

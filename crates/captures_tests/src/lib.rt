@@ -15,11 +15,11 @@ mod forgetting;
 #[cfg(test)]
 mod limits;
 #[cfg(test)]
-mod lines;
-#[cfg(test)]
 mod links;
 #[cfg(test)]
 mod long_blocks;
+#[cfg(test)]
+mod packet_lines;
 #[cfg(test)]
 mod pieces;
 #[cfg(test)]

@@ -1,7 +1,7 @@
 //! Blocks of least and greatest lengths, in a section with one Ethernet interface that cuts
 //! nothing.
 use crate::checks::{append, joined, repeated};
-use crate::lines::{refused, tells, tells_bytes};
+use crate::packet_lines::{refused, tells, tells_bytes};
 use captures::CaptureError;
 use std::process::Abort;
 

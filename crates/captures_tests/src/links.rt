@@ -1,7 +1,7 @@
 //! Packets of other links than Ethernet, laid out as tcpdump.org/linktypes.html says.
 //! Calls have no contracts: tests alone make them, and are run.
 use crate::checks::{append, joined, repeated};
-use crate::lines::{refused, tells, tells_bytes};
+use crate::packet_lines::{refused, tells, tells_bytes};
 use captures::CaptureError;
 use std::process::Abort;
 

@@ -2,7 +2,7 @@
 //! interface. The files are made by hand from the format's description.
 //! Calls have no contracts: tests alone make them, and are run.
 use crate::checks::{append, joined, repeated};
-use crate::lines::{refused, tells_read};
+use crate::packet_lines::{refused, tells_read};
 use captures::CaptureError;
 use fault_devices::FaultReader;
 use std::process::Abort;

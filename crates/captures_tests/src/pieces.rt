@@ -2,7 +2,7 @@
 use crate::blocks::{TWO_SECTIONS, TWO_SECTIONS_LINES};
 use crate::checks::{equal, equal_bytes};
 use crate::classic::LITTLE_NANOSECONDS;
-use crate::lines::{LINES, lines_to, tells_read};
+use crate::packet_lines::{LINES, lines_to, tells_read};
 use crate::text::capture_of;
 use captures::{CaptureError, Place, RunError, TimeUnit, write_capture};
 use fault_devices::{Fault, FaultReader, FaultWriter};

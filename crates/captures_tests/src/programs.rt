@@ -1,6 +1,6 @@
 //! What is made of an input, the flush, the status and what is told of an error.
 use crate::checks::{equal, equal_bytes, holds, joined, repeated};
-use crate::lines::refused;
+use crate::packet_lines::refused;
 use capture_commands::{Mode, PROGRAM, asked_for, exit_code, make, note};
 use capture_inputs::{Input, Look, Told, look_at, tell_skipped};
 use captures::{CaptureError, Extra, Place, RunError, Skipped, TimeUnit, Unfit};

@@ -1,7 +1,7 @@
 //! Runs of which one read fails or gives nothing, before and after the last byte of each header and
 //! packet, and runs of few reads. Each other read gives a byte.
 use crate::checks::equal;
-use crate::lines::{refused, tells_read};
+use crate::packet_lines::{refused, tells_read};
 use crate::text::capture_of;
 use captures::device::ReaderWriter;
 use captures::{

@@ -3,8 +3,8 @@
 use crate::blocks::TWO_SECTIONS;
 use crate::checks::{equal, equal_bytes, joined, repeated};
 use crate::classic::{BIG_NANOSECONDS, LITTLE_MICROSECONDS};
-use crate::lines::{lines_of, refused, tells, tells_skipping};
 use crate::links::{SECTION, capture, interface_of, packet_of};
+use crate::packet_lines::{lines_of, refused, tells, tells_skipping};
 use captures::{CaptureError, Extra, RunError, Skipped, Unfit, run};
 use fault_devices::{Fault, FaultReader, FaultWriter};
 use std::io::ErrorKind;

@@ -1,7 +1,7 @@
 //! Captures that are written of lines.
 //! Calls have no contracts: tests alone make them, and are run.
 use crate::checks::{equal, joined, repeated};
-use crate::lines::{LINES, tells};
+use crate::packet_lines::{LINES, tells};
 use captures::{RunError, TimeUnit, write_capture};
 use fault_devices::{Fault, FaultReader};
 use std::io::{ErrorKind, Read};

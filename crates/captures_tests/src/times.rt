@@ -3,7 +3,7 @@
 //! Calls have no contracts: tests alone make them, and are run.
 use crate::checks::{append, equal, joined};
 use crate::classic::{BIG_MICROSECONDS, BIG_NANOSECONDS, LITTLE_MICROSECONDS, LITTLE_NANOSECONDS};
-use crate::lines::tells_all;
+use crate::packet_lines::tells_all;
 use crate::text::capture_of;
 use captures::{Extra, RunError, TimeUnit};
 use std::process::Abort;

@@ -2,7 +2,7 @@
 //! writes take 50 bytes at most.
 use crate::checks::equal;
 use crate::classic::LITTLE_MICROSECONDS;
-use crate::lines::{LINES, lines_to};
+use crate::packet_lines::{LINES, lines_to};
 use crate::text::capture_of;
 use captures::device::ReaderWriter;
 use captures::{RunError, TimeUnit, write_capture};

@@ -1,7 +1,7 @@
 //! Captures that are written.
 use crate::checks::equal;
 use crate::classic::LITTLE_MICROSECONDS;
-use crate::lines::{LINES, tells};
+use crate::packet_lines::{LINES, tells};
 use captures::Writer;
 use captures::device::ReaderWriter;
 use std::io;
