@@ -384,7 +384,9 @@ fn what_first_reads_look_like(rt: HostRuntime) {
     let text = repeated(rt, b"a", 64);
     let long = joined(rt, &[text.as_slice(), b"\0"]);
     looked(rt, long.as_slice(), Look::Text);
-    looked(rt, &long.as_slice()[1..], Look::Other);
+    let text = repeated(rt, b"a", 63);
+    let short = joined(rt, &[text.as_slice(), b"\0"]);
+    looked(rt, short.as_slice(), Look::Other);
 }
 
 const MODES: [(Mode, &[u8]); 2] = [
