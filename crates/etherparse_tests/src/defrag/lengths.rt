@@ -40,43 +40,35 @@ fn with_first(text: &[u8], len: usize) -> Option<(&[u8], usize)> {
     Some((whole, len))
 }
 
-// Cut there, in both orders, whatever becomes of overlaps. There is room for what is there and as
-// much again.
-fn is_buffered(rt: impl Abort + Copy, alloc: Global, datagram: (&[u8], usize)) {
+// Cut there, in one order. There is room for what is there and as much again.
+fn is_buffered(
+    rt: impl Abort + Copy,
+    alloc: Global,
+    rule: OverlapRule,
+    datagram: (&[u8], usize),
+    last_comes_first: bool,
+) {
     let (whole, cut) = datagram;
     let (first, last) = whole.split_at(cut.min(whole.len()));
-    let first = (IpFragOffset::ZERO, true, first);
-    let last = (offset(rt, (cut / 8 % 8192) as u16), false, last);
-    for rule in [OverlapRule::Overwrites, OverlapRule::Refuses] {
-        for order in [[first, last], [last, first]] {
-            let number = IpNumber::UDP;
-            let mut buf = IpDefragBuf::of_rule(
-                rule,
-                alloc,
-                number,
-                Vec::new(alloc),
-                Vec::new(alloc),
-            );
-            for (at, more, bytes) in order {
-                let taken = buf.add(at, more, bytes);
-                assert!(rt;
-                    taken.is_ok(),
-                    "{taken:?} of {} and {}",
-                    first.2.len(),
-                    last.2.len()
-                );
-            }
-            assert!(rt;
-                buf.is_complete() && buf.data().as_slice() == whole,
-                "{cut}"
-            );
-            let room = buf.data().capacity();
-            assert!(rt;
-                room <= whole.len().saturating_mul(2).max(16),
-                "room for {room}"
-            );
-        }
+    let start = offset(rt, (cut / 8 % 8192) as u16);
+    let number = IpNumber::UDP;
+    let mut buf = IpDefragBuf::of_rule(rule, alloc, number, Vec::new(alloc), Vec::new(alloc));
+    if last_comes_first {
+        holds(rt, buf.add(start, false, last).is_ok());
+        holds(rt, buf.add(IpFragOffset::ZERO, true, first).is_ok());
+    } else {
+        holds(rt, buf.add(IpFragOffset::ZERO, true, first).is_ok());
+        holds(rt, buf.add(start, false, last).is_ok());
     }
+    assert!(rt;
+        buf.is_complete() && buf.data().as_slice() == whole,
+        "{cut}"
+    );
+    let room = buf.data().capacity();
+    assert!(rt;
+        room <= whole.len().saturating_mul(2).max(16),
+        "room for {room}"
+    );
 }
 
 // A frame with a fragment of protocol 253 at this offset.
@@ -109,7 +101,28 @@ fn frame(
     Ok(frame)
 }
 
-// The same in a pool, which takes the memory back.
+// A pool joins these frames in their order, and takes the memory back.
+fn joins(
+    rt: impl Abort + Copy,
+    pool: &mut IpDefragPool<u64, u32>,
+    before: &[u8],
+    after: &[u8],
+    whole: &[u8],
+) {
+    let waits = process(rt, pool, before, 1, 0);
+    assert!(rt;
+        matches!(waits, Ok(None)),
+        "{waits:?} of {} bytes",
+        whole.len()
+    );
+    let Ok(Some(message)) = process(rt, pool, after, 1, 0) else {
+        fail(rt, "no message");
+    };
+    holds(rt, message.payload.as_slice() == whole);
+    holds(rt, pool.return_buf(message).is_ok());
+}
+
+// Cut there, in both orders.
 fn is_pooled(
     rt: impl Abort + Copy,
     alloc: Global,
@@ -124,19 +137,8 @@ fn is_pooled(
     }
     let first = frame(alloc, version, 0, true, first)?;
     let last = frame(alloc, version, (cut / 8 % 8192) as u16, false, last)?;
-    for order in [[&first, &last], [&last, &first]] {
-        let waits = process(rt, pool, order[0], 1, 0);
-        assert!(rt;
-            matches!(waits, Ok(None)),
-            "{waits:?} where {cut} of {} bytes are first",
-            whole.len()
-        );
-        let Ok(Some(message)) = process(rt, pool, order[1], 1, 0) else {
-            fail(rt, "no message");
-        };
-        holds(rt, message.payload.as_slice() == whole);
-        holds(rt, pool.return_buf(message).is_ok());
-    }
+    joins(rt, pool, &first, &last, whole);
+    joins(rt, pool, &last, &first, whole);
     Ok(())
 }
 
@@ -146,7 +148,10 @@ fn each_length_in_a_buffer(rt: HostRuntime) -> Result<(), Fail> {
     for len in (0..=1600).chain(GREAT.iter().copied()) {
         for datagram in [with_first(&text, len), with_last(&text, len)] {
             if let Some(datagram) = datagram {
-                is_buffered(rt, rt.alloc(), datagram);
+                for rule in [OverlapRule::Overwrites, OverlapRule::Refuses] {
+                    is_buffered(rt, rt.alloc(), rule, datagram, false);
+                    is_buffered(rt, rt.alloc(), rule, datagram, true);
+                }
             }
         }
     }
