@@ -1,6 +1,5 @@
 /* What pools make of the frames of a table, c/tests/pools.txt, which says how its lines read: with much room, with just enough,
-   with a byte too little and with none. The states of a pool, that nothing is left when one of many parts is freed, and that
-   messages behind the first ones take no memory. It is built with the address sanitizer, which counts the growths. */
+   with a byte too little and with none. The states of a pool, and that nothing is left when one of many parts is freed. */
 #include "common.h"
 #include "etherparse.h"
 #include "parts.h"
@@ -190,47 +189,11 @@ static void many(uint32_t count) {
     ep_pool_free(&pool);
 }
 
-/* Has each growth call the first function. It is the sanitizer's, whose headers aren't everywhere. */
-int __sanitizer_install_malloc_and_free_hooks(void (*)(const volatile void *, size_t), void (*)(const volatile void *));
-
-static size_t growths;
-
-static void count_growth(const volatile void *place, size_t size) {
-    (void)place;
-    growths += size != 0;
-}
-
-static void count_nothing(const volatile void *place) { (void)place; }
-
-/* A message that has room at once, one that is kept first, and one that is given up. */
-static int goes_round(ep_pool *pool) {
-    uint8_t room[16];
-    int right = ep_pool_add(pool, first, sizeof first, 1, 0, room, 16).status == EP_DONE &&
-                ep_pool_add(pool, last, sizeof last, 1, 0, room, 16).status == EP_COMPLETED;
-    right &= ep_pool_add(pool, last, sizeof last, 1, 0, room, 0).status == EP_DONE &&
-             ep_pool_add(pool, first, sizeof first, 1, 0, room, 0).status == EP_NO_ROOM &&
-             ep_pool_take(pool, room, 16).status == EP_COMPLETED;
-    right &= ep_pool_add(pool, first, sizeof first, 1, 0, room, 16).status == EP_DONE && ep_pool_forget_before(pool, 2) == EP_DONE;
-    return right && ep_pool_open(pool) == 0;
-}
-
-/* The first round takes memory, and the others take none. */
-static void rounds(void) {
-    ep_pool pool = {0};
-    int right = ep_pool_new(&pool) == EP_DONE && __sanitizer_install_malloc_and_free_hooks(count_growth, count_nothing) > 0;
-    right &= goes_round(&pool) && growths > 0;
-    size_t taken = growths;
-    for (int i = 0; i < 10; i++) right &= goes_round(&pool);
-    check(right && growths == taken, "messages take the memory of those before");
-    ep_pool_free(&pool);
-}
-
 int main(int argc, char **argv) {
     FILE *table = table_of(argc, argv);
     for (enum room kind = MUCH; kind <= NONE; kind++) rows(table, kind);
     fclose(table);
     states();
-    rounds();
     many(argc > 2 ? (uint32_t)strtoul(argv[2], NULL, 10) : 1000);
     return counted();
 }
