@@ -33,13 +33,10 @@ REFUSED_WHOLE = (
     "00000440100005",
     "02000000000202000000000108004500001820020002400646da0a0000010a00000200000000",
 )
-# An ARP packet for addresses of IPv4, and one for addresses of another protocol with these bytes; one of hardware type 6 (IEEE
-# 802), and one of type 7 (ARCNET), whose hardware addresses have one byte, from 10.0.0.3 to 10.0.0.4.
+# An ARP packet for addresses of IPv4, and one for addresses of another protocol with these bytes.
 ARP = (
     "ffffffffffff020000000001080600010800060400010200000000010a0000010000000000000a000002",
     "ffffffffffff020000000001080600011234060400010200000000010a0000010000000000000a000002",
-    "ffffffffffff020000000001080600060800060400010200000000010a0000010000000000000a000002",
-    "ffffffffffff0200000000010806000708000104000105" "0a000003" "00" "0a000004",
 )
 # A MACsec header with an encrypted payload, and one before a UDP datagram from port 53 to 4000; an
 # ARP packet from 10.0.0.5 to 10.0.0.6; two parts of the first segment above, of 16 and 4 bytes.
