@@ -15,10 +15,11 @@ use std::test::*;
 
 // Both parts of a datagram and a packet that is cut off, so many times over. It takes one growth.
 fn capture(alloc: Global, count: usize) -> Result<Vec<u8>, AllocError> {
-    let mut capture = Vec::with_capacity(alloc, CAPTURE.len().saturating_mul(count))?;
-    capture.extend_from_slice(&CAPTURE[..24])?;
+    let one = CAPTURE.as_slice();
+    let mut capture = Vec::with_capacity(alloc, one.len().saturating_mul(count))?;
+    capture.extend_from_slice(&one[..24])?;
     for _ in 0..count {
-        capture.extend_from_slice(&CAPTURE[24..])?;
+        capture.extend_from_slice(&one[24..])?;
     }
     Ok(capture)
 }
