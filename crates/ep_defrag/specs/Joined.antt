@@ -17,7 +17,7 @@ abbrev pub AreAccepted : Lists → Type 0
 AreAccepted lists = (name : FragmentName) (channel : ℕ)
     → IsAccepted (rule_over name.addresses) (lists name channel).fragments
 
--- the message is joined from these fragments, each of which was accepted behind those before it
+-- the message is joined from these fragments, each of which was accepted after those before it
 pub record IsJoinedFrom (fs : List Fragment) (payload : Payload) : Type 0 where
   pub accepted : IsAccepted Refuses fs
   pub joined : IsJoined fs payload.bytes
@@ -34,7 +34,7 @@ JoinsCall lists (Frame frame time channel) told =
     JoinsFrame lists (class_of frame.now) channel told
 JoinsCall lists (RetainFrom from) told = (payload : Payload) → told ≡ Delivered payload → ⊥
 
--- so is each message that is told of calls in turn, from the lists behind the calls before it
+-- so is each message that is told of calls in turn, from the lists after the calls before it
 abbrev pub JoinReplies : Lists → List PoolCall → List Told → Type 0
 JoinReplies lists [] [] = Unit {0}
 JoinReplies lists [] (told ∷ tolds) = ⊥

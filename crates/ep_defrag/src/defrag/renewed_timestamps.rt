@@ -3,8 +3,9 @@
 ghost use Rattle.std.specs.Prelude.{◌≡◌, ◌≤◌, None, Ok, IfOk, IfErr, IfSome, length};
 ghost use Rattle.ep_packet.specs.Class.{IdentificationFits, as_class, packet_told};
 ghost use Rattle.ep_packet.specs.declared.class.Class.TheVariants as told;
-ghost use Rattle.ep_streams.specs.Counts.{Bounded, Counts};
-ghost use Rattle.ep_streams.specs.Streams.{OthersStay, Stays};
+ghost use Rattle.ep_streams.specs.Counts.{Bounded, Counts, HasMemoryFor, KeepsMemoryOf};
+ghost use Rattle.ep_streams.specs.Repeats.{TakesRepeat};
+ghost use Rattle.ep_streams.specs.Streams.{OthersStay, Stays, stream_at};
 ghost use Rattle.ep_streams.specs.Timestamps.{timestamp_at};
 ghost use Rattle.ep_defrag.specs.IpDefragPool.{Refuses, same_id};
 ghost use Rattle.ep_defrag.specs.IpFragId.{fragment_in, id_named};
@@ -46,6 +47,16 @@ impl<Timestamp: Copy + Drop, CustomChannelId: Eq + Hash + Drop, S: BuildHasher> 
         ensures refused { IfSome (fragment_in (packet_told packet.now)) (λ told.
             Refuses (same_id CustomChannelId.eq) self.old (id_named told.0 channel_id) told.1
             result.1) }
+        ensures repeat { IfSome (fragment_in (packet_told packet.now)) (λ told.
+            TakesRepeat (stream_at (same_id CustomChannelId.eq) self.old (id_named told.0 channel_id))
+            (stream_at (same_id CustomChannelId.eq) self.new (id_named told.0 channel_id)) told.1
+            result.1) }
+        ensures succeeds { IfSome (fragment_in (packet_told packet.now)) (λ told.
+            HasMemoryFor (same_id CustomChannelId.eq) self.old (id_named told.0 channel_id) told.1
+            result.1) }
+        ensures memory { IfSome (fragment_in (packet_told packet.now)) (λ told.
+            KeepsMemoryOf (same_id CustomChannelId.eq) self.old self.new
+            (id_named told.0 channel_id) result.1) }
         ensures others { IfSome (fragment_in (packet_told packet.now)) (λ told.
             OthersStay (same_id CustomChannelId.eq) (id_named told.0 channel_id) self.old self.new) }
         ensures err { IfSome (fragment_in (packet_told packet.now)) (λ told.
@@ -88,6 +99,16 @@ impl<Timestamp: Copy + Drop, CustomChannelId: Eq + Hash + Drop, S: BuildHasher> 
         ensures refused { IfSome (fragment_in (as_class (told.Cut message.entry))) (λ named.
             Refuses (same_id CustomChannelId.eq) self.old (id_named named.0 channel_id) named.1
             result.1) }
+        ensures repeat { IfSome (fragment_in (as_class (told.Cut message.entry))) (λ named.
+            TakesRepeat (stream_at (same_id CustomChannelId.eq) self.old (id_named named.0 channel_id))
+            (stream_at (same_id CustomChannelId.eq) self.new (id_named named.0 channel_id)) named.1
+            result.1) }
+        ensures succeeds { IfSome (fragment_in (as_class (told.Cut message.entry))) (λ named.
+            HasMemoryFor (same_id CustomChannelId.eq) self.old (id_named named.0 channel_id)
+            named.1 result.1) }
+        ensures memory { IfSome (fragment_in (as_class (told.Cut message.entry))) (λ named.
+            KeepsMemoryOf (same_id CustomChannelId.eq) self.old self.new
+            (id_named named.0 channel_id) result.1) }
         ensures others { IfSome (fragment_in (as_class (told.Cut message.entry))) (λ named.
             OthersStay (same_id CustomChannelId.eq) (id_named named.0 channel_id)
             self.old self.new) }

@@ -1,6 +1,8 @@
 use Rattle.std.proofs.Common.{◌≡◌, ◌∙◌, subst}
 use Rattle.ep_fragments.specs.Fragments.{Fragment}
-use Rattle.ep_streams.specs.Streams.{RefusesBy}
+use Rattle.ep_streams.specs.Counts.{HasMemoryFor}
+use Rattle.ep_streams.specs.Repeats.{TakesRepeat}
+use Rattle.ep_streams.specs.Streams.{RefusesBy, stream_at}
 use Rattle.ep_streams.specs.Timestamps.{timestamp_at}
 use Rattle.ep_defrag.specs.IpDefragPool.{AcceptsBy, same_id}
 use Rattle.ep_defrag.proofs.defrag.ip_defrag_pool.IpDefragPool.process_cut_message_with.Goals as goal
@@ -38,3 +40,21 @@ returns-clause-err g c = rw c.named-id.ensures.0 at c.add_piece.ensures.err
 
 pub returns-clause-counts : goal.returns-clause-counts
 returns-clause-counts g c = rw c.named-id.ensures.0 at c.add_piece.ensures.counts
+
+pub returns-clause-repeat : goal.returns-clause-repeat
+returns-clause-repeat g c =
+    let same = same_id g.CustomChannelId.PartialEq.eq in
+    rw c.named-id.ensures.0 at
+    (subst (λ (f : Fragment). TakesRepeat (stream_at same c.args.self.now c.named-id.result.0)
+    (stream_at same c.add_piece.new.self c.named-id.result.0) f c.add_piece.result)
+    c.named-id.ensures.1 c.add_piece.ensures.repeat)
+
+pub returns-clause-succeeds : goal.returns-clause-succeeds
+returns-clause-succeeds g c =
+    rw c.named-id.ensures.0 at
+    (subst (λ (f : Fragment). HasMemoryFor (same_id g.CustomChannelId.PartialEq.eq)
+    c.args.self.now c.named-id.result.0 f c.add_piece.result)
+    c.named-id.ensures.1 c.add_piece.ensures.succeeds)
+
+pub returns-clause-memory : goal.returns-clause-memory
+returns-clause-memory g c = rw c.named-id.ensures.0 at c.add_piece.ensures.memory
