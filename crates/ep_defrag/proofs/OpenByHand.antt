@@ -1,23 +1,22 @@
 -- Messages that are on their way, for lists that were worked out by hand.
-use Rattle.std.proofs.Common.{◌≡◌, ◌≢◌, ◌∙◌, ◌&&◌, ◌↔◌, ◌<◌, ◌≤◌, sym, ap, refl, subst, arith, ℕ, zero}
+use Rattle.std.proofs.Common.{◌≡◌, ◌≢◌, ◌∙◌, ◌&&◌, ◌↔◌, ◌<◌, ◌≤◌, sym, ap, refl, arith, ℕ, zero}
 use Rattle.std.proofs.Common.{suc, Bool, true, cond, inl, inr, List, [], ◌∷◌, length, replicate, take}
 use Rattle.std.proofs.Common.{get_or}
 use Rattle.std.proofs.lemmas.Bool.{and_parts, cases_Bool, eqb-true}
 use Rattle.std.proofs.lemmas.List.Elements.{All-cons, All-nil}
 use Rattle.std.specs.Prelude.{◌==◌, IsTrue}
-use Rattle.ep_packet.specs.Class.{Class, FragmentName, class_of}
+use Rattle.ep_packet.specs.Class.{Class, FragmentName}
 use Rattle.ep_packet.specs.Class.Class.{Cut}
 use Rattle.ep_fragments.specs.declared.defrag.overlap_rule.OverlapRule.{OverlapRule}
 use Rattle.ep_fragments.specs.declared.defrag.overlap_rule.OverlapRule.TheVariants.{Overwrites, Refuses}
 use Rattle.ep_fragments.specs.Fragments.{Fragment, fragment}
 use Rattle.ep_fragments.specs.Outcome.{Held, held_after, outcome}
-use Rattle.ep_defrag.specs.declared.defrag.pool_calls.PoolCall.{PoolCall}
 use Rattle.ep_defrag.specs.declared.defrag.pool_calls.PoolCall.TheVariants.{RetainFrom}
 use Rattle.ep_defrag.specs.IpFragId.{rule_over, same_name}
 use Rattle.ep_defrag.specs.OpenMessages.{AreOpen, NeverMore}
 use Rattle.ep_defrag.specs.PoolCalls.{Lists, after_frame, lists_after, no_lists}
 
-abbrev first : Fragment
+abbrev pub first : Fragment
 first = fragment 0 true (replicate 8 1)
 
 abbrev begun : Held
@@ -51,6 +50,28 @@ pub none_dropped : NeverMore no_lists (RetainFrom 5 ∷ []) 0
 none_dropped zero messages are = none_open no_lists (λ name channel. refl) messages are
 none_dropped (suc k) messages are = none_after _ (λ name channel. refl) k messages are
 
+-- ---- two are, of one name on two channels
+
+in_pairs : (name : FragmentName) (d : FragmentName × ℕ) (i j : ℕ) → i < j → j < 2
+    → get_or ((name, 3) ∷ (name, 4) ∷ []) i d ≢ get_or ((name, 3) ∷ (name, 4) ∷ []) j d
+in_pairs name d zero zero low high = absurd (omega arith)
+in_pairs name d zero (suc zero) low high =
+    λ is. let channels = ap (λ (m : FragmentName × ℕ). m.1) is in omega arith
+in_pairs name d zero (suc (suc j)) low high = absurd (omega arith)
+in_pairs name d (suc i) zero low high = absurd (omega arith)
+in_pairs name d (suc i) (suc j) low high = absurd (omega arith)
+
+abbrev pub IsOpen : Lists → FragmentName × ℕ → Type 0
+IsOpen lists m = (lists m.0 m.1).fragments ≢ []
+
+pub open_on_two : (lists : Lists) (name : FragmentName) → (lists name 3).fragments ≢ []
+    → (lists name 4).fragments ≢ [] → AreOpen lists ((name, 3) ∷ (name, 4) ∷ [])
+open_on_two lists name one other = record {
+  differ = λ i j d low high. in_pairs name d i j low high;
+  each = All-cons (IsOpen lists) (name, 3) ((name, 4) ∷ []) one
+      (All-cons (IsOpen lists) (name, 4) [] other (All-nil (IsOpen lists)));
+}
+
 -- ---- one is
 
 abbrev one_list : FragmentName → Lists
@@ -83,25 +104,10 @@ module _ (same : (a b : FragmentName) → IsTrue (same_name a b) ↔ (a ≡ b)) 
 
   -- ---- more are
 
-  in_pairs : (name : FragmentName) (d : FragmentName × ℕ) (i j : ℕ) → i < j → j < 2
-      → get_or ((name, 3) ∷ (name, 4) ∷ []) i d ≢ get_or ((name, 3) ∷ (name, 4) ∷ []) j d
-  in_pairs name d zero zero low high = absurd (omega arith)
-  in_pairs name d zero (suc zero) low high =
-      λ is. let channels = ap (λ (m : FragmentName × ℕ). m.1) is in omega arith
-  in_pairs name d zero (suc (suc j)) low high = absurd (omega arith)
-  in_pairs name d (suc i) zero low high = absurd (omega arith)
-  in_pairs name d (suc i) (suc j) low high = absurd (omega arith)
-
-  abbrev IsBegun : FragmentName × ℕ → Type 0
-  IsBegun m = begun.fragments ≢ []
-
   pub two_before : (name : FragmentName) → NeverMore (λ n c. begun) (RetainFrom 5 ∷ []) 1 → ⊥
   two_before name h =
-      let most = h 0 ((name, 3) ∷ (name, 4) ∷ []) (record {
-        differ = λ i j d low high. in_pairs name d i j low high;
-        each = All-cons IsBegun (name, 3) ((name, 4) ∷ []) (some first)
-            (All-cons IsBegun (name, 4) [] (some first) (All-nil IsBegun));
-      }) in
+      let most = h 0 ((name, 3) ∷ (name, 4) ∷ [])
+      (open_on_two (λ n c. begun) name (some first) (some first)) in
       omega arith
 
   began : (rule : OverlapRule) → (held_after empty 4 (outcome rule [] first)).fragments ≡ first ∷ []

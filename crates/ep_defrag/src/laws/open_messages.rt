@@ -1,11 +1,12 @@
 //! How many messages are on their way at once, worked out by hand.
 ghost use denote.Ref.{Bor};
-ghost use Rattle.std.specs.Prelude.{◌≡◌, ◌&&◌, ◌==◌, ℕ, true, if◌then◌else◌, List, [], ◌∷◌, replicate};
+ghost use Rattle.std.specs.Prelude.{◌≡◌, ◌&&◌, ◌||◌, ◌==◌, ℕ, true, if◌then◌else◌, List, [], ◌∷◌};
+ghost use Rattle.std.specs.Prelude.{replicate};
 ghost use Rattle.ep_packet.specs.Class.{FragmentName, class_of};
 ghost use Rattle.ep_packet.specs.Class.Class.{Cut};
 ghost use Rattle.ep_fragments.specs.Fragments.{fragment};
 ghost use Rattle.ep_defrag.specs.IpFragId.{same_name};
-ghost use Rattle.ep_defrag.specs.OpenMessages.{NeverMore};
+ghost use Rattle.ep_defrag.specs.OpenMessages.{AreOpen, NeverMore};
 ghost use Rattle.ep_defrag.specs.PoolCalls.{no_lists};
 ghost use Rattle.ep_defrag.specs.declared.defrag.pool_calls.PoolCall.TheVariants.{Frame, RetainFrom};
 
@@ -37,3 +38,16 @@ pub fn more_messages_at_once()
 {
     equal_names::<u32>();
 }
+
+/// The message of one name on two channels is two messages; one is not two, and none is on its way
+/// where its list is empty.
+pub fn messages_on_two_channels()
+    ensures two { (name : FragmentName) → AreOpen
+        (λ other channel. if (channel == 3) || (channel == 4)
+        then record { fragments = fragment 0 true (replicate 8 1) ∷ []; time = 4 }
+        else record { fragments = []; time = 0 }) ((name, 3) ∷ (name, 4) ∷ []) }
+    ensures one { (name : FragmentName) → AreOpen
+        (λ other channel. record { fragments = fragment 0 true (replicate 8 1) ∷ []; time = 4 })
+        ((name, 3) ∷ (name, 3) ∷ []) → ⊥ }
+    ensures none { (name : FragmentName) → AreOpen no_lists ((name, 3) ∷ []) → ⊥ }
+{}

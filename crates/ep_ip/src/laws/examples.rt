@@ -164,6 +164,20 @@ pub fn lengths_of_skipped_headers()
     ensures known { walk.required_len 44 (17 ∷ 0 ∷ []) ≡ 8 }
 {}
 
+/// Whole headers by their lengths: options of 8 bytes and of 16 (RFC 8200, section 4.3), a fragment
+/// header, whose second byte is reserved (section 4.5), and an authentication header with an integrity
+/// check value of 96 bits, whose length field is 4 (RFC 4302, section 2.2). None is whole a byte too
+/// short or too long, or without a second byte.
+pub fn whole_headers()
+    ensures options { walk.IsWhole 0 (60 ∷ replicate 7 0) }
+    ensures longer_options { walk.IsWhole 60 (17 ∷ 1 ∷ replicate 14 0) }
+    ensures fragment { walk.IsWhole 44 (17 ∷ 255 ∷ replicate 6 0) }
+    ensures authentication { walk.IsWhole 51 (17 ∷ 4 ∷ replicate 22 0) }
+    ensures cut_off { ¬ (walk.IsWhole 51 (17 ∷ 4 ∷ replicate 21 0)) }
+    ensures too_long { ¬ (walk.IsWhole 44 (17 ∷ 0 ∷ replicate 7 0)) }
+    ensures one_byte { ¬ (walk.IsWhole 44 (17 ∷ [])) }
+{}
+
 /// The walk over two headers: its end, where the second is cut off, where a header has no second
 /// byte, and at a number of an extension header that isn't skipped.
 #[tactic(auto, unfolding(crate::specs::Skip::headers_within, crate::specs::Skip::named_behind))]

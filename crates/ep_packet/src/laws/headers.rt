@@ -1,9 +1,12 @@
 //! Laws of headers as values beside views of packets.
-ghost use Rattle.std.specs.Prelude.{◌≡◌, false};
+ghost use Rattle.std.specs.Prelude.{◌≡◌, [], ◌∷◌, ◌++◌, true, false, Some, None};
+ghost use Rattle.ep_base.specs.declared.len_source.LenSource.TheVariants as source;
 ghost use Rattle.ep_ext.specs.Follow.{has_place};
 ghost use Rattle.ep_ext.specs.declared.net.ipv6_extensions.Ipv6Extensions.{Ipv6Extensions};
 ghost use Rattle.ep_ip.specs.Ipv6.{ipv6_header_of};
 ghost use Rattle.ep_ipslice.specs.Packet.{IpPayload, Ipv6Packet, IsIpv6Packet};
+ghost use Rattle.ep_packet.specs.Examples.{eight_bytes, ipv6_destination, ipv6_header, ipv6_source};
+ghost use Rattle.ep_packet.specs.Examples.{second_fragment};
 ghost use Rattle.ep_packet.specs.ReadIpHeaders.{IsIpv6Headers};
 ghost use Rattle.ep_packet.specs.declared.net.ip_headers.IpHeaders.{IpHeaders};
 ghost use Rattle.ep_packet.specs.declared.net.ip_headers.IpHeaders.TheVariants as ip;
@@ -22,3 +25,37 @@ pub fn ipv6_headers_agree_with_view(slice: &[u8])
     laws::placed_rows_are_views();
     laws::ipv6_packet_is_alone(slice);
 }
+
+/// The headers of an IPv6 packet as values, with its payload: a header that names a fragment header,
+/// one that names UDP, offset 1 with more fragments behind it, the eight bytes that the payload length
+/// leaves, and a byte of padding (RFC 8200, sections 3 and 4.5).
+pub fn ipv6_headers_at_a_literal()
+    ensures { IsIpv6Headers (ipv6_header 16 ++ second_fragment ++ eight_bytes ++ 0 ∷ [])
+        (ip.Ipv6 (record {
+          traffic_class = 0;
+          flow_label = 0;
+          payload_length = 16;
+          next_header = record { 0 = 44 };
+          hop_limit = 64;
+          source = ipv6_source;
+          destination = ipv6_destination;
+        })
+        (record {
+          hop_by_hop_options = None;
+          destination_options = None;
+          routing = None;
+          fragment = Some (record {
+            next_header = record { 0 = 17 };
+            fragment_offset = 1;
+            more_fragments = true;
+            identification = 16909060;
+          });
+          auth = None;
+        }))
+        (record {
+          ip_number = record { 0 = 17 };
+          fragmented = true;
+          len_source = source.Ipv6HeaderPayloadLen;
+          payload = eight_bytes;
+        }) }
+{}
