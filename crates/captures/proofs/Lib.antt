@@ -8,6 +8,8 @@ mod ClockLemmas
 mod ComeBackLemmas
 mod CountLemmas
 mod ForgetLemmas
+mod ExampleBlocks
+mod ExampleRecords
 mod FramedLemmas
 mod FrontLemmas
 mod GivenLemmas

@@ -1,6 +1,16 @@
 -- Captures by hand, of which laws say what is in them.
-use Rattle.std.specs.Prelude.{ℕ, List, [], ◌∷◌}
+use Rattle.std.specs.Prelude.{ℕ, List, [], ◌∷◌, replicate, slice_set}
 use Rattle.captures.specs.Lines.{Packet}
+use Rattle.captures.specs.Skipping.{passing_from}
+use Rattle.captures.specs.Times.{usual_clock}
+use Rattle.captures.specs.declared.byte_order.ByteOrder.TheVariants.{Big, Little}
+use Rattle.captures.specs.declared.link.kind.Link.TheVariants.{Ethernet, Sll2}
+use Rattle.captures.specs.declared.origin.Origin.{Origin}
+use Rattle.captures.specs.declared.pcapng.section.Section.{Section}
+use Rattle.captures.specs.declared.time.time_unit.TimeUnit.TheVariants.{Nanoseconds}
+use Rattle.captures.specs.declared.translation.state.State.{State}
+use Rattle.captures.specs.declared.translation.state.State.TheVariants.{Classic}
+use Rattle.captures.specs.declared.unfit.Unfit.TheVariants.{Refuse}
 
 -- ---- a classic capture (draft-ietf-opsawg-pcap, sections 4 and 5)
 
@@ -17,6 +27,10 @@ packet_record =
     0x65 ∷ 0x53 ∷ 0xf1 ∷ 0 ∷ 0x0e ∷ 0xe6 ∷ 0xb2 ∷ 0x80 ∷ 0 ∷ 0 ∷ 0 ∷ 0x15 ∷ 0 ∷ 0 ∷ 5 ∷ 0xdc
     ∷ 8 ∷ 0 ∷ 0 ∷ 0 ∷ 0 ∷ 0 ∷ 0 ∷ 3 ∷ 0 ∷ 1 ∷ 4 ∷ 6 ∷ 2 ∷ 0 ∷ 0 ∷ 0 ∷ 0 ∷ 1 ∷ 0 ∷ 0 ∷ 0x45 ∷ []
 
+-- what a capture is known to be behind that header
+abbrev pub opened_file : State
+opened_file = Classic Big Nanoseconds Sll2 (passing_from Refuse)
+
 -- ---- a pcapng file (draft-ietf-opsawg-pcapng)
 
 -- low byte first, version 1.0, a length that isn't told
@@ -29,6 +43,18 @@ section_block =
 abbrev pub interface_block : List ℕ
 interface_block =
     1 ∷ 0 ∷ 0 ∷ 0 ∷ 0x14 ∷ 0 ∷ 0 ∷ 0 ∷ 0x14 ∷ 1 ∷ 0 ∷ 0 ∷ 0x16 ∷ 0 ∷ 0 ∷ 0 ∷ 0x14 ∷ 0 ∷ 0 ∷ 0 ∷ []
+
+-- what is known of the section behind both
+abbrev pub described_section : Section
+described_section = record {
+  order = Little;
+  first = 0;
+  interfaces = 1;
+  snap_len = 22;
+  links = slice_set (replicate 32 Ethernet) 0 Sll2;
+  clocks = slice_set (replicate 33 usual_clock) 0 usual_clock;
+  passing = passing_from Refuse;
+}
 
 -- the same packet as above, of 21 bytes, filled up to whole words
 abbrev pub simple_block : List ℕ
@@ -49,16 +75,33 @@ enhanced_block =
     ∷ 0x18 ∷ 0x15 ∷ 0 ∷ 0 ∷ 0 ∷ 0xdc ∷ 5 ∷ 0 ∷ 0 ∷ 8 ∷ 0 ∷ 0 ∷ 0 ∷ 0 ∷ 0 ∷ 0 ∷ 3 ∷ 0 ∷ 1 ∷ 4
     ∷ 6 ∷ 2 ∷ 0 ∷ 0 ∷ 0 ∷ 0 ∷ 1 ∷ 0 ∷ 0 ∷ 0x45 ∷ 0 ∷ 0 ∷ 0 ∷ 0x38 ∷ 0 ∷ 0 ∷ 0 ∷ []
 
--- ---- what is in them: no destination, the sender's address, the ether type, and the packet's bytes
+-- the same as a packet of the older kind, behind five that were dropped
+abbrev pub obsolete_block : List ℕ
+obsolete_block =
+    2 ∷ 0 ∷ 0 ∷ 0 ∷ 0x38 ∷ 0 ∷ 0 ∷ 0 ∷ 0 ∷ 0 ∷ 5 ∷ 0 ∷ 0x24 ∷ 0x0a ∷ 6 ∷ 0 ∷ 0x90 ∷ 0x10 ∷ 0x22
+    ∷ 0x18 ∷ 0x15 ∷ 0 ∷ 0 ∷ 0 ∷ 0xdc ∷ 5 ∷ 0 ∷ 0 ∷ 8 ∷ 0 ∷ 0 ∷ 0 ∷ 0 ∷ 0 ∷ 0 ∷ 3 ∷ 0 ∷ 1 ∷ 4
+    ∷ 6 ∷ 2 ∷ 0 ∷ 0 ∷ 0 ∷ 0 ∷ 1 ∷ 0 ∷ 0 ∷ 0x45 ∷ 0 ∷ 0 ∷ 0 ∷ 0x38 ∷ 0 ∷ 0 ∷ 0 ∷ []
+
+-- ---- what is in them
+
+-- the packet as it was captured
+abbrev pub cooked_packet : List ℕ
+cooked_packet = 8 ∷ 0 ∷ 0 ∷ 0 ∷ 0 ∷ 0 ∷ 0 ∷ 3 ∷ 0 ∷ 1 ∷ 4 ∷ 6 ∷ 2 ∷ 0 ∷ 0 ∷ 0 ∷ 0 ∷ 1 ∷ 0 ∷ 0 ∷ 0x45 ∷ []
+
+-- where and when
+abbrev pub origin_at : (time : ℕ) → Origin
+origin_at time = record { channel = 0; time = time }
+
+-- as a frame: no destination, the sender's address, the ether type, and the packet's bytes
 
 abbrev pub packet_at : (time : ℕ) → Packet
 packet_at time = record {
-  origin = record { channel = 0; time = time };
+  origin = origin_at time;
   frame = 0 ∷ 0 ∷ 0 ∷ 0 ∷ 0 ∷ 0 ∷ 2 ∷ 0 ∷ 0 ∷ 0 ∷ 0 ∷ 1 ∷ 8 ∷ 0 ∷ 0x45 ∷ [];
 }
 
 abbrev pub longer_packet : Packet
 longer_packet = record {
-  origin = record { channel = 0; time = 0 };
+  origin = origin_at 0;
   frame = 0 ∷ 0 ∷ 0 ∷ 0 ∷ 0 ∷ 0 ∷ 2 ∷ 0 ∷ 0 ∷ 0 ∷ 0 ∷ 1 ∷ 8 ∷ 0 ∷ 0x45 ∷ 0x17 ∷ [];
 }

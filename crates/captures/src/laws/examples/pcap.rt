@@ -1,12 +1,20 @@
 //! Classic captures (draft-ietf-opsawg-pcap, sections 4 and 5).
 
-ghost use Rattle.std.specs.Prelude.{◌≡◌, ℕ, List, [], ◌∷◌, ◌++◌, replicate, true, false};
-ghost use Rattle.captures.specs.Examples.{file_header, packet_at, packet_record};
+ghost use Rattle.std.specs.Prelude.{◌≡◌, ◌^◌, ℕ, List, [], ◌∷◌, ◌++◌, replicate, length, codes};
+ghost use Rattle.std.specs.Prelude.{true, false, None};
+ghost use Rattle.commands.specs.TimedLines.{TimedFrame};
+ghost use Rattle.captures.specs.Examples.{file_header, opened_file, packet_at, packet_record};
+ghost use Rattle.captures.specs.Lines.{blank};
 ghost use Rattle.captures.specs.Numbers.{half, word};
 ghost use Rattle.captures.specs.Pcap.{IsFileHeader, IsPacketRecord, is_magic, link_type};
 ghost use Rattle.captures.specs.Runs.{IsCapture};
 ghost use Rattle.captures.specs.Skipping.{none_skipped};
+ghost use Rattle.captures.specs.Spelling.{IsWritable};
+ghost use Rattle.captures.specs.Units.{HasLinkType, HasLongFrame, HasNoFrame, IsShortRecord, Takes};
 ghost use Rattle.captures.specs.declared.byte_order.ByteOrder.TheVariants.{Big, Little};
+ghost use Rattle.captures.specs.declared.extra.Extra.TheVariants.{Nothing};
+ghost use Rattle.captures.specs.declared.link.kind.Link.TheVariants.{Ethernet, Ip};
+ghost use Rattle.captures.specs.declared.translation.state.State.TheVariants.{Start};
 ghost use Rattle.captures.specs.declared.unfit.Unfit.TheVariants.{Refuse};
 
 /// Numbers in both byte orders.
@@ -50,4 +58,37 @@ pub fn packet_records()
 pub fn captures_of_records()
     ensures { IsCapture Refuse (file_header ++ packet_record)
         (packet_at 1700000000250000000 ∷ []) none_skipped }
+{}
+
+/// Where a capture stops: a file header of PPP (9) with a byte behind it; the head of a record that
+/// tells two bytes, with one behind it; one that tells 99,992 bytes of an Ethernet frame, more than a
+/// line can hold; and a record of an IP packet of version 5.
+pub fn captures_that_stop()
+    ensures link { HasLinkType Refuse (0xd4 ∷ 0xc3 ∷ 0xb2 ∷ 0xa1 ∷ 2 ∷ 0 ∷ 4 ∷ 0 ∷ replicate 8 0
+        ++ 0xff ∷ 0xff ∷ 0 ∷ 0 ∷ 9 ∷ 0 ∷ 0 ∷ 0 ∷ 7 ∷ []) 9 }
+    ensures cut_off { IsShortRecord Little Ethernet Refuse
+        (replicate 8 0 ++ 2 ∷ 0 ∷ 0 ∷ 0 ∷ 0xdc ∷ 5 ∷ 0 ∷ 0 ∷ 7 ∷ []) }
+    ensures too_long { HasLongFrame Big Ethernet Refuse
+        (replicate 8 0 ++ 0 ∷ 1 ∷ 0x86 ∷ 0x98 ∷ 0 ∷ 1 ∷ 0x86 ∷ 0x98 ∷ []) 99_992 }
+    ensures no_frame { HasNoFrame Big Ip Refuse
+        (replicate 8 0 ++ 0 ∷ 0 ∷ 0 ∷ 2 ∷ 0 ∷ 0 ∷ 5 ∷ 0xdc ∷ 0x50 ∷ 0 ∷ []) }
+{}
+
+/// The line of that packet is told before the five bytes behind it, which begin another record.
+pub fn packets_before_a_rest()
+    ensures { Takes (blank Nothing) (Start Refuse)
+        (file_header ++ packet_record ++ 0x65 ∷ 0x53 ∷ 0xf1 ∷ 0 ∷ 0x0e ∷ []) opened_file
+        (0x65 ∷ 0x53 ∷ 0xf1 ∷ 0 ∷ 0x0e ∷ []) 1
+        (codes "frame 0 000000000000020000000001080045\n") None (blank Nothing) }
+{}
+
+/// The greatest frame that is written has as many bytes as a line can hold, and its time is the last
+/// nanosecond that 32 bits of seconds tell.
+pub fn greatest_written_frames()
+    ensures greatest { (frame : List ℕ) → length frame ≡ 99_991 → IsWritable
+        (record { seconds = 4_294_967_295; nanoseconds = 999_999_999; frame = frame }) }
+    ensures longer { (timed : TimedFrame) → length timed.frame ≡ 99_992 → IsWritable timed → ⊥ }
+    ensures later { (timed : TimedFrame) → timed.seconds ≡ 2 ^ 32 → IsWritable timed → ⊥ }
+    ensures nanoseconds { (timed : TimedFrame) → timed.nanoseconds ≡ 1_000_000_000
+        → IsWritable timed → ⊥ }
 {}

@@ -1,20 +1,27 @@
 //! Pcapng files (draft-ietf-opsawg-pcapng).
 
 ghost use Rattle.std.specs.Prelude.{◌≡◌, ◌≢◌, ◌⊎◌, ℕ, List, [], ◌∷◌, ◌++◌, length, true, false};
-ghost use Rattle.std.specs.Prelude.{slice_set, Some, None};
-ghost use Rattle.captures.specs.Examples.{cut_simple_block, enhanced_block, interface_block};
-ghost use Rattle.captures.specs.Examples.{longer_packet, packet_at, section_block, simple_block};
+ghost use Rattle.std.specs.Prelude.{slice_set, take, Some, None};
+ghost use Rattle.captures.specs.Examples.{cooked_packet, cut_simple_block, described_section};
+ghost use Rattle.captures.specs.Examples.{enhanced_block, interface_block, longer_packet};
+ghost use Rattle.captures.specs.Examples.{obsolete_block, origin_at, packet_at, section_block};
+ghost use Rattle.captures.specs.Examples.{simple_block};
 ghost use Rattle.captures.specs.Numbers.{word};
-ghost use Rattle.captures.specs.Pcapng.{Becomes, IsTaken, Says, byte_order_magic, captured_len};
-ghost use Rattle.captures.specs.Pcapng.{enhanced_packet, interface_description, is_read_version};
-ghost use Rattle.captures.specs.Pcapng.{links_with, obsolete_packet, section_header, simple_packet};
+ghost use Rattle.captures.specs.Pcapng.{Becomes, IsEnhancedPacket, IsObsoletePacket};
+ghost use Rattle.captures.specs.Pcapng.{IsSimplePacket, IsTaken, IsTimedPacket, Says};
+ghost use Rattle.captures.specs.Pcapng.{byte_order_magic, captured_len, enhanced_packet};
+ghost use Rattle.captures.specs.Pcapng.{interface_description, is_read_version, links_with};
+ghost use Rattle.captures.specs.Pcapng.{obsolete_packet, section_header, simple_packet};
 ghost use Rattle.captures.specs.Pcapng.Content.{Describes, Holds};
 ghost use Rattle.captures.specs.Runs.{IsCapture};
 ghost use Rattle.captures.specs.Skipping.{none_skipped, passing_from};
 ghost use Rattle.captures.specs.Times.{usual_clock};
+ghost use Rattle.captures.specs.Units.{HasBadLength, HasLongBlock, HasOtherBack, HasRefusedBlock};
+ghost use Rattle.captures.specs.Units.{IsShortBlock, no_section};
 ghost use Rattle.captures.specs.declared.byte_order.ByteOrder.{ByteOrder};
 ghost use Rattle.captures.specs.declared.byte_order.ByteOrder.TheVariants.{Big, Little};
-ghost use Rattle.captures.specs.declared.link.kind.Link.TheVariants.{Ethernet, Ip};
+ghost use Rattle.captures.specs.declared.capture_error.CaptureError.TheVariants.{BadBlock, LinkType};
+ghost use Rattle.captures.specs.declared.link.kind.Link.TheVariants.{Ethernet, Ip, Sll2};
 ghost use Rattle.captures.specs.declared.origin.Origin.{Origin};
 ghost use Rattle.captures.specs.declared.pcapng.section.Section.{Section};
 ghost use Rattle.captures.specs.declared.unfit.Unfit.TheVariants.{Refuse, Skip};
@@ -90,4 +97,41 @@ pub fn captures_of_blocks()
     ensures { IsCapture Refuse (section_block ++ (interface_block ++ (simple_block
         ++ (cut_simple_block ++ enhanced_block))))
         (packet_at 0 ∷ longer_packet ∷ packet_at 1700000000250000000 ∷ []) none_skipped }
+{}
+
+/// A packet in a block of each kind, behind the description of that interface: a simple packet has
+/// no time, an older kind counts dropped packets behind its interface's number.
+pub fn packets_of_blocks()
+    ensures simple { IsSimplePacket described_section Little simple_block (origin_at 0) Sll2
+        cooked_packet }
+    ensures timed { IsTimedPacket 0 described_section Little enhanced_block
+        (origin_at 1700000000250000000) Sll2 cooked_packet }
+    ensures enhanced { IsEnhancedPacket described_section Little enhanced_block
+        (origin_at 1700000000250000000) Sll2 cooked_packet }
+    ensures obsolete { IsObsoletePacket described_section Little obsolete_block
+        (origin_at 1700000000250000000) Sll2 cooked_packet }
+{}
+
+/// Blocks that are cut off or have another length at their end than at their front, lengths below 12
+/// and of no whole words, and a block that is read and has 262,148 bytes.
+pub fn lengths_that_stop()
+    ensures cut_off { IsShortBlock (no_section Refuse) (take 24 section_block) }
+    ensures other_back { HasOtherBack Little (5 ∷ 0 ∷ 0 ∷ 0 ∷ 12 ∷ 0 ∷ 0 ∷ 0 ∷ 16 ∷ 0 ∷ 0 ∷ 0 ∷ []) }
+    ensures bad_back { HasBadLength described_section
+        (5 ∷ 0 ∷ 0 ∷ 0 ∷ 12 ∷ 0 ∷ 0 ∷ 0 ∷ 16 ∷ 0 ∷ 0 ∷ 0 ∷ []) }
+    ensures too_short { HasBadLength described_section
+        (5 ∷ 0 ∷ 0 ∷ 0 ∷ 8 ∷ 0 ∷ 0 ∷ 0 ∷ 8 ∷ 0 ∷ 0 ∷ 0 ∷ []) }
+    ensures no_words { HasBadLength described_section
+        (5 ∷ 0 ∷ 0 ∷ 0 ∷ 14 ∷ 0 ∷ 0 ∷ 0 ∷ 0 ∷ 0 ∷ 14 ∷ 0 ∷ 0 ∷ 0 ∷ []) }
+    ensures too_long { HasLongBlock described_section
+        (6 ∷ 0 ∷ 0 ∷ 0 ∷ 4 ∷ 0 ∷ 4 ∷ 0 ∷ 0 ∷ 0 ∷ 0 ∷ 0 ∷ []) 262_148 }
+{}
+
+/// Whole blocks that are refused for what they say: an interface of PPP (9), and a description of one
+/// that has no room for its snap length.
+pub fn blocks_that_are_refused()
+    ensures link { HasRefusedBlock described_section (1 ∷ 0 ∷ 0 ∷ 0 ∷ 20 ∷ 0 ∷ 0 ∷ 0 ∷ 9 ∷ 0 ∷ 0 ∷ 0
+        ∷ 0 ∷ 0 ∷ 4 ∷ 0 ∷ 20 ∷ 0 ∷ 0 ∷ 0 ∷ 5 ∷ []) (LinkType 9) }
+    ensures bad { HasRefusedBlock described_section (1 ∷ 0 ∷ 0 ∷ 0 ∷ 16 ∷ 0 ∷ 0 ∷ 0 ∷ 1 ∷ 0 ∷ 0 ∷ 0
+        ∷ 16 ∷ 0 ∷ 0 ∷ 0 ∷ []) BadBlock }
 {}

@@ -1,6 +1,7 @@
 use Rattle.std.proofs.Common.{arith, drop, inl, inr, refl, take, List, [], ◌∷◌, ℕ, ◌≡◌}
 use Rattle.std.specs.Prelude.{replicate, slice_set}
-use Rattle.captures.specs.Examples.{cut_simple_block, enhanced_block, interface_block, longer_packet}
+use Rattle.captures.specs.Examples.{cooked_packet, cut_simple_block, described_section}
+use Rattle.captures.specs.Examples.{enhanced_block, interface_block, longer_packet, origin_at}
 use Rattle.captures.specs.Examples.{packet_at, section_block, simple_block}
 use Rattle.captures.specs.Lines.{Packet}
 use Rattle.captures.specs.Pcapng.Content.{Opens, Describes, Holds}
@@ -13,6 +14,7 @@ use Rattle.captures.specs.declared.origin.Origin.{Origin}
 use Rattle.captures.specs.declared.pcapng.section.Section.{Section}
 use Rattle.captures.specs.declared.translation.state.State.TheVariants.{Pcapng}
 use Rattle.captures.specs.declared.unfit.Unfit.TheVariants.{Refuse}
+use Rattle.captures.proofs.ExampleBlocks.{cut_simple, enhanced, simple}
 use Rattle.captures.proofs.laws.examples.pcapng.captures_of_blocks.Goals as goal
 
 abbrev opened : Section
@@ -26,19 +28,8 @@ opened = record {
   passing = passing_from Refuse;
 }
 
-abbrev described : Section
-described = record {
-  order = Little;
-  first = 0;
-  interfaces = 1;
-  snap_len = 22;
-  links = slice_set (replicate 32 Ethernet) 0 Sll2;
-  clocks = slice_set (replicate 33 usual_clock) 0 usual_clock;
-  passing = passing_from Refuse;
-}
-
 abbrev nowhere : Origin
-nowhere = record { channel = 0; time = 0 }
+nowhere = origin_at 0
 
 opens : IsBlockUnit (no_section Refuse) section_block (Pcapng opened) nowhere []
 opens = record {
@@ -55,13 +46,13 @@ opens = record {
   becomes = refl;
 }
 
-describes : IsBlockUnit opened interface_block (Pcapng described) nowhere []
+describes : IsBlockUnit opened interface_block (Pcapng described_section) nowhere []
 describes = record {
   order = Little;
   has_order = inl (λ e. let same : 0x01000000 ≡ 0x0a0d0d0a = e in absurd (omega arith), refl);
   block = record { size = omega arith; words = refl; front = refl; back = refl };
   fits = inl (omega arith);
-  next = described;
+  next = described_section;
   reads = record {
     content = Describes 276 22 usual_clock;
     says = (refl, omega arith, refl, refl, refl, omega arith);
@@ -72,7 +63,7 @@ describes = record {
 
 module _ (told : Packet) where
   abbrev Tells : List ℕ → Type 0
-  Tells block = IsBlockUnit described block (Pcapng described) told.origin told.frame
+  Tells block = IsBlockUnit described_section block (Pcapng described_section) told.origin told.frame
 
 holds_simple : Tells (packet_at 0) simple_block
 holds_simple = record {
@@ -80,19 +71,10 @@ holds_simple = record {
   has_order = inl (λ e. let same : 0x03000000 ≡ 0x0a0d0d0a = e in absurd (omega arith), refl);
   block = record { size = omega arith; words = refl; front = refl; back = refl };
   fits = inl (omega arith);
-  next = described;
+  next = described_section;
   reads = record {
-    content = Holds nowhere Sll2 (take 21 (drop 12 simple_block));
-    says = inr (inr (record {
-      kind = refl;
-      size = omega arith;
-      interface = omega arith;
-      number = refl;
-      time = refl;
-      over = refl;
-      captured = refl;
-      bytes = refl;
-    }));
+    content = Holds nowhere Sll2 cooked_packet;
+    says = inr (inr simple);
     becomes = (refl, refl, refl, omega arith);
   };
   becomes = refl;
@@ -104,19 +86,10 @@ holds_cut = record {
   has_order = inl (λ e. let same : 0x03000000 ≡ 0x0a0d0d0a = e in absurd (omega arith), refl);
   block = record { size = omega arith; words = refl; front = refl; back = refl };
   fits = inl (omega arith);
-  next = described;
+  next = described_section;
   reads = record {
     content = Holds nowhere Sll2 (take 22 (drop 12 cut_simple_block));
-    says = inr (inr (record {
-      kind = refl;
-      size = omega arith;
-      interface = omega arith;
-      number = refl;
-      time = refl;
-      over = refl;
-      captured = refl;
-      bytes = refl;
-    }));
+    says = inr (inr cut_simple);
     becomes = (refl, refl, refl, omega arith);
   };
   becomes = refl;
@@ -128,23 +101,10 @@ holds_enhanced = record {
   has_order = inl (λ e. let same : 0x06000000 ≡ 0x0a0d0d0a = e in absurd (omega arith), refl);
   block = record { size = omega arith; words = refl; front = refl; back = refl };
   fits = inl (omega arith);
-  next = described;
+  next = described_section;
   reads = record {
-    content = Holds (record { channel = 0; time = 1700000000250000000 }) Sll2
-        (take 21 (drop 28 enhanced_block));
-    says = inl (
-      refl,
-      record {
-        size = omega arith;
-        described = omega arith;
-        number = refl;
-        fits = omega arith;
-        time = refl;
-        over = refl;
-        captured = refl;
-        bytes = refl;
-      },
-    );
+    content = Holds (origin_at 1700000000250000000) Sll2 cooked_packet;
+    says = inl (refl, enhanced);
     becomes = (refl, refl, refl, omega arith);
   };
   becomes = refl;
@@ -155,7 +115,7 @@ returns c =
     let first = packet_at 0 in
     let last = packet_at 1700000000250000000 in
     record {
-      state = Pcapng described;
+      state = Pcapng described_section;
       passes = record {
         units = section_block ∷ interface_block ∷ simple_block ∷ cut_simple_block
             ∷ enhanced_block ∷ [];
@@ -166,24 +126,24 @@ returns c =
           first ∷ longer_packet ∷ last ∷ [],
           inr (refl, opens),
           (
-            Pcapng described,
+            Pcapng described_section,
             nowhere,
             [],
             first ∷ longer_packet ∷ last ∷ [],
             describes,
             (
-              Pcapng described,
+              Pcapng described_section,
               first.origin,
               first.frame,
               longer_packet ∷ last ∷ [],
               holds_simple,
               (
-                Pcapng described,
+                Pcapng described_section,
                 longer_packet.origin,
                 longer_packet.frame,
                 last ∷ [],
                 holds_cut,
-                (Pcapng described, last.origin, last.frame, [], holds_enhanced, (refl, refl), refl),
+                (Pcapng described_section, last.origin, last.frame, [], holds_enhanced, (refl, refl), refl),
                 refl,
               ),
               refl,

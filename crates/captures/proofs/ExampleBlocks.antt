@@ -1,0 +1,60 @@
+-- The packets in the blocks of a capture by hand.
+use Rattle.std.proofs.Common.{arith, drop, refl, take, List, ℕ}
+use Rattle.captures.specs.Examples.{cooked_packet, cut_simple_block, described_section}
+use Rattle.captures.specs.Examples.{enhanced_block, obsolete_block, origin_at, simple_block}
+use Rattle.captures.specs.Pcapng.{IsSimplePacket, IsTimedPacket}
+use Rattle.captures.specs.declared.byte_order.ByteOrder.TheVariants.{Little}
+use Rattle.captures.specs.declared.link.kind.Link.TheVariants.{Sll2}
+
+pub simple : IsSimplePacket described_section Little simple_block (origin_at 0) Sll2 cooked_packet
+simple = record {
+  kind = refl;
+  size = omega arith;
+  interface = omega arith;
+  number = refl;
+  time = refl;
+  over = refl;
+  captured = refl;
+  bytes = refl;
+}
+
+pub cut_simple : IsSimplePacket described_section Little cut_simple_block (origin_at 0) Sll2
+    (take 22 (drop 12 cut_simple_block))
+cut_simple = record {
+  kind = refl;
+  size = omega arith;
+  interface = omega arith;
+  number = refl;
+  time = refl;
+  over = refl;
+  captured = refl;
+  bytes = refl;
+}
+
+abbrev pub HasTimed : List ℕ → Type 0
+HasTimed block = IsTimedPacket 0 described_section Little block (origin_at 1700000000250000000)
+    Sll2 cooked_packet
+
+pub enhanced : HasTimed enhanced_block
+enhanced = record {
+  size = omega arith;
+  described = omega arith;
+  number = refl;
+  fits = omega arith;
+  time = refl;
+  over = refl;
+  captured = refl;
+  bytes = refl;
+}
+
+pub obsolete : HasTimed obsolete_block
+obsolete = record {
+  size = omega arith;
+  described = omega arith;
+  number = refl;
+  fits = omega arith;
+  time = refl;
+  over = refl;
+  captured = refl;
+  bytes = refl;
+}

@@ -1,0 +1,15 @@
+use Rattle.std.proofs.Common.{arith}
+use Rattle.captures.proofs.laws.examples.pcap.greatest_written_frames.Goals as goal
+
+pub returns-clause-greatest : goal.returns-clause-greatest
+returns-clause-greatest c frame size =
+    record { short = omega arith; seconds = omega arith; nanoseconds = omega arith }
+
+pub returns-clause-longer : goal.returns-clause-longer
+returns-clause-longer c timed size is = let short = is.short in absurd (omega arith)
+
+pub returns-clause-later : goal.returns-clause-later
+returns-clause-later c timed later is = let before = is.seconds in absurd (omega arith)
+
+pub returns-clause-nanoseconds : goal.returns-clause-nanoseconds
+returns-clause-nanoseconds c timed whole is = let part = is.nanoseconds in absurd (omega arith)
