@@ -6,7 +6,7 @@ use std::alloc::{AllocError, Global};
 pub fn program<'a>(alloc: Global, name: &'a str, about: &'a str) -> Command<'a> {
     Command::new(alloc, name)
         .about(about)
-        .version("0.1.0")
+        .version("1.0.0")
         .subcommand_required(true)
 }
 
