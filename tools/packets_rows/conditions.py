@@ -38,6 +38,9 @@ OF_MIXED = (
     (("FRAGMENTS",), (5, 6, 10)),
     (("Host=2001:DB8::1",), (4,)),
     (("PORT 443",), (1,)),
+    # A segment that breaks its format, from port 1 to 2: it has no ports, and no addresses.
+    (("port=1",), ()),
+    (("host=10.0.0.1", "refused"), ()),
 )
 OF_REFUSED_WHOLE = (
     (("refused",), (2, 4)),
@@ -47,9 +50,36 @@ OF_REFUSED_WHOLE = (
     (("port=53",), ()),
 )
 OF_ARP = (
-    (("arp",), (1, 2)),
-    (("host=10.0.0.1",), (1,)),
-    (("host=10.0.0.2",), (1,)),
+    (("arp",), (1, 2, 3, 4)),
+    (("host=10.0.0.1",), (1, 3)),
+    (("host=10.0.0.2",), (1, 3)),
+    (("host=10.0.0.3",), (4,)),
+    (("host=10.0.0.4",), (4,)),
+    (("host=10.0.0.5",), ()),
+)
+# An extension header that is read is no protocol of a message, also where a fragment header stands
+# before it. `ipv4`, `ipv6` and `ethernet` are headers of the packet itself.
+OF_IP_PROTOCOLS = (
+    (("hopopt",), ()),
+    (("ipv6-route",), ()),
+    (("ipv6-frag",), ()),
+    (("ipv6-opts",), (14,)),
+    (("60",), (14,)),
+    (("ah",), ()),
+    (("51",), ()),
+    (("udp",), (1, 2, 3, 4, 5, 6, 7, 8, 13)),
+    (("fragments",), (6, 7, 13)),
+    (("sctp",), (9,)),
+    (("132",), (9,)),
+    (("ipencap",), (10,)),
+    (("4",), (10,)),
+    (("ipv6-in-ip",), (11,)),
+    (("41",), (11,)),
+    (("ethernet-in-ip",), (12,)),
+    (("143",), (12,)),
+    (("ipv4",), (5, 9, 10, 11, 12, 13, 14)),
+    (("ipv6",), (1, 2, 3, 4, 6, 7, 8)),
+    (("ethernet",), tuple(range(1, 15))),
     (("host=10.0.0.3",), ()),
 )
 OF_OTHERS = (
@@ -109,5 +139,6 @@ CAPTURES = (
     Worked("mixed", 1, frames.MIXED, [*met(OF_MIXED), *no_conditions()]),
     Worked("refused_whole", 1, frames.REFUSED_WHOLE, met(OF_REFUSED_WHOLE)),
     Worked("arp_hosts", 1, frames.ARP, met(OF_ARP)),
+    Worked("ip_protocols", 1, frames.IP_PROTOCOLS, met(OF_IP_PROTOCOLS)),
     Worked("others", 1, frames.OTHERS, met(OF_OTHERS)),
 )

@@ -173,23 +173,6 @@ COMPLETED = (
     "    2   9.000000 10.0.0.1 > 10.0.0.2 UDP fragment at 16 len 16, last (id 0x1234), "
     "completes a message of 32 bytes begun in packet 1: 53 > 5353 UDP len 24  good",
 )
-# Each form of lines, and its words.
-FORMS = (
-    (
-        ["show", "--utc"],
-        "    1 2023-11-14T22:13:20.000000Z 10.0.0.1.53 > 10.0.0.2.4000 UDP len 3  bad "
-        "checksum",
-    ),
-    (
-        ["show", "--width", "25"],
-        "    1   0.000000 10.0.0.1",
-    ),
-    (
-        ["show", "--color", "always"],
-        "\x1b[2m    1   0.000000\x1b[0m 10.0.0.1.53 > 10.0.0.2.4000 \x1b[36mUDP\x1b[0m len 3 "
-        " \x1b[1;31mbad checksum\x1b[0m",
-    ),
-)
 
 
 def ether_types():
@@ -205,8 +188,11 @@ def worked(name, link_type, rows):
     return Worked(name, link_type, [frame for frame, _ in rows], told)
 
 
-def spans(name, numbered, lines):
-    told = [(["show", "--only", "fragments", "--forget", "10"], lines)]
+def spans(name, numbered, lines, still_open=()):
+    told = [
+        (["show", "--only", "fragments", "--forget", "10"], lines),
+        (["summary", "--only", "gre", "--forget", "10"], ["no packets", *still_open]),
+    ]
     picked = [frames.MIXED[number - 1] for number, _ in numbered]
     return Worked(name, 1, picked, told, seconds=[second for _, second in numbered])
 
@@ -218,8 +204,12 @@ CAPTURES = (
     worked("refusals", 1, REFUSALS),
     worked("raw_refusals", 101, RAW_REFUSALS),
     Worked("parts", 1, frames.PARTS, [(["show"], PARTS)]),
-    Worked("forms", 1, [frames.DATAGRAM], [(words, [line]) for words, line in FORMS]),
     # Parts, and ARP packets.
-    spans("dropped", [(5, 0), (3, 11), (3, 22), (6, 23)], DROPPED),
+    spans(
+        "dropped",
+        [(5, 0), (3, 11), (3, 22), (6, 23)],
+        DROPPED,
+        ("", "messages open at the end: 1"),
+    ),
     spans("completed", [(5, 0), (6, 9)], COMPLETED),
 )

@@ -71,6 +71,9 @@ def cut_off():
 
 # What is passed over is told in the report, and on standard error.
 PASSED_OVER = "passed over: 0 of other links, 1 too long, 0 without a frame"
+NUMBERS = [f"{at + 1:5}" for at in range(len(frames.TALKERS))]
+# Behind the file header, and records of 20 bytes.
+TOO_LONG = f"packet 14, byte {24 + 13 * 36}: a packet of 100000 bytes is too long for a line"
 
 CAPTURES = (
     # What is passed over is an IPv4 packet of 100,000 bytes.
@@ -78,7 +81,11 @@ CAPTURES = (
         "talkers",
         101,
         [*frames.TALKERS, "45" + 99_999 * "00"],
-        [(["summary", "--skip"], [*TALKERS.splitlines(), PASSED_OVER])],
+        [
+            (["summary", "--skip"], [*TALKERS.splitlines(), PASSED_OVER]),
+            (["show", "--width", "5", "--skip"], [*NUMBERS, PASSED_OVER]),
+            (["show", "--width", "5"], [*NUMBERS, TOO_LONG]),
+        ],
     ),
     Worked(
         "open_messages",

@@ -11,6 +11,12 @@ LINKS = ("Ethernet", "VLAN", "MACsec", "ARP", "IPv4", "IPv6")
 OVER_IP = {"ICMP": 1, "TCP": 6, "UDP": 17, "GRE": 47, "ICMPv6": 58, "IPv6-NoNxt": 59, "SCTP": 132}
 OVER_IP |= {"IP protocol 253": 253}
 VERDICTS = {"good": "Good", "bad": "Bad", "none": "None"}
+# The words of `--only` by which fragments differ, beside those of headers.
+CONDITIONS = {
+    "bad": lambda it: it.check == "bad",
+    "refused": lambda it: it.refused,
+    "fragments": lambda it: it.part,
+}
 EIGHTHS = " ▏▎▍▌▋▊▉█"
 HEIGHTS = " ▁▂▃▄▅▆▇█"
 
@@ -154,8 +160,17 @@ def summary(packets, still_open):
     yield from rate(packets)
 
 
+def met(packets):
+    """The numbers of the packets that meet a condition: lines are cut to five columns."""
+    for word, holds in CONDITIONS.items():
+        told = [f"{it.number:5}" for it in packets if holds(it)]
+        yield ["show", "--width", "5", "--only", word], told
+
+
 def outputs(packets, link_type, still_open):
-    """What three command lines tell, by their words."""
+    """What three command lines tell, by their words, and of fragments those of conditions."""
     yield ["show"], shown(packets)
     yield ["json", "--payload"], objects(packets, link_type)
     yield ["summary"], summary(packets, still_open)
+    if any(it.part for it in packets):
+        yield from met(packets)

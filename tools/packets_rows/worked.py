@@ -28,7 +28,7 @@ class Worked:
         parts = [struct.pack(">IHHiIII", 0xA1B2C3D4, 2, 4, 0, 0, 262144, self.link_type)]
         for at, frame in enumerate(self.frames):
             data = bytes.fromhex(frame)
-            since = self.seconds[at] * 10**9 if self.seconds else at * STEP
+            since = int(self.seconds[at] * 10**9) if self.seconds else at * STEP
             time = telling.BEGIN + since
             size = len(data)
             parts.append(struct.pack(">IIII", time // 10**9, time % 10**9 // 1000, size, size))
