@@ -28,5 +28,6 @@ mod Reassembled
 mod ReplayLemmas
 mod SealedLemmas
 mod ShapeLemmas
+mod TwoFragmentLemmas
 mod UnrefusedLemmas
 mod WaitingLemmas

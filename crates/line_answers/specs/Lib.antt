@@ -8,5 +8,6 @@ pub mod Posted
 pub mod PostedHeaders
 pub mod PostedInput
 pub mod Sealed
+pub mod TwoFragments
 pub mod TwoRuns
 pub mod Waiting

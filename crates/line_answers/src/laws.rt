@@ -7,6 +7,7 @@ mod examples;
 mod posted;
 mod streams;
 pub mod traits;
+mod two_fragments;
 pub mod values;
 
 pub use apart::{isolation, refused_lines_are_inert, whole_lines_are_inert};
@@ -18,3 +19,4 @@ pub use examples::{
 };
 pub use posted::{posted_is_answered, posted_is_read};
 pub use streams::{forget, lists_of_a_message, memory_wants_a_fragment};
+pub use two_fragments::{fragments_are_handed_in, fragments_are_posted, words_are_changed};
