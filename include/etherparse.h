@@ -30,6 +30,32 @@ extern "C" {
 #define EP_WRONG_STATE 4
 /* A message is complete. */
 #define EP_COMPLETED 5
+/* Nothing is refused. */
+#define EP_REFUSAL_NONE 0
+/* A layer has too few bytes. */
+#define EP_REFUSAL_TOO_FEW_BYTES 1
+/* A packet type of a Linux cooked capture above 4. */
+#define EP_REFUSAL_LINUX_SLL_PACKET_TYPE 2
+/* A hardware type of a Linux cooked capture that isn't read; all are today. */
+#define EP_REFUSAL_LINUX_SLL_HARDWARE_TYPE 3
+/* A MACsec version other than 0. */
+#define EP_REFUSAL_MACSEC_VERSION 4
+/* A MACsec short length without room for the ether type. */
+#define EP_REFUSAL_MACSEC_SHORT_LEN 5
+/* An IP version other than 4 and 6. */
+#define EP_REFUSAL_IP_VERSION 6
+/* An IP version other than 4 where the ether type names IPv4. */
+#define EP_REFUSAL_IPV4_VERSION 7
+/* A length of an IPv4 header (IHL) below 5. */
+#define EP_REFUSAL_IPV4_HEADER_LEN 8
+/* An IP version other than 6 where the ether type names IPv6. */
+#define EP_REFUSAL_IPV6_VERSION 9
+/* A payload length 0 of an authentication header. */
+#define EP_REFUSAL_AUTH_HEADER_LEN 10
+/* Hop-by-hop options behind another extension header. */
+#define EP_REFUSAL_HOP_BY_HOP_NOT_AT_START 11
+/* A TCP data offset below 5. */
+#define EP_REFUSAL_TCP_DATA_OFFSET 12
 #define EP_FIELD_LINK 1
 #define EP_FIELD_PACKET_TYPE 2
 #define EP_FIELD_TAG_COUNT 3
@@ -74,7 +100,8 @@ extern "C" {
 
 /* Why a packet is refused. All fields are 0 where it isn't. */
 typedef struct {
-    /* 0 not refused, 1 too few bytes, and from 2 on a header that breaks its format. */
+    /* Which of the refusals it is: 0 none, 1 too few bytes, and from 2 on a header that breaks its
+       format. */
     uint32_t kind;
     /* The layer at fault, numbered from 1 as the errors of `etherparse` name the layers. */
     uint32_t layer;

@@ -3,12 +3,47 @@
 #include "etherparse.h"
 #include "fields.h"
 
+#define KIND(name) {#name, EP_REFUSAL_##name}
+
+/* The kinds of refusals, from 0 on. */
+static const struct {
+    const char *name;
+    uint32_t number;
+} kinds[] = {
+    KIND(NONE),
+    KIND(TOO_FEW_BYTES),
+    KIND(LINUX_SLL_PACKET_TYPE),
+    KIND(LINUX_SLL_HARDWARE_TYPE),
+    KIND(MACSEC_VERSION),
+    KIND(MACSEC_SHORT_LEN),
+    KIND(IP_VERSION),
+    KIND(IPV4_VERSION),
+    KIND(IPV4_HEADER_LEN),
+    KIND(IPV6_VERSION),
+    KIND(AUTH_HEADER_LEN),
+    KIND(HOP_BY_HOP_NOT_AT_START),
+    KIND(TCP_DATA_OFFSET),
+};
+
 static ep_packet packet;
 static uint32_t verdict;
+
+static const char *kind_of(ep_refusal refusal) {
+    for (size_t i = 0; i < sizeof kinds / sizeof *kinds; i++)
+        if (kinds[i].number == refusal.kind) return kinds[i].name;
+    return "no such kind";
+}
+
+static int kinds_are_numbered(void) {
+    int right = 1;
+    for (size_t i = 0; i < sizeof kinds / sizeof *kinds; i++) right &= kinds[i].number == i;
+    return right;
+}
 
 /* The value of a field as the table writes it. */
 static int written(const char *path, char *out, size_t room) {
     if (!strcmp(path, "verdict")) return snprintf(out, room, "%u", verdict);
+    if (!strcmp(path, "refusal.kind")) return snprintf(out, room, "%s", kind_of(packet.refusal));
     for (size_t i = 0; i < sizeof packet_fields / sizeof *packet_fields; i++) {
         if (strcmp(packet_fields[i].path, path)) continue;
         const uint8_t *at = (const uint8_t *)&packet + packet_fields[i].offset;
@@ -72,6 +107,7 @@ int main(int argc, char **argv) {
         check(right, "a packet");
     }
     fclose(table);
+    check(kinds_are_numbered(), "the kinds of refusals are 0 to 12");
     check(sums_are_right(), "checksums");
     return counted();
 }

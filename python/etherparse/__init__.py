@@ -49,41 +49,44 @@ def _names(prefix: str) -> Dict[int, str]:
     return {getattr(_raw, name): name[len(prefix) :].lower() for name in names}
 
 
+_REASONS = _names("REFUSAL_")
 _LAYERS = {value: name.replace("_", " ") for value, name in _names("LAYER_").items()}
 _KINDS = {
-    1: "too few bytes",
-    2: "packet type of a Linux cooked capture",
-    3: "hardware type of a Linux cooked capture",
-    4: "MACsec version",
-    5: "MACsec short length",
-    6: "IP version",
-    7: "IPv4 version",
-    8: "IPv4 header length",
-    9: "IPv6 version",
-    10: "authentication header length",
-    11: "hop-by-hop options not at the start",
-    12: "TCP data offset",
+    _raw.REFUSAL_TOO_FEW_BYTES: "too few bytes",
+    _raw.REFUSAL_LINUX_SLL_PACKET_TYPE: "packet type of a Linux cooked capture",
+    _raw.REFUSAL_LINUX_SLL_HARDWARE_TYPE: "hardware type of a Linux cooked capture",
+    _raw.REFUSAL_MACSEC_VERSION: "MACsec version",
+    _raw.REFUSAL_MACSEC_SHORT_LEN: "MACsec short length",
+    _raw.REFUSAL_IP_VERSION: "IP version",
+    _raw.REFUSAL_IPV4_VERSION: "IPv4 version",
+    _raw.REFUSAL_IPV4_HEADER_LEN: "IPv4 header length",
+    _raw.REFUSAL_IPV6_VERSION: "IPv6 version",
+    _raw.REFUSAL_AUTH_HEADER_LEN: "authentication header length",
+    _raw.REFUSAL_HOP_BY_HOP_NOT_AT_START: "hop-by-hop options not at the start",
+    _raw.REFUSAL_TCP_DATA_OFFSET: "TCP data offset",
 }
 # What is refused there is no value of a field but 0, or where a header stands.
-_KINDS_WITHOUT_VALUE = (10, 11)
+_KINDS_WITHOUT_VALUE = (_raw.REFUSAL_AUTH_HEADER_LEN, _raw.REFUSAL_HOP_BY_HOP_NOT_AT_START)
 
 
 class Refused(ValueError):
     """A packet that breaks its format.
 
-    `kind` and `layer` are numbered as in etherparse.h. Of too few bytes (kind 1) `needed`, `there`, `place` and
-    `source` are told, of a header that breaks its format `value`, the field that it holds.
+    `kind` and `layer` are numbered as in etherparse.h, `reason` is the name that `kind` has there behind EP_REFUSAL_. Of
+    too few bytes `needed`, `there`, `place` and `source` are told, of a header that breaks its format `value`, the field
+    that it holds.
     """
 
     def __init__(self, refusal: _raw.EpRefusal) -> None:
         self.kind: int = refusal.kind
+        self.reason: str = _REASONS[self.kind]
         self.layer: int = refusal.layer
         self.needed: int = refusal.needed
         self.there: int = refusal.there
         self.place: int = refusal.place
         self.source: int = refusal.source
         self.value: int = refusal.value
-        if self.kind == 1:
+        if self.kind == _raw.REFUSAL_TOO_FEW_BYTES:
             layer = _LAYERS[self.layer]
             text = f"{layer} at byte {self.place} needs {self.needed} bytes, and {self.there} are there"
         elif self.kind in _KINDS_WITHOUT_VALUE:

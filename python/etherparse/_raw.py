@@ -14,6 +14,32 @@ REFUSED = 3
 WRONG_STATE = 4
 # A message is complete.
 COMPLETED = 5
+# Nothing is refused.
+REFUSAL_NONE = 0
+# A layer has too few bytes.
+REFUSAL_TOO_FEW_BYTES = 1
+# A packet type of a Linux cooked capture above 4.
+REFUSAL_LINUX_SLL_PACKET_TYPE = 2
+# A hardware type of a Linux cooked capture that isn't read; all are today.
+REFUSAL_LINUX_SLL_HARDWARE_TYPE = 3
+# A MACsec version other than 0.
+REFUSAL_MACSEC_VERSION = 4
+# A MACsec short length without room for the ether type.
+REFUSAL_MACSEC_SHORT_LEN = 5
+# An IP version other than 4 and 6.
+REFUSAL_IP_VERSION = 6
+# An IP version other than 4 where the ether type names IPv4.
+REFUSAL_IPV4_VERSION = 7
+# A length of an IPv4 header (IHL) below 5.
+REFUSAL_IPV4_HEADER_LEN = 8
+# An IP version other than 6 where the ether type names IPv6.
+REFUSAL_IPV6_VERSION = 9
+# A payload length 0 of an authentication header.
+REFUSAL_AUTH_HEADER_LEN = 10
+# Hop-by-hop options behind another extension header.
+REFUSAL_HOP_BY_HOP_NOT_AT_START = 11
+# A TCP data offset below 5.
+REFUSAL_TCP_DATA_OFFSET = 12
 FIELD_LINK = 1
 FIELD_PACKET_TYPE = 2
 FIELD_TAG_COUNT = 3

@@ -49,10 +49,11 @@ class Packets(unittest.TestCase):
             with self.subTest(call=call, frame=frame.hex()):
                 verdict = verdict_call(frame)
                 self.assertEqual(int(wanted.get("verdict", 3)), 3 if verdict is None else verdict.value)
-                if wanted.get("refusal.kind", "0") != "0":
+                if wanted.get("refusal.kind", "NONE") != "NONE":
                     with self.assertRaises(ep.Refused) as refused:
                         slice_call(frame)
-                    for name in ("kind", "layer", "needed", "there", "place", "source", "value"):
+                    self.assertEqual(refused.exception.reason, wanted["refusal.kind"].lower())
+                    for name in ("layer", "needed", "there", "place", "source", "value"):
                         if f"refusal.{name}" in wanted:
                             self.assertEqual(getattr(refused.exception, name), int(wanted[f"refusal.{name}"]), name)
                     continue

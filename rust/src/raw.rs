@@ -13,6 +13,32 @@ pub const REFUSED: u32 = 3;
 pub const WRONG_STATE: u32 = 4;
 /// A message is complete.
 pub const COMPLETED: u32 = 5;
+/// Nothing is refused.
+pub const REFUSAL_NONE: u32 = 0;
+/// A layer has too few bytes.
+pub const REFUSAL_TOO_FEW_BYTES: u32 = 1;
+/// A packet type of a Linux cooked capture above 4.
+pub const REFUSAL_LINUX_SLL_PACKET_TYPE: u32 = 2;
+/// A hardware type of a Linux cooked capture that isn't read; all are today.
+pub const REFUSAL_LINUX_SLL_HARDWARE_TYPE: u32 = 3;
+/// A MACsec version other than 0.
+pub const REFUSAL_MACSEC_VERSION: u32 = 4;
+/// A MACsec short length without room for the ether type.
+pub const REFUSAL_MACSEC_SHORT_LEN: u32 = 5;
+/// An IP version other than 4 and 6.
+pub const REFUSAL_IP_VERSION: u32 = 6;
+/// An IP version other than 4 where the ether type names IPv4.
+pub const REFUSAL_IPV4_VERSION: u32 = 7;
+/// A length of an IPv4 header (IHL) below 5.
+pub const REFUSAL_IPV4_HEADER_LEN: u32 = 8;
+/// An IP version other than 6 where the ether type names IPv6.
+pub const REFUSAL_IPV6_VERSION: u32 = 9;
+/// A payload length 0 of an authentication header.
+pub const REFUSAL_AUTH_HEADER_LEN: u32 = 10;
+/// Hop-by-hop options behind another extension header.
+pub const REFUSAL_HOP_BY_HOP_NOT_AT_START: u32 = 11;
+/// A TCP data offset below 5.
+pub const REFUSAL_TCP_DATA_OFFSET: u32 = 12;
 pub const FIELD_LINK: u32 = 1;
 pub const FIELD_PACKET_TYPE: u32 = 2;
 pub const FIELD_TAG_COUNT: u32 = 3;
@@ -96,7 +122,8 @@ pub(crate) const LAYER_NAMES: [&str; 25] = [
 #[repr(C)]
 #[derive(Clone, Copy, Debug, PartialEq, Eq)]
 pub struct EpRefusal {
-    /// 0 not refused, 1 too few bytes, and from 2 on a header that breaks its format.
+    /// Which of the refusals it is: 0 none, 1 too few bytes, and from 2 on a header that breaks its
+    /// format.
     pub kind: u32,
     /// The layer at fault, numbered from 1 as the errors of `etherparse` name the layers.
     pub layer: u32,

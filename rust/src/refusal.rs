@@ -86,8 +86,8 @@ impl Refusal {
     pub(crate) fn told(raw: &EpRefusal) -> Option<Refusal> {
         let layer = Layer(raw.layer);
         let fault = match raw.kind {
-            0 => return None,
-            1 => {
+            raw::REFUSAL_NONE => return None,
+            raw::REFUSAL_TOO_FEW_BYTES => {
                 return Some(Refusal::TooFewBytes {
                     layer,
                     needed: raw.needed,
@@ -96,16 +96,16 @@ impl Refusal {
                     source: LenSource::told(raw.source),
                 });
             }
-            2 => Fault::LinuxSllPacketType,
-            3 => Fault::LinuxSllHardwareType,
-            4 => Fault::MacsecVersion,
-            5 => Fault::MacsecShortLen,
-            6 => Fault::IpVersion,
-            7 => Fault::Ipv4Version,
-            8 => Fault::Ipv4HeaderLen,
-            9 => Fault::Ipv6Version,
-            10 => Fault::AuthHeaderLen,
-            11 => Fault::HopByHopNotAtStart,
+            raw::REFUSAL_LINUX_SLL_PACKET_TYPE => Fault::LinuxSllPacketType,
+            raw::REFUSAL_LINUX_SLL_HARDWARE_TYPE => Fault::LinuxSllHardwareType,
+            raw::REFUSAL_MACSEC_VERSION => Fault::MacsecVersion,
+            raw::REFUSAL_MACSEC_SHORT_LEN => Fault::MacsecShortLen,
+            raw::REFUSAL_IP_VERSION => Fault::IpVersion,
+            raw::REFUSAL_IPV4_VERSION => Fault::Ipv4Version,
+            raw::REFUSAL_IPV4_HEADER_LEN => Fault::Ipv4HeaderLen,
+            raw::REFUSAL_IPV6_VERSION => Fault::Ipv6Version,
+            raw::REFUSAL_AUTH_HEADER_LEN => Fault::AuthHeaderLen,
+            raw::REFUSAL_HOP_BY_HOP_NOT_AT_START => Fault::HopByHopNotAtStart,
             _ => Fault::TcpDataOffset,
         };
         Some(Refusal::Header { layer, fault, value: raw.value })

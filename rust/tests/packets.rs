@@ -45,16 +45,16 @@ fn table() {
         };
         let wanted = [Some(Verdict::None), Some(Verdict::Good), Some(Verdict::Bad), None];
         assert_eq!(verdict, wanted[number(&fields, "verdict").unwrap_or(3)]);
-        let kind = number(&fields, "refusal.kind").unwrap_or(0);
+        let kind = fields.iter().find(|field| field.0 == "refusal.kind").map_or("NONE", |field| field.1.as_str());
         let Err(refusal) = told else {
-            assert_eq!(kind, 0);
+            assert_eq!(kind, "NONE");
             continue;
         };
         refused += 1;
         let layer = Layer(number(&fields, "refusal.layer").unwrap() as u32);
         match refusal {
             Refusal::TooFewBytes { needed, there, place, source, layer: told } => {
-                assert_eq!((kind, layer), (1, told));
+                assert_eq!((kind, layer), ("TOO_FEW_BYTES", told));
                 assert_eq!(Some(needed), number(&fields, "refusal.needed"));
                 assert_eq!(Some(there), number(&fields, "refusal.there"));
                 assert_eq!(Some(place), number(&fields, "refusal.place"));
@@ -63,8 +63,8 @@ fn table() {
                 let index = number(&fields, "refusal.source").unwrap();
                 assert_eq!(source, [sources[0], sources[0], sources[0], sources[1], sources[2], others[0], others[0], others[1]][index]);
             }
-            Refusal::Header { layer: told, value, .. } => {
-                assert_eq!(layer, told);
+            Refusal::Header { layer: told, fault, value } => {
+                assert_eq!((kind.replace('_', ""), layer), (format!("{fault:?}").to_uppercase(), told));
                 assert_eq!(Some(value as usize), number(&fields, "refusal.value"));
             }
         }

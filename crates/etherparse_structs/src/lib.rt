@@ -6,6 +6,7 @@ mod added;
 mod build;
 mod frame_pool;
 mod held;
+pub mod laws;
 mod link;
 mod message;
 mod net;

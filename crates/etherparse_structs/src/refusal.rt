@@ -7,11 +7,51 @@ use etherparse::LenSource;
 use etherparse::err::packet::SliceError;
 use etherparse::err::{Layer, LenError, ip, ipv4, ipv6, ipv6_exts, linux_sll, macsec, tcp};
 
+/// Nothing is refused.
+pub const REFUSAL_NONE: u32 = 0;
+
+/// A layer has too few bytes.
+pub const REFUSAL_TOO_FEW_BYTES: u32 = 1;
+
+/// A packet type of a Linux cooked capture above 4.
+pub const REFUSAL_LINUX_SLL_PACKET_TYPE: u32 = 2;
+
+/// A hardware type of a Linux cooked capture that isn't read; all are today.
+pub const REFUSAL_LINUX_SLL_HARDWARE_TYPE: u32 = 3;
+
+/// A MACsec version other than 0.
+pub const REFUSAL_MACSEC_VERSION: u32 = 4;
+
+/// A MACsec short length without room for the ether type.
+pub const REFUSAL_MACSEC_SHORT_LEN: u32 = 5;
+
+/// An IP version other than 4 and 6.
+pub const REFUSAL_IP_VERSION: u32 = 6;
+
+/// An IP version other than 4 where the ether type names IPv4.
+pub const REFUSAL_IPV4_VERSION: u32 = 7;
+
+/// A length of an IPv4 header (IHL) below 5.
+pub const REFUSAL_IPV4_HEADER_LEN: u32 = 8;
+
+/// An IP version other than 6 where the ether type names IPv6.
+pub const REFUSAL_IPV6_VERSION: u32 = 9;
+
+/// A payload length 0 of an authentication header.
+pub const REFUSAL_AUTH_HEADER_LEN: u32 = 10;
+
+/// Hop-by-hop options behind another extension header.
+pub const REFUSAL_HOP_BY_HOP_NOT_AT_START: u32 = 11;
+
+/// A TCP data offset below 5.
+pub const REFUSAL_TCP_DATA_OFFSET: u32 = 12;
+
 /// Why a packet is refused. All fields are 0 where it isn't.
 #[repr(C)]
 #[derive(Drop)]
 pub struct EpRefusal {
-    /// 0 not refused, 1 too few bytes, and from 2 on a header that breaks its format.
+    /// Which of the refusals it is: 0 none, 1 too few bytes, and from 2 on a header that breaks its
+    /// format.
     pub kind: u32,
     /// The layer at fault, numbered from 1 as the errors of `etherparse` name the layers.
     pub layer: u32,
@@ -31,7 +71,7 @@ pub struct EpRefusal {
 pub(crate) fn no_refusal() -> EpRefusal
     ensures { result ≡ no_refusal }
 {
-    content(0, 0, 0)
+    content(REFUSAL_NONE, 0, 0)
 }
 
 /// The refusal that an error is.
@@ -41,32 +81,52 @@ pub(crate) fn refusal(error: SliceError) -> EpRefusal
     match error {
         SliceError::Len(error) => too_few_bytes(error),
         SliceError::LinuxSll(linux_sll::HeaderError::UnsupportedPacketTypeField { packet_type }) =>
-            { content(2, 1, u32::from(packet_type)) }
+            { content(REFUSAL_LINUX_SLL_PACKET_TYPE, 1, u32::from(packet_type)) }
         SliceError::LinuxSll(
             linux_sll::HeaderError::UnsupportedArpHardwareId { arp_hardware_type },
-        ) => content(3, 1, u32::from(arp_hardware_type.0)),
-        SliceError::Macsec(macsec::HeaderError::UnexpectedVersion) => content(4, 5, 1),
-        SliceError::Macsec(macsec::HeaderError::InvalidUnmodifiedShortLen) => content(5, 5, 1),
+        ) => content(
+            REFUSAL_LINUX_SLL_HARDWARE_TYPE,
+            1,
+            u32::from(arp_hardware_type.0),
+        ),
+        SliceError::Macsec(macsec::HeaderError::UnexpectedVersion) => content(
+            REFUSAL_MACSEC_VERSION,
+            5,
+            1,
+        ),
+        SliceError::Macsec(macsec::HeaderError::InvalidUnmodifiedShortLen) => content(
+            REFUSAL_MACSEC_SHORT_LEN,
+            5,
+            1,
+        ),
         SliceError::Ip(ip::HeaderError::UnsupportedIpVersion { version_number }) => {
-            content(6, 7, u32::from(version_number))
+            content(REFUSAL_IP_VERSION, 7, u32::from(version_number))
         }
         SliceError::Ip(ip::HeaderError::Ipv4HeaderLengthSmallerThanHeader { ihl }) => {
-            content(8, 8, u32::from(ihl))
+            content(REFUSAL_IPV4_HEADER_LEN, 8, u32::from(ihl))
         }
         SliceError::Ipv4(ipv4::HeaderError::UnexpectedVersion { version_number }) => {
-            content(7, 8, u32::from(version_number))
+            content(REFUSAL_IPV4_VERSION, 8, u32::from(version_number))
         }
         SliceError::Ipv4(ipv4::HeaderError::HeaderLengthSmallerThanHeader { ihl }) => {
-            content(8, 8, u32::from(ihl))
+            content(REFUSAL_IPV4_HEADER_LEN, 8, u32::from(ihl))
         }
         SliceError::Ipv6(ipv6::HeaderError::UnexpectedVersion { version_number }) => {
-            content(9, 11, u32::from(version_number))
+            content(REFUSAL_IPV6_VERSION, 11, u32::from(version_number))
         }
-        SliceError::Ipv4Exts(_) => content(10, 10, 0),
-        SliceError::Ipv6Exts(ipv6_exts::HeaderError::HopByHopNotAtStart) => content(11, 14, 0),
-        SliceError::Ipv6Exts(ipv6_exts::HeaderError::IpAuth(_)) => content(10, 10, 0),
+        SliceError::Ipv4Exts(_) => content(REFUSAL_AUTH_HEADER_LEN, 10, 0),
+        SliceError::Ipv6Exts(ipv6_exts::HeaderError::HopByHopNotAtStart) => content(
+            REFUSAL_HOP_BY_HOP_NOT_AT_START,
+            14,
+            0,
+        ),
+        SliceError::Ipv6Exts(ipv6_exts::HeaderError::IpAuth(_)) => content(
+            REFUSAL_AUTH_HEADER_LEN,
+            10,
+            0,
+        ),
         SliceError::Tcp(tcp::HeaderError::DataOffsetTooSmall { data_offset }) => {
-            content(12, 20, u32::from(data_offset))
+            content(REFUSAL_TCP_DATA_OFFSET, 20, u32::from(data_offset))
         }
     }
 }
@@ -83,7 +143,7 @@ fn too_few_bytes(error: LenError) -> EpRefusal
     } }
 {
     EpRefusal {
-        kind: 1,
+        kind: REFUSAL_TOO_FEW_BYTES,
         layer: layer_number(error.layer),
         needed: error.required_len,
         there: error.len,

@@ -1,0 +1,4 @@
+//! The definitions at values from outside, worked out by hand from the C header and the standards,
+//! so that a definition can't change with the code.
+
+pub mod numbers;
