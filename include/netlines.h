@@ -36,9 +36,9 @@ typedef struct {
 } netlines_session;
 
 /* Answers all lines of a text, each by a line. The result is 0 where they are answered: then
-   `written` bytes at the front of the output are the answers. It is 1 where the output has no
-   room: then `written` is the room that they need, and the output is as it was. It is 2 where
-   there is no memory, and nothing is changed. */
+   `written` bytes at the front of the output are the answers, and what stands behind them stays.
+   It is 1 where the output has no room: then `written` is the room that they need, and the
+   output is as it was. It is 2 where there is no memory, and nothing is changed. */
 uint32_t netlines_answers(const uint8_t *text, size_t text_len, uint8_t *output, size_t output_len, size_t *written);
 
 /* Opens a session that took no byte. The result is 0 where it is open, 2 where there is no
@@ -55,8 +55,9 @@ uint32_t netlines_open(netlines_session *session);
 uint32_t netlines_feed(netlines_session *session, const uint8_t *piece, size_t piece_len, uint8_t *output, size_t output_len, size_t *written);
 
 /* Tells a session the end of the text: a last line that no 0a ended is answered. The result is
-   as that of `netlines_feed`: after 1 it is called again, with room. With 0 the answers to the
-   whole text are handed out. */
+   0, 1 and 2 as that of `netlines_feed`, and 3 where the session isn't open: then nothing is
+   changed. After 1 it is called again, with room. With 0 the answers to the whole text are
+   handed out; called once more, it is 0, and `written` is 0. */
 uint32_t netlines_finish(netlines_session *session, uint8_t *output, size_t output_len, size_t *written);
 
 /* Closes a session, and frees all that it holds. One that isn't open stays as it is. */

@@ -1,6 +1,8 @@
 -- What is known of a session's stream when it is taken, and when it is put back.
-use Rattle.std.proofs.Common.{◌≡◌, ◌∙◌, sym, ap, subst, ℕ, Bool, List, Option, Some, true}
-use Rattle.std.specs.Prelude.{unwrap_or}
+use Rattle.std.proofs.Common.{◌≡◌, ◌∙◌, refl, sym, ap, subst, arith, length-append, ℕ, zero}
+use Rattle.std.proofs.Common.{suc, ◌≤◌, ◌<◌, ◌+◌, Bool, List, ◌++◌, length, Option, Some, true}
+use Rattle.std.proofs.lemmas.List.{length-take-le}
+use Rattle.std.specs.Prelude.{take, unwrap_or}
 use Rattle.netlines.specs.Answers.{frame_meaning}
 use Rattle.sessions.specs.Sessions.{IsWrittenOut, Took, replies}
 use Rattle.netlines_c.specs.Streams.{IsSession, TookText, shows_lines}
@@ -59,3 +61,23 @@ told_ended s a b text told is took = subst (λ c. TookText s c text told) is too
 pub replies_ended : (a b : Bool) (text : List ℕ) → a ≡ b
     → replies frame_meaning a text ≡ replies frame_meaning b text
 replies_ended a b text is = ap (λ c. replies frame_meaning c text) is
+
+-- where all replies were handed out, none is left
+pub nothing_left : (told output replies : List ℕ) (result written : ℕ) → told ≡ replies
+    → (result ≡ 0 → (written ≤ length output) × (told ++ take written output ≡ replies))
+    → (result ≡ 1 → (length output < written) × (length told + written ≡ length replies))
+    → result ≤ 1 → (result ≡ 0) × (written ≡ 0)
+nothing_left told output replies zero written all zeros ones most =
+    let out = zeros refl in (
+      refl,
+      omega (
+        arith,
+        ap length (out.1 ∙ sym all),
+        length-append told (take written output),
+        length-take-le written output out.0,
+      ),
+    )
+nothing_left told output replies (suc zero) written all zeros ones most =
+    let none = ones refl in absurd (omega (arith, none.0, none.1, ap length all))
+nothing_left told output replies (suc (suc n)) written all zeros ones most =
+    absurd (omega (arith, most))

@@ -1,5 +1,5 @@
 //! A text in memory.
-ghost use Rattle.std.specs.Prelude.{◌≡◌, ◌≤◌, ◌<◌, length, take};
+ghost use Rattle.std.specs.Prelude.{◌≡◌, ◌≤◌, ◌<◌, drop, length, take};
 ghost use Rattle.netlines.specs.Answers.{answers_of};
 
 use crate::{ANSWERED, NO_MEMORY, NO_ROOM};
@@ -8,7 +8,7 @@ use std::alloc::Global;
 /// Answers all lines of a text, each by a line.
 ///
 /// The result is 0 where they are answered: then `written` bytes at the front of the output are
-/// the answers. It is 1 where the output has no room: then `written` is the room that they need,
+/// the answers, and what stands behind them stays. It is 1 where the output has no room: then `written` is the room that they need,
 /// and the output is as it was. It is 2 where there is no memory, and nothing is changed.
 #[unsafe(no_mangle)]
 pub extern "C" fn netlines_answers(
@@ -19,6 +19,7 @@ pub extern "C" fn netlines_answers(
 ) -> u32
     ensures answered { result ≡ 0 → (written.new ≤ length output.new)
         × (take written.new output.new ≡ answers_of text.now) }
+    ensures rest { result ≡ 0 → drop written.new output.new ≡ drop written.new output.old }
     ensures no_room { result ≡ 1 → (length output.new < written.new)
         × (written.new ≡ length (answers_of text.now)) × (output.new ≡ output.old) }
     ensures no_memory { result ≡ 2 → (written.new ≡ written.old) × (output.new ≡ output.old) }

@@ -99,8 +99,9 @@ pub extern "C" fn netlines_feed(
 
 /// Tells a session the end of the text: a last line that no 0a ended is answered.
 ///
-/// The result is as that of `netlines_feed`: after 1 it is called again, with room. With 0 the
-/// answers to the whole text are handed out.
+/// The result is 0, 1 and 2 as that of `netlines_feed`, and 3 where the session isn't open: then
+/// nothing is changed. After 1 it is called again, with room. With 0 the answers to the whole text
+/// are handed out; called once more, it is 0, and `written` is 0.
 #[unsafe(no_mangle)]
 pub extern "C" fn netlines_finish(
     alloc: Global,
@@ -124,6 +125,9 @@ pub extern "C" fn netlines_finish(
     ensures wrong_state { result ≡ 3 → (session.old.is_open ≡ false) × (session.new ≡ session.old)
         × (output.new ≡ output.old) × (written.new ≡ written.old) }
     ensures closed { session.old.is_open ≡ false → result ≡ 3 }
+    ensures ended { (text told : List ℕ) → TookText session.old true text told → result ≤ 1 }
+    ensures again { (text : List ℕ) → TookText session.old true text (answers_of text)
+        → (result ≡ 0) × (written.new ≡ 0) }
     ensures codes { result ≤ 3 }
 {
     if !session.is_open {

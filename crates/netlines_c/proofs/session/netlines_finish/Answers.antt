@@ -1,5 +1,6 @@
 use Rattle.std.proofs.Common.{◌∙◌, ap, length, sym}
-use Rattle.netlines_c.proofs.StreamLemmas.{ended_of, replies_ended, taken_took, told_ended, took_of}
+use Rattle.netlines_c.proofs.StreamLemmas.{ended_of, nothing_left, replies_ended}
+use Rattle.netlines_c.proofs.StreamLemmas.{taken_took, told_ended, took_of}
 use Rattle.netlines_c.proofs.session.netlines_finish.Goals as goal
 
 pub returns-then-has_ended-clause-answered : goal.returns-then-has_ended-clause-answered
@@ -33,3 +34,12 @@ returns-in-Ok-clause-no_room c ended text told took one =
     taken) in
     let out = c.hand_out-in-Ok.ensures.no_room text told went one in
     (out.0, out.1, told_ended _ _ _ text _ is out.2, out.3 ∙ ap length (replies_ended _ _ text is))
+
+pub returns-then-has_ended-clause-again : goal.returns-then-has_ended-clause-again
+returns-then-has_ended-clause-again c text took =
+    let is = sym (ended_of _ _ c.deref.ensures) ∙ sym c.has_ended.ensures ∙ c.if-has_ended.true in
+    let taken = taken_took _ _ _ text _ took c.taken-stream.ensures.stream in
+    nothing_left _ _ _ _ _ (sym (replies_ended _ _ text is))
+    (λ zero. let out = c.hand_out.ensures.answered text _ taken zero in (out.0, out.2))
+    (λ one. let out = c.hand_out.ensures.no_room text _ taken one in (out.0, out.3))
+    c.hand_out.ensures.codes
