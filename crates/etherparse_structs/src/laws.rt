@@ -1,4 +1,7 @@
 //! The definitions at values from outside, worked out by hand from the C header and the standards,
 //! so that a definition can't change with the code.
 
+pub mod headers;
 pub mod numbers;
+pub mod pools;
+pub mod refusals;
