@@ -4,9 +4,8 @@ use Rattle.std.proofs.Common.{◌<◌, ◌≤◌, Bool, true, false, cond, List,
 use Rattle.std.proofs.Common.{None, Result, Ok, Err, arith}
 use Rattle.std.specs.Prelude.{IsTrue, codes, nat_lt, Contains}
 use Rattle.std.specs.List.{AllByRecursion}
-use Rattle.std.proofs.lemmas.Bool.{cases_Bool}
 use Rattle.std.proofs.lemmas.List.Elements.{recursion_from_All}
-use Rattle.etherparse.specs.fragments.Fragments.{Fragment, is_complete}
+use Rattle.etherparse.specs.fragments.Fragments.{Fragment}
 use Rattle.etherparse.specs.defrag.IpFragId.{same_name}
 use Rattle.etherparse.specs.fragments.Outcome.{Held, Outcome, held_after, outcome}
 use Rattle.etherparse.specs.fragments.Outcome.Outcome.{Completed, Waiting}
@@ -16,7 +15,7 @@ use Rattle.etherparse.specs.packet.Class.Class.{Whole, Cut, Refused}
 use Rattle.etherparse.specs.packet.Readable.{ReadMessage, message_at}
 use Rattle.etherparse.specs.packet.declared.err.packet.slice_error.SliceError.{SliceError}
 use Rattle.etherparse.proofs.Members.{AllByRecursion-push}
-use Rattle.etherparse.proofs.OutcomeLemmas.{by_outcome, is_completed, is_waiting}
+use Rattle.etherparse.proofs.OutcomeLemmas.{by_outcome}
 use Rattle.commands.specs.Commands.{Command, command_of}
 use Rattle.commands.specs.Commands.Command.{Frame}
 use Rattle.line_answers.specs.Answers.{answer_after, completed_answer}

@@ -1,12 +1,12 @@
 -- What is answered to the lines of one message depends on the lines that matter to it alone.
-use Rattle.std.proofs.Common.{◌≡◌, ◌∙◌, ap, refl, subst, sym, inl, inr, ◌⊎◌, ◌↔◌, ℕ, ◌+◌, ◌&&◌}
+use Rattle.std.proofs.Common.{◌≡◌, ◌∙◌, ap, refl, sym, inl, inr, ◌↔◌, ℕ, ◌+◌, ◌&&◌}
 use Rattle.std.proofs.Common.{Bool, true, false, not, cond, List, [], ◌∷◌, ◌++◌, length, arith}
-use Rattle.std.proofs.Common.{get_or, append_assoc, length-append}
-use Rattle.std.specs.Prelude.{◌==◌, IsTrue, codes}
+use Rattle.std.proofs.Common.{length-append}
+use Rattle.std.specs.Prelude.{◌==◌, IsTrue}
 use Rattle.std.proofs.lemmas.Bool.{and_parts, cases_Bool, eqb-true, true≢false}
 use Rattle.etherparse.specs.fragments.Fragments.{Fragment, fragment}
 use Rattle.etherparse.specs.defrag.IpFragId.{same_name}
-use Rattle.etherparse.specs.fragments.Outcome.{Held, Outcome, held_after, outcome}
+use Rattle.etherparse.specs.fragments.Outcome.{Held, held_after, outcome}
 use Rattle.etherparse.specs.defrag.PoolCalls.{Lists, after_frame, outcome_at}
 use Rattle.etherparse.specs.packet.Class.{Class, FragmentName, class_of}
 use Rattle.etherparse.specs.packet.Class.Class.{Whole, Cut, Other, Refused}

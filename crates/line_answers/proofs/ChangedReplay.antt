@@ -1,11 +1,8 @@
 -- The lines of a message that came, one of them with a changed word.
 use Rattle.std.proofs.Common.{◌≡◌, ◌∙◌, ap, refl, subst, sym, ◌↔◌, ℕ, ◌+◌, ◌*◌, List, [], ◌∷◌, ◌++◌}
-use Rattle.std.proofs.Common.{length, map, arith, length-append, append-nil, append_assoc, Option}
-use Rattle.std.proofs.Common.{None, is_some, if◌then◌else◌}
+use Rattle.std.proofs.Common.{length, map, arith, length-append}
 use Rattle.std.specs.Prelude.{All, IsTrue, codes}
-use Rattle.etherparse.specs.fragments.declared.defrag.ip_defrag_error.IpDefragError.{IpDefragError}
-use Rattle.etherparse.specs.fragments.Fragments.{AgreesWith, Fragment, IsAccepted, MembersAgree}
-use Rattle.etherparse.specs.fragments.Fragments.{refusal_of, with_accepted, with_all_accepted}
+use Rattle.etherparse.specs.fragments.Fragments.{AgreesWith, Fragment, MembersAgree}
 use Rattle.etherparse.specs.defrag.IpFragId.{same_name}
 use Rattle.etherparse.specs.defrag.PoolCalls.{outcome_at}
 use Rattle.etherparse.specs.fragments.Picture.{text_of}
@@ -23,14 +20,13 @@ use Rattle.line_answers.proofs.ArrivalLemmas.{fragment_answered}
 use Rattle.line_answers.proofs.ChangedFragment.{one_changed, texts_differ}
 use Rattle.line_answers.proofs.ReplayLemmas.{answered_among, handed_out}
 use Rattle.line_answers.proofs.ShapeLemmas.{AllSameShape, SameShape, completes_if, own_shape, same_completed}
-use Rattle.line_answers.proofs.ShapeLemmas.{same_wait, waits_if}
+use Rattle.line_answers.proofs.ShapeLemmas.{same_wait}
 use Rattle.line_answers.proofs.WaitingLemmas.{AllWait, HandIn, HandIn-push, are_waiting, none_held}
 use Rattle.etherparse.specs.fragments.declared.defrag.overlap_rule.OverlapRule.{OverlapRule}
 use Rattle.etherparse.specs.fragments.declared.defrag.overlap_rule.OverlapRule.TheVariants.{Overwrites}
 use Rattle.etherparse.specs.defrag.IpFragId.{rule_over}
 use Rattle.etherparse.specs.fragments.Outcome.{outcome}
 use Rattle.etherparse.specs.fragments.Outcome.Outcome.{Completed}
-use Rattle.etherparse.proofs.Found.{accepted_is}
 
 waits_alike : (xs ys : List (List ℕ)) → length xs ≡ length ys
     → map (λ (_ : List ℕ). codes "wait") xs ≡ map (λ (_ : List ℕ). codes "wait") ys

@@ -1,6 +1,6 @@
 -- Lines that change no message's list.
-use Rattle.std.proofs.Common.{◌≡◌, ◌∙◌, ap, refl, subst, sym, inl, inr, ◌⊎◌, ◌↔◌, ℕ, ◌+◌, ◌&&◌}
-use Rattle.std.proofs.Common.{Bool, true, false, cond, Option, Some, None, Result, Ok, Err, List, []}
+use Rattle.std.proofs.Common.{◌≡◌, ◌∙◌, ap, refl, subst, sym, inl, inr, ◌↔◌, ℕ, ◌+◌, ◌&&◌}
+use Rattle.std.proofs.Common.{Bool, true, false, cond, Option, Result, Ok, Err, List, []}
 use Rattle.std.proofs.Common.{◌∷◌, ◌++◌, length, arith, get_or, append-nil, append_assoc, length-append}
 use Rattle.std.specs.Prelude.{◌==◌, IsTrue, codes}
 use Rattle.std.proofs.lemmas.Bool.{and_parts, cases_Bool, eqb-true}
@@ -22,7 +22,7 @@ use Rattle.etherparse.specs.packet.declared.err.packet.slice_error.SliceError.{S
 use Rattle.line_answers.specs.Alone.{IsInert, IsRefused, answers_behind, answers_to}
 use Rattle.line_answers.specs.Answers.{answer_after, class_answer, command_answer, completed_answer}
 use Rattle.line_answers.specs.Answers.{outcome_answer, refusal_answer}
-use Rattle.line_answers.specs.Arrivals.{HandsInFragment, held_with_line, lists_after_lines}
+use Rattle.line_answers.specs.Arrivals.{HandsInFragment, lists_after_lines}
 use Rattle.line_answers.specs.Arrivals.{lists_with_line}
 use Rattle.commands.specs.Commands.{Command, command_of}
 use Rattle.commands.specs.Commands.Command.{Frame, Forget, Bad}

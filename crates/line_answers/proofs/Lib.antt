@@ -12,6 +12,7 @@ mod ChangedReplay
 mod ChangedWordLemmas
 mod ChannelLemmas
 mod CoverLemmas
+mod ExtensionNumbers
 mod FirstCover
 mod InOrder
 mod InertLemmas

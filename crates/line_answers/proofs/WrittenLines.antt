@@ -1,5 +1,5 @@
 -- The lines of what a run writes are its answers.
-use Rattle.std.proofs.Common.{◌≡◌, ◌∙◌, ap, refl, subst, sym, ℕ, zero, suc, ◌+◌, ◌/◌, ◌%◌, ◌==◌}
+use Rattle.std.proofs.Common.{◌≡◌, ◌∙◌, ap, refl, subst, sym, ℕ, zero, suc, ◌/◌, ◌%◌, ◌==◌}
 use Rattle.std.proofs.Common.{◌&&◌, Bool, true, false, not, cond, Option, Some, None, Result, Ok, Err, List, [], ◌∷◌}
 use Rattle.std.proofs.Common.{◌++◌, get_or, append_assoc, arith}
 use Rattle.std.specs.Fmt.{decimal, digit_glyph, digits, digits_onto}
@@ -7,7 +7,7 @@ use Rattle.std.specs.Io.KnownBytes.{Appends}
 use Rattle.std.specs.Prelude.{IfSome, OnOk, codes}
 use Rattle.std.proofs.lemmas.Bool.{and_parts}
 use Rattle.std.proofs.lemmas.Bool.Decides.{nat_tests}
-use Rattle.hex.specs.Hex.{encode_lower, encode_with, lower_digits}
+use Rattle.hex.specs.Hex.{encode_with, lower_digits}
 use Rattle.etherparse.specs.fragments.Outcome.{Outcome}
 use Rattle.etherparse.specs.fragments.Outcome.Outcome.{Clash, Completed, Refusal, Waiting}
 use Rattle.etherparse.specs.fragments.Fragments.{fragment}

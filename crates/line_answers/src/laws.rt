@@ -17,6 +17,6 @@ pub use examples::{
     cuts_are_refused, empty_message_is_a_dash, fragments_have_answers, ipv6_lines_have_answers,
     lines_have_answers, lines_that_take_memory, messages_have_packets, segments_have_answers,
 };
-pub use posted::{posted_is_answered, posted_is_read};
+pub use posted::{extension_numbers, posted_is_answered, posted_is_read};
 pub use streams::{forget, lists_of_a_message, memory_wants_a_fragment};
 pub use two_fragments::{fragments_are_handed_in, fragments_are_posted, words_are_changed};

@@ -1,6 +1,8 @@
 //! Laws of posted messages. What they want of a letter every value has (`super::values`).
-ghost use Rattle.std.specs.Prelude.{◌≡◌, ℕ, true, List, [], ◌∷◌, ◌++◌, codes, map};
-ghost use Rattle.std.specs.Prelude.{None, Ok, Err};
+ghost use Rattle.std.specs.Prelude.{◌≡◌, ◌≤◌, ◌↔◌, ℕ, true, List, [], ◌∷◌, ◌++◌, codes, map, length};
+ghost use Rattle.std.specs.Prelude.{None, Some, Ok, Err, Contains};
+ghost use Rattle.etherparse.specs.defrag.declared.defrag.ip_frag_version_spec_id.IpFragVersionSpecId.TheVariants.{Ipv4};
+ghost use Rattle.etherparse.specs.defrag.declared.defrag.ip_frag_version_spec_id.IpFragVersionSpecId.TheVariants.{Ipv6};
 ghost use Rattle.etherparse.specs.packet.Class.{class_of};
 ghost use Rattle.etherparse.specs.packet.Class.Class.{Refused, Whole};
 ghost use Rattle.etherparse.specs.packet.Readable.{ReadMessage, message_at};
@@ -11,12 +13,13 @@ ghost use Rattle.line_answers.specs.Answers.{wait_lines};
 ghost use Rattle.line_answers.specs.Arrivals.{lists_after_lines};
 ghost use Rattle.line_answers.specs.Letter.{LetterFits, name_of, piece_class};
 ghost use Rattle.line_answers.specs.Posted.{is_cut, pieces_from, posted_frames};
-ghost use Rattle.line_answers.specs.PostRefusal.{post_refusal};
+ghost use Rattle.line_answers.specs.PostRefusal.{bad_cut, post_refusal};
 ghost use Rattle.line_answers.specs.PostedInput.{HandInFrames};
 ghost use Rattle.lines.specs.Replies.{replies_after};
 ghost use Rattle.line_answers.specs.Sealed.{addresses_of};
 ghost use Rattle.verdicts.specs.Verdict.{verdict_of};
 ghost use Rattle.line_answers.specs.declared.letter.Letter.{Letter};
+ghost use Rattle.line_answers.specs.declared.post_error.PostError.TheVariants.{ExtensionNumber};
 
 use etherparse::laws::build::frames::built_frames_are_read;
 
@@ -83,3 +86,19 @@ pub fn posted_is_answered()
 {
     built_frames_are_read();
 }
+
+/// A message that isn't refused for its cuts or its length is refused for an extension header's
+/// number exactly where the number names one: over IPv4 the authentication header alone (RFC 4302),
+/// over IPv6 hop-by-hop options, routing, fragment, authentication and destination options (RFC
+/// 8200, section 4; 59, no next header, is none).
+pub fn extension_numbers()
+    ensures v4 { (letter : Letter) (message cuts source destination : List ℕ) (identification : ℕ)
+        → letter.stream ≡ Ipv4 source destination identification
+        → bad_cut (length message) cuts ≡ None → length message ≤ 65535
+        → (post_refusal letter message cuts ≡ Some ExtensionNumber) ↔ (letter.number.0 ≡ 51) }
+    ensures v6 { (letter : Letter) (message cuts source destination : List ℕ) (identification : ℕ)
+        → letter.stream ≡ Ipv6 source destination identification
+        → bad_cut (length message) cuts ≡ None → length message ≤ 65535
+        → (post_refusal letter message cuts ≡ Some ExtensionNumber)
+        ↔ Contains (0 ∷ 43 ∷ 44 ∷ 51 ∷ 60 ∷ []) letter.number.0 }
+{}
