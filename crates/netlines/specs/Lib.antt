@@ -11,4 +11,5 @@ pub use Rattle.line_answers.specs.Sealed
 pub use Rattle.line_answers.specs.TwoRuns
 pub use Rattle.line_answers.specs.Waiting
 pub mod PoolAnswers
+pub mod PoolBuffers
 pub mod Runs

@@ -1,6 +1,6 @@
 //! Answers to lines by the frames that they and the lines before them hand in.
 ghost use Rattle.std.specs.Prelude.{◌≡◌, ◌≤◌, ◌<◌, ◌*◌, ◌+◌, ℕ, List, [], vec_len, length, take};
-ghost use Rattle.std.specs.Prelude.{IfOk};
+ghost use Rattle.std.specs.Prelude.{IfOk, vec_capacity};
 ghost use Rattle.etherparse.specs.defrag.PoolCalls.{ShowsLists};
 ghost use Rattle.etherparse.specs.packet.Class.{IdentificationFits, as_class, class_of};
 ghost use Rattle.etherparse.specs.packet.Class.{packet_told};
@@ -8,12 +8,14 @@ ghost use Rattle.etherparse.specs.packet.Class.Class.{Whole};
 ghost use Rattle.etherparse.specs.packet.Readable.{ReadMessage, as_read, message_at};
 ghost use Rattle.etherparse.specs.packet.declared.addresses.Addresses.{Addresses as AddressesValue};
 ghost use Rattle.etherparse.specs.packet.declared.class.Class.TheVariants as told;
+ghost use Rattle.etherparse.specs.streams.Counts.{HasPlace};
 ghost use Rattle.line_answers.specs.Answers.{frame_meaning, completed_answer, message_answer};
 ghost use Rattle.line_answers.specs.Arrivals.{lists_after_lines};
 ghost use Rattle.commands.specs.Commands.Command.{Forget};
 ghost use Rattle.commands.specs.Reads.{Reads};
 ghost use Rattle.commands.specs.Request.{as_command, frame_len};
 ghost use Rattle.netlines.specs.PoolAnswers.{AnswersClass, AnswersCommand};
+ghost use Rattle.netlines.specs.PoolBuffers.{KeepsBuffers, TakesBack};
 ghost use Rattle.verdicts.specs.Verdict.{verdict_of};
 ghost use Rattle.commands.specs.declared.hex_digits.TheConstants.{FRAME_ROOM};
 ghost use Rattle.lines.specs.declared.limits.TheConstants.{REPLY_ROOM};
@@ -174,24 +176,42 @@ fn answer_part<S: BuildHasher>(
     ensures fits { IfOk result (λ end. end < length out.new) }
     ensures answers { AnswersClass pool.old pool.new number
         (as_class (told.Cut message.entry)) channel out.new result }
+    ensures buffers { IfOk result (λ end. KeepsBuffers pool.old pool.new (take end out.new)) }
 {
     packets_are_answered();
     wants_are_told();
     spare_buffers_show_nothing();
     let addresses = message.addresses;
     match pool.process_cut_message(message, number, channel) {
-        Ok(Some(payload)) => {
-            let end = write_completed(&addresses, &payload, out);
-            // A buffer for which no place is found is dropped.
-            drop(pool.return_buf(payload));
-            Ok(end)
-        }
+        Ok(Some(payload)) => Ok(hand_out(pool, &addresses, payload, out)),
         Ok(None) => Ok(append(out, 0, b"wait")),
         Err(error) => match refusal_text(&error) {
             Some(text) => Ok(append(out, 0, text)),
             None => Err(AllocError),
         },
     }
+}
+
+// Writes the answer to the part that completes a message, and gives the message's memory back, also
+// where the message is refused.
+fn hand_out<S: BuildHasher>(
+    pool: &mut IpDefragPool<u64, u32, S>,
+    addresses: &Addresses,
+    payload: IpDefragPayloadVec,
+    out: &mut [u8],
+) -> usize
+    requires place { HasPlace pool.old }
+    requires short { length payload.payload.items ≤ 65535 }
+    requires room { REPLY_ROOM ≤ length out.old }
+    ensures end { result < length out.new }
+    ensures bytes { take result out.new ≡ completed_answer addresses.now payload.ip_number.0
+        payload.payload.items (message_at payload.ip_number.0 payload.payload.items) }
+    ensures back { TakesBack pool.old pool.new (vec_capacity payload.payload) }
+{
+    let end = write_completed(addresses, &payload, out);
+    // There is a place for it.
+    drop(pool.return_buf(payload));
+    end
 }
 
 // Writes the answer to the part that completes a message.

@@ -19,9 +19,9 @@ returns-in-Ok-Some-clause-answers g c lists shows =
     (part_is _ c.args.message refl) c.args.number c.args.channel
     c.process_cut_message.result processed lists shows _
     (c.in-Ok-Some.is ∙ ap Ok c.in-Ok-Some.field-0-is) tt in (
-      c.write_completed-end.ensures.bytes ∙ answered.0,
-      c.spare_buffers_show_nothing.ensures c.process_cut_message.new.self c.return_buf.new.self _
-          c.return_buf.ensures.same answered.1,
+      c.hand_out.ensures.bytes ∙ answered.0,
+      c.spare_buffers_show_nothing.ensures c.process_cut_message.new.self c.hand_out.new.pool _
+          c.hand_out.ensures.back.streams answered.1,
     )
 
 pub returns-in-Ok-None-clause-answers : goal.returns-in-Ok-None-clause-answers
