@@ -8,6 +8,7 @@ use crate::checks::{equal, holds};
 use crate::memory::CAPTURE;
 use crate::outcomes::{LINES, end_of_lines, every_packet};
 use captures::{Packets, Skipped, Unfit};
+use fault_devices::FaultReader;
 use packets::{Dissector, NoProgress, Summary, summarize};
 use std::alloc::{AllocError, Global};
 use std::process::Abort;
@@ -29,7 +30,9 @@ fn write_rounds(rt: impl Abort + Copy, alloc: Global, count: usize) -> Result<()
     let mut room = [0u8; 512];
     let mut left = room.as_mut_slice();
     let rules = every_packet(alloc);
-    let ended = end_of_lines(alloc, &rules, &LINES, capture.as_slice(), &mut left);
+    // No read ends two packets, so that in each round one line waits at most.
+    let reader = FaultReader::new(capture.as_slice(), 32);
+    let ended = end_of_lines(alloc, &rules, &LINES, reader, &mut left);
     equal(rt, ended, (Ok(()), Skipped::NONE));
     // Of each packet a line of 13 bytes.
     equal(
