@@ -73,31 +73,20 @@ fn refusals_and_their_neighbours(rt: HostRuntime) -> Result<(), Fail> {
     Ok(())
 }
 
-// The numbers of extension headers and that of ICMP are refused over IPv6, and the number of the
-// authentication header and that of ICMPv6 alone over IPv4. These are sent.
-const SENT: &[(u8, u8)] = &[
-    (6, 6),
-    (6, 17),
-    (6, 50),
-    (6, 58),
-    (6, 135),
-    (6, 139),
-    (6, 140),
-    (6, 253),
-    (4, 0),
-    (4, 1),
-    (4, 6),
-    (4, 17),
-    (4, 43),
-    (4, 44),
-    (4, 50),
-    (4, 60),
-    (4, 253),
-];
+// What is told of a message of this number: over IPv6 the headers of RFC 8200, section 4, are
+// refused, and over both versions the authentication header and the other version's ICMP.
+fn told_of_number(version: u8, number: u8) -> &'static str {
+    match (version, number) {
+        (6, 0 | 43 | 44 | 60) | (_, 51) => EXTENSION,
+        (6, 1) | (4, 58) => OTHER_ICMP,
+        _ => "frames: 1\n",
+    }
+}
 
 #[test]
-fn numbers_that_are_sent(rt: HostRuntime) {
-    for (version, number) in SENT.iter() {
-        is_told(rt, *version, *number, &[], MESSAGE, &[], "frames: 1\n");
+fn each_number(rt: HostRuntime) {
+    for number in 0..=255u8 {
+        is_told(rt, 4, number, &[], MESSAGE, &[], told_of_number(4, number));
+        is_told(rt, 6, number, &[], MESSAGE, &[], told_of_number(6, number));
     }
 }
