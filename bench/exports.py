@@ -3,7 +3,7 @@
 import time
 
 import dpkt
-import etherparse
+import etherparse_proved as etherparse
 from scapy.layers.inet import IP, UDP
 from scapy.layers.l2 import Ether
 

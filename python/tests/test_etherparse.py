@@ -5,7 +5,7 @@ import ipaddress
 import unittest
 from pathlib import Path
 
-import etherparse as ep
+import etherparse_proved as ep
 
 TOP = Path(__file__).resolve().parents[2]
 CALLS = {

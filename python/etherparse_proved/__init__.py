@@ -1,6 +1,6 @@
 """Packets sliced, judged, summed, built and put together, and lines of hex frames answered, by proved code.
 
-    >>> from etherparse import slice_ethernet
+    >>> from etherparse_proved import slice_ethernet
     >>> slice_ethernet(frame).ipv4.source
     IPv4Address('10.0.0.1')
 
@@ -27,7 +27,7 @@ __all__ = [
 
 
 def _library(name: str) -> _c.CDLL:
-    file = f"lib{name}.so.0"
+    file = f"lib{name}.so.1"
     folders = [os.environ.get("ETHERPARSE_LIB_DIR"), Path(__file__).resolve().parents[3]]
     if folders[1] == Path("/usr/lib"):
         folders.pop()
