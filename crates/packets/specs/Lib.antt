@@ -3,6 +3,7 @@ pub mod Conditions
 pub mod Counts
 pub mod Courses
 pub mod Dissected
+pub mod Examples
 pub mod Forgetting
 pub mod Headers
 pub mod Layers

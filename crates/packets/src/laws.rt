@@ -13,6 +13,8 @@ ghost use Rattle.packets.specs.Tally.{tally_of};
 ghost use Rattle.packets.specs.declared.outline.Outline.{Outline};
 ghost use Rattle.packets.specs.declared.reason.Reason.TheVariants as reason;
 
+pub mod examples;
+
 use crate::program::Coloring;
 use crate::{
     ChecksumTallies, Condition, Ending, Headers, Net, NoProgress, Outline, PartState, PartTallies,

@@ -1,0 +1,113 @@
+-- Packets by hand, of which laws say what is told of them.
+use Rattle.std.specs.Prelude.{ℕ, ◌+◌, ◌*◌, ◌++◌, true, false, List, [], ◌∷◌, Option, Some, None, replicate}
+use Rattle.ep_base.specs.declared.err.layer.Layer.TheVariants.{Ipv4Header}
+use Rattle.ep_packet.specs.declared.addresses.Addresses.{Addresses}
+use Rattle.ep_packet.specs.declared.addresses.Addresses.TheVariants.{V4, V6}
+use Rattle.packets.specs.declared.outline.Headers.{Headers}
+use Rattle.packets.specs.declared.outline.Net.{Net}
+use Rattle.packets.specs.declared.outline.Net.TheVariants as net
+use Rattle.packets.specs.declared.outline.Outline.{Outline}
+use Rattle.packets.specs.declared.outline.PartState.{PartState}
+use Rattle.packets.specs.declared.outline.PartState.TheVariants as part
+use Rattle.packets.specs.declared.reason.Reason.{Reason}
+use Rattle.packets.specs.declared.reason.Reason.TheVariants as reason
+use Rattle.packets.specs.declared.summary.tally.Tally.{Tally}
+use Rattle.verdicts.specs.declared.verdict.Verdict.{Verdict}
+use Rattle.verdicts.specs.declared.verdict.Verdict.TheVariants as verdict
+
+-- ---- from 10.0.0.1 to 10.0.0.2, and from 2001:db8::1 to 2001:db8::2
+
+abbrev pub ipv4_ends : Addresses
+ipv4_ends = V4 (10 ∷ 0 ∷ 0 ∷ 1 ∷ []) (10 ∷ 0 ∷ 0 ∷ 2 ∷ [])
+
+abbrev pub back_ends : Addresses
+back_ends = V4 (10 ∷ 0 ∷ 0 ∷ 2 ∷ []) (10 ∷ 0 ∷ 0 ∷ 1 ∷ [])
+
+abbrev pub ipv6_ends : Addresses
+ipv6_ends = V6 (0x20 ∷ 1 ∷ 0x0d ∷ 0xb8 ∷ (replicate 11 0 ++ 1 ∷ []))
+    (0x20 ∷ 1 ∷ 0x0d ∷ 0xb8 ∷ (replicate 11 0 ++ 2 ∷ []))
+
+-- an IPv4 header (RFC 791, section 3.1) without options, in front of 12 bytes of a protocol
+abbrev pub ipv4_header : (protocol : ℕ) → List ℕ
+ipv4_header protocol =
+    0x45 ∷ 0 ∷ 0 ∷ 32 ∷ 0 ∷ 1 ∷ 0 ∷ 0 ∷ 64 ∷ protocol ∷ 0x66 ∷ 0xca ∷ 10 ∷ 0 ∷ 0 ∷ 1 ∷ 10 ∷ 0 ∷ 0
+    ∷ 2 ∷ []
+
+-- an IPv6 header (RFC 8200, section 3) in front of 12 bytes of UDP
+abbrev pub ipv6_header : List ℕ
+ipv6_header =
+    0x60 ∷ 0 ∷ 0 ∷ 0 ∷ 0 ∷ 12 ∷ 17 ∷ 64 ∷ 0x20 ∷ 1 ∷ 0x0d ∷ 0xb8 ∷ (replicate 11 0
+    ++ (1 ∷ 0x20 ∷ 1 ∷ 0x0d ∷ 0xb8 ∷ (replicate 11 0 ++ 2 ∷ [])))
+
+-- ARP packets (RFC 826) in which 10.0.0.1 asks for 10.0.0.2: of Ethernet for IPv4; of IEEE 802, hardware
+-- type 6; for the addresses of protocol 0x1234; and of ARCNET, hardware type 7, whose addresses have
+-- one byte
+abbrev pub arp_ends : List ℕ
+arp_ends = 2 ∷ 0 ∷ 0 ∷ 0 ∷ 0 ∷ 1 ∷ 10 ∷ 0 ∷ 0 ∷ 1 ∷ 0 ∷ 0 ∷ 0 ∷ 0 ∷ 0 ∷ 0 ∷ 10 ∷ 0 ∷ 0 ∷ 2 ∷ []
+
+abbrev pub arp_request : List ℕ
+arp_request = 0 ∷ 1 ∷ 8 ∷ 0 ∷ 6 ∷ 4 ∷ 0 ∷ 1 ∷ arp_ends
+
+abbrev pub arp_of_ieee_802 : List ℕ
+arp_of_ieee_802 = 0 ∷ 6 ∷ 8 ∷ 0 ∷ 6 ∷ 4 ∷ 0 ∷ 1 ∷ arp_ends
+
+abbrev pub arp_for_another_protocol : List ℕ
+arp_for_another_protocol = 0 ∷ 1 ∷ 0x12 ∷ 0x34 ∷ 6 ∷ 4 ∷ 0 ∷ 1 ∷ arp_ends
+
+abbrev pub arp_of_arcnet : List ℕ
+arp_of_arcnet =
+    0 ∷ 7 ∷ 8 ∷ 0 ∷ 1 ∷ 4 ∷ 0 ∷ 1 ∷ 5 ∷ 10 ∷ 0 ∷ 0 ∷ 1 ∷ 0 ∷ 10 ∷ 0 ∷ 0 ∷ 2 ∷ []
+
+-- a UDP datagram (RFC 768) from port 53 to 5353, over IPv4 from 10.0.0.1 to 10.0.0.2: with the right
+-- checksum, or another one
+abbrev pub datagram_with : (high low : ℕ) → List ℕ
+datagram_with high low =
+    0 ∷ 53 ∷ 0x14 ∷ 0xe9 ∷ 0 ∷ 12 ∷ high ∷ low ∷ 97 ∷ 98 ∷ 99 ∷ 100 ∷ []
+
+-- a TCP header (RFC 9293, section 3.1) from port 443 to 51234 with a data offset in its high bits
+abbrev pub segment_with : (offset : ℕ) → List ℕ
+segment_with offset =
+    1 ∷ 0xbb ∷ 0xc8 ∷ 0x22 ∷ 0 ∷ 0 ∷ 0 ∷ 17 ∷ 0 ∷ 0 ∷ 0 ∷ 0 ∷ 16 * offset ∷ 2 ∷ 0xff ∷ 0xff ∷ 0xd1
+    ∷ 0xf1 ∷ 0 ∷ 0 ∷ []
+
+-- ---- the capture of docs/PACKETS.md, an eighth of a second from one packet to the next
+
+abbrev pub no_headers : Headers
+no_headers = record { ethernet = true; vlan = false; macsec = false; net = None }
+
+abbrev pub headers_over : Addresses → (number : ℕ) → Headers
+headers_over ends number = record no_headers { net = Some (net.Ip ends (record { 0 = number })) }
+
+abbrev pub message : (number place len : ℕ) → Headers → Option Verdict → Outline
+message number place len headers told = record {
+  number = number;
+  time = 1700000000250000000 + 125000000 * place;
+  len = len;
+  headers = headers;
+  refusal = None;
+  part = None;
+  verdict = told;
+}
+
+abbrev pub part_of_message : (number place : ℕ) → PartState → Option Verdict → Outline
+part_of_message number place state told =
+    record (message number place 50 (headers_over ipv4_ends 17) told) { part = Some state }
+
+abbrev pub refused : (number place len : ℕ) → Reason → Outline
+refused number place len why =
+    record (message number place len no_headers None) { refusal = Some why }
+
+abbrev pub page : List Outline
+page = message 1 0 54 (headers_over ipv4_ends 6) (Some verdict.Good)
+    ∷ message 2 1 46 (headers_over ipv4_ends 17) (Some verdict.Bad)
+    ∷ message 3 2 42 (record no_headers { net = Some net.Arp }) None
+    ∷ message 4 3 74 (record (headers_over ipv6_ends 58) { vlan = true }) (Some verdict.Good)
+    ∷ part_of_message 5 4 part.Waits None
+    ∷ part_of_message 6 5 part.Completes (Some verdict.Good)
+    ∷ refused 7 6 21 (reason.CutOff Ipv4Header)
+    ∷ refused 8 7 54 reason.TcpDataOffset
+    ∷ message 9 8 44 (headers_over back_ends 17) (Some verdict.None)
+    ∷ part_of_message 10 9 part.Waits None ∷ []
+
+abbrev pub tally : (packets bytes first : ℕ) → Tally
+tally packets bytes first = record { packets = packets; bytes = bytes; first = Some first }

@@ -1,0 +1,9 @@
+//! The definitions at values from outside: what the standards and docs/PACKETS.md say of packets
+//! that were written by hand, so that a definition can't change with the code.
+
+pub mod conditions;
+pub mod counts;
+pub mod headers;
+pub mod layers;
+pub mod outlines;
+pub mod reasons;

@@ -1,0 +1,223 @@
+//! Which packets meet a condition, by the table of docs/PACKETS.md.
+
+ghost use Rattle.std.specs.Prelude.{◌≡◌, ℕ, List, [], ◌∷◌, true, false, None, Some, Ok, Err};
+ghost use Rattle.captures.specs.declared.link.kind.Link.TheVariants as link;
+ghost use Rattle.ep_defrag.specs.declared.defrag.ip_defrag_payload_vec.IpDefragPayloadVec.{IpDefragPayloadVec};
+ghost use Rattle.ep_ipslice.specs.Packet.{Ipv6Packet};
+ghost use Rattle.ep_packet.specs.Readable.{message_at};
+ghost use Rattle.ep_packet.specs.declared.err.packet.slice_error.SliceError.TheVariants as fault;
+ghost use Rattle.ep_packet.specs.declared.net.net_slice.NetSlice.TheVariants as slice;
+ghost use Rattle.ep_packet.specs.declared.sliced_packet.SlicedPacket.{SlicedPacket};
+ghost use Rattle.ep_packet.specs.declared.transport.transport_slice.TransportSlice.TheVariants as transport;
+ghost use Rattle.ep_fragments.specs.declared.defrag.ip_defrag_error.IpDefragError.TheVariants as part_error;
+ghost use Rattle.ep_tcpudp.specs.declared.err.tcp.header_error.HeaderError.TheVariants as tcp;
+ghost use Rattle.header_texts.specs.declared.protocol.Protocol.TheVariants as protocol;
+ghost use Rattle.packets.specs.Conditions.{arp_has_host, conditions_of, has_host, has_ipv4_host};
+ghost use Rattle.packets.specs.Conditions.{has_ipv6_host, has_port, holds, lets_through};
+ghost use Rattle.packets.specs.Conditions.{message_has_port, net_has_host, packet_has_port};
+ghost use Rattle.packets.specs.Conditions.{transport_has_port};
+ghost use Rattle.packets.specs.Dissected.{verdict_on};
+ghost use Rattle.packets.specs.Examples.{arp_for_another_protocol, arp_of_arcnet, arp_of_ieee_802};
+ghost use Rattle.packets.specs.Examples.{arp_request, datagram_with, ipv4_ends, ipv4_header};
+ghost use Rattle.packets.specs.Examples.{ipv6_header, segment_with};
+ghost use Rattle.ep_defrag.specs.PoolCalls.Told.{Delivered, Nothing};
+ghost use Rattle.ep_base.specs.declared.len_source.LenSource.TheVariants as source;
+ghost use Rattle.ep_packet.specs.Class.Class.{Cut};
+ghost use Rattle.packets.specs.declared.dissection.Dissection.{Dissection};
+ghost use Rattle.packets.specs.declared.dissection.Fragment.TheVariants as fragment;
+ghost use Rattle.packets.specs.declared.filter.Condition.TheVariants as condition;
+ghost use Rattle.packets.specs.declared.filter.Filter.{Filter};
+ghost use Rattle.std.specs.declared.net.ip_addr.IpAddr.TheVariants as ip_addr;
+ghost use Rattle.verdicts.specs.declared.verdict.Verdict.TheVariants as verdict;
+
+/// The words of headers: of an ARP packet in an Ethernet frame, and of a TCP segment that breaks its
+/// format, which has no header but `eth`.
+pub fn headers_of_packets()
+    ensures arp { (packet : Dissection) → packet.link ≡ link.Ethernet
+        → packet.layers ≡ Ok (record {
+          link = None;
+          link_exts = record { items = [] };
+          net = Some (slice.Arp arp_request);
+          transport = None;
+        }) → (holds (condition.Protocol protocol.Ethernet) packet ≡ true)
+        × (holds (condition.Protocol protocol.Arp) packet ≡ true)
+        × (holds (condition.Protocol protocol.Vlan) packet ≡ false) }
+    ensures refused { (packet : Dissection) → packet.link ≡ link.Ethernet
+        → packet.layers ≡ Err (fault.Tcp (tcp.DataOffsetTooSmall 4))
+        → (holds (condition.Protocol protocol.Ethernet) packet ≡ true)
+        × (holds (condition.Protocol protocol.Ipv4) packet ≡ false)
+        × (holds (condition.Protocol (protocol.OverIp (record { 0 = 6 }))) packet ≡ false) }
+{}
+
+/// `host` of ARP packets (RFC 826): those for the addresses of IPv4, whatever the hardware type and the
+/// length of its addresses.
+pub fn hosts_of_arp_packets()
+    ensures sender { arp_has_host arp_request (10 ∷ 0 ∷ 0 ∷ 1 ∷ []) ≡ true }
+    ensures target { arp_has_host arp_request (10 ∷ 0 ∷ 0 ∷ 2 ∷ []) ≡ true }
+    ensures another { (arp_has_host arp_request (10 ∷ 0 ∷ 0 ∷ 3 ∷ []) ≡ false)
+        × (arp_has_host arp_request (0 ∷ 0 ∷ 0 ∷ 0 ∷ []) ≡ false)
+        × (arp_has_host arp_request (2 ∷ 0 ∷ 0 ∷ 0 ∷ []) ≡ false) }
+    ensures ieee_802 { (arp_has_host arp_of_ieee_802 (10 ∷ 0 ∷ 0 ∷ 1 ∷ []) ≡ true)
+        × (arp_has_host arp_of_ieee_802 (10 ∷ 0 ∷ 0 ∷ 2 ∷ []) ≡ true) }
+    ensures arcnet { (arp_has_host arp_of_arcnet (10 ∷ 0 ∷ 0 ∷ 1 ∷ []) ≡ true)
+        × (arp_has_host arp_of_arcnet (10 ∷ 0 ∷ 0 ∷ 2 ∷ []) ≡ true) }
+    ensures protocol { (arp_has_host arp_for_another_protocol (10 ∷ 0 ∷ 0 ∷ 1 ∷ []) ≡ false)
+        × (arp_has_host arp_for_another_protocol (10 ∷ 0 ∷ 0 ∷ 2 ∷ []) ≡ false) }
+{}
+
+/// `host` of IP packets: an address of the header, of its own version.
+pub fn hosts_of_ip_packets()
+    ensures ipv4 { (payload : List ℕ) → (has_ipv4_host (Some (slice.Ipv4 (record {
+      header = ipv4_header 17;
+      auth = None;
+      payload = payload;
+    }))) (10 ∷ 0 ∷ 0 ∷ 1 ∷ []) ≡ true)
+        × (has_ipv4_host (Some (slice.Ipv4 (record {
+          header = ipv4_header 17;
+          auth = None;
+          payload = payload;
+        }))) (10 ∷ 0 ∷ 0 ∷ 2 ∷ []) ≡ true)
+        × (has_ipv4_host (Some (slice.Ipv4 (record {
+          header = ipv4_header 17;
+          auth = None;
+          payload = payload;
+        }))) (0x66 ∷ 0xca ∷ 10 ∷ 0 ∷ []) ≡ false) }
+    ensures ipv6 { (packet : Ipv6Packet) → packet.header ≡ ipv6_header
+        → (net_has_host (Some (slice.Ipv6 packet)) (ip_addr.V6 (record {
+          segments = 0x2001 ∷ 0x0db8 ∷ 0 ∷ 0 ∷ 0 ∷ 0 ∷ 0 ∷ 2 ∷ [];
+        })) ≡ true)
+        × (net_has_host (Some (slice.Ipv6 packet)) (ip_addr.V6 (record {
+          segments = 0x2001 ∷ 0x0db8 ∷ 0 ∷ 0 ∷ 0 ∷ 0 ∷ 0 ∷ 3 ∷ [];
+        })) ≡ false)
+        × (net_has_host (Some (slice.Ipv6 packet))
+        (ip_addr.V4 (record { octets = 0x20 ∷ 1 ∷ 0x0d ∷ 0xb8 ∷ [] })) ≡ false) }
+    ensures arp { net_has_host (Some (slice.Arp arp_request))
+        (ip_addr.V4 (record { octets = 10 ∷ 0 ∷ 0 ∷ 1 ∷ [] })) ≡ true }
+    ensures none { (net_has_host None (ip_addr.V4 (record { octets = 0 ∷ 0 ∷ 0 ∷ 0 ∷ [] })) ≡ false)
+        × (has_ipv6_host (Some (slice.Arp arp_request)) (10 ∷ 0 ∷ 0 ∷ 1 ∷ []) ≡ false) }
+    ensures refused { has_host (Err (fault.Tcp (tcp.DataOffsetTooSmall 4)))
+        (ip_addr.V4 (record { octets = 10 ∷ 0 ∷ 0 ∷ 1 ∷ [] })) ≡ false }
+{}
+
+/// `port` of a message that stands whole in a packet: of TCP from 443 to 51234, and of UDP from 53 to
+/// 5353. ICMP has none.
+pub fn ports_of_messages()
+    ensures tcp { (transport_has_port (Some (transport.Tcp (segment_with 5))) 443 ≡ true)
+        × (transport_has_port (Some (transport.Tcp (segment_with 5))) 51234 ≡ true)
+        × (transport_has_port (Some (transport.Tcp (segment_with 5))) 0 ≡ false)
+        × (transport_has_port (Some (transport.Tcp (segment_with 5))) 17 ≡ false) }
+    ensures udp { (transport_has_port (Some (transport.Udp (datagram_with 0x11 0xef))) 53 ≡ true)
+        × (transport_has_port (Some (transport.Udp (datagram_with 0x11 0xef))) 5353 ≡ true)
+        × (transport_has_port (Some (transport.Udp (datagram_with 0x11 0xef))) 12 ≡ false) }
+    ensures icmp { (transport_has_port (Some (transport.Icmpv4 (0 ∷ 53 ∷ 0x14 ∷ 0xe9 ∷ []))) 53
+        ≡ false)
+        × (transport_has_port (Some (transport.Icmpv6 (0 ∷ 53 ∷ 0x14 ∷ 0xe9 ∷ []))) 53 ≡ false) }
+    ensures none { transport_has_port None 0 ≡ false }
+    ensures refused { packet_has_port (Err (fault.Tcp (tcp.DataOffsetTooSmall 4))) 443 ≡ false }
+{}
+
+/// Also of the message that a part completes, where that can be read, and of no other part.
+pub fn ports_of_completed_messages()
+    ensures read { (message_has_port (message_at 6 (segment_with 5)) 443 ≡ true)
+        × (message_has_port (message_at 17 (datagram_with 0x11 0xef)) 5353 ≡ true)
+        × (message_has_port (message_at 1 (0 ∷ 53 ∷ 0 ∷ 53 ∷ 0 ∷ 53 ∷ 0 ∷ 53 ∷ [])) 53 ≡ false)
+        × (message_has_port (message_at 58 (0 ∷ 53 ∷ 0 ∷ 53 ∷ 0 ∷ 53 ∷ 0 ∷ 53 ∷ [])) 53 ≡ false)
+        × (message_has_port (message_at 132 (0 ∷ 53 ∷ 0 ∷ 53 ∷ [])) 53 ≡ false) }
+    ensures refused { message_has_port (message_at 6 (segment_with 4)) 443 ≡ false }
+    ensures completing { (message : IpDefragPayloadVec) → message.ip_number ≡ record { 0 = 17 }
+        → message.payload.items ≡ datagram_with 0x11 0xef → has_port (Ok (record {
+          link = None;
+          link_exts = record { items = [] };
+          net = None;
+          transport = None;
+        })) (Some (fragment.Completes 5 message)) 5353 ≡ true }
+    ensures others { (packet : SlicedPacket) → packet.transport ≡ None
+        → (has_port (Ok packet) (Some (fragment.Waits 5)) 53 ≡ false)
+        × (has_port (Ok packet) (Some (fragment.Refused None (part_error.ConflictingEnd 24 32))) 53
+        ≡ false) }
+{}
+
+/// `bad` by the checksum of a packet's message, and by that of the message which it completes.
+pub fn bad_checksums()
+    ensures bad { (packet : Dissection) → packet.verdict ≡ Some verdict.Bad
+        → holds condition.Bad packet ≡ true }
+    ensures others { (packet : Dissection) → packet.verdict ≡ Some verdict.Good
+        → holds condition.Bad packet ≡ false }
+    ensures unchecked { (packet : Dissection) → packet.verdict ≡ Some verdict.None
+        → holds condition.Bad packet ≡ false }
+    ensures none { (packet : Dissection) → packet.verdict ≡ None
+        → holds condition.Bad packet ≡ false }
+    // Over IPv4 from 10.0.0.1 to 10.0.0.2 the checksum of the datagram is 11ef (RFC 768).
+    ensures completing { (verdict_on (Cut (record {
+      vlan_ids = [];
+      addresses = ipv4_ends;
+      identification = 5;
+      number = 17;
+    }) 1 false (97 ∷ 98 ∷ 99 ∷ 100 ∷ [])) (Delivered (record {
+      ip_number = record { 0 = 17 };
+      len_source = source.Ipv4HeaderTotalLen;
+      bytes = datagram_with 0x11 0xf0;
+    })) ≡ Some verdict.Bad)
+        × (verdict_on (Cut (record {
+          vlan_ids = [];
+          addresses = ipv4_ends;
+          identification = 5;
+          number = 17;
+        }) 1 false (97 ∷ 98 ∷ 99 ∷ 100 ∷ [])) (Delivered (record {
+          ip_number = record { 0 = 17 };
+          len_source = source.Ipv4HeaderTotalLen;
+          bytes = datagram_with 0x11 0xef;
+        })) ≡ Some verdict.Good) }
+    ensures waiting { verdict_on (Cut (record {
+      vlan_ids = [];
+      addresses = ipv4_ends;
+      identification = 5;
+      number = 17;
+    }) 0 true (datagram_with 0x11 0xf0)) Nothing ≡ None }
+{}
+
+/// `refused` by a packet's own headers, as a part, and by the message that a part completes;
+/// `fragments` whatever becomes of a part.
+pub fn refused_packets_and_fragments()
+    ensures headers { (packet : Dissection)
+        → packet.layers ≡ Err (fault.Tcp (tcp.DataOffsetTooSmall 4)) → packet.fragment ≡ None
+        → (holds condition.Refused packet ≡ true) × (holds condition.Fragment packet ≡ false) }
+    ensures part { (packet : Dissection) (layers : SlicedPacket) → packet.layers ≡ Ok layers
+        → packet.fragment ≡ Some (fragment.Refused None (part_error.ConflictingEnd 24 32))
+        → (holds condition.Refused packet ≡ true) × (holds condition.Fragment packet ≡ true) }
+    ensures breaking { (packet : Dissection) (layers : SlicedPacket)
+        (message : IpDefragPayloadVec) → packet.layers ≡ Ok layers
+        → packet.fragment ≡ Some (fragment.Completes 5 message)
+        → message.ip_number ≡ record { 0 = 6 } → message.payload.items ≡ segment_with 4
+        → (holds condition.Refused packet ≡ true) × (holds condition.Fragment packet ≡ true) }
+    ensures completing { (packet : Dissection) (layers : SlicedPacket)
+        (message : IpDefragPayloadVec) → packet.layers ≡ Ok layers
+        → packet.fragment ≡ Some (fragment.Completes 5 message)
+        → message.ip_number ≡ record { 0 = 6 } → message.payload.items ≡ segment_with 5
+        → (holds condition.Refused packet ≡ false) × (holds condition.Fragment packet ≡ true) }
+    ensures waiting { (packet : Dissection) (layers : SlicedPacket) → packet.layers ≡ Ok layers
+        → packet.fragment ≡ Some (fragment.Waits 5)
+        → (holds condition.Refused packet ≡ false) × (holds condition.Fragment packet ≡ true) }
+    ensures whole { (packet : Dissection) (layers : SlicedPacket) → packet.layers ≡ Ok layers
+        → packet.fragment ≡ None
+        → (holds condition.Refused packet ≡ false) × (holds condition.Fragment packet ≡ false) }
+{}
+
+/// All conditions have to hold, and none lets everything through: of a part that is refused, whose
+/// message has no checksum that was read.
+pub fn filters()
+    ensures none { (filter : Filter) (packet : Dissection) → conditions_of filter ≡ []
+        → lets_through filter packet ≡ true }
+    ensures all { (filter : Filter) (packet : Dissection)
+        → packet.fragment ≡ Some (fragment.Waits 5) → packet.verdict ≡ Some verdict.Bad
+        → conditions_of filter ≡ condition.Fragment ∷ condition.Bad ∷ []
+        → lets_through filter packet ≡ true }
+    ensures first { (filter : Filter) (packet : Dissection)
+        → packet.fragment ≡ Some (fragment.Waits 5) → packet.verdict ≡ None
+        → conditions_of filter ≡ condition.Fragment ∷ condition.Bad ∷ []
+        → lets_through filter packet ≡ false }
+    ensures last { (filter : Filter) (packet : Dissection) → packet.fragment ≡ None
+        → packet.verdict ≡ Some verdict.Bad
+        → conditions_of filter ≡ condition.Fragment ∷ condition.Bad ∷ []
+        → lets_through filter packet ≡ false }
+{}
