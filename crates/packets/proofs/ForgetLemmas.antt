@@ -1,29 +1,32 @@
 -- Which messages a span that has passed drops.
 use Rattle.std.proofs.Common.{◌≡◌, ℕ, ◌+◌, ◌-◌, ◌*◌, ◌<◌, ◌≤◌, Bool, true, false, List, [], ◌∷◌}
-use Rattle.std.proofs.Common.{◌++◌, append_assoc, Option, Some, None, refl, ap, sym, subst, ◌∙◌}
-use Rattle.std.proofs.Common.{arith}
+use Rattle.std.proofs.Common.{◌++◌, Option, Some, None, refl, ap, sym, subst, ◌∙◌}
+use Rattle.std.proofs.Common.{arith, inl, inr, map, ◌⊎◌}
 use Rattle.std.specs.List.{AllByRecursion}
 use Rattle.std.specs.Prelude.{nat_lt, if◌then◌else◌}
+use Rattle.std.proofs.lemmas.Bool.{cases_Bool, cases_lt}
 use Rattle.std.proofs.lemmas.Bool.Decides.{nat_tests}
+use Rattle.std.proofs.lemmas.List.{map-append}
+use Rattle.captures.specs.Spans.{Drops, Mark, SpansDrop, have_passed, passed_spans}
 use Rattle.captures.specs.declared.packet.Packet.{Packet}
 use Rattle.ep_defrag.specs.PoolCalls.{Lists, after_frame, retained_from}
 use Rattle.ep_fragments.specs.Outcome.{Held}
 use Rattle.ep_packet.specs.Class.{FragmentName}
-use Rattle.packets.specs.Courses.{Course, begin_at, class_of, course_after, forgotten, has_passed}
-use Rattle.packets.specs.Courses.{lists_at, next_course}
+use Rattle.packets.specs.Courses.{Course, begin_at, class_of, course_after, forgotten, lists_at}
+use Rattle.packets.specs.Courses.{lists_since, next_course}
 use Rattle.packets.specs.Forgetting.{ComeWithin, ForgetDrops, PassesBy}
 
 chosen : (b : Bool) (lists : Lists) (begin : ℕ) (name : FragmentName) (channel : ℕ)
-    → (if b then (λ name channel. retained_from begin (lists name channel)) else lists) name channel
+    → lists_since (if b then Some begin else None) lists name channel
     ≡ (if b then retained_from begin (lists name channel) else lists name channel)
 chosen true lists begin name channel = refl
 chosen false lists begin name channel = refl
 
 late-enough : (seconds begin time late : ℕ) → 0 < seconds → time < late + 1000000000 * seconds
-    → has_passed seconds begin time ≡ true → nat_lt late begin ≡ false
+    → have_passed seconds begin time ≡ true → nat_lt late begin ≡ false
 late-enough seconds begin time late some near passed =
-    let far : 1000000000 * seconds ≤ time - begin = grind (arith, nat_tests) in
-    let after : begin ≤ late = omega (arith, far, near, some) in
+    let far : begin + 1000000000 * seconds ≤ time = grind (arith, nat_tests) in
+    let after : begin ≤ late = omega (arith, far, near) in
     grind (arith, nat_tests)
 
 -- what comes soon after the last fragment drops nothing
@@ -31,8 +34,8 @@ stays : (seconds begin time : ℕ) (lists : Lists) (name : FragmentName) (channe
     → time < (lists name channel).time + 1000000000 * seconds
     → lists_at (Some seconds) (Some begin) time lists name channel ≡ lists name channel
 stays seconds begin time lists name channel some near =
-    chosen (has_passed seconds begin time) lists begin name channel
-    ∙ elim (has_passed seconds begin time) as (λ b. has_passed seconds begin time ≡ b
+    chosen (have_passed seconds begin time) lists begin name channel
+    ∙ elim (have_passed seconds begin time) as (λ b. have_passed seconds begin time ≡ b
     → (if b then retained_from begin (lists name channel) else lists name channel)
     ≡ lists name channel) [
       | true ↦ λ e. rw (late-enough seconds begin time (lists name channel).time some near e) refl
@@ -70,10 +73,19 @@ forget_keeps seconds channel name course packets some near =
     keeps seconds channel name course course packets some refl near
 
 passes : (seconds begin time : ℕ) → begin + 1000000000 * seconds ≤ time
-    → has_passed seconds begin time ≡ true
-passes seconds begin time far =
-    let some : 1000000000 * seconds ≤ time - begin = omega (arith, far) in
-    grind (arith, nat_tests)
+    → have_passed seconds begin time ≡ true
+passes seconds begin time far = grind (arith, nat_tests)
+
+is-earlier : (a b : ℕ) → nat_lt a b ≡ true → a < b
+is-earlier a b t = grind (arith, nat_tests)
+
+is-late : (a b : ℕ) → nat_lt a b ≡ false → b ≤ a
+is-late a b t = grind (arith, nat_tests)
+
+later-drops : (own begin : ℕ) (numbers : List ℕ) → begin ≤ own → Drops own (begin ∷ numbers)
+    → Drops own numbers
+later-drops own begin numbers late (inl early) = absurd (omega (arith, late, early))
+later-drops own begin numbers late (inr after) = after
 
 earlier : (late begin : ℕ) → late < begin → nat_lt late begin ≡ true
 earlier late begin lt = grind (arith, nat_tests)
@@ -121,31 +133,31 @@ module _ (seconds channel : ℕ) (name : FragmentName) where
   module _ (course : Course) (packet : Packet) (begin : ℕ) (by : PassesBy name channel packet)
       (begun : course.begin ≡ Some begin) where
     held-at : held (next course packet)
-        ≡ (if has_passed seconds begin packet.time then retained_from begin (held course)
+        ≡ (if have_passed seconds begin packet.time then retained_from begin (held course)
         else held course)
     held-at = by (lists_at (Some seconds) course.begin packet.time course.lists name channel)
         ∙ ap (λ (o : Option ℕ). lists_at (Some seconds) o packet.time course.lists name channel)
-        begun ∙ chosen (has_passed seconds begin packet.time) course.lists begin name channel
+        begun ∙ chosen (have_passed seconds begin packet.time) course.lists begin name channel
 
-    held-passed : has_passed seconds begin packet.time ≡ true
+    held-passed : have_passed seconds begin packet.time ≡ true
         → held (next course packet) ≡ retained_from begin (held course)
     held-passed e = held-at ∙ ap (λ (b : Bool). if b then retained_from begin (held course)
         else held course) e
 
-    held-more : has_passed seconds begin packet.time ≡ false
+    held-more : have_passed seconds begin packet.time ≡ false
         → held (next course packet) ≡ held course
     held-more e = held-at ∙ ap (λ (b : Bool). if b then retained_from begin (held course)
         else held course) e
 
     begin-at : (next course packet).begin
-        ≡ (if has_passed seconds begin packet.time then Some packet.time else Some begin)
+        ≡ (if have_passed seconds begin packet.time then Some packet.time else Some begin)
     begin-at = ap (λ (o : Option ℕ). begin_at (Some seconds) o packet.time) begun
 
-    begin-passed : has_passed seconds begin packet.time ≡ true
+    begin-passed : have_passed seconds begin packet.time ≡ true
         → (next course packet).begin ≡ Some packet.time
     begin-passed e = begin-at ∙ ap (λ (b : Bool). if b then Some packet.time else Some begin) e
 
-    begin-more : has_passed seconds begin packet.time ≡ false
+    begin-more : have_passed seconds begin packet.time ≡ false
         → (next course packet).begin ≡ Some begin
     begin-more e = begin-at ∙ ap (λ (b : Bool). if b then Some packet.time else Some begin) e
 
@@ -154,8 +166,8 @@ module _ (seconds channel : ℕ) (name : FragmentName) where
   none-at None time course none = none
   none-at (Some begin) time course none =
       ap (λ (h : Held). h.fragments)
-      (chosen (has_passed seconds begin time) course.lists begin name channel)
-      ∙ none-chosen (has_passed seconds begin time) (retained_from begin (held course))
+      (chosen (have_passed seconds begin time) course.lists begin name channel)
+      ∙ none-chosen (have_passed seconds begin time) (retained_from begin (held course))
       (held course) (none-retained begin (held course) none) none
 
   -- a message that is dropped stays so
@@ -168,92 +180,79 @@ module _ (seconds channel : ℕ) (name : FragmentName) where
       (by.0 (lists_at (Some seconds) course.begin packet.time course.lists name channel))
       ∙ none-at course.begin packet.time course none) by.1
 
-  -- once a span began behind the fragment, its end drops the message
-  drops-ahead : (course : Course) (begin : ℕ) (later : List Packet) (last : Packet)
-      → course.begin ≡ Some begin → (held course).time < begin
-      → begin + 1000000000 * seconds ≤ last.time → AllPass (later ++ last ∷ [])
-      → (after course (later ++ last ∷ [])).fragments ≡ []
-  drops-ahead course begin [] last begun early far by =
-      ap (λ (h : Held). h.fragments)
-      (held-passed course last begin by.0 begun (passes seconds begin last.time far))
-      ∙ gone begin (held course) early
-  drops-ahead course begin (packet ∷ later) last begun early far by =
-      elim (has_passed seconds begin packet.time) as (λ b. has_passed seconds begin packet.time ≡ b
-      → (after (next course packet) (later ++ last ∷ [])).fragments ≡ []) [
-        | true ↦ λ e. stays-dropped (next course packet) (later ++ last ∷ [])
-            (ap (λ (h : Held). h.fragments) (held-passed course packet begin by.0 begun e)
-            ∙ gone begin (held course) early) by.1
-        | false ↦ λ e. drops-ahead (next course packet) begin later last
-            (begin-more course packet begin by.0 begun e)
-            (subst (λ (h : Held). h.time < begin)
-            (sym (held-more course packet begin by.0 begun e)) early) far by.1
-      ] refl
+  abbrev mark : Packet → Mark
+  mark packet = record { time = packet.time; number = packet.time }
 
-  module _ (soon : Packet) (later : List Packet) (last : Packet) (some : 0 < seconds) where
-    abbrev Ends : Course → List Packet → Type 0
-    Ends course between =
-        (after course ((between ++ soon ∷ []) ++ (later ++ last ∷ []))).fragments ≡ []
+  abbrev began : ℕ → Mark
+  began begin = record { time = begin; number = begin }
 
-    abbrev Pass : List Packet → Type 0
-    Pass between = AllPass ((between ++ soon ∷ []) ++ (later ++ last ∷ []))
+  abbrev Tells : ℕ → (begin : ℕ) → Packet → List Packet → Bool → Type 0
+  Tells own begin packet packets b = Drops own (if b
+      then begin ∷ passed_spans seconds (mark packet) (map mark packets)
+      else passed_spans seconds (began begin) (map mark packets))
 
-    -- a span that begins behind the fragment
-    begins-ahead : (course : Course) (begin : ℕ) (between : List Packet)
-        → course.begin ≡ Some begin → (held course).time < begin
-        → begin + 1000000000 * seconds ≤ last.time → Pass between → Ends course between
-    begins-ahead course begin between begun early far by =
-        let regrouped = append_assoc (between ++ soon ∷ []) later (last ∷ []) in
-        subst (λ (ps : List Packet). (after course ps).fragments ≡ []) regrouped
-        (drops-ahead course begin ((between ++ soon ∷ []) ++ later) last begun early far
-        (subst AllPass (sym regrouped) by))
+  -- what spans drop is dropped
+  dropped : (course : Course) (begin : ℕ) (packets : List Packet) → course.begin ≡ Some begin
+      → AllPass packets
+      → Drops (held course).time (passed_spans seconds (began begin) (map mark packets))
+      → (after course packets).fragments ≡ []
+  dropped course begin [] begun by drops = absurd drops
+  dropped course begin (packet ∷ packets) begun by drops =
+      elim (cases_Bool (have_passed seconds begin packet.time)) [
+        | inl t ↦
+            let now = held-passed course packet begin by.0 begun t in
+            elim (cases_Bool (nat_lt (held course).time begin)) [
+              | inl early ↦ stays-dropped (next course packet) packets
+                  (ap (λ (h : Held). h.fragments) now
+                  ∙ gone begin (held course) (is-earlier (held course).time begin early)) by.1
+              | inr late ↦
+                  let stays : held (next course packet) ≡ held course =
+                  now ∙ retained begin (held course) (is-late (held course).time begin late) in
+                  dropped (next course packet) packet.time packets
+                  (begin-passed course packet begin by.0 begun t) by.1
+                  (subst (λ (h : Held). Drops h.time
+                  (passed_spans seconds (mark packet) (map mark packets))) (sym stays)
+                  (later-drops (held course).time begin
+                  (passed_spans seconds (mark packet) (map mark packets))
+                  (is-late (held course).time begin late) (subst (Tells (held course).time begin packet packets) t drops)))
+            ]
+        | inr t ↦ dropped (next course packet) begin packets
+            (begin-more course packet begin by.0 begun t) by.1
+            (subst (λ (h : Held). Drops h.time (passed_spans seconds (began begin) (map mark packets)))
+            (sym (held-more course packet begin by.0 begun t)) (subst (Tells (held course).time begin packet packets) t drops))
+      ]
 
-    drops : (course : Course) (begin : ℕ) (between : List Packet) → course.begin ≡ Some begin
-        → begin ≤ (held course).time → (held course).time + 1000000000 * seconds ≤ soon.time
-        → AllByRecursion (λ p. p.time + 1000000000 * seconds ≤ last.time) (between ++ soon ∷ [])
-        → Pass between → Ends course between
-    drops course begin [] begun late far after by =
-        let e = passes seconds begin soon.time (omega (arith, late, far)) in
-        let same : held (next course soon) ≡ held course =
-        held-passed course soon begin by.0 begun e ∙ retained begin (held course) late in
-        drops-ahead (next course soon) soon.time later last
-        (begin-passed course soon begin by.0 begun e)
-        (subst (λ (h : Held). h.time < soon.time) (sym same) (omega (arith, far, some)))
-        after.0 by.1
-    drops course begin (packet ∷ between) begun late far after by =
-        elim (has_passed seconds begin packet.time) as (λ b. has_passed seconds begin packet.time
-        ≡ b → Ends (next course packet) between) [
-          | true ↦ λ e.
-              let same : held (next course packet) ≡ held course =
-              held-passed course packet begin by.0 begun e
-              ∙ retained begin (held course) late in
-              let own = begin-passed course packet begin by.0 begun e in
-              elim (nat_lt (held course).time packet.time) as (λ b.
-              nat_lt (held course).time packet.time ≡ b → Ends (next course packet) between) [
-                | true ↦ λ t. begins-ahead (next course packet) packet.time between own
-                    (subst (λ (h : Held). h.time < packet.time) (sym same)
-                    (is-earlier (held course).time packet.time t)) after.0 by.1
-                | false ↦ λ t. drops (next course packet) packet.time between own
-                    (subst (λ (h : Held). packet.time ≤ h.time) (sym same)
-                    (is-late (held course).time packet.time t))
-                    (subst (λ (h : Held). h.time + 1000000000 * seconds ≤ soon.time) (sym same)
-                    far) after.1 by.1
-              ] refl
-          | false ↦ λ e.
-              let same : held (next course packet) ≡ held course =
-              held-more course packet begin by.0 begun e in
-              drops (next course packet) begin between
-              (begin-more course packet begin by.0 begun e)
-              (subst (λ (h : Held). begin ≤ h.time) (sym same) late)
-              (subst (λ (h : Held). h.time + 1000000000 * seconds ≤ soon.time) (sym same) far)
-              after.1 by.1
-        ] refl
-      where
-        is-earlier : (a b : ℕ) → nat_lt a b ≡ true → a < b
-        is-earlier a b t = grind (arith, nat_tests)
+  numbers : (time : ℕ) (packets : List Packet)
+      → AllByRecursion (λ m. (time < m.number) ⊎ (m.time ≤ time)) (map mark packets)
+  numbers time [] = tt
+  numbers time (packet ∷ packets) = (cases_lt time packet.time, numbers time packets)
 
-        is-late : (a b : ℕ) → nat_lt a b ≡ false → b ≤ a
-        is-late a b t = grind (arith, nat_tests)
+  times : (last : ℕ) (packets : List Packet)
+      → AllByRecursion (λ p. p.time + 1000000000 * seconds ≤ last) packets
+      → AllByRecursion (λ m. m.time + 1000000000 * seconds ≤ last) (map mark packets)
+  times last [] all = tt
+  times last (packet ∷ packets) all = (all.0, times last packets all.1)
 
-pub forget_drops : ForgetDrops
-forget_drops seconds channel name course begin between soon later last some begun late far after by =
-    drops seconds channel name soon later last some course begin between begun late far after by
+  drops-in-time : SpansDrop → (course : Course) (begin : ℕ) (between : List Packet) (soon : Packet)
+      (later : List Packet) (last : Packet) → 0 < seconds → course.begin ≡ Some begin
+      → begin ≤ (held course).time → (held course).time + 1000000000 * seconds ≤ soon.time
+      → AllByRecursion (λ p. p.time + 1000000000 * seconds ≤ last.time) (between ++ soon ∷ [])
+      → AllPass ((between ++ soon ∷ []) ++ (later ++ last ∷ []))
+      → (after course ((between ++ soon ∷ []) ++ (later ++ last ∷ []))).fragments ≡ []
+  drops-in-time law course begin between soon later last some begun late far all by =
+      let time = (held course).time in
+      let front : map mark (between ++ soon ∷ []) ≡ map mark between ++ mark soon ∷ [] =
+      map-append mark between (soon ∷ []) in
+      let back : map mark (later ++ last ∷ []) ≡ map mark later ++ mark last ∷ [] =
+      map-append mark later (last ∷ []) in
+      let whole = map-append mark (between ++ soon ∷ []) (later ++ last ∷ []) in
+      dropped course begin ((between ++ soon ∷ []) ++ (later ++ last ∷ [])) begun by
+      (rw (whole, front, back)
+      (law seconds time time (began begin) (map mark between) (mark soon) (map mark later)
+      (mark last) late far (omega (arith, far, some)) (numbers time between)
+      (rw front at (times last.time (between ++ soon ∷ []) all))))
+
+pub forget_drops : SpansDrop → ForgetDrops
+forget_drops law seconds channel name course begin between soon later last some begun late far all by =
+    drops-in-time seconds channel name law course begin between soon later last some begun late far all
+    by

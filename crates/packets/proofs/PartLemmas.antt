@@ -7,7 +7,7 @@ use Rattle.ep_defrag.specs.IpFragId.{fragment_in, id_named}
 use Rattle.ep_defrag.specs.PoolCalls.{FrameAnswered, HasMemory, Lists, ShowsLists, Told}
 use Rattle.ep_defrag.specs.PoolCalls.{answer_to_frame, lists_with_frame, told_outcome}
 use Rattle.ep_defrag.specs.PoolCalls.Told.{Refused}
-use Rattle.ep_defrag.specs.Processed.{PacketsAreAnswered, WantsAreTold}
+use Rattle.ep_defrag.specs.Processed.{PacketsAreAnswered, Processed, WantsAreTold}
 use Rattle.ep_streams.specs.Streams.{OthersStay, Pool, Stays}
 use Rattle.ep_defrag.specs.declared.defrag.ip_defrag_payload_vec.IpDefragPayloadVec.{IpDefragPayloadVec}
 use Rattle.ep_defrag.specs.declared.defrag.ip_frag_id.IpFragId.{IpFragId}
@@ -21,7 +21,7 @@ use Rattle.ep_ip.specs.Ipv4.{is_fragmenting}
 use Rattle.ep_ipslice.specs.Ipv6Packet.{fragment_fields_in}
 use Rattle.ep_ipslice.specs.Packet.{FragmentFields, IpPayload, ipv4_fragment_fields}
 use Rattle.ep_ipslice.specs.Packet.{ipv4_payload}
-use Rattle.ep_packet.specs.Class.{fragment_class, ipv4_addresses, ipv6_addresses}
+use Rattle.ep_packet.specs.Class.{FragmentName, fragment_class, ipv4_addresses, ipv6_addresses}
 use Rattle.ep_packet.specs.Class.{as_class, class_told, net_told, packet_told, part_class}
 use Rattle.ep_packet.specs.Class.{whole_told}
 use Rattle.ep_packet.specs.Class.Class.{Cut, Other, Refused as Faulty}
@@ -44,29 +44,44 @@ cut_sound message is = cc
 cut_is_part : (message : CutMessage) → fragment_in (as_class (cut.Cut message)) ≡ None → ⊥
 cut_is_part message none = cc
 
+-- the name of the message that a part belongs to
+abbrev pub name_of_part : CutMessage → FragmentName
+name_of_part message = record {
+  vlan_ids = message.vlan_ids.items;
+  addresses = message.addresses;
+  identification = message.identification;
+  number = message.part.ip_number.0;
+}
+
+pub part_processed : {T : Type 0} (old new : Pool (IpFragId ℕ) T) (message : CutMessage) (time : T)
+    (channel : ℕ) (result : Result (Option IpDefragPayloadVec) IpDefragError)
+    → IfSome (fragment_in (as_class (cut.Cut message))) (λ told.
+    Accepts (same_id nat_eq) old new (id_named told.0 channel) told.1 time result)
+    → IfSome (fragment_in (as_class (cut.Cut message))) (λ told.
+    Refuses (same_id nat_eq) old (id_named told.0 channel) told.1 result)
+    → IfSome (fragment_in (as_class (cut.Cut message))) (λ told.
+    OthersStay (same_id nat_eq) (id_named told.0 channel) old new)
+    → IfSome (fragment_in (as_class (cut.Cut message))) (λ told.
+    IfErr result (Stays (same_id nat_eq) (id_named told.0 channel) old new))
+    → Processed old (as_class (cut.Cut message)) time channel result new
+part_processed old new message time channel result accepted refused others err = record {
+  passed = λ none. absurd (cut_is_part message none);
+  accepted = accepted;
+  refused = refused;
+  others = others;
+  err = err;
+}
+
 -- what the pool made of a part
 module _ (answered : PacketsAreAnswered) (tell : WantsAreTold) (old new : Pool (IpFragId ℕ) ℕ)
     (message : CutMessage) (time channel : ℕ)
     (result : Result (Option IpDefragPayloadVec) IpDefragError)
-    (accepted : IfSome (fragment_in (as_class (cut.Cut message))) (λ told.
-    Accepts (same_id nat_eq) old new (id_named told.0 channel) told.1 time result))
-    (refused : IfSome (fragment_in (as_class (cut.Cut message))) (λ told.
-    Refuses (same_id nat_eq) old (id_named told.0 channel) told.1 result))
-    (others : IfSome (fragment_in (as_class (cut.Cut message))) (λ told.
-    OthersStay (same_id nat_eq) (id_named told.0 channel) old new))
-    (err : IfSome (fragment_in (as_class (cut.Cut message))) (λ told.
-    IfErr result (Stays (same_id nat_eq) (id_named told.0 channel) old new)))
+    (processed : Processed old (as_class (cut.Cut message)) time channel result new)
     (lists : Lists) (shows : ShowsLists old lists) where
   told_by : FrameAnswered (ShowsLists new) lists (as_class (cut.Cut message)) time channel None
       (told_outcome result)
-  told_by = answered old new (as_class (cut.Cut message)) time channel result
-      (record {
-        passed = λ none. absurd (cut_is_part message none);
-        accepted = accepted;
-        refused = refused;
-        others = others;
-        err = err;
-      }) (cut_sound message) None lists shows
+  told_by = answered old new (as_class (cut.Cut message)) time channel result processed
+      (cut_sound message) None lists shows
 
   told_with : HasMemory (told_outcome result)
       → (told_outcome result ≡ answer_to_frame lists (as_class (cut.Cut message)) channel None)
@@ -76,10 +91,6 @@ module _ (answered : PacketsAreAnswered) (tell : WantsAreTold) (old new : Pool (
     | inr wants ↦
         absurd (tell.wants lists (as_class (cut.Cut message)) channel (told_outcome result) wants.0 has)
   ]
-
-  pub part_told : HasMemory (told_outcome result)
-      → told_outcome result ≡ answer_to_frame lists (as_class (cut.Cut message)) channel None
-  part_told has = (told_with has).0
 
   part_wants : (r : Result (Option IpDefragPayloadVec) IpDefragError) → result ≡ r
       → (HasMemory (told_outcome r) → ⊥) → ShowsLists new lists

@@ -1,23 +1,18 @@
 -- In which packets the messages began that are on their way.
-use Rattle.std.specs.Prelude.{◌≡◌, ℕ, ◌==◌, ◌&&◌, nat_eq, nat_lt, if◌then◌else◌, List, [], ◌∷◌, Option}
-use Rattle.std.specs.Prelude.{Some, None, IsSomeAnd, unwrap_or, Result, Ok, Err, MatchResult}
-use Rattle.indexmap.specs.IndexMap.{IsUnique, get}
+use Rattle.std.specs.Prelude.{◌≡◌, ℕ, ◌==◌, ◌&&◌, nat_eq, if◌then◌else◌, List, [], ◌∷◌, Option}
+use Rattle.std.specs.Prelude.{Some, None, IfSome, IsSomeAnd, option_map, unwrap_or, Result, MatchResult}
 use Rattle.ep_defrag.specs.IpDefragPool.{same_id}
 use Rattle.ep_defrag.specs.IpFragId.{fragment_in, id_named, same_name}
-use Rattle.ep_defrag.specs.PoolCalls.{Lists, ShowsLists, lists_with_frame}
-use Rattle.ep_defrag.specs.declared.defrag.ip_defrag_payload_vec.IpDefragPayloadVec.{IpDefragPayloadVec}
+use Rattle.ep_defrag.specs.PoolCalls.{Lists, ShowsLists}
 use Rattle.ep_fragments.specs.Fragments.{Fragment}
-use Rattle.ep_fragments.specs.IpDefragError.{is_overlap}
-use Rattle.ep_fragments.specs.declared.defrag.ip_defrag_error.IpDefragError.{IpDefragError}
 use Rattle.ep_packet.specs.Class.{Class, FragmentName}
 use Rattle.ep_packet.specs.Class.Class.{Cut, Other, Refused as Faulty, Whole}
-use Rattle.ep_packet.specs.declared.class.CutMessage.{CutMessage}
-use Rattle.packets.specs.declared.beginnings.Beginning.{Beginning}
-use Rattle.packets.specs.declared.beginnings.Beginnings.{Beginnings}
+use Rattle.ep_streams.specs.Timestamps.{pool_by, timestamp_at}
 use Rattle.packets.specs.declared.dissection.Fragment.{Fragment as Part}
 use Rattle.packets.specs.declared.dissection.Fragment.TheVariants.{Waits, Completes, Refused}
 use Rattle.packets.specs.declared.messages.Finding.{Finding}
 use Rattle.packets.specs.declared.messages.Messages.{Messages}
+use Rattle.packets.specs.declared.messages.Received.{Received}
 
 -- the number of the packet in which the message of each name and channel began, where one is on its
 -- way
@@ -68,50 +63,32 @@ TellsBegun lists begun (Whole addresses protocol bytes message) channel number p
 TellsBegun lists begun Other channel number part = part ≡ None
 TellsBegun lists begun Faulty channel number part = part ≡ None
 
--- ---- what is kept of it
+-- ---- what the pool keeps of it
 
--- where a message of these accepted fragments began, and when the last of them came
-abbrev pub kept_if : List Fragment → (number last : ℕ) → Option Beginning
-kept_if [] number last = None
-kept_if (f ∷ fs) number last = Some (record { number = number; last = last })
-
--- of each message that is on its way, and of no other, it is kept where it began and when its last
--- accepted fragment came; no name is there twice
-pub record ShowsBegun (kept : Beginnings) (lists : Lists) (begun : Begun) : Type 0 where
-  pub unique : IsUnique (same_id nat_eq) kept.entries
-  pub each : (name : FragmentName) (channel : ℕ)
-      → get (same_id nat_eq) kept.entries (id_named name channel)
-      ≡ kept_if (lists name channel).fragments (begun name channel) (lists name channel).time
-
--- what is kept of a message after this became of a part of it
-abbrev pub kept_after : Result (Option IpDefragPayloadVec) IpDefragError → (number last : ℕ)
-    → Option Beginning → Option Beginning
-kept_after (Ok None) number last kept = Some (record { number = number; last = last })
-kept_after (Ok (Some message)) number last kept = None
-kept_after (Err error) number last kept = if is_overlap error then None else kept
-
--- and from a time on: nothing where the last part came before it
-abbrev pub kept_from : ℕ → Option Beginning → Option Beginning
-kept_from time None = None
-kept_from time (Some kept) = if nat_lt kept.last time then None else Some kept
-
--- the name of the message that a part belongs to
-abbrev pub name_of_part : CutMessage → FragmentName
-name_of_part message = record {
-  vlan_ids = message.vlan_ids.items;
-  addresses = message.addresses;
-  identification = message.identification;
-  number = message.part.ip_number.0;
+-- with a part in the packet of this number, which came at this time: the first packet stays
+abbrev pub received_with : (number time : ℕ) → Option Received → Received
+received_with number time before = record {
+  first = unwrap_or (option_map (λ (r : Received). r.first) before) number;
+  last = time;
 }
 
--- the packet of this number and class, which came at this time on this channel, tells where its
--- message began, and what is kept goes on with it; or there is no memory, and it stays
+-- the pool shows the accepted fragments of each message, and when the last of them came
+abbrev pub ShowsParts : Messages → Lists → Type 0
+ShowsParts messages lists = ShowsLists (pool_by (λ (r : Received). r.last) messages.pool) lists
+
+-- and of each message that is on its way, in which packet it began
+abbrev pub ShowsBegun : Messages → Begun → Type 0
+ShowsBegun messages begun = (name : FragmentName) (channel : ℕ)
+    → IfSome (timestamp_at (same_id nat_eq) messages.pool (id_named name channel))
+    (λ r. r.first ≡ begun name channel)
+
+-- the packet of this number and class, which came on this channel, tells where its message began,
+-- and what is kept goes on with it; or there is no memory, and it stays
 abbrev pub AnswersBegun : {E : Type 0} → (old new : Messages) → Class
-    → (time channel number : ℕ) → Result Finding E → Type 0
-AnswersBegun old new class time channel number result = (lists : Lists) (begun : Begun)
-    → ShowsLists old.pool lists → ShowsBegun old.beginnings lists begun
+    → (channel number : ℕ) → Result Finding E → Type 0
+AnswersBegun old new class channel number result = (lists : Lists) (begun : Begun)
+    → ShowsParts old lists → ShowsBegun old begun
     → MatchResult result
     (λ finding. TellsBegun lists begun class channel number finding.fragment
-    × ShowsBegun new.beginnings (lists_with_frame lists class time channel)
-    (begun_with lists begun class channel number))
-    (λ e. ShowsBegun new.beginnings lists begun)
+    × ShowsBegun new (begun_with lists begun class channel number))
+    (λ e. ShowsBegun new begun)

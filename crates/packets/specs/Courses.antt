@@ -1,21 +1,21 @@
 -- What is told of the packets of a capture, one after the other: which messages are on their way when
 -- each comes, and when they are dropped.
-use Rattle.std.specs.Prelude.{◌≡◌, ℕ, ◌+◌, ◌-◌, ◌*◌, nat_le, Bool, if◌then◌else◌}
-use Rattle.std.specs.Prelude.{List, [], ◌∷◌, filter, length, Option, Some, None}
+use Rattle.std.specs.Prelude.{◌≡◌, ℕ, ◌+◌, List, [], ◌∷◌, filter, length, Option, Some, None}
 use Rattle.captures.specs.Framed.{frame_bytes}
 use Rattle.captures.specs.Numbers.{capped}
+use Rattle.captures.specs.Spans.{begin_with, passed_with}
 use Rattle.captures.specs.declared.packet.Packet.{Packet}
+use Rattle.captures.specs.declared.spans.Spans.{Spans}
 use Rattle.ep_defrag.specs.PoolCalls.{Lists, answer_to_frame, fault_in, lists_with_frame}
-use Rattle.ep_defrag.specs.PoolCalls.{ShowsLists, no_lists, retained_from}
+use Rattle.ep_defrag.specs.PoolCalls.{no_lists, retained_from}
 use Rattle.ep_packet.specs.Class.{Class, class_told}
-use Rattle.packets.specs.Begun.{Begun, ShowsBegun, TellsBegun, begun_with, none_begun}
+use Rattle.packets.specs.Begun.{Begun, ShowsBegun, ShowsParts, TellsBegun, begun_with, none_begun}
 use Rattle.packets.specs.Conditions.{lets_through}
 use Rattle.packets.specs.Dissected.{fragment_told, told_of, verdict_on}
 use Rattle.packets.specs.Layers.{layers_of}
 use Rattle.packets.specs.declared.dissection.Dissection.{Dissection}
 use Rattle.packets.specs.declared.dissector.Dissector.{Dissector}
 use Rattle.packets.specs.declared.filter.Filter.{Filter}
-use Rattle.packets.specs.declared.run.rules.Spans.{Spans}
 
 -- how far a capture has come: how many packets came, when the first one did, the fragments of each
 -- message that is on its way, in which packet it began, and when the span began at whose end
@@ -32,24 +32,20 @@ abbrev pub no_course : Course
 no_course =
     record { number = 0; first = None; lists = no_lists; begun = none_begun; begin = None }
 
--- whether so many seconds passed between two times in nanoseconds
-abbrev pub has_passed : ℕ → ℕ → ℕ → Bool
-has_passed seconds begin time = nat_le (1000000000 * seconds) (time - begin)
+-- the lists without those of which no fragment was accepted since a span began, if one has passed
+abbrev pub lists_since : Option ℕ → Lists → Lists
+lists_since None lists = lists
+lists_since (Some begin) lists = λ name channel. retained_from begin (lists name channel)
 
--- the lists when a packet of this time comes: once a span has passed, without those of which no
--- fragment was accepted since it began
+-- the lists when a packet of this time comes
 abbrev pub lists_at : Option ℕ → Option ℕ → ℕ → Lists → Lists
 lists_at None begin time lists = lists
-lists_at (Some seconds) None time lists = lists
-lists_at (Some seconds) (Some begin) time lists = if has_passed seconds begin time
-    then (λ name channel. retained_from begin (lists name channel)) else lists
+lists_at (Some seconds) begin time lists = lists_since (passed_with seconds begin time) lists
 
 -- and when the span began that lasts then
 abbrev pub begin_at : Option ℕ → Option ℕ → ℕ → Option ℕ
 begin_at None begin time = begin
-begin_at (Some seconds) None time = Some time
-begin_at (Some seconds) (Some begin) time = if has_passed seconds begin time
-    then Some time else Some begin
+begin_at (Some seconds) begin time = begin_with seconds begin time
 
 abbrev pub forgotten : Option ℕ → ℕ → Course → Course
 forgotten seconds time course = record course {
@@ -115,12 +111,10 @@ AreDissected seconds course (packet ∷ packets) told = (first : Dissection)
 abbrev pub shown : Filter → List Dissection → List Dissection
 shown conditions told = filter (lets_through conditions) told
 
--- a capture has come so far with these, where messages are dropped after so many seconds
-pub record HasCourse (forget : Option ℕ) (course : Course) (dissector : Dissector) (spans : Spans)
-    : Type 0 where
+-- a capture has come so far with these
+pub record HasCourse (course : Course) (dissector : Dissector) (spans : Spans) : Type 0 where
   pub number : dissector.number ≡ course.number
   pub first : dissector.first_time ≡ course.first
-  pub lists : ShowsLists dissector.messages.pool course.lists
-  pub begun : ShowsBegun dissector.messages.beginnings course.lists course.begun
-  pub seconds : spans.seconds ≡ forget
+  pub lists : ShowsParts dissector.messages course.lists
+  pub begun : ShowsBegun dissector.messages course.begun
   pub begin : spans.begin ≡ course.begin

@@ -3,13 +3,11 @@ use Rattle.std.specs.Prelude.{◌≡◌, ℕ, Bool, true, false, Option, Some, N
 use Rattle.std.specs.Prelude.{Ok, Err, MatchResult}
 use Rattle.ep_defrag.specs.IpDefragPool.{payload_told}
 use Rattle.ep_defrag.specs.IpFragId.{fragment_in}
-use Rattle.ep_defrag.specs.PoolCalls.{HasMemory, Lists, ShowsLists, Told}
+use Rattle.ep_defrag.specs.PoolCalls.{HasMemory, Lists, Told}
 use Rattle.ep_defrag.specs.PoolCalls.{answer_to_frame}
 use Rattle.ep_defrag.specs.PoolCalls.{lists_with_frame}
 use Rattle.ep_defrag.specs.PoolCalls.Told.{Delivered, NoMemory, NotSliced, Nothing}
 use Rattle.ep_defrag.specs.PoolCalls.Told.{Refused as PartRefused, Retained}
-use Rattle.ep_streams.specs.Streams.{Pool}
-use Rattle.ep_defrag.specs.declared.defrag.ip_frag_id.IpFragId.{IpFragId}
 use Rattle.ep_fragments.specs.declared.defrag.ip_defrag_error.IpDefragError.{IpDefragError}
 use Rattle.ep_fragments.specs.declared.defrag.ip_defrag_error.IpDefragError.TheVariants.{UnalignedFragmentPayloadLen}
 use Rattle.ep_fragments.specs.declared.defrag.ip_defrag_error.IpDefragError.TheVariants.{SegmentTooBig}
@@ -26,7 +24,9 @@ use Rattle.verdicts.specs.Verdict.{verdict_of}
 use Rattle.verdicts.specs.declared.verdict.Verdict.{Verdict}
 use Rattle.packets.specs.declared.dissection.Fragment.{Fragment}
 use Rattle.packets.specs.declared.dissection.Fragment.TheVariants.{Waits, Completes, Refused}
+use Rattle.packets.specs.Begun.{ShowsParts}
 use Rattle.packets.specs.declared.messages.Finding.{Finding}
+use Rattle.packets.specs.declared.messages.Messages.{Messages}
 
 -- what is told of a part of a message, or of what is none
 abbrev pub fragment_told : Option Fragment → Told
@@ -66,13 +66,13 @@ verdict_on Faulty told = None
 -- a packet of this class was answered, which came at this time on this channel: by the lists of all
 -- names, and the pool shows them with it then; or there was no memory for a part, and it shows them
 -- as they were
-abbrev pub Answers : {E : Type 0} → (old new : Pool (IpFragId ℕ) ℕ) → Class → (time channel : ℕ)
+abbrev pub Answers : {E : Type 0} → (old new : Messages) → Class → (time channel : ℕ)
     → Option SliceError → Result Told E → Type 0
-Answers old new class time channel fault result = (lists : Lists) → ShowsLists old lists
+Answers old new class time channel fault result = (lists : Lists) → ShowsParts old lists
     → MatchResult result
     (λ told. (told ≡ answer_to_frame lists class channel fault)
-    × ShowsLists new (lists_with_frame lists class time channel))
-    (λ e. ShowsLists new lists × IsSome (fragment_in class))
+    × ShowsParts new (lists_with_frame lists class time channel))
+    (λ e. ShowsParts new lists × IsSome (fragment_in class))
 
 -- what is told of a part, if anything is
 abbrev pub found_told : {E : Type 0} → Result Finding E → Result Told E

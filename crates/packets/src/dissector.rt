@@ -5,10 +5,11 @@ ghost use Rattle.captures.specs.Framed.{frame_bytes};
 ghost use Rattle.captures.specs.Numbers.{capped};
 ghost use Rattle.ep_defrag.specs.IpFragId.{fragment_in};
 ghost use Rattle.ep_defrag.specs.OpenMessages.{IsOpenCount};
-ghost use Rattle.ep_defrag.specs.PoolCalls.{Lists, ShowsLists, answer_to_frame, fault_in};
+ghost use Rattle.ep_defrag.specs.PoolCalls.{Lists, answer_to_frame, fault_in};
 ghost use Rattle.ep_defrag.specs.PoolCalls.{lists_with_frame, no_lists, retained_from};
 ghost use Rattle.ep_packet.specs.Class.{class_told};
-ghost use Rattle.packets.specs.Begun.{Begun, ShowsBegun, TellsBegun, begun_with, none_begun};
+ghost use Rattle.packets.specs.Begun.{Begun, ShowsBegun, ShowsParts, TellsBegun};
+ghost use Rattle.packets.specs.Begun.{begun_with, none_begun};
 ghost use Rattle.packets.specs.Courses.{first_at};
 ghost use Rattle.packets.specs.Dissected.{fragment_told, told_of, verdict_on};
 ghost use Rattle.packets.specs.Layers.{behind_header, layers_of};
@@ -39,8 +40,8 @@ impl Dissector {
     pub fn new(alloc: Global) -> Dissector
         ensures number { result.number ≡ 0 }
         ensures first_time { result.first_time ≡ None }
-        ensures messages { ShowsLists result.messages.pool no_lists }
-        ensures begun { ShowsBegun result.messages.beginnings no_lists none_begun }
+        ensures messages { ShowsParts result.messages no_lists }
+        ensures begun { ShowsBegun result.messages none_begun }
     {
         Dissector {
             messages: Messages::new(alloc),
@@ -62,22 +63,21 @@ impl Dissector {
         ensures layers { IfOk result
             (λ d. d.layers ≡ layers_of packet.now.frame.header packet.now.frame.bytes) }
         // What is told of a part of a message, and which messages are on their way then.
-        ensures answered { (lists : Lists) → ShowsLists self.old.messages.pool lists
+        ensures answered { (lists : Lists) → ShowsParts self.old.messages lists
             → MatchResult result
             (λ d. (told_of d.layers d.fragment ≡ answer_to_frame lists (class_told d.layers)
             packet.now.interface (fault_in d.layers))
-            × ShowsLists self.new.messages.pool
+            × ShowsParts self.new.messages
             (lists_with_frame lists (class_told d.layers) packet.now.time packet.now.interface))
-            (λ e. ShowsLists self.new.messages.pool lists × IsSome (fragment_in
+            (λ e. ShowsParts self.new.messages lists × IsSome (fragment_in
             (class_told (layers_of packet.now.frame.header packet.now.frame.bytes)))) }
         // In which packet its message began, and in which ones those began that are on their way then.
-        ensures begun { (lists : Lists) (begun : Begun) → ShowsLists self.old.messages.pool lists
-            → ShowsBegun self.old.messages.beginnings lists begun → MatchResult result
+        ensures begun { (lists : Lists) (begun : Begun) → ShowsParts self.old.messages lists
+            → ShowsBegun self.old.messages begun → MatchResult result
             (λ d. TellsBegun lists begun (class_told d.layers) packet.now.interface d.number
-            d.fragment × ShowsBegun self.new.messages.beginnings
-            (lists_with_frame lists (class_told d.layers) packet.now.time packet.now.interface)
+            d.fragment × ShowsBegun self.new.messages
             (begun_with lists begun (class_told d.layers) packet.now.interface d.number))
-            (λ e. ShowsBegun self.new.messages.beginnings lists begun) }
+            (λ e. ShowsBegun self.new.messages begun) }
         ensures verdict { IfOk result
             (λ d. d.verdict ≡ verdict_on (class_told d.layers) (fragment_told d.fragment)) }
         ensures arrival { IfOk result (λ d. (d.time ≡ packet.now.time)
@@ -122,9 +122,10 @@ impl Dissector {
     pub fn give_back(&mut self, dissection: Dissection<'_>)
         ensures number { self.new.number ≡ self.old.number }
         ensures first_time { self.new.first_time ≡ self.old.first_time }
-        ensures messages { (lists : Lists) → ShowsLists self.old.messages.pool lists
-            → ShowsLists self.new.messages.pool lists }
-        ensures begun { self.new.messages.beginnings ≡ self.old.messages.beginnings }
+        ensures messages { (lists : Lists) → ShowsParts self.old.messages lists
+            → ShowsParts self.new.messages lists }
+        ensures begun { (begun : Begun) → ShowsBegun self.old.messages begun
+            → ShowsBegun self.new.messages begun }
     {
         if let Some(Fragment::Completes { message, .. }) = dissection.fragment {
             self.messages.return_buf(message);
@@ -133,7 +134,7 @@ impl Dissector {
 
     /// How many messages are on their way.
     pub fn open(&self) -> usize
-        ensures { (lists : Lists) → ShowsLists self.now.messages.pool lists
+        ensures { (lists : Lists) → ShowsParts self.now.messages lists
             → IsOpenCount lists result }
     {
         self.messages.len()
@@ -143,13 +144,11 @@ impl Dissector {
     pub fn forget_before(&mut self, time: u64)
         ensures number { self.new.number ≡ self.old.number }
         ensures first_time { self.new.first_time ≡ self.old.first_time }
-        ensures messages { (lists : Lists) → ShowsLists self.old.messages.pool lists
-            → ShowsLists self.new.messages.pool
+        ensures messages { (lists : Lists) → ShowsParts self.old.messages lists
+            → ShowsParts self.new.messages
             (λ name channel. retained_from time (lists name channel)) }
-        ensures begun { (lists : Lists) (begun : Begun)
-            → ShowsBegun self.old.messages.beginnings lists begun
-            → ShowsBegun self.new.messages.beginnings
-            (λ name channel. retained_from time (lists name channel)) begun }
+        ensures begun { (begun : Begun) → ShowsBegun self.old.messages begun
+            → ShowsBegun self.new.messages begun }
     {
         self.messages.forget_before(time);
     }

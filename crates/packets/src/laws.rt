@@ -81,7 +81,9 @@ pub fn forget_keeps()
 /// one that comes so many seconds after each up to that one.
 pub fn forget_drops()
     ensures { ForgetDrops }
-{}
+{
+    captures::laws::spans::spans_drop();
+}
 
 /// With a packet by which a span has passed, a message is dropped of which no fragment was accepted
 /// since the span began.

@@ -1,7 +1,6 @@
 //! What the packets of a capture are, shown to people.
 #![tactic(auto)]
 
-mod beginnings;
 mod dissection;
 mod dissector;
 mod filter;

@@ -1,28 +1,33 @@
 //! Messages, put together of their parts.
-ghost use Rattle.std.specs.Prelude.{◌≡◌, ℕ, None, Some, IsSomeAnd, Ok, IfOk, Option};
-ghost use Rattle.ep_defrag.specs.IpDefragPool.{payload_told};
-ghost use Rattle.ep_defrag.specs.IpFragId.{id_named, spec_id};
+ghost use Rattle.std.specs.Prelude.{◌≡◌, ℕ, None, Some, IsSomeAnd, Ok, IfOk, Option, option_map};
+ghost use Rattle.std.specs.Prelude.{nat_eq, nat_le};
+ghost use Rattle.ep_defrag.specs.IpDefragPool.{payload_told, same_id};
+ghost use Rattle.ep_defrag.specs.declared.defrag.ip_frag_id.IpFragId.{IpFragId};
+ghost use Rattle.ep_streams.specs.Streams.{Retained, stream_at};
 ghost use Rattle.ep_defrag.specs.OpenMessages.{IsOpenCount};
-ghost use Rattle.ep_defrag.specs.PoolCalls.{Lists, ShowsLists, fault_in, no_lists};
+ghost use Rattle.ep_defrag.specs.PoolCalls.{Lists, fault_in, no_lists};
 ghost use Rattle.ep_defrag.specs.PoolCalls.{retained_from, told_outcome};
 ghost use Rattle.ep_defrag.specs.PoolCalls.Told.{Delivered};
 ghost use Rattle.ep_packet.specs.Class.{IdentificationFits, as_class, class_told};
 ghost use Rattle.ep_packet.specs.Class.{packet_told};
 ghost use Rattle.ep_packet.specs.Readable.{message_at};
 ghost use Rattle.ep_packet.specs.declared.class.Class.TheVariants as class;
-ghost use Rattle.packets.specs.Begun.{AnswersBegun, BeganIn, Begun, ShowsBegun, name_of_part};
-ghost use Rattle.packets.specs.Begun.{none_begun};
+ghost use Rattle.packets.specs.Begun.{AnswersBegun, BeganIn, Begun, ShowsBegun, ShowsParts};
+ghost use Rattle.packets.specs.Begun.{none_begun, received_with};
 ghost use Rattle.packets.specs.Dissected.{Answers, IsFound, completed_verdict, found_told};
 ghost use Rattle.packets.specs.Dissected.{fragment_told, is_want, told_if_found};
 ghost use Rattle.packets.specs.Dissected.{verdict_if_read, verdict_on};
 
 use crate::Fragment;
-use crate::beginnings::Beginnings;
-use ep_defrag::defrag::{IpDefragPayloadVec, IpDefragPool, IpFragId, IpFragVersionSpecId};
+use ep_defrag::defrag::{IpDefragPayloadVec, IpDefragPool};
 use ep_defrag::laws::names::equal_names;
 use ep_defrag::laws::streams::{
     a_new_pool_shows_no_lists, open_messages_are_counted, packets_are_answered,
     spare_buffers_show_nothing, wants_are_told,
+};
+use ep_defrag::laws::timestamps::{
+    processed_packets_are_read, read_pools_have_as_many_messages, retained_lists_are_read,
+    timestamps_are_read,
 };
 use ep_fragments::defrag::IpDefragError;
 use ep_packet::err::packet::SliceError;
@@ -33,9 +38,15 @@ use verdicts::{Verdict, judge};
 /// The messages that are on their way.
 #[derive(Drop)]
 pub(crate) struct Messages {
-    // Each with the time of the part that was accepted last.
-    pub pool: IpDefragPool<u64, u32>,
-    pub beginnings: Beginnings,
+    pub pool: IpDefragPool<Received, u32>,
+}
+
+/// Of a message that is on its way, the number of the packet whose part came first, and when the
+/// part came that was accepted last.
+#[derive(Clone, Copy)]
+pub(crate) struct Received {
+    pub first: u64,
+    pub last: u64,
 }
 
 /// The number of a packet, and when and where it came.
@@ -44,6 +55,27 @@ pub(crate) struct Arrival {
     pub number: u64,
     pub time: u64,
     pub interface: u32,
+}
+
+impl Arrival {
+    // What is kept of a message with a part in this packet.
+    fn received(self, before: Option<Received>) -> Received
+        ensures { result ≡ received_with self.number self.time before }
+    {
+        Received {
+            first: first_in(before).unwrap_or(self.number),
+            last: self.time,
+        }
+    }
+}
+
+fn first_in(received: Option<Received>) -> Option<u64>
+    ensures { result ≡ option_map (λ received. received.first) received }
+{
+    match received {
+        Some(received) => Some(received.first),
+        None => None,
+    }
 }
 
 /// What is found in a packet, beside its headers.
@@ -78,13 +110,12 @@ impl Finding {
 impl Messages {
     /// None are on their way. It takes no memory.
     pub(crate) fn new(alloc: Global) -> Messages
-        ensures lists { ShowsLists result.pool no_lists }
-        ensures begun { ShowsBegun result.beginnings no_lists none_begun }
+        ensures lists { ShowsParts result no_lists }
+        ensures begun { ShowsBegun result none_begun }
     {
         a_new_pool_shows_no_lists();
         Messages {
             pool: IpDefragPool::new(alloc),
-            beginnings: Beginnings::new(alloc),
         }
     }
 
@@ -96,11 +127,11 @@ impl Messages {
         layers: &Result<SlicedPacket<'_>, SliceError>,
         arrival: Arrival,
     ) -> Result<Finding, AllocError>
-        ensures answers { Answers self.old.pool self.new.pool (class_told layers.now)
+        ensures answers { Answers self.old self.new (class_told layers.now)
             arrival.time arrival.interface (fault_in layers.now)
             (told_if_found layers.now result) }
         ensures begun { AnswersBegun self.old self.new (class_told layers.now)
-            arrival.time arrival.interface arrival.number result }
+            arrival.interface arrival.number result }
         ensures verdict { IfOk result (λ finding. finding.verdict
             ≡ verdict_on (class_told layers.now) (fragment_told finding.fragment)) }
     {
@@ -115,10 +146,10 @@ impl Messages {
         layers: &SlicedPacket<'_>,
         arrival: Arrival,
     ) -> Result<Finding, AllocError>
-        ensures answers { Answers self.old.pool self.new.pool (packet_told layers.now)
+        ensures answers { Answers self.old self.new (packet_told layers.now)
             arrival.time arrival.interface None (told_if_found (Ok layers.now) result) }
         ensures begun { AnswersBegun self.old self.new (packet_told layers.now)
-            arrival.time arrival.interface arrival.number result }
+            arrival.interface arrival.number result }
         ensures verdict { IfOk result (λ finding. finding.verdict
             ≡ verdict_on (packet_told layers.now) (fragment_told finding.fragment)) }
     {
@@ -140,37 +171,32 @@ impl Messages {
         arrival: Arrival,
     ) -> Result<Finding, AllocError>
         requires { IdentificationFits message.addresses message.identification }
-        ensures answers { Answers self.old.pool self.new.pool (as_class (class.Cut message.entry))
+        ensures answers { Answers self.old self.new (as_class (class.Cut message.entry))
             arrival.time arrival.interface None (found_told result) }
         ensures begun { AnswersBegun self.old self.new (as_class (class.Cut message.entry))
-            arrival.time arrival.interface arrival.number result }
+            arrival.interface arrival.number result }
         ensures verdict { IfOk result (λ finding. finding.verdict
             ≡ verdict_on (as_class (class.Cut message.entry)) (fragment_told finding.fragment)) }
     {
         equal_names::<u32>();
         packets_are_answered();
+        processed_packets_are_read::<Received>();
+        timestamps_are_read::<Received>();
         wants_are_told();
         let addresses = message.addresses;
-        let Ok(name) = name_of(&message, arrival.interface) else {
-            return Err(AllocError);
-        };
-        let known = self.beginnings.number_of(&name);
-        let begun = known.unwrap_or(arrival.number);
-        if self.beginnings.make_room().is_err() {
-            return Err(AllocError);
-        }
-        let outcome = self
-            .pool
-            .process_cut_message(message, arrival.time, arrival.interface);
-        self.beginnings.keep(name, begun, arrival.time, &outcome);
-        found_in(&addresses, known, begun, outcome)
+        let (before, outcome) = self.pool.process_cut_message_with(
+            message,
+            |before: Option<Received>| arrival.received(before),
+            arrival.interface,
+        );
+        let known = first_in(before);
+        found_in(&addresses, known, known.unwrap_or(arrival.number), outcome)
     }
 
     /// Takes the buffer of a message back, for those that begin later.
     pub(crate) fn return_buf(&mut self, message: IpDefragPayloadVec)
-        ensures lists { (lists : Lists) → ShowsLists self.old.pool lists
-            → ShowsLists self.new.pool lists }
-        ensures begun { self.new.beginnings ≡ self.old.beginnings }
+        ensures lists { (lists : Lists) → ShowsParts self.old lists → ShowsParts self.new lists }
+        ensures begun { (begun : Begun) → ShowsBegun self.old begun → ShowsBegun self.new begun }
     {
         spare_buffers_show_nothing();
         // A buffer for which no place is found is dropped.
@@ -179,24 +205,35 @@ impl Messages {
 
     /// How many are on their way.
     pub(crate) fn len(&self) -> usize
-        ensures { (lists : Lists) → ShowsLists self.now.pool lists → IsOpenCount lists result }
+        ensures { (lists : Lists) → ShowsParts self.now lists → IsOpenCount lists result }
     {
         open_messages_are_counted();
+        read_pools_have_as_many_messages::<Received>();
         self.pool.open_len()
     }
 
     /// Drops those whose last part came before this time.
     pub(crate) fn forget_before(&mut self, time: u64)
-        ensures lists { (lists : Lists) → ShowsLists self.old.pool lists
-            → ShowsLists self.new.pool (λ name channel. retained_from time (lists name channel)) }
-        ensures begun { (lists : Lists) (begun : Begun) → ShowsBegun self.old.beginnings lists begun
-            → ShowsBegun self.new.beginnings
-            (λ name channel. retained_from time (lists name channel)) begun }
+        ensures lists { (lists : Lists) → ShowsParts self.old lists
+            → ShowsParts self.new (λ name channel. retained_from time (lists name channel)) }
+        ensures begun { (begun : Begun) → ShowsBegun self.old begun → ShowsBegun self.new begun }
     {
-        // To drop messages takes no memory.
-        let _ = self.pool.retain(|last: &u64| *last >= time);
-        self.beginnings.forget_before(time);
+        retained_lists_are_read::<Received>();
+        keep_from(&mut self.pool, time);
     }
+}
+
+// Keeps the messages of which a part came at this time or later.
+fn keep_from(pool: &mut IpDefragPool<Received, u32>, time: u64)
+    ensures { (id : IpFragId ℕ) → Retained (λ received stays. stays ≡ nat_le time received.last)
+        (stream_at (same_id nat_eq) pool.old id) (stream_at (same_id nat_eq) pool.new id) }
+{
+    // To drop messages takes no memory.
+    let _ = pool.retain(
+        |received: &Received| -> bool
+            ensures { result ≡ nat_le time received.now.last }
+        { received.last >= time },
+    );
 }
 
 // What is found in a part of a message between these addresses, by what became of it: its message
@@ -262,46 +299,5 @@ fn verdict_of_whole(addresses: &Addresses, message: &IpDefragPayloadVec) -> Opti
     match read_message(message.ip_number, message.payload.as_slice()) {
         Ok(message) => Some(judge(addresses, &message)),
         Err(_) => None,
-    }
-}
-
-// The name of the message that a part belongs to.
-fn name_of(message: &CutMessage<'_>, interface: u32) -> Result<IpFragId<u32>, AllocError>
-    requires { IdentificationFits message.now.addresses message.now.identification }
-    ensures { IfOk result (λ name. name ≡ id_named (name_of_part message.now) interface) }
-{
-    match message.vlan_ids.clone() {
-        Ok(vlan_ids) => Ok(IpFragId {
-            vlan_ids,
-            ip: version_id(message.addresses, message.identification),
-            payload_ip_number: message.part.ip_number,
-            channel_id: interface,
-        }),
-        Err(_) => Err(AllocError),
-    }
-}
-
-// The addresses and the identification of a message, over IPv4 of 16 bits.
-fn version_id(addresses: Addresses, identification: u32) -> IpFragVersionSpecId
-    requires { IdentificationFits addresses identification }
-    ensures { result ≡ spec_id addresses identification }
-{
-    match addresses {
-        Addresses::V4 {
-            source,
-            destination,
-        } => IpFragVersionSpecId::Ipv4 {
-            source,
-            destination,
-            identification: identification as u16,
-        },
-        Addresses::V6 {
-            source,
-            destination,
-        } => IpFragVersionSpecId::Ipv6 {
-            source,
-            destination,
-            identification,
-        },
     }
 }

@@ -1,12 +1,12 @@
 //! A walk over the packets of a capture.
-ghost use Rattle.std.specs.Prelude.{◌≡◌, ◌≤◌, ◌∷◌, ◌++◌, Bool, Option, Ok, Err, List, [], ℕ};
+ghost use Rattle.std.specs.Prelude.{◌≡◌, ◌≤◌, ◌∷◌, ◌++◌, Bool, Ok, Err, List, [], ℕ};
 ghost use Rattle.std.specs.Prelude.{MatchResult, None, filter};
 ghost use Rattle.std.specs.Io.KnownBytes.{Consumes};
 ghost use Rattle.captures.specs.Readers.{ComesTo, HasRead, skipped_by, source_of};
 ghost use Rattle.captures.specs.declared.packet.Packet.{Packet};
 ghost use Rattle.captures.specs.declared.unfit.Unfit.{Unfit};
-ghost use Rattle.ep_defrag.specs.PoolCalls.{ShowsLists, no_lists};
-ghost use Rattle.packets.specs.Begun.{ShowsBegun, none_begun};
+ghost use Rattle.ep_defrag.specs.PoolCalls.{no_lists};
+ghost use Rattle.packets.specs.Begun.{ShowsBegun, ShowsParts, none_begun};
 ghost use Rattle.packets.specs.Conditions.{lets_through};
 ghost use Rattle.packets.specs.Courses.{AreDissected, Course, HasCourse, IsDissected, course_after};
 ghost use Rattle.packets.specs.Courses.{forgotten, next_course, no_course, shown};
@@ -14,9 +14,9 @@ ghost use Rattle.packets.specs.Runs.{BreaksBy, EndsBy, Unbroken, UnlessWanting};
 ghost use Rattle.packets.specs.declared.dissection.Dissection.{Dissection};
 
 use crate::run::progress::{Progress, tell_step};
-use crate::run::rules::{Rules, Spans};
+use crate::run::rules::{Rules, drop_idle};
 use crate::{Dissection, Dissector};
-use captures::{Packet, PacketReader, RunError};
+use captures::{Packet, PacketReader, RunError, Spans};
 use std::alloc::AllocError;
 use std::io::Read;
 
@@ -63,8 +63,8 @@ pub(crate) fn walk<R: Read + Drop, V: Visitor, P: Progress>(
     progress: &mut P,
 ) -> Result<(), RunError>
     requires unread { HasRead rules.now.unfit packets.old [] [] }
-    requires messages { ShowsLists dissector.old.messages.pool no_lists }
-    requires begun { ShowsBegun dissector.old.messages.beginnings no_lists none_begun }
+    requires messages { ShowsParts dissector.old.messages no_lists }
+    requires begun { ShowsBegun dissector.old.messages none_begun }
     requires number { dissector.old.number ≡ 0 }
     requires first_time { dissector.old.first_time ≡ None }
     requires begins { V.goes visitor.old visitor.old [] }
@@ -75,10 +75,10 @@ pub(crate) fn walk<R: Read + Drop, V: Visitor, P: Progress>(
         × AreDissected rules.now.forget no_course given told
         × Unbroken result (V.goes visitor.old visitor.new (shown rules.now.filter told))
         (V.breaks visitor.old visitor.new (shown rules.now.filter told))
-        × UnlessWanting result (ShowsLists dissector.new.messages.pool
+        × UnlessWanting result (ShowsParts dissector.new.messages
         (course_after rules.now.forget no_course given).lists) }
 {
-    let mut spans = Spans::of(rules.forget);
+    let mut spans = Spans::new();
     let mut count: u64 = 0;
     let mut steps = 0;
     'packets: while count < u64::MAX {
@@ -143,16 +143,16 @@ fn take<V: Visitor>(
     dissector: &mut Dissector,
     visitor: &mut V,
 ) -> Result<(), AllocError>
-    ensures { (seconds : Option ℕ) (course : Course) (start : V) (seen : List Dissection)
-        → HasCourse seconds course dissector.old spans.old → V.goes start visitor.old seen
+    ensures { (course : Course) (start : V) (seen : List Dissection)
+        → HasCourse course dissector.old spans.old → V.goes start visitor.old seen
         → MatchResult result
         (λ _. (told : Dissection)
-        × IsDissected (forgotten seconds packet.now.time course) packet.now told
+        × IsDissected (forgotten rules.now.forget packet.now.time course) packet.now told
         × V.goes start visitor.new (seen ++ filter (lets_through rules.now.filter) (told ∷ []))
-        × HasCourse seconds (next_course seconds course packet.now) dissector.new spans.new)
+        × HasCourse (next_course rules.now.forget course packet.now) dissector.new spans.new)
         (λ _. V.goes start visitor.new seen) }
 {
-    spans.go_on(packet.time, dissector);
+    drop_idle(rules.forget, spans, packet.time, dissector);
     let Ok(dissection) = dissector.dissect(packet) else {
         return Err(AllocError);
     };

@@ -1,37 +1,30 @@
 use Rattle.std.proofs.Common.{◌∙◌, sym, ap, subst, ◌+◌, ◌++◌, ◌∷◌, [], ℕ, Option, Some}
 use Rattle.std.proofs.Common.{append-nil, cond}
 use Rattle.captures.specs.Numbers.{capped}
-use Rattle.ep_defrag.specs.PoolCalls.{ShowsLists, lists_with_frame}
+use Rattle.ep_defrag.specs.PoolCalls.{lists_with_frame}
 use Rattle.ep_packet.specs.Class.{class_told}
-use Rattle.packets.specs.Begun.{ShowsBegun, begun_with}
+use Rattle.packets.specs.Begun.{ShowsBegun, ShowsParts, begun_with}
 use Rattle.packets.specs.Conditions.{lets_through}
 use Rattle.packets.specs.Courses.{begin_at, class_of, first_at, lists_at}
-use Rattle.packets.specs.declared.beginnings.Beginnings.{Beginnings}
 use Rattle.packets.proofs.run.walk.take.Goals.{then-matches+in_default-visit, else-matches}
 use Rattle.packets.proofs.run.walk.take.Goals as goal
 
 pub returns : goal.returns
-returns g c seconds course start seen has goes =
+returns g c course start seen has goes =
     let packet = c.args.packet.now in
     let told = c.in-Ok.dissection in
-    let spans = c.args.spans.now in
-    let shows = c.go_on.ensures.messages course.lists has.lists in
-    let there = subst (λ b. ShowsLists c.go_on.new.dissector.messages.pool
-    (lists_at seconds b packet.time course.lists)) has.begin
-    (subst (λ s. ShowsLists c.go_on.new.dissector.messages.pool
-    (lists_at s spans.begin packet.time course.lists)) has.seconds shows) in
-    let lists = lists_at seconds course.begin packet.time course.lists in
+    let forget = c.args.rules.now.forget in
+    let there = subst (λ b. ShowsParts c.drop_idle.new.dissector.messages
+    (lists_at forget b packet.time course.lists)) has.begin
+    (c.drop_idle.ensures.messages course.lists has.lists) in
+    let lists = lists_at forget course.begin packet.time course.lists in
     let answered = c.in-Ok.ensures.answered lists there in
-    let begins = subst (λ b. ShowsBegun c.go_on.new.dissector.messages.beginnings
-    (lists_at seconds b packet.time course.lists) course.begun) has.begin
-    (subst (λ s. ShowsBegun c.go_on.new.dissector.messages.beginnings
-    (lists_at s spans.begin packet.time course.lists) course.begun) has.seconds
-    (c.go_on.ensures.begun course.lists course.begun has.begun)) in
-    let begun = c.in-Ok.ensures.begun lists course.begun there begins in
+    let begun = c.in-Ok.ensures.begun lists course.begun there
+    (c.drop_idle.ensures.begun course.begun has.begun) in
     let number = c.in-Ok.ensures.number.0
-    ∙ ap (λ (n : ℕ). capped (n + 1)) (c.go_on.ensures.number ∙ has.number) in
+    ∙ ap (λ (n : ℕ). capped (n + 1)) (c.drop_idle.ensures.number ∙ has.number) in
     let first = c.in-Ok.ensures.first_time.0
-    ∙ ap (λ (f : Option ℕ). first_at f packet.time) (c.go_on.ensures.first_time ∙ has.first) in (
+    ∙ ap (λ (f : Option ℕ). first_at f packet.time) (c.drop_idle.ensures.first_time ∙ has.first) in (
       told,
       record {
         number = number;
@@ -63,23 +56,16 @@ returns g c seconds course start seen has goes =
         number = c.give_back.ensures.number ∙ c.in-Ok.ensures.number.1 ∙ number;
         first = c.give_back.ensures.first_time ∙ c.in-Ok.ensures.first_time.1
             ∙ ap (λ (n : ℕ). Some n) first;
-        lists = subst (λ l. ShowsLists c.give_back.new.self.messages.pool
+        lists = subst (λ l. ShowsParts c.give_back.new.self.messages
             (lists_with_frame lists (class_told l) packet.time packet.interface))
             c.in-Ok.ensures.layers (c.give_back.ensures.messages _ answered.1);
-        begun = subst (λ (kept : Beginnings). ShowsBegun kept
-            (lists_with_frame lists (class_of packet) packet.time packet.interface)
-            (begun_with lists course.begun (class_of packet) packet.interface
-            (capped (course.number + 1)))) (sym c.give_back.ensures.begun)
-            (subst (λ (n : ℕ). ShowsBegun c.dissect.new.self.messages.beginnings
-            (lists_with_frame lists (class_of packet) packet.time packet.interface)
+        begun = c.give_back.ensures.begun _
+            (subst (λ (n : ℕ). ShowsBegun c.dissect.new.self.messages
             (begun_with lists course.begun (class_of packet) packet.interface n)) number
-            (subst (λ l. ShowsBegun c.dissect.new.self.messages.beginnings
-            (lists_with_frame lists (class_told l) packet.time packet.interface)
+            (subst (λ l. ShowsBegun c.dissect.new.self.messages
             (begun_with lists course.begun (class_told l) packet.interface told.number))
             c.in-Ok.ensures.layers begun.1));
-        seconds = c.go_on.ensures.seconds ∙ has.seconds;
-        begin = c.go_on.ensures.begin
-            ∙ ap (λ (s : Option ℕ). begin_at s spans.begin packet.time) has.seconds
-            ∙ ap (λ (b : Option ℕ). begin_at seconds b packet.time) has.begin;
+        begin = c.drop_idle.ensures.begin
+            ∙ ap (λ (b : Option ℕ). begin_at forget b packet.time) has.begin;
       },
     )

@@ -23,8 +23,7 @@ packets-init g c = record {
     first = c.requires.first_time;
     lists = c.requires.messages;
     begun = c.requires.begun;
-    seconds = c.of-spans.ensures.seconds;
-    begin = c.of-spans.ensures.begin;
+    begin = c.new-spans.ensures;
   };
   goes = c.requires.begins;
   counted = refl;
@@ -72,7 +71,7 @@ returns-in-Err-take g c =
     let i = c.packets.invariant in
     let came = rw c.in-Ok-true.field-0-test at (c.in-Ok-true.ensures c.args.rules.now.unfit i.read
     i.given c.args.visitor.now (shown c.args.rules.now.filter i.told) i.has i.goes) in
-    let stays = c.in-Err-take.ensures c.args.rules.now.forget
+    let stays = c.in-Err-take.ensures
     (course_after c.args.rules.now.forget no_course i.given) c.args.visitor.now
     (shown c.args.rules.now.filter i.told) i.course came.2.1 in (
       i.read ++ came.0,
@@ -95,7 +94,7 @@ packets-preserved g c =
     c.args.visitor.now (shown rules.filter i.told) i.has i.goes) in
     let same = same_packet came.2.0.0 c.in-Some.packet
     (sym came.2.0.1 ∙ sym c.packet.ensures ∙ c.in-Some.is) in
-    let taken = c.in-Ok.ensures rules.forget
+    let taken = c.in-Ok.ensures
     (course_after rules.forget no_course i.given) c.args.visitor.now (shown rules.filter i.told)
     i.course came.2.1 in
     record {
@@ -107,8 +106,7 @@ packets-preserved g c =
       consumed = Consumes-trans _ _ _ i.read came.0 i.consumed came.1;
       dissected = dissected_more rules.forget no_course i.given i.told c.in-Some.packet taken.0
           i.dissected taken.1;
-      course = subst (λ (course : Course). HasCourse rules.forget course c.take.new.dissector
-          c.take.new.spans) (sym (course_more rules.forget no_course i.given c.in-Some.packet))
+      course = subst (λ (course : Course). HasCourse course c.take.new.dissector c.take.new.spans) (sym (course_more rules.forget no_course i.given c.in-Some.packet))
           taken.3;
       goes = subst (λ (l : List Dissection). g.V.Visitor.goes c.args.visitor.now
           c.take.new.visitor l) (sym (shown_more rules.filter i.told taken.0)) taken.2;

@@ -16,8 +16,7 @@ invariant-packets g l = record {
   consumed : Consumes (g.R.Read.remaining (source_of l.fn.packets))
       (g.R.Read.remaining (source_of l.packets)) read;
   dissected : AreDissected l.fn.rules.forget no_course given told;
-  course : HasCourse l.fn.rules.forget (course_after l.fn.rules.forget no_course given) l.dissector
-      l.spans;
+  course : HasCourse (course_after l.fn.rules.forget no_course given) l.dissector l.spans;
   goes : g.V.Visitor.goes l.fn.visitor l.visitor (shown l.fn.rules.filter told);
   counted : l.count ≡ length given;
 }
